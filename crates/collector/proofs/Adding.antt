@@ -6,9 +6,9 @@ use Rattle.std.proofs.lemmas.Option.{none-some, slice_get_within}
 use Rattle.trace_model.specs.Record.{Record}
 use Rattle.trace_model.specs.Parcel.{Parcel, IsPairOf, IsMissingOf}
 use Rattle.trace_model.specs.Collection.{Has, Misses, Agree, IsBelow, IsSame}
-use Rattle.trace_model.proofs.Elements.{some_is}
-use Rattle.trace_model.proofs.Joined.{joined_left, joined_right, joined_below}
-use Rattle.trace_model.proofs.Collections.{below_itself}
+use Rattle.trace_model.proofs.collections.Elements.{some_is}
+use Rattle.trace_model.proofs.collections.Joined.{joined_left, joined_right, joined_below}
+use Rattle.trace_model.proofs.collections.Collections.{below_itself}
 use Rattle.collector.specs.Index.{IsIn}
 use Rattle.collector.specs.Shown.{IsUnknown}
 use Rattle.collector.specs.Entries.{record_of}

@@ -9,7 +9,7 @@ use Rattle.std.proofs.Math.ListN.{set}
 use Rattle.std.proofs.lemmas.Option.{none-some}
 use Rattle.std.specs.List.{slice_get, AllZip}
 use Rattle.std.proofs.lemmas.Slice.Zip.{AllZip-left, AllZip-right}
-use Rattle.trace_model.proofs.Elements.{some_is, get_in_front}
+use Rattle.trace_model.proofs.collections.Elements.{some_is, get_in_front}
 use Rattle.collector.specs.declared.ranges.Content.{Content}
 use Rattle.collector.specs.declared.ranges.Content.TheVariants.{Kept, Missing}
 use Rattle.collector.specs.declared.ranges.Ranges.{Ranges}

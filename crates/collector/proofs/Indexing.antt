@@ -7,8 +7,8 @@ use Rattle.trace_model.specs.Record.{Record}
 use Rattle.trace_model.specs.Parcel.{Parcel, IsPairOf, IsMissingOf}
 use Rattle.trace_model.specs.ParcelBytes.{IsParcel}
 use Rattle.trace_model.specs.Collection.{Has, Misses, Agree}
-use Rattle.trace_model.proofs.Elements.{some_is, get_in_front}
-use Rattle.trace_model.proofs.Joined.{joined_left}
+use Rattle.trace_model.proofs.collections.Elements.{some_is, get_in_front}
+use Rattle.trace_model.proofs.collections.Joined.{joined_left}
 use Rattle.collector.specs.declared.ranges.Content.{Content}
 use Rattle.collector.specs.declared.ranges.Content.TheVariants.{Kept, Missing}
 use Rattle.collector.specs.declared.index.Index.{Index}

@@ -3,7 +3,7 @@ use Rattle.std.proofs.Common.{◌≡◌, ⊎_elim, ℕ, zero, suc, ◌+◌, ◌-
 use Rattle.std.specs.List.{slice_get}
 use Rattle.std.proofs.lemmas.Bool.{cases_lt}
 use Rattle.std.proofs.lemmas.Option.{none-some}
-use Rattle.trace_model.proofs.Elements.{some_is}
+use Rattle.trace_model.proofs.collections.Elements.{some_is}
 use Rattle.collector.specs.Listed.{AreListed, with_found, listed_within}
 
 pub same_listed : {X : Type 0} {P Q : ℕ → X → Type 0} (list : List (ℕ × X)) → ((n : ℕ) (x : X) → P n x → Q n x) → ((n : ℕ) (x : X) → Q n x → P n x) → AreListed P list → AreListed Q list

@@ -7,7 +7,7 @@ use Rattle.std.proofs.lemmas.Option.{none-some, slice_get_within}
 use Rattle.trace_model.specs.Record.{Record}
 use Rattle.trace_model.specs.Parcel.{Parcel, IsPairOf}
 use Rattle.trace_model.specs.Collection.{Has, Misses, Agree}
-use Rattle.trace_model.proofs.Elements.{some_is}
+use Rattle.trace_model.proofs.collections.Elements.{some_is}
 use Rattle.page_borrow.specs.declared.entries.Entry.{Entry}
 use Rattle.page_borrow.specs.Entries.{told}
 use Rattle.collector.specs.declared.ranges.Content.{Content}

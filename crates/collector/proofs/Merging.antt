@@ -3,8 +3,8 @@ use Rattle.std.proofs.Common.{◌≡◌, inl, inr, ℕ, ◌+◌, ◌<◌, ◌≤
 use Rattle.std.proofs.lemmas.List.{take_more, take_all, take-append-drop}
 use Rattle.trace_model.specs.Parcel.{Parcel}
 use Rattle.trace_model.specs.Collection.{Agree, IsBelow, IsSame, IsLeastUpperBound}
-use Rattle.trace_model.proofs.Joined.{joined_left, joined_right, joined_below, below_agrees}
-use Rattle.trace_model.proofs.Collections.{below_itself, below_below, same_itself, same_same, same_joined}
+use Rattle.trace_model.proofs.collections.Joined.{joined_left, joined_right, joined_below, below_agrees}
+use Rattle.trace_model.proofs.collections.Collections.{below_itself, below_below, same_itself, same_same, same_joined}
 use Rattle.collector.specs.declared.added.Added.{Added}
 use Rattle.collector.specs.declared.added.Added.TheVariants.{New, Known}
 use Rattle.collector.specs.Merged.{IsKeptBehind, IsMerged}

@@ -6,7 +6,7 @@ use Rattle.std.proofs.lemmas.Option.{none-some}
 use Rattle.trace_model.specs.Record.{Record}
 use Rattle.trace_model.specs.Parcel.{Parcel, IsPairOf}
 use Rattle.trace_model.specs.Collection.{Has, Agree}
-use Rattle.trace_model.proofs.Elements.{some_is}
+use Rattle.trace_model.proofs.collections.Elements.{some_is}
 use Rattle.collector.specs.Sound.{AreSound}
 use Rattle.collector.specs.Index.{IsIn}
 use Rattle.collector.specs.Listed.{AreRecordsOf, first_there, record_under, first_record, records_left, GoOn, GoOnIfAny}

@@ -3,7 +3,7 @@ use Rattle.std.proofs.Common.{◌≡◌, ◌⊎◌, inl, inr, ⊎_elim, ℕ, zer
 use Rattle.std.specs.List.{slice_get}
 use Rattle.std.proofs.lemmas.Bool.{cases_lt, cases_eq, eq-eqb, ne_eqb, false≢true}
 use Rattle.std.proofs.lemmas.Option.{none-some}
-use Rattle.trace_model.proofs.Elements.{some_is}
+use Rattle.trace_model.proofs.collections.Elements.{some_is}
 use Rattle.collector.specs.Runs.{InRun, AreRuns, with_number, runs_within}
 
 -- the same runs, if the same holds of each number

@@ -7,8 +7,8 @@ use Rattle.trace_model.specs.Record.{Record}
 use Rattle.trace_model.specs.Parcel.{Parcel}
 use Rattle.trace_model.specs.Collection.{Has, Misses, Agree, IsSame}
 use Rattle.trace_model.specs.declared.limits.TheConstants.{MAX_CPUS}
-use Rattle.trace_model.proofs.Elements.{some_is, get_in_either}
-use Rattle.trace_model.proofs.Joined.{joined_left, joined_right}
+use Rattle.trace_model.proofs.collections.Elements.{some_is, get_in_either}
+use Rattle.trace_model.proofs.collections.Joined.{joined_left, joined_right}
 use Rattle.collector.specs.declared.ranges.Content.{Content}
 use Rattle.collector.specs.declared.ranges.Content.TheVariants.{Kept, Missing}
 use Rattle.collector.specs.declared.beside.Beside.{Beside}

@@ -6,9 +6,9 @@ use Rattle.std.specs.List.{AllZip, enumerate_from, slice_get}
 use Rattle.std.proofs.lemmas.Bool.{cases_lt}
 use Rattle.trace_model.specs.Parcel.{Parcel}
 use Rattle.trace_model.specs.Collection.{Misses, IsSame}
-use Rattle.trace_model.proofs.Collections.{same_itself}
-use Rattle.trace_model.proofs.Elements.{some_is}
-use Rattle.trace_model.proofs.Listings.{one_listing}
+use Rattle.trace_model.proofs.collections.Collections.{same_itself}
+use Rattle.trace_model.proofs.collections.Elements.{some_is}
+use Rattle.trace_model.proofs.collections.Listings.{one_listing}
 use Rattle.collector.specs.Runs.{InRun, AreRuns}
 use Rattle.text_model.specs.Log.{LogLine}
 use Rattle.text_model.specs.Printing.{printed_log_line}

@@ -1,6 +1,6 @@
 -- A text has one output of the command `dump`: the same bytes, with the same exit status.
 use Rattle.std.proofs.Common.{◌≡◌, ℕ, List, inl, inr, sym, ap, ◌∙◌}
-use Rattle.trace_model.proofs.Images.{DecodesImage-FirstImageFault, DecodesImage-unique, FirstImageFault-unique}
+use Rattle.trace_model.proofs.images.Images.{DecodesImage-FirstImageFault, DecodesImage-unique, FirstImageFault-unique}
 use Rattle.text_model.specs.Printing.{printed_image, printed_image_fault}
 use Rattle.image_dump.specs.Dumps.{PrintsImage, PrintsImageFault, DumpGives}
 

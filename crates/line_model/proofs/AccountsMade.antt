@@ -6,7 +6,7 @@ use Rattle.trace_model.specs.declared.limits.TheConstants.{MAX_FRAMES}
 use Rattle.trace_model.specs.History.{HistoryEvent, push, push_close, open_fill, reserve, leave, wished}
 use Rattle.trace_model.specs.Window.{Window, RingEvent, acts, closes, takes, loses, history_events_of, opened_one, released_one, took_one, lost_one, window_after}
 use Rattle.text_model.specs.Script.{Command, begin_frame, step_frame, finish_frame, write, close, step_reader, take_page, wish, deliver}
-use Rattle.link_marks.proofs.WindowRuns.{history_events-append}
+use Rattle.link_marks.proofs.histories.WindowRuns.{history_events-append}
 use Rattle.line_model.specs.Lines.{OpenFrame, LineState, first_state, frame_count, IsRefusedPush, IsQuiet, IsPush, finishing_after, state_moved, TopRun, with_top_stepped, MayGo, stays_on, goes, TopPart, FinishPart, begins, begins_none, writes, writes_none, LinePart, LineParts, writer_line, writer_lines}
 use Rattle.line_model.specs.Accounts.{Leave, Passes, IsRefused, IsIdle, Adds, AddAll, LinesAdd}
 use Rattle.line_model.proofs.LineWindows.{leads_lines}

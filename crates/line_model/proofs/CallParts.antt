@@ -4,8 +4,8 @@ use Rattle.trace_model.specs.History.{HistoryEvent}
 use Rattle.trace_model.specs.Window.{RingEvent, acts, closes, takes, loses, history_events_of, released_one, took_one, lost_one, window_after}
 use Rattle.trace_model.specs.Frames.{for_record, for_close, Frame}
 use Rattle.trace_model.specs.Steps.{Exchange}
-use Rattle.trace_model.proofs.StepSound.{cases_of}
-use Rattle.link_marks.proofs.WindowRuns.{history_events-append}
+use Rattle.trace_model.proofs.steps.StepSound.{cases_of}
+use Rattle.link_marks.proofs.histories.WindowRuns.{history_events-append}
 use Rattle.world_model.specs.Lanes.{event_on_top, payloads_left}
 use Rattle.world_model.proofs.FramesMove.{Moves, stays, changes, pops, PushesNone, step_moves}
 use Rattle.world_model.proofs.LanePayloads.{pushes_none}

@@ -5,10 +5,10 @@ use Rattle.trace_model.specs.History.{HistoryEvent, push, push_close, open_fill,
 use Rattle.trace_model.specs.Packing.{opens_of, cut_from, tail_of}
 use Rattle.trace_model.specs.Fitting.{tail_at}
 use Rattle.trace_model.specs.Window.{Window, RingEvent, acts, closes, takes, loses, history_events_of, window_event_of, released_one, took_one, lost_one, window_after, window_behind, WindowRunFrom}
-use Rattle.trace_model.proofs.FillCuts.{opens_of-push, opens_of-push_close, opens_of-reserve, opens_of-leave, opens_of-wished}
-use Rattle.trace_model.proofs.NextRecords.{records_snoc}
-use Rattle.trace_model.proofs.PackedHistories.{plain, plain-finished, cut-plain, plain_nil, tail_is}
-use Rattle.link_marks.proofs.FrameEnds.{opened_tail}
+use Rattle.trace_model.proofs.packing.FillCuts.{opens_of-push, opens_of-push_close, opens_of-reserve, opens_of-leave, opens_of-wished}
+use Rattle.trace_model.proofs.histories.NextRecords.{records_snoc}
+use Rattle.trace_model.proofs.packing.PackedHistories.{plain, plain-finished, cut-plain, plain_nil, tail_is}
+use Rattle.link_marks.proofs.seats.FrameEnds.{opened_tail}
 use Rattle.line_model.specs.WrittenRecords.{FillsAreFew}
 
 pub record IsFew (start : ℕ) (h : List HistoryEvent) (opened : ℕ) : Type 0 where

@@ -7,7 +7,7 @@ use Rattle.std.proofs.lemmas.Option.{slice_get_within, slice_get-get_or}
 use mathlib.Core.Logic.{dite}
 use native.Mathlib.Decide.{ℕ_discrete}
 use Rattle.trace_model.specs.Window.{RingEvent}
-use Rattle.trace_model.proofs.Elements.{some_is}
+use Rattle.trace_model.proofs.collections.Elements.{some_is}
 use Rattle.text_model.specs.Script.{Command, begin_frame, step_frame, finish_frame, write, close, step_reader, take_page, wish, deliver, Script}
 use Rattle.text_model.specs.ScriptLimits.{IsCommandWithin, IsWithinLimits}
 use Rattle.world_model.specs.Lanes.{Lane, IsNewLane, HasPayloads, LineRun}
@@ -21,8 +21,8 @@ use Rattle.line_model.specs.LineParts.{IsBetweenLines}
 use Rattle.line_model.specs.ReplayedLines.{commands_of, ReplayMakesLines, ReplayCommitsWholeLines, WorldsMakeLines}
 use Rattle.line_model.proofs.PartsJoined.{start_between}
 use Rattle.line_model.proofs.LineCallsMade.{none_counted, line_calls_make}
-use Rattle.link_marks.proofs.RingsKept.{reached_kept}
-use Rattle.link_marks.proofs.PackedRuns.{runs_packed}
+use Rattle.link_marks.proofs.partition.RingsKept.{reached_kept}
+use Rattle.link_marks.proofs.contents.PackedRuns.{runs_packed}
 use Rattle.line_model.proofs.WrittenLines.{whole_lines_have_committed}
 use Rattle.line_model.proofs.RunCalls.{line_runs_are_calls}
 

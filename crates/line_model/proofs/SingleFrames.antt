@@ -6,23 +6,23 @@ use Rattle.trace_model.specs.Packing.{tail_of, IsPacked}
 use Rattle.trace_model.specs.Frames.{Kind, for_record, for_close, FrameState, waiting, reserved, left, idle, Frame, crowded, worn}
 use Rattle.trace_model.specs.Ring.{Core}
 use Rattle.trace_model.specs.Steps.{Event, Answer, steps, ends, pushed, refused, Exchange, Step}
-use Rattle.trace_model.proofs.NextRecords.{records_snoc}
+use Rattle.trace_model.proofs.histories.NextRecords.{records_snoc}
 use Rattle.link_marks.specs.RingKept.{IsRingKept}
 use Rattle.link_marks.specs.Reached.{IsReached}
 use Rattle.link_marks.specs.AnswerLaws.{IsInNeed}
-use Rattle.link_marks.proofs.AnswersRight.{crowded_right, worn_right}
-use Rattle.link_marks.proofs.FrameEnds.{opened_tail, needs_tail}
-use Rattle.link_marks.proofs.PackedRuns.{runs_packed}
-use Rattle.link_marks.proofs.RingsKept.{reached_kept}
-use Rattle.link_marks.proofs.StackSteps.{closed_at_rest}
-use Rattle.link_marks.proofs.ToldSteps.{run_told}
+use Rattle.link_marks.proofs.frames.AnswersRight.{crowded_right, worn_right}
+use Rattle.link_marks.proofs.seats.FrameEnds.{opened_tail, needs_tail}
+use Rattle.link_marks.proofs.contents.PackedRuns.{runs_packed}
+use Rattle.link_marks.proofs.partition.RingsKept.{reached_kept}
+use Rattle.link_marks.proofs.frames.StackSteps.{closed_at_rest}
+use Rattle.link_marks.proofs.histories.ToldSteps.{run_told}
 use Rattle.world_model.specs.Lanes.{event_in, event_on_top, payloads_left}
 use Rattle.line_model.specs.WriterCalls.{Writer, writer_of, IsWriterCall, TopCalls}
 use Rattle.line_model.specs.CallEvents.{Makes, goes_on, begins, has_reserved, leaves, leaves_fill, closes_one, finds_wish, is_gone}
 use Rattle.line_model.specs.SingleFrames.{push_of, IsServed, AreServed, SingleFramesAreServed}
 use Rattle.line_model.proofs.FewFills.{fills_are_few}
 use Rattle.line_model.proofs.StepsMake.{steps_make}
-use Rattle.trace_model.proofs.StepSound.{cases_of}
+use Rattle.trace_model.proofs.steps.StepSound.{cases_of}
 use Rattle.line_model.proofs.CallEventsMade.{first_of, ends_make}
 use Rattle.line_model.proofs.PushParts.{Pushing, pushing_of}
 use Rattle.line_model.proofs.CloseParts.{Closing, closing_of}

@@ -11,11 +11,11 @@ use Rattle.trace_model.specs.Packing.{tail_of, IsPacked}
 use Rattle.trace_model.specs.Window.{Window, RingEvent, acts, closes, takes, loses, history_events_of, window_event_of, took_one, lost_one, window_after, window_behind, WindowRunFrom}
 use Rattle.trace_model.specs.Steps.{IsTooLong}
 use Rattle.text_model.specs.Script.{Command, begin_frame, step_frame, finish_frame, write, close, step_reader, take_page, wish, deliver}
-use Rattle.trace_model.proofs.NextEvent.{writer_snoc, settled_at_rest}
-use Rattle.trace_model.proofs.HistoryPrefixes.{none_stands}
-use Rattle.trace_model.proofs.Committed.{whole_front}
-use Rattle.trace_model.proofs.Lengths.{length-padded, padded_whole, slot_len-slot_len}
-use Rattle.link_marks.proofs.WindowRuns.{history_events-append}
+use Rattle.trace_model.proofs.histories.NextEvent.{writer_snoc, settled_at_rest}
+use Rattle.trace_model.proofs.histories.HistoryPrefixes.{none_stands}
+use Rattle.trace_model.proofs.histories.Committed.{whole_front}
+use Rattle.trace_model.proofs.words.Lengths.{length-padded, padded_whole, slot_len-slot_len}
+use Rattle.link_marks.proofs.histories.WindowRuns.{history_events-append}
 use Rattle.line_model.specs.Lines.{LineState, OpenFrame, first_state, frame_count, with_top_stepped, IsQuiet, MayGo, stays_on, goes, TopRun, FinishPart, writes, writes_none, LinePart, LineParts, FinishParts}
 use Rattle.line_model.specs.WrittenRecords.{is_recorded, record_of, records_of_line, records_of_lines, WritesOrCloses, AllWriteOrClose, IsAtRest, LinesFromRestCommit, WholeLinesCommit, WholeLinesHaveCommitted}
 use Rattle.line_model.proofs.LineWindows.{Leads, leads_line, leads_lines, leads_rest}

@@ -7,11 +7,11 @@ use Rattle.trace_model.specs.History.{HistoryEvent, push, push_close, open_fill,
 use Rattle.trace_model.specs.Packing.{tail_of, FitsBehind, next_reservation, IsPacked}
 use Rattle.trace_model.specs.Window.{Window, RingEvent, acts, closes, takes, loses, history_events_of, released_one, took_one, lost_one, MayMove, window_after}
 use Rattle.trace_model.specs.Steps.{IsTooLong}
-use Rattle.trace_model.proofs.NextEvent.{writer_snoc}
-use Rattle.trace_model.proofs.HistoryPrefixes.{none_stands}
-use Rattle.trace_model.proofs.PackedHistories.{wanted_record}
-use Rattle.trace_model.proofs.Lengths.{slot_len-slot_len}
-use Rattle.link_marks.proofs.FrameEnds.{opened_tail}
+use Rattle.trace_model.proofs.histories.NextEvent.{writer_snoc}
+use Rattle.trace_model.proofs.histories.HistoryPrefixes.{none_stands}
+use Rattle.trace_model.proofs.packing.PackedHistories.{wanted_record}
+use Rattle.trace_model.proofs.words.Lengths.{slot_len-slot_len}
+use Rattle.link_marks.proofs.seats.FrameEnds.{opened_tail}
 use Rattle.line_model.specs.Lines.{LineState, OpenFrame, frame_count, IsOfTop, MayLeaveTop, open_after, finishing_after, state_after, state_moved, TopRun}
 use Rattle.line_model.proofs.FewFills.{IsFew, few_act}
 

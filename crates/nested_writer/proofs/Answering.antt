@@ -3,7 +3,7 @@ use Rattle.std.proofs.Common.{◌≡◌, ◌≢◌, ℕ, ◌<◌, ◌⊎◌, ◌
 use Rattle.trace_model.specs.declared.limits.TheConstants.{LINK_FILLS}
 use Rattle.trace_model.specs.History.{HistoryEvent, Reservation, reservation_for, reserved_records}
 use Rattle.trace_model.specs.Packing.{opens_of, fill_len, tail_of, is_wished}
-use Rattle.trace_model.proofs.PackedHistories.{tail_is}
+use Rattle.trace_model.proofs.packing.PackedHistories.{tail_is}
 use Rattle.record_words.specs.declared.put.Place.{Place}
 use Rattle.nested_writer.specs.declared.fault.WriteFault.{WriteFault}
 use Rattle.nested_writer.specs.declared.fault.WriteFault.TheVariants.{Crowded, Worn}

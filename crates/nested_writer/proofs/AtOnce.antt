@@ -13,16 +13,16 @@ use Rattle.trace_model.specs.Overwriting.{overwritten, bytes_at, IsPlaceOf}
 use Rattle.trace_model.specs.History.{HistoryEvent, push, reserve, leave, Reservation, PushedFrame, record_frame, records_with_payload, writer_after, reserved_records, MayLeave, IsHistory}
 use Rattle.trace_model.specs.Steps.{IsTooLong}
 use Rattle.trace_model.specs.Fitting.{AreFit}
-use Rattle.trace_model.proofs.Allowed.{IsHistory-push}
-use Rattle.trace_model.proofs.NextEvent.{left_stack}
-use Rattle.trace_model.proofs.NextRecords.{records_left}
-use Rattle.trace_model.proofs.FillCuts.{opens_of-leave}
-use Rattle.trace_model.proofs.PackedHistories.{fit_more, is_wished-leave}
-use Rattle.trace_model.proofs.Elements.{get_behind}
-use Rattle.trace_model.proofs.Lengths.{length-padded, padded_whole, slot_len-slot_len}
-use Rattle.trace_model.proofs.Overwritten.{length-overwritten}
-use Rattle.trace_model.proofs.Places.{EndsInRecord-overwritten, IsPlaceOf-overwritten, overwritten-reads, records_in-overwritten_end}
-use Rattle.trace_model.proofs.OpenPages.{bytes_of_place}
+use Rattle.trace_model.proofs.histories.Allowed.{IsHistory-push}
+use Rattle.trace_model.proofs.histories.NextEvent.{left_stack}
+use Rattle.trace_model.proofs.histories.NextRecords.{records_left}
+use Rattle.trace_model.proofs.packing.FillCuts.{opens_of-leave}
+use Rattle.trace_model.proofs.packing.PackedHistories.{fit_more, is_wished-leave}
+use Rattle.trace_model.proofs.collections.Elements.{get_behind}
+use Rattle.trace_model.proofs.words.Lengths.{length-padded, padded_whole, slot_len-slot_len}
+use Rattle.trace_model.proofs.words.Overwritten.{length-overwritten}
+use Rattle.trace_model.proofs.words.Places.{EndsInRecord-overwritten, IsPlaceOf-overwritten, overwritten-reads, records_in-overwritten_end}
+use Rattle.trace_model.proofs.packing.OpenPages.{bytes_of_place}
 use Rattle.page_image.specs.Contents.{Contents, IsPage, records_of_page, is_blank}
 use Rattle.page_image.specs.Lending.{with_payload}
 use Rattle.record_words.specs.declared.put.Place.{Place}

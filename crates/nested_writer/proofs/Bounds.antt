@@ -8,10 +8,10 @@ use Rattle.trace_model.specs.History.{Reservation, last_moment}
 use Rattle.trace_model.specs.Packing.{cut_from}
 use Rattle.trace_model.specs.Fitting.{tail_at}
 use Rattle.trace_model.specs.OpenPages.{AreOf}
-use Rattle.trace_model.proofs.FillCuts.{length-cut_from}
-use Rattle.trace_model.proofs.FillsJoined.{joined_all}
-use Rattle.trace_model.proofs.FillSizes.{fills_hold}
-use Rattle.trace_model.proofs.OpenPages.{AreOf-last}
+use Rattle.trace_model.proofs.packing.FillCuts.{length-cut_from}
+use Rattle.trace_model.proofs.packing.FillsJoined.{joined_all}
+use Rattle.trace_model.proofs.packing.FillSizes.{fills_hold}
+use Rattle.trace_model.proofs.packing.OpenPages.{AreOf-last}
 use Rattle.page_image.specs.Contents.{records_of_page}
 use Rattle.nested_writer.specs.Stack.{Stack, opened, next_number}
 use Rattle.nested_writer.specs.IsStack.{IsStackOf}

@@ -15,17 +15,17 @@ use Rattle.trace_model.specs.Fitting.{IsRising}
 use Rattle.trace_model.specs.Frames.{Kind, reserved, number_of, pushed_onto, pushed_of}
 use Rattle.trace_model.specs.Ring.{PageRecords}
 use Rattle.trace_model.specs.OpenPages.{HoldsRecords}
-use Rattle.trace_model.proofs.Elements.{some_is}
-use Rattle.trace_model.proofs.Lengths.{padded_whole, slot_len-slot_len}
-use Rattle.trace_model.proofs.Allowed.{IsHistory-push}
-use Rattle.trace_model.proofs.NextEvent.{left_stack}
-use Rattle.trace_model.proofs.NextRecords.{records_left, length-records_with_payload}
-use Rattle.trace_model.proofs.FillFirsts.{first_below, first_rises_to, fill_behind}
-use Rattle.trace_model.proofs.FillCuts.{finished_fill, opens_of-leave}
-use Rattle.trace_model.proofs.Overwritten.{place-within}
-use Rattle.trace_model.proofs.Places.{Decodes-overwritten}
-use Rattle.trace_model.proofs.PackedHistories.{plain, plain-finished, room_alike, needs_alike, fit_more, is_wished-leave}
-use Rattle.trace_model.proofs.OpenPages.{AreOf-length, bytes_of_place, holds_finished}
+use Rattle.trace_model.proofs.collections.Elements.{some_is}
+use Rattle.trace_model.proofs.words.Lengths.{padded_whole, slot_len-slot_len}
+use Rattle.trace_model.proofs.histories.Allowed.{IsHistory-push}
+use Rattle.trace_model.proofs.histories.NextEvent.{left_stack}
+use Rattle.trace_model.proofs.histories.NextRecords.{records_left, length-records_with_payload}
+use Rattle.trace_model.proofs.packing.FillFirsts.{first_below, first_rises_to, fill_behind}
+use Rattle.trace_model.proofs.packing.FillCuts.{finished_fill, opens_of-leave}
+use Rattle.trace_model.proofs.words.Overwritten.{place-within}
+use Rattle.trace_model.proofs.words.Places.{Decodes-overwritten}
+use Rattle.trace_model.proofs.packing.PackedHistories.{plain, plain-finished, room_alike, needs_alike, fit_more, is_wished-leave}
+use Rattle.trace_model.proofs.packing.OpenPages.{AreOf-length, bytes_of_place, holds_finished}
 use Rattle.page_image.specs.Contents.{Contents}
 use Rattle.nested_writer.specs.declared.frame.Slot.{Slot}
 use Rattle.nested_writer.specs.declared.frame.Progress.{Progress}

@@ -5,11 +5,11 @@ use Rattle.trace_model.specs.History.{HistoryEvent, leave, wished, Reservation, 
 use Rattle.trace_model.specs.Packing.{opens_of, is_wished}
 use Rattle.trace_model.specs.Fitting.{NeedsFill}
 use Rattle.trace_model.specs.Frames.{Kind, for_record, for_close, FrameState, waiting, left, number_of, pushed_frame, pushed_onto, pushed_of}
-use Rattle.trace_model.proofs.Allowed.{IsHistory-push}
-use Rattle.trace_model.proofs.NextEvent.{left_stack, wished_stack}
-use Rattle.trace_model.proofs.NextRecords.{records_snoc, records_left}
-use Rattle.trace_model.proofs.FillCuts.{opens_of-leave, opens_of-wished}
-use Rattle.trace_model.proofs.PackedHistories.{fit_more, is_wished-leave, is_wished-wished}
+use Rattle.trace_model.proofs.histories.Allowed.{IsHistory-push}
+use Rattle.trace_model.proofs.histories.NextEvent.{left_stack, wished_stack}
+use Rattle.trace_model.proofs.histories.NextRecords.{records_snoc, records_left}
+use Rattle.trace_model.proofs.packing.FillCuts.{opens_of-leave, opens_of-wished}
+use Rattle.trace_model.proofs.packing.PackedHistories.{fit_more, is_wished-leave, is_wished-wished}
 use Rattle.page_image.specs.Contents.{Contents}
 use Rattle.nested_writer.specs.declared.frame.Purpose.TheVariants.{Record, Close}
 use Rattle.nested_writer.specs.declared.frame.Progress.{Progress}

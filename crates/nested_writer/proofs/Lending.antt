@@ -6,7 +6,7 @@ use Rattle.std.proofs.lemmas.Bool.{cond-true, cond-false, ne_eqb, eq-eqb}
 use Rattle.std.proofs.lemmas.Option.{slice_get_within, get_or_from_slice_get}
 use Rattle.trace_model.specs.History.{HistoryEvent, reserved_records}
 use Rattle.trace_model.specs.Reading.{IsPlaceIn}
-use Rattle.trace_model.proofs.Overwritten.{place-within}
+use Rattle.trace_model.proofs.words.Overwritten.{place-within}
 use Rattle.trace_model.specs.Packing.{opens_of, is_wished}
 use Rattle.page_image.specs.Contents.{Contents}
 use Rattle.page_image.specs.Lending.{with_payload}

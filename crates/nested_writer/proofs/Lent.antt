@@ -10,9 +10,9 @@ use Rattle.trace_model.specs.Packing.{opens_of, is_wished}
 use Rattle.trace_model.specs.Words.{slot_len}
 use Rattle.trace_model.specs.Frames.{for_record}
 use Rattle.trace_model.specs.Overwriting.{overwritten, bytes_at}
-use Rattle.trace_model.proofs.Lengths.{slot_len_ge_four}
-use Rattle.trace_model.proofs.Elements.{some_is}
-use Rattle.trace_model.proofs.Overwritten.{place-within}
+use Rattle.trace_model.proofs.words.Lengths.{slot_len_ge_four}
+use Rattle.trace_model.proofs.collections.Elements.{some_is}
+use Rattle.trace_model.proofs.words.Overwritten.{place-within}
 use Rattle.record_words.specs.declared.put.Place.{Place}
 use Rattle.page_image.specs.Contents.{Contents}
 use Rattle.page_image.specs.Lending.{with_payload}

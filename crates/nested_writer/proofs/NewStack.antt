@@ -4,10 +4,10 @@ use Rattle.std.proofs.lemmas.Option.{none-some}
 use Rattle.trace_model.specs.declared.limits.TheConstants.{MAX_SIZE}
 use Rattle.trace_model.specs.Record.{Record}
 use Rattle.trace_model.specs.Reading.{records_in}
-use Rattle.trace_model.proofs.Allowed.{IsHistory-none}
-use Rattle.trace_model.proofs.Appended.{EndsInRecord-nil}
-use Rattle.trace_model.proofs.PackedHistories.{room_none, fit_none}
-use Rattle.trace_model.proofs.OpenPages.{holds_none}
+use Rattle.trace_model.proofs.histories.Allowed.{IsHistory-none}
+use Rattle.trace_model.proofs.words.Appended.{EndsInRecord-nil}
+use Rattle.trace_model.proofs.packing.PackedHistories.{room_none, fit_none}
+use Rattle.trace_model.proofs.packing.OpenPages.{holds_none}
 use Rattle.page_image.specs.Contents.{IsPage}
 use Rattle.nested_writer.specs.Stack.{blank_page, new_stack}
 use Rattle.nested_writer.specs.IsStack.{IsStack}

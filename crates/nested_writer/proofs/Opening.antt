@@ -9,14 +9,14 @@ use Rattle.trace_model.specs.Fitting.{NeedsFill, FitsPage}
 use Rattle.trace_model.specs.Frames.{Kind, for_record, for_close, left, pushed_onto, pushed_of}
 use Rattle.trace_model.specs.OpenPages.{HoldsRecords}
 use Rattle.trace_model.specs.Reading.{records_in}
-use Rattle.trace_model.proofs.Elements.{some_is, get_in_front, get_behind}
-use Rattle.trace_model.proofs.Allowed.{IsHistory-push}
-use Rattle.trace_model.proofs.Appended.{EndsInRecord-nil}
-use Rattle.trace_model.proofs.NextEvent.{opened_stack}
-use Rattle.trace_model.proofs.NextRecords.{records_snoc}
-use Rattle.trace_model.proofs.FillCuts.{IsRising-snoc, opened_before, opened_last, opens_of-open_fill}
-use Rattle.trace_model.proofs.PackedHistories.{room_opened, fit_more, fit_open, is_wished-open_fill}
-use Rattle.trace_model.proofs.OpenPages.{holds_none}
+use Rattle.trace_model.proofs.collections.Elements.{some_is, get_in_front, get_behind}
+use Rattle.trace_model.proofs.histories.Allowed.{IsHistory-push}
+use Rattle.trace_model.proofs.words.Appended.{EndsInRecord-nil}
+use Rattle.trace_model.proofs.histories.NextEvent.{opened_stack}
+use Rattle.trace_model.proofs.histories.NextRecords.{records_snoc}
+use Rattle.trace_model.proofs.packing.FillCuts.{IsRising-snoc, opened_before, opened_last, opens_of-open_fill}
+use Rattle.trace_model.proofs.packing.PackedHistories.{room_opened, fit_more, fit_open, is_wished-open_fill}
+use Rattle.trace_model.proofs.packing.OpenPages.{holds_none}
 use Rattle.page_image.specs.Contents.{Contents, IsPage}
 use Rattle.nested_writer.specs.declared.frame.Slot.{Slot}
 use Rattle.nested_writer.specs.declared.frame.Progress.{Progress}

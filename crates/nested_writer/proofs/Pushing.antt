@@ -6,11 +6,11 @@ use Rattle.trace_model.specs.declared.limits.TheConstants.{MIN_SIZE, MOMENT_LIMI
 use Rattle.trace_model.specs.Words.{slot_len, encoded_len}
 use Rattle.trace_model.specs.History.{HistoryEvent, push, push_close, Reservation, WriterState, PushedFrame, record_frame, close_frame, reserved_records}
 use Rattle.trace_model.specs.Packing.{opens_of, is_wished}
-use Rattle.trace_model.proofs.Allowed.{IsHistory-push}
-use Rattle.trace_model.proofs.NextEvent.{writer_snoc}
-use Rattle.trace_model.proofs.NextRecords.{records_snoc}
-use Rattle.trace_model.proofs.FillCuts.{opens_of-push, opens_of-push_close}
-use Rattle.trace_model.proofs.PackedHistories.{fit_more, is_wished-push, is_wished-push_close}
+use Rattle.trace_model.proofs.histories.Allowed.{IsHistory-push}
+use Rattle.trace_model.proofs.histories.NextEvent.{writer_snoc}
+use Rattle.trace_model.proofs.histories.NextRecords.{records_snoc}
+use Rattle.trace_model.proofs.packing.FillCuts.{opens_of-push, opens_of-push_close}
+use Rattle.trace_model.proofs.packing.PackedHistories.{fit_more, is_wished-push, is_wished-push_close}
 use Rattle.nested_writer.specs.declared.frame.Purpose.{Purpose}
 use Rattle.nested_writer.specs.declared.frame.Purpose.TheVariants.{Record, Close}
 use Rattle.nested_writer.specs.declared.frame.Progress.TheVariants.{Waiting}

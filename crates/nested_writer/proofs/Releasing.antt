@@ -10,12 +10,12 @@ use Rattle.trace_model.specs.Fitting.{tail_at}
 use Rattle.trace_model.specs.Frames.{FrameState, left, pushed_onto, pushed_of}
 use Rattle.trace_model.specs.Ring.{fill_of}
 use Rattle.trace_model.specs.OpenPages.{IsOf, AreOf, HoldsRecords}
-use Rattle.trace_model.proofs.Committed.{whole_front}
-use Rattle.trace_model.proofs.CommittedWritten.{committed-IsWritten}
-use Rattle.trace_model.proofs.FillCuts.{length-cut_from}
-use Rattle.trace_model.proofs.FullFills.{packed_full}
-use Rattle.trace_model.proofs.OpenPages.{AreOf-length, fill_len-some}
-use Rattle.trace_model.proofs.PackedHistories.{is_packed, tail_is}
+use Rattle.trace_model.proofs.histories.Committed.{whole_front}
+use Rattle.trace_model.proofs.histories.CommittedWritten.{committed-IsWritten}
+use Rattle.trace_model.proofs.packing.FillCuts.{length-cut_from}
+use Rattle.trace_model.proofs.packing.FullFills.{packed_full}
+use Rattle.trace_model.proofs.packing.OpenPages.{AreOf-length, fill_len-some}
+use Rattle.trace_model.proofs.packing.PackedHistories.{is_packed, tail_is}
 use Rattle.page_image.specs.Contents.{Contents, records_of_page}
 use Rattle.nested_writer.specs.declared.frame.Frame.{Frame}
 use Rattle.nested_writer.specs.Stack.{Stack, tail_fill, kind_of, state_of, model_frames}

@@ -12,13 +12,13 @@ use Rattle.trace_model.specs.Packing.{opens_of, cut_from, tail_of, fill_len, Fit
 use Rattle.trace_model.specs.Fitting.{IsRising, tail_at}
 use Rattle.trace_model.specs.Frames.{Kind, reserved, pushed_onto, pushed_of}
 use Rattle.trace_model.specs.OpenPages.{HoldsRecords}
-use Rattle.trace_model.proofs.Elements.{get_in_front, get_behind}
-use Rattle.trace_model.proofs.FillCuts.{IsRising-more, reserved_before, reserved_last, opens_of-reserve}
-use Rattle.trace_model.proofs.PackedHistories.{room_reserved, needs_reserved, fit_more, tail_is, wanted_record, is_wished-reserve}
-use Rattle.trace_model.proofs.Allowed.{IsHistory-push}
-use Rattle.trace_model.proofs.NextEvent.{reserved_stack}
-use Rattle.trace_model.proofs.NextRecords.{records_reserved}
-use Rattle.trace_model.proofs.OpenPages.{AreOf-length, holds_put_first, holds_put_behind, fill_len-some, fill_len-first, fill_len-push, encoded_len-slot}
+use Rattle.trace_model.proofs.collections.Elements.{get_in_front, get_behind}
+use Rattle.trace_model.proofs.packing.FillCuts.{IsRising-more, reserved_before, reserved_last, opens_of-reserve}
+use Rattle.trace_model.proofs.packing.PackedHistories.{room_reserved, needs_reserved, fit_more, tail_is, wanted_record, is_wished-reserve}
+use Rattle.trace_model.proofs.histories.Allowed.{IsHistory-push}
+use Rattle.trace_model.proofs.histories.NextEvent.{reserved_stack}
+use Rattle.trace_model.proofs.histories.NextRecords.{records_reserved}
+use Rattle.trace_model.proofs.packing.OpenPages.{AreOf-length, holds_put_first, holds_put_behind, fill_len-some, fill_len-first, fill_len-push, encoded_len-slot}
 use Rattle.page_image.specs.Contents.{Contents, IsPage, records_of_page, is_blank}
 use Rattle.record_words.specs.declared.put.Place.{Place}
 use Rattle.nested_writer.specs.declared.frame.Purpose.{Purpose}

@@ -1,7 +1,7 @@
 -- After any list of calls the stack is what a packed history leaves.
 use Rattle.std.proofs.Common.{ℕ, List, [], ◌∷◌, length, Some, refl, sym, subst}
 use Rattle.trace_model.specs.History.{push, push_close, open_fill, reserve, leave, wished}
-use Rattle.trace_model.proofs.PackedHistories.{is_packed}
+use Rattle.trace_model.proofs.packing.PackedHistories.{is_packed}
 use Rattle.nested_writer.specs.Stack.{Stack}
 use Rattle.nested_writer.specs.Runs.{IsStackCall, begins, begins_close, allots, writes, ends, adds_page, takes_off, asks, writes_at_once, is_refused, IsRun, HoldsLastFills}
 use Rattle.nested_writer.specs.IsStack.{IsStack}

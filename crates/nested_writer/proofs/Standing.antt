@@ -4,7 +4,7 @@ use Rattle.std.proofs.lemmas.Option.{none-some, slice_get_within}
 use Rattle.trace_model.specs.History.{Reservation}
 use Rattle.trace_model.specs.Fitting.{NeedsFill}
 use Rattle.trace_model.specs.Frames.{Kind, FrameState, waiting, left, number_of}
-use Rattle.trace_model.proofs.Elements.{some_is}
+use Rattle.trace_model.proofs.collections.Elements.{some_is}
 use Rattle.page_image.specs.Contents.{Contents}
 use Rattle.nested_writer.specs.declared.frame.Slot.{Slot}
 use Rattle.nested_writer.specs.declared.frame.Progress.{Progress}

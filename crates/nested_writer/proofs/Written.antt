@@ -12,10 +12,10 @@ use Rattle.trace_model.specs.Packing.{opens_of, cut_from, is_wished}
 use Rattle.trace_model.specs.Fitting.{AreFit}
 use Rattle.trace_model.specs.OpenPages.{HoldsRecords}
 use Rattle.trace_model.specs.Reading.{records_in}
-use Rattle.trace_model.proofs.Elements.{some_is}
-use Rattle.trace_model.proofs.Overwritten.{length-overwritten}
-use Rattle.trace_model.proofs.Places.{IsPlaceOf-overwritten}
-use Rattle.trace_model.proofs.OpenPages.{AreOf-length, holds_written}
+use Rattle.trace_model.proofs.collections.Elements.{some_is}
+use Rattle.trace_model.proofs.words.Overwritten.{length-overwritten}
+use Rattle.trace_model.proofs.words.Places.{IsPlaceOf-overwritten}
+use Rattle.trace_model.proofs.packing.OpenPages.{AreOf-length, holds_written}
 use Rattle.page_image.specs.Contents.{Contents}
 use Rattle.page_image.specs.Lending.{with_payload}
 use Rattle.trace_model.specs.Frames.{pushed_of}

@@ -4,8 +4,8 @@ use Rattle.std.specs.List.{enumerate_from}
 use Rattle.std.proofs.lemmas.List.{take_all, drop_all}
 use Rattle.trace_model.specs.Record.{Record}
 use Rattle.trace_model.specs.Reading.{words_in}
-use Rattle.trace_model.proofs.OneWord.{word_at_front-nil}
-use Rattle.trace_model.proofs.Stepped.{words_in-none}
+use Rattle.trace_model.proofs.words.OneWord.{word_at_front-nil}
+use Rattle.trace_model.proofs.words.Stepped.{words_in-none}
 use Rattle.record_words.specs.declared.put.Place.{Place}
 use Rattle.page_image.specs.declared.walk.Reached.{Reached}
 use Rattle.page_image.specs.Walk.{records_held, records_at_place, records_left}

@@ -5,10 +5,10 @@ use Rattle.std.proofs.lemmas.Option.{none-some}
 use Rattle.trace_model.specs.Record.{Record}
 use Rattle.trace_model.specs.Words.{Word, short_data, long_data, padding, time_extend, time_stamp, joined, records_at, records_behind, moment_after, IsJoined}
 use Rattle.trace_model.specs.Reading.{IsData, payload_of, IsPlaceIn}
-use Rattle.trace_model.proofs.Elements.{some_is}
-use Rattle.trace_model.proofs.Appended.{records_at-data}
-use Rattle.trace_model.proofs.Overwritten.{head_of, bytes_of_word-data, place-payload}
-use Rattle.trace_model.proofs.Places.{records_of-count}
+use Rattle.trace_model.proofs.collections.Elements.{some_is}
+use Rattle.trace_model.proofs.words.Appended.{records_at-data}
+use Rattle.trace_model.proofs.words.Overwritten.{head_of, bytes_of_word-data, place-payload}
+use Rattle.trace_model.proofs.words.Places.{records_of-count}
 use Rattle.page_image.specs.Contents.{Contents, IsPage, records_of_page}
 use Rattle.page_borrow.specs.Entries.{entries_of, AllStandInPage}
 

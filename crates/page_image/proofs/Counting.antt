@@ -7,9 +7,9 @@ use Rattle.trace_model.specs.Words.{Word, padding, time_extend, time_stamp, byte
 use Rattle.trace_model.specs.Reading.{IsData, payload_of, records_in}
 use Rattle.trace_model.specs.Faults.{time_overflow}
 use Rattle.trace_model.specs.FirstFault.{FirstFault}
-use Rattle.trace_model.proofs.Lengths.{bytes_of_word_ge}
-use Rattle.trace_model.proofs.Unique.{records_in-Decodes}
-use Rattle.trace_model.proofs.Appended.{FitsTime-nil, FitsTime-push, each-append, moment_after-push, moment_after-stamp, IsData-not_stamp, records_at-data, records_of-push, records_of-push_data}
+use Rattle.trace_model.proofs.words.Lengths.{bytes_of_word_ge}
+use Rattle.trace_model.proofs.words.Unique.{records_in-Decodes}
+use Rattle.trace_model.proofs.words.Appended.{FitsTime-nil, FitsTime-push, each-append, moment_after-push, moment_after-stamp, IsData-not_stamp, records_at-data, records_of-push, records_of-push_data}
 use Rattle.record_words.specs.declared.next.WordFault.{WordFault}
 use Rattle.record_words.specs.declared.next.WordFault.TheVariants.{TimeOverflow}
 use Rattle.record_words.specs.Next.{StandsAt, DataAt, PaddingAt, EndingAt}

@@ -5,9 +5,9 @@ use Rattle.trace_model.specs.Faults.{Cause, cut, bad_length, time_overflow}
 use Rattle.trace_model.specs.FirstFault.{AreBytes, FirstFault}
 use Rattle.trace_model.specs.Image.{le64, from_le64, commit_word, HasHeader, Missed, counted, TellsMissed, DecodesImage, ImageCause, too_short, bad_size, bad_count, bad_word, HasBadSize, HasBadWord, FirstImageFault}
 use Rattle.trace_model.specs.declared.limits.TheConstants.{MAX_IMAGE}
-use Rattle.trace_model.proofs.OneWord.{AreBytes-drop}
-use Rattle.trace_model.proofs.ImageParts.{le64-front, from_le64_lt, HasParts-of}
-use Rattle.trace_model.proofs.Images.{DecodesImage-FirstImageFault, FirstImageFault-unique}
+use Rattle.trace_model.proofs.words.OneWord.{AreBytes-drop}
+use Rattle.trace_model.proofs.images.ImageParts.{le64-front, from_le64_lt, HasParts-of}
+use Rattle.trace_model.proofs.images.Images.{DecodesImage-FirstImageFault, FirstImageFault-unique}
 use Rattle.record_words.specs.declared.next.WordFault.{WordFault}
 use Rattle.record_words.specs.declared.next.WordFault.TheVariants.{Cut, BadLength, TimeOverflow}
 use Rattle.page_image.specs.declared.image.Image.{Image}

@@ -3,8 +3,8 @@ use Rattle.std.proofs.Common.{◌≡◌, ℕ, ◌+◌, ◌-◌, ◌≤◌, List,
 use Rattle.std.proofs.lemmas.List.{take_all, drop_at}
 use Rattle.std.specs.Int.{to_le_bytes, w64}
 use Rattle.trace_model.specs.Image.{le64, commit_word, commit_of, stored_count, image_of}
-use Rattle.trace_model.proofs.ImageParts.{length-le64}
-use Rattle.trace_model.proofs.Images.{length-image_of}
+use Rattle.trace_model.proofs.images.ImageParts.{length-le64}
+use Rattle.trace_model.proofs.images.Images.{length-image_of}
 
 -- all that comes before the zeros
 abbrev parts : ℕ → List ℕ → List ℕ → ℕ → List ℕ

@@ -5,9 +5,9 @@ use Rattle.std.proofs.lemmas.Bool.{cond-true, cond-false, lt-ltb, le-ltb}
 use Rattle.trace_model.specs.Record.{Record}
 use Rattle.trace_model.specs.Words.{Word, short_data, long_data, padding, time_extend, time_stamp, IsWord, delta_of, moment_after, records_at, records_behind, records_of, MovesTime, FitsTime, Decodes}
 use Rattle.trace_model.specs.Reading.{IsData, payload_of, word_at_front, words_in, records_in}
-use Rattle.trace_model.proofs.Unique.{words_in-IsJoined}
-use Rattle.trace_model.proofs.Stepped.{words_in-found, words_in-none}
-use Rattle.trace_model.proofs.Appended.{moment_after-push, moment_after-stamp}
+use Rattle.trace_model.proofs.words.Unique.{words_in-IsJoined}
+use Rattle.trace_model.proofs.words.Stepped.{words_in-found, words_in-none}
+use Rattle.trace_model.proofs.words.Appended.{moment_after-push, moment_after-stamp}
 use Rattle.record_words.specs.Next.{StandsAt, DataAt, PaddingAt, IsFaultAt}
 use Rattle.record_words.specs.declared.put.Place.{Place}
 use Rattle.record_words.specs.declared.next.WordFault.{WordFault}

@@ -6,9 +6,9 @@ use Rattle.trace_model.specs.Words.{Word, Decodes, records_of, records_behind, m
 use Rattle.trace_model.specs.Order.{moment_of_last}
 use Rattle.trace_model.specs.Reading.{IsPlaceIn, EndsInRecord, records_in, payload_of}
 use Rattle.trace_model.specs.Overwriting.{overwritten, bytes_at, IsReplacedAt, IsPlaceOf}
-use Rattle.trace_model.proofs.Unique.{records_in-Decodes, words_in-IsJoined}
-use Rattle.trace_model.proofs.Overwritten.{length-overwritten, overwritten-IsJoined, records_of-around, records_of-replaced, with_payload}
-use Rattle.trace_model.proofs.Places.{words_in-IsPlaceIn, overwritten-reads, EndsInRecord-overwritten, IsPlaceOf-overwritten, Decodes-overwritten, records_in-overwritten_end}
+use Rattle.trace_model.proofs.words.Unique.{records_in-Decodes, words_in-IsJoined}
+use Rattle.trace_model.proofs.words.Overwritten.{length-overwritten, overwritten-IsJoined, records_of-around, records_of-replaced, with_payload}
+use Rattle.trace_model.proofs.words.Places.{words_in-IsPlaceIn, overwritten-reads, EndsInRecord-overwritten, IsPlaceOf-overwritten, Decodes-overwritten, records_in-overwritten_end}
 use Rattle.page_image.specs.Contents.{Contents, IsPage, is_blank, records_of_page}
 use Rattle.page_image.specs.Lending.{PayloadWritten}
 use Rattle.page_image.proofs.Putting.{place_of}

@@ -8,11 +8,11 @@ use Rattle.trace_model.specs.Record.{Record}
 use Rattle.trace_model.specs.Words.{Word, short_data, long_data, time_extend, bytes_of_word, IsWord, joined, data_word, written_words, encoding, encoded_len, slot_len, Decodes, records_of, moment_after, delta_of}
 use Rattle.trace_model.specs.Reading.{IsData, payload_of, records_in, EndsInRecord, IsPlaceIn}
 use Rattle.trace_model.specs.Order.{moment_of_last, EndsAt}
-use Rattle.trace_model.proofs.Lengths.{slot_len_ge_four, slot_len-mod, bytes_of_word_ge}
-use Rattle.trace_model.proofs.Unique.{records_in-Decodes, words_in-IsJoined}
-use Rattle.trace_model.proofs.Appended.{data_word-delta, moment_after-push, moment_after-last, Decodes-first, Decodes-appended, EndsInRecord-first, EndsInRecord-appended, moment_of_last-push, IsJoined-whole, records_of-push_data, each-append, written-each, data_word-IsWord}
+use Rattle.trace_model.proofs.words.Lengths.{slot_len_ge_four, slot_len-mod, bytes_of_word_ge}
+use Rattle.trace_model.proofs.words.Unique.{records_in-Decodes, words_in-IsJoined}
+use Rattle.trace_model.proofs.words.Appended.{data_word-delta, moment_after-push, moment_after-last, Decodes-first, Decodes-appended, EndsInRecord-first, EndsInRecord-appended, moment_of_last-push, IsJoined-whole, records_of-push_data, each-append, written-each, data_word-IsWord}
 use Rattle.trace_model.specs.Overwriting.{IsPlaceOf}
-use Rattle.trace_model.proofs.Places.{IsPlaceOf-appended, IsPlaceOf-first, IsPlaceOf-new}
+use Rattle.trace_model.proofs.words.Places.{IsPlaceOf-appended, IsPlaceOf-first, IsPlaceOf-new}
 use Rattle.record_words.specs.declared.put.Place.{Place}
 use Rattle.page_image.specs.Contents.{Contents, IsPage, records_of_page, is_blank}
 use Rattle.page_image.specs.Putting.{HasPut}

@@ -5,11 +5,11 @@ use Rattle.std.proofs.lemmas.List.Concat.{flat_map-append}
 use Rattle.trace_model.specs.Record.{Record}
 use Rattle.trace_model.specs.Words.{Word, bytes_of_word, IsWord, joined, Decodes}
 use Rattle.trace_model.specs.Reading.{IsData, payload_of, word_at_front, words_in, IsPlaceIn}
-use Rattle.trace_model.proofs.Stepped.{words_in-none}
-use Rattle.trace_model.proofs.Appended.{each-append}
-use Rattle.trace_model.proofs.Overwritten.{head_of_ge}
-use Rattle.trace_model.proofs.Places.{place-start, place-stop, length-joined_split, words_in-IsPlaceIn}
-use Rattle.trace_model.proofs.Walked.{words_in-behind, place-beside, place-here, IsPlaceOf-read}
+use Rattle.trace_model.proofs.words.Stepped.{words_in-none}
+use Rattle.trace_model.proofs.words.Appended.{each-append}
+use Rattle.trace_model.proofs.words.Overwritten.{head_of_ge}
+use Rattle.trace_model.proofs.words.Places.{place-start, place-stop, length-joined_split, words_in-IsPlaceIn}
+use Rattle.trace_model.proofs.words.Walked.{words_in-behind, place-beside, place-here, IsPlaceOf-read}
 use Rattle.record_words.specs.declared.put.Place.{Place}
 use Rattle.record_words.specs.declared.next.WordFault.{WordFault}
 use Rattle.record_words.specs.declared.next.WordFault.TheVariants.{Cut, BadLength, TimeOverflow}

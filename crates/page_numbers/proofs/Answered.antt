@@ -4,7 +4,7 @@ use Rattle.trace_model.specs.Faults.{cut, bad_length, time_overflow}
 use Rattle.trace_model.specs.Image.{too_short, bad_size, bad_count, bad_word}
 use Rattle.trace_model.specs.Parcel.{Parcel}
 use Rattle.trace_model.specs.ParcelBytes.{DecodesParcel, ParcelCause, bad_cpu, bad_image, number_overflow, missed_too_many, missed_differs, FirstParcelFault}
-use Rattle.trace_model.proofs.Parcels.{DecodesParcel-FirstParcelFault, DecodesParcel-unique, FirstParcelFault-unique}
+use Rattle.trace_model.proofs.images.Parcels.{DecodesParcel-FirstParcelFault, DecodesParcel-unique, FirstParcelFault-unique}
 use Rattle.record_words.specs.declared.next.WordFault.TheVariants.{Cut, BadLength, TimeOverflow}
 use Rattle.page_image.specs.declared.image.ImageFault.TheVariants.{TooShort, BadSize, BadCount, Word, NoMemory as MemoryThere}
 use Rattle.page_numbers.specs.declared.fault.ParcelFault.{ParcelFault}

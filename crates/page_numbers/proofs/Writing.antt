@@ -1,7 +1,7 @@
 -- The bytes of a parcel, part by part.
 use Rattle.std.proofs.Common.{◌≡◌, ℕ, ◌+◌, ◌-◌, ◌≤◌, List, ◌++◌, length, replicate, arith, length-append, Result, Ok, Err, IfOk, IfErr, OnOk}
 use Rattle.trace_model.specs.Image.{le64, commit_word, commit_of, stored_count, filled, image_of}
-use Rattle.trace_model.proofs.ImageParts.{length-le64}
+use Rattle.trace_model.proofs.images.ImageParts.{length-le64}
 
 -- an image that is as long as its page's size says holds all of the data
 pub contents_fit : (time : ℕ) (contents : List ℕ) (missed size : ℕ) → length (image_of time contents missed size) ≡ 16 + size → length contents ≤ size

@@ -78,8 +78,8 @@ impl Parcel {
         })
     }
 
-    /// A copy of the page as a parcel of this CPU, with `missed` numbers missing before its records. The copy is as long
-    /// as the page's data, so it has no room that isn't used.
+    /// A copy of the page as a parcel of this CPU, with `missed` numbers missing before its records. The copy is as
+    /// long as the page's data, so it has no room that isn't used.
     pub fn fitted(alloc: Global, cpu: CpuId, page: &Page, missed: u64) -> Result<Parcel, NoMemory>
         requires page { IsPage page.now }
         requires cpu { cpu.0 < MAX_CPUS }

@@ -3,7 +3,7 @@ use Rattle.std.proofs.Common.{◌≡◌, ℕ, ◌+◌, ◌-◌, ◌*◌, ◌/◌
 use Rattle.std.proofs.lemmas.List.{take_at, drop_at, drop-drop, drop-append-le, take-append-drop, drop-replicate, length-replicate, replicate-append-replicate}
 use borrow.Rule.Slice.PartMut.{put_mid}
 use Rattle.trace_model.specs.Words.{le32, first_word, slot_len, padded, data_word, bytes_of_word}
-use Rattle.trace_model.proofs.Lengths.{length-padded, slot_len_ge, slot_len_ge_four}
+use Rattle.trace_model.proofs.words.Lengths.{length-padded, slot_len_ge, slot_len_ge_four}
 use Rattle.record_words.specs.Puts.{Puts}
 use Rattle.record_words.proofs.Headers.{length-le32, puts_part, puts_behind, bytes-data_word, data_header-short}
 

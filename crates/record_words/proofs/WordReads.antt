@@ -6,9 +6,9 @@ use Rattle.trace_model.specs.Words.{Word, bytes_of_word, short_data, long_data, 
 use Rattle.trace_model.specs.Reading.{from_le32, word_at_front, IsData, payload_of}
 use Rattle.trace_model.specs.Faults.{Cause, cut, bad_length, type_at_front, delta_at_front, number_behind, CountsWords, StatesLength, HasHighBits, HasGoodLength, IsWordFault, HasWord, HasEnding}
 use Rattle.trace_model.specs.FirstFault.{AreBytes}
-use Rattle.trace_model.proofs.Lengths.{bytes_of_word_ge}
-use Rattle.trace_model.proofs.OneWord.{AreBytes-drop, from_le32-take, word_at_front-found}
-use Rattle.trace_model.proofs.WordFaults.{front-fault, head_whole, length_good, short_good, front-short, front-long, front-padding, front-extend, front-stamp, front-ending, HasEnding-from_head, HasWord-some, HasWord-HasFault, HasEnding-HasFault, IsWordFault-same}
+use Rattle.trace_model.proofs.words.Lengths.{bytes_of_word_ge}
+use Rattle.trace_model.proofs.words.OneWord.{AreBytes-drop, from_le32-take, word_at_front-found}
+use Rattle.trace_model.proofs.words.WordFaults.{front-fault, head_whole, length_good, short_good, front-short, front-long, front-padding, front-extend, front-stamp, front-ending, HasEnding-from_head, HasWord-some, HasWord-HasFault, HasEnding-HasFault, IsWordFault-same}
 use Rattle.record_words.specs.Next.{StandsAt, DataAt, PaddingAt, EndingAt, FaultyAt, IsRead, IsFaultAt}
 use Rattle.record_words.specs.declared.next.Word.{Word as Told}
 use Rattle.record_words.specs.declared.next.Word.TheVariants.{Data, Pad, End, Extend, Stamp}

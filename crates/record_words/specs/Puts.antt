@@ -8,7 +8,8 @@ use Rattle.record_words.specs.declared.format.TheConstants.{SHORT_LIMIT, MAX_PAY
 abbrev pub Puts : List ℕ → List ℕ → List ℕ → Type 0
 Puts old new bytes = new ≡ bytes ++ drop (length bytes) old
 
--- a record with a payload of len bytes, this long after the one before it or the first of its page, fits in this many bytes
+-- A record with a payload of len bytes fits in this many bytes. It is the first of its page, or `delta` nanoseconds
+-- after the one before it.
 pub record FitsIn (bytes delta : ℕ) (first : Bool) (len : ℕ) : Type 0 where
   pub short : len ≤ MAX_PAYLOAD
   pub in_time : (first ≡ true) ⊎ (delta < MOMENT_LIMIT)

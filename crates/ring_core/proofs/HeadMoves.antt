@@ -7,7 +7,7 @@ use Rattle.trace_model.specs.Frames as model
 use Rattle.trace_model.specs.Frames.{Frame, noted_fill}
 use Rattle.trace_model.specs.Ring.{Core, link_into, links_with}
 use Rattle.trace_model.specs.Steps as model_steps
-use Rattle.trace_model.proofs.StepCases as cases
+use Rattle.trace_model.proofs.steps.StepCases as cases
 use Rattle.trace_model.specs.Steps.{MayOpen}
 use Rattle.link_marks.specs.declared.link.Mark.{Mark}
 use Rattle.link_marks.specs.declared.link.Mark.TheVariants.{Normal, Header, Update}
@@ -16,9 +16,9 @@ use Rattle.link_marks.specs.KeptLinks.{PhaseKept, LinksKept}
 use Rattle.link_marks.specs.KeptProgress.{FramesAdvance, PhaseAdvances, ProgressKept}
 use Rattle.link_marks.specs.RingKept.{IsRingKept}
 use Rattle.link_marks.specs.Seats.{PhaseIsPrivate}
-use Rattle.link_marks.proofs.Positions.{link_turn}
-use Rattle.link_marks.proofs.LinkFills.{normal_tells, header_tells, update_tells, owned_by}
-use Rattle.link_marks.proofs.FrameChanges.{top_kept}
+use Rattle.link_marks.proofs.links.Positions.{link_turn}
+use Rattle.link_marks.proofs.links.LinkFills.{normal_tells, header_tells, update_tells, owned_by}
+use Rattle.link_marks.proofs.links.FrameChanges.{top_kept}
 use Rattle.nested_writer.specs.Stack.{opened}
 use Rattle.ring_frames.specs.declared.answer.Answer.TheVariants.{Going}
 use Rattle.ring_frames.specs.declared.phase.Role.{Role}

@@ -6,8 +6,8 @@ use Rattle.trace_model.specs.Frames as model
 use Rattle.trace_model.specs.Frames.{Frame, noted_fill}
 use Rattle.trace_model.specs.Ring.{Core}
 use Rattle.trace_model.specs.Steps.{Answer, steps, in_phase}
-use Rattle.trace_model.proofs.StepCases.{FrameStep, frame_step}
-use Rattle.trace_model.proofs.StepIs.{step_by}
+use Rattle.trace_model.proofs.steps.StepCases.{FrameStep, frame_step}
+use Rattle.trace_model.proofs.steps.StepIs.{step_by}
 use Rattle.ring_frames.specs.declared.answer.Answer as code
 use Rattle.ring_frames.specs.declared.phase.Phase.{Phase}
 use Rattle.ring_frames.specs.Value.{phase_of}

@@ -4,11 +4,11 @@ use Rattle.trace_model.specs.declared.limits.TheConstants.{LINK_FILLS}
 use Rattle.trace_model.specs.Links.{Link, header_link, normal_link, update_link}
 use Rattle.trace_model.specs.Ring as ring
 use Rattle.trace_model.specs.Steps as model
-use Rattle.trace_model.proofs.StepCases as cases
-use Rattle.trace_model.proofs.StepIs.{step_by}
+use Rattle.trace_model.proofs.steps.StepCases as cases
+use Rattle.trace_model.proofs.steps.StepIs.{step_by}
 use Rattle.link_marks.specs.KeptLinks.{ReaderKept, LinkKept, is_normal, is_header, is_update, LinksKept}
-use Rattle.link_marks.proofs.LinkFills.{fill_at, normal_tells}
-use Rattle.link_marks.proofs.Positions.{at_position}
+use Rattle.link_marks.proofs.links.LinkFills.{fill_at, normal_tells}
+use Rattle.link_marks.proofs.links.Positions.{at_position}
 use Rattle.ring_frames.specs.declared.answer.Answer.{Answer}
 use Rattle.ring_frames.specs.declared.answer.Answer.TheVariants.{Looking, Empty, Moving, Wished}
 use Rattle.ring_frames.specs.declared.reader.Reader.{Reader}

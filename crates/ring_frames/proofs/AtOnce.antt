@@ -8,10 +8,10 @@ use Rattle.trace_model.specs.Packing.{tail_of, FitsBehind}
 use Rattle.trace_model.specs.Frames.{for_record, waiting, reserved, left, idle, pushed_of, Frame as ModelFrame}
 use Rattle.trace_model.specs.Ring.{Core}
 use Rattle.trace_model.specs.Steps as model
-use Rattle.trace_model.proofs.StepCases as cases
-use Rattle.trace_model.proofs.Lengths.{length-padded, slot_len-slot_len}
-use Rattle.trace_model.proofs.NextEvent.{reserved_stack}
-use Rattle.trace_model.proofs.StepIs.{step_by}
+use Rattle.trace_model.proofs.steps.StepCases as cases
+use Rattle.trace_model.proofs.words.Lengths.{length-padded, slot_len-slot_len}
+use Rattle.trace_model.proofs.histories.NextEvent.{reserved_stack}
+use Rattle.trace_model.proofs.steps.StepIs.{step_by}
 use Rattle.nested_writer.specs.declared.frame.Purpose.TheVariants.{Record}
 use Rattle.nested_writer.specs.declared.frame.Progress.TheVariants.{Left}
 use Rattle.nested_writer.specs.declared.frame.Frame.{Frame}

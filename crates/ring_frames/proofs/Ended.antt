@@ -9,10 +9,10 @@ use Rattle.trace_model.specs.Packing.{opens_of, is_wished}
 use Rattle.trace_model.specs.Frames.{for_record, number_of, Frame as ModelFrame}
 use Rattle.trace_model.specs.Ring.{Core}
 use Rattle.trace_model.specs.Steps as model
-use Rattle.trace_model.proofs.StepCases as cases
-use Rattle.trace_model.proofs.Lengths.{slot_len-slot_len}
-use Rattle.trace_model.proofs.Overwritten.{place-within}
-use Rattle.trace_model.proofs.StepIs.{step_by}
+use Rattle.trace_model.proofs.steps.StepCases as cases
+use Rattle.trace_model.proofs.words.Lengths.{slot_len-slot_len}
+use Rattle.trace_model.proofs.words.Overwritten.{place-within}
+use Rattle.trace_model.proofs.steps.StepIs.{step_by}
 use Rattle.page_image.specs.Contents.{Contents}
 use Rattle.nested_writer.specs.declared.fault.WriteFault.{WriteFault}
 use Rattle.nested_writer.specs.declared.fault.WriteFault.TheVariants.{NoFrame, NotReserved}

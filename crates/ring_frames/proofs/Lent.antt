@@ -9,7 +9,7 @@ use Rattle.trace_model.specs.Overwriting.{bytes_at}
 use Rattle.trace_model.specs.Frames.{for_record, Frame as ModelFrame}
 use Rattle.trace_model.specs.History.{HistoryEvent}
 use Rattle.trace_model.specs.Ring.{Core}
-use Rattle.trace_model.proofs.Overwritten.{place-within}
+use Rattle.trace_model.proofs.words.Overwritten.{place-within}
 use Rattle.record_words.specs.declared.put.Place.{Place}
 use Rattle.page_image.specs.Contents.{Contents}
 use Rattle.page_image.specs.Lending.{with_payload}

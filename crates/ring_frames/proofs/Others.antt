@@ -10,8 +10,8 @@ use Rattle.trace_model.specs.Overwriting.{overwritten, bytes_at, IsPlaceOf}
 use Rattle.trace_model.specs.History.{HistoryEvent, reserved_records}
 use Rattle.trace_model.specs.Packing.{opens_of, is_wished}
 use Rattle.trace_model.specs.Frames.{number_of}
-use Rattle.trace_model.proofs.Overwritten.{place-within}
-use Rattle.trace_model.proofs.Places.{same_place, earlier, later, places-apart}
+use Rattle.trace_model.proofs.words.Overwritten.{place-within}
+use Rattle.trace_model.proofs.words.Places.{same_place, earlier, later, places-apart}
 use Rattle.page_image.specs.Contents.{Contents}
 use Rattle.page_image.specs.Lending.{with_payload}
 use Rattle.nested_writer.specs.declared.frame.Slot.{Slot}

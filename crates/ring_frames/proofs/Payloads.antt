@@ -8,9 +8,9 @@ use Rattle.trace_model.specs.Words.{Word, data_word, time_extend, bytes_of_word,
 use Rattle.trace_model.specs.Overwriting.{bytes_at}
 use Rattle.trace_model.specs.History.{HistoryEvent, Reservation, reserve, reserved_records}
 use Rattle.trace_model.specs.Packing.{opens_of, is_wished}
-use Rattle.trace_model.proofs.Elements.{get_in_front, get_behind}
-use Rattle.trace_model.proofs.Appended.{data_word-IsData, data_word-payload}
-use Rattle.trace_model.proofs.Overwritten.{head_of, bytes_of_word-data, place-within}
+use Rattle.trace_model.proofs.collections.Elements.{get_in_front, get_behind}
+use Rattle.trace_model.proofs.words.Appended.{data_word-IsData, data_word-payload}
+use Rattle.trace_model.proofs.words.Overwritten.{head_of, bytes_of_word-data, place-within}
 use Rattle.page_image.specs.Contents.{Contents, is_blank}
 use Rattle.record_words.specs.declared.put.Place.{Place}
 use Rattle.nested_writer.specs.declared.fault.WriteFault.{WriteFault}

@@ -5,12 +5,12 @@ use Rattle.trace_model.specs.History.{HistoryEvent}
 use Rattle.trace_model.specs.Frames.{left, noted_fill, Frame}
 use Rattle.trace_model.specs.Ring.{Core, PageRecords, page_at, fill_of}
 use Rattle.trace_model.specs.Steps as model
-use Rattle.trace_model.proofs.StepCases as cases
-use Rattle.trace_model.proofs.StepIs.{step_by}
+use Rattle.trace_model.proofs.steps.StepCases as cases
+use Rattle.trace_model.proofs.steps.StepIs.{step_by}
 use Rattle.link_marks.specs.RingKept.{IsRingKept}
-use Rattle.link_marks.proofs.StackSteps.{releasing_left}
-use Rattle.link_marks.proofs.FrameChanges.{top_kept}
-use Rattle.link_marks.proofs.FramePhases.{none_some}
+use Rattle.link_marks.proofs.frames.StackSteps.{releasing_left}
+use Rattle.link_marks.proofs.links.FrameChanges.{top_kept}
+use Rattle.link_marks.proofs.links.FramePhases.{none_some}
 use Rattle.page_image.specs.Contents.{Contents}
 use Rattle.nested_writer.specs.declared.frame.Progress.TheVariants.{Left}
 use Rattle.nested_writer.specs.declared.frame.Frame as stack

@@ -8,9 +8,9 @@ use Rattle.trace_model.specs.Packing.{tail_of, FitsBehind}
 use Rattle.trace_model.specs.Frames.{for_record, FrameState, waiting, reserved, left, idle, looking, Frame as ModelFrame}
 use Rattle.trace_model.specs.Ring.{PageRecords, Core}
 use Rattle.trace_model.specs.Steps as model
-use Rattle.trace_model.proofs.StepCases as cases
-use Rattle.trace_model.proofs.StepIs.{step_by}
-use Rattle.link_marks.proofs.StackSteps.{top_agrees}
+use Rattle.trace_model.proofs.steps.StepCases as cases
+use Rattle.trace_model.proofs.steps.StepIs.{step_by}
+use Rattle.link_marks.proofs.frames.StackSteps.{top_agrees}
 use Rattle.link_marks.specs.Seats.{IsPrivate}
 use Rattle.record_words.specs.declared.put.Place.{Place}
 use Rattle.nested_writer.specs.declared.fault.WriteFault.{WriteFault}

@@ -3,8 +3,8 @@ use Rattle.std.proofs.Common.{◌≡◌, ℕ, List, [], ◌∷◌, Option, Some,
 use Rattle.trace_model.specs.Frames.{Kind, for_record, for_close, FrameState, waiting, reserved, left, Phase, idle, looking, claiming, looking_next, marking, clearing, opening, releasing, wishing, Frame}
 use Rattle.trace_model.specs.Ring.{Core}
 use Rattle.trace_model.specs.Steps as model
-use Rattle.trace_model.proofs.StepCases as cases
-use Rattle.trace_model.proofs.StepSound.{cases_of}
+use Rattle.trace_model.proofs.steps.StepCases as cases
+use Rattle.trace_model.proofs.steps.StepSound.{cases_of}
 use Rattle.nested_writer.specs.declared.frame.Purpose.{Purpose}
 use Rattle.nested_writer.specs.declared.frame.Purpose.TheVariants.{Record, Close}
 use Rattle.nested_writer.specs.declared.frame.Frame as stack

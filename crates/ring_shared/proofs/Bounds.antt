@@ -5,8 +5,8 @@ use Rattle.trace_model.specs.Frames.{Phase, noted_fill}
 use Rattle.link_marks.specs.KeptLinks.{PhaseKept}
 use Rattle.link_marks.specs.SeenLinks.{HasSeenLink, HaveSeenLinks}
 use Rattle.link_marks.specs.KeptProgress.{PhaseAdvances, FramesAdvance}
-use Rattle.link_marks.proofs.FrameChanges.{top_kept}
-use Rattle.link_marks.proofs.SeenLinks.{frames_have_seen_links}
+use Rattle.link_marks.proofs.links.FrameChanges.{top_kept}
+use Rattle.link_marks.proofs.links.SeenLinks.{frames_have_seen_links}
 use Rattle.nested_writer.specs.Stack.{opened}
 use Rattle.ring_steps.specs.Views.{Writing}
 use Rattle.ring_frames.specs.Value.{phase_of}

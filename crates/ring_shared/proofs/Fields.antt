@@ -8,7 +8,7 @@ use Rattle.link_marks.specs.ModelLinks.{link_of}
 use Rattle.link_marks.specs.declared.link.Link.{Link}
 use Rattle.link_marks.specs.declared.link.Mark.{Mark}
 use Rattle.link_marks.specs.declared.link.Mark.TheVariants.{Normal, Header, Update}
-use Rattle.link_marks.proofs.RingsKept.{reached_kept}
+use Rattle.link_marks.proofs.partition.RingsKept.{reached_kept}
 use Rattle.ring_frames.specs.ReaderPhases.{reader_phase_of}
 use Rattle.ring_frames.specs.declared.reader.Reader.{Reader}
 use Rattle.ring_steps.specs.declared.rule.Shape.{Shape}

@@ -4,8 +4,8 @@ use Rattle.std.proofs.Common.{◌≡◌, ◌≢◌, ℕ, suc, List, ◌∷◌, l
 use Rattle.trace_model.specs.Frames.{Refusal, Kind, FrameState, number_of, Frame}
 use Rattle.trace_model.specs.Steps as model
 use Rattle.link_marks.specs.FrameOutcomes.{IsReserving, IsLeaving, Reserving, reserves_on, has_reserved, is_refused as refused_to, Leaving, leaves_on, is_gone as gone_from}
-use Rattle.link_marks.proofs.RingsKept.{reached_kept}
-use Rattle.link_marks.proofs.FrameOutcomes.{frames_reserve, frames_leave}
+use Rattle.link_marks.proofs.partition.RingsKept.{reached_kept}
+use Rattle.link_marks.proofs.frames.FrameOutcomes.{frames_reserve, frames_leave}
 use Rattle.nested_writer.specs.declared.fault.WriteFault.{WriteFault}
 use Rattle.ring_frames.specs.declared.answer.Answer.{Answer}
 use Rattle.ring_frames.specs.declared.answer.Answer.TheVariants.{Pushed, Going, Reserved, Ended, Gone, Refused, Looking, Empty, Moving, Taken, Wished}

@@ -3,7 +3,7 @@ use Rattle.std.proofs.Common.{◌≡◌, ℕ, zero, suc, ◌+◌, ◌<◌, List,
 use Rattle.std.proofs.lemmas.List.{ext_get_or}
 use Rattle.trace_model.specs.History.{as_record, reserved_records}
 use Rattle.trace_model.specs.Ring.{Reader}
-use Rattle.link_marks.proofs.OneNewRing.{new_ring_is_one}
+use Rattle.link_marks.proofs.partition.OneNewRing.{new_ring_is_one}
 use Rattle.ring_steps.specs.declared.rule.Shape.{Shape}
 use Rattle.ring_steps.specs.Views.{Reading}
 use Rattle.ring_steps.specs.NewRings.{IsShape, counted, first_reading}

@@ -3,7 +3,7 @@ use Rattle.std.proofs.Common.{◌≡◌, ◌≢◌, ℕ, List, [], Some, refl, s
 use Rattle.trace_model.specs.Frames.{Phase as ModelPhase, Frame, noted_fill}
 use Rattle.trace_model.specs.Ring.{Core}
 use Rattle.trace_model.specs.Steps as model
-use Rattle.trace_model.proofs.StepCases as cases
+use Rattle.trace_model.proofs.steps.StepCases as cases
 use Rattle.ring_steps.specs.Views.{Writing, writing_of}
 use Rattle.ring_steps.specs.Seats.{IsWriterStep}
 use Rattle.ring_frames.specs.declared.phase.Phase.{Phase}
@@ -13,7 +13,7 @@ use Rattle.ring_frames.specs.Value.{phase_of}
 use Rattle.ring_frames.specs.Steps.{GoesOnIn, IsNotedIn}
 use Rattle.ring_shared.specs.Value.{WriterValue}
 use Rattle.ring_shared.specs.Calls.{IsWriter, AreWriterFields, MakesSome}
-use Rattle.link_marks.proofs.TopSteps.{top_stepped}
+use Rattle.link_marks.proofs.frames.TopSteps.{top_stepped}
 use Rattle.ring_shared.proofs.Standing.{frames_like, frames_in, top_in, made}
 
 -- the step of the frame on top in a phase makes of the writer's part that the frame goes on in another

@@ -4,7 +4,7 @@ use Rattle.trace_model.specs.Links.{Mark, normal, header, update, Link, normal_l
 use Rattle.trace_model.specs.Frames.{Role, owner, helper, Phase, claiming, looking_next, marking, opening, looking, Frame, noted_fill}
 use Rattle.trace_model.specs.Ring.{Core, link_into}
 use Rattle.trace_model.specs.Steps.{Answer, MayOpen, in_phase, after_next}
-use Rattle.trace_model.proofs.StepCases.{LoadLinkStep, load_link_late, sees_free, sees_header, sees_update, ClaimHeadStep, claim_late, claims, claim_fails, LoadNextStep, load_next_late, sees_normal, sees_other, MarkHeadStep, mark_late, marks, mark_fails, ClearUpdateStep, clears}
+use Rattle.trace_model.proofs.steps.StepCases.{LoadLinkStep, load_link_late, sees_free, sees_header, sees_update, ClaimHeadStep, claim_late, claims, claim_fails, LoadNextStep, load_next_late, sees_normal, sees_other, MarkHeadStep, mark_late, marks, mark_fails, ClearUpdateStep, clears}
 use Rattle.link_marks.specs.declared.link.Mark as code
 use Rattle.link_marks.specs.declared.link.Mark.TheVariants.{Normal, Header, Update}
 use Rattle.link_marks.specs.ModelLinks.{mark_of}

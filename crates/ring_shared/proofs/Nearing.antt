@@ -6,8 +6,8 @@ use Rattle.trace_model.specs.Ring.{Core}
 use Rattle.trace_model.specs.Steps as model
 use Rattle.link_marks.specs.Reached.{IsReached}
 use Rattle.link_marks.specs.WriterRanks.{writer_rank}
-use Rattle.link_marks.proofs.RingsKept.{reached_kept}
-use Rattle.link_marks.proofs.WriterEnds.{writer_steps_lower}
+use Rattle.link_marks.proofs.partition.RingsKept.{reached_kept}
+use Rattle.link_marks.proofs.seats.WriterEnds.{writer_steps_lower}
 use Rattle.ring_frames.specs.declared.answer.Answer.{Answer}
 use Rattle.ring_steps.specs.declared.rule.Shape.{Shape}
 use Rattle.ring_steps.specs.Views.{Writing, writing_of}

@@ -4,10 +4,10 @@ use Rattle.trace_model.specs.Record.{Record}
 use Rattle.trace_model.specs.History.{as_record, reserved_records}
 use Rattle.trace_model.specs.Ring as ring
 use Rattle.trace_model.specs.Steps as model
-use Rattle.trace_model.proofs.StepCases as cases
-use Rattle.trace_model.proofs.StepIs.{step_by}
-use Rattle.link_marks.proofs.RingsKept.{reached_further}
-use Rattle.link_marks.proofs.StepsDetermined.{steps_are_determined}
+use Rattle.trace_model.proofs.steps.StepCases as cases
+use Rattle.trace_model.proofs.steps.StepIs.{step_by}
+use Rattle.link_marks.proofs.partition.RingsKept.{reached_further}
+use Rattle.link_marks.proofs.steps.StepsDetermined.{steps_are_determined}
 use Rattle.page_image.specs.Contents.{records_of_page}
 use Rattle.ring_steps.specs.declared.rule.Shape.{Shape}
 use Rattle.ring_steps.specs.Views.{Reading}

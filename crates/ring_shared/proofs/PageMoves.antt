@@ -3,8 +3,8 @@ use Rattle.std.proofs.Common.{◌≡◌, ◌≢◌, ℕ, List, [], ◌∷◌, �
 use Rattle.trace_model.specs.Frames.{Kind, for_record, for_close, FrameState, waiting, reserved, left, opening, Frame}
 use Rattle.trace_model.specs.Ring.{Core, PageRecords, fill_of}
 use Rattle.trace_model.specs.Steps as model
-use Rattle.trace_model.proofs.StepCases as cases
-use Rattle.link_marks.proofs.StepsDetermined.{steps_are_determined}
+use Rattle.trace_model.proofs.steps.StepCases as cases
+use Rattle.link_marks.proofs.steps.StepsDetermined.{steps_are_determined}
 use Rattle.page_image.specs.Contents.{Contents}
 use Rattle.nested_writer.specs.Released.{IsWrittenPage}
 use Rattle.ring_steps.specs.Views.{Writing}
@@ -17,7 +17,7 @@ use Rattle.ring_frames.specs.Answers.{IsAnswerOf}
 use Rattle.ring_frames.specs.Fills.{OpensFill, Releases, released_in, LooksForWish, told_in}
 use Rattle.ring_shared.specs.Value.{WriterValue}
 use Rattle.ring_shared.specs.Calls.{IsWriter, AreWriterFields, MakesSome}
-use Rattle.link_marks.proofs.TopSteps.{top_stepped}
+use Rattle.link_marks.proofs.frames.TopSteps.{top_stepped}
 use Rattle.ring_shared.proofs.Standing.{FramesIn, kept_now, frames_in, top_in, made}
 
 -- a frame that begins again keeps the writer's pages

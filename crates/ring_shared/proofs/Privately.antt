@@ -3,14 +3,14 @@
 use Rattle.std.proofs.Common.{◌≡◌, ℕ, [], ◌∷◌, refl, sym, ap, ◌∙◌, subst}
 use Rattle.trace_model.specs.Ring.{Core}
 use Rattle.trace_model.specs.Steps as model
-use Rattle.trace_model.proofs.StepSound.{cases_of}
+use Rattle.trace_model.proofs.steps.StepSound.{cases_of}
 use Rattle.link_marks.specs.Reached.{IsReached}
 use Rattle.link_marks.specs.RingLaws.{MayAsk}
 use Rattle.link_marks.specs.Seats.{WriterStays, PhaseIsPrivate, IsPrivate}
-use Rattle.link_marks.proofs.PrivateAlike.{private_computed}
-use Rattle.link_marks.proofs.PrivateSteps.{private_result, changes_privately}
-use Rattle.link_marks.proofs.RingsKept.{reached_kept, reached_further}
-use Rattle.link_marks.proofs.StepsGiven.{each_event_is_a_step}
+use Rattle.link_marks.proofs.seats.PrivateAlike.{private_computed}
+use Rattle.link_marks.proofs.seats.PrivateSteps.{private_result, changes_privately}
+use Rattle.link_marks.proofs.partition.RingsKept.{reached_kept, reached_further}
+use Rattle.link_marks.proofs.steps.StepsGiven.{each_event_is_a_step}
 use Rattle.nested_writer.specs.Stack.{opened}
 use Rattle.ring_frames.specs.declared.answer.Answer.{Answer}
 use Rattle.ring_frames.specs.Value.{phase_of}

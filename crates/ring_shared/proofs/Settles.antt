@@ -8,8 +8,8 @@ use Rattle.trace_model.specs.Partition.{Piece, IsPartition}
 use Rattle.trace_model.specs.Ring.{Reader, IsTaken, fill_of, AreFillsOf}
 use Rattle.link_marks.specs.KeptPartition.{pieces_of}
 use Rattle.link_marks.specs.RingKept.{IsRingKept}
-use Rattle.link_marks.proofs.RingsKept.{reached_kept, reached_ring}
-use Rattle.link_marks.proofs.SettledRest.{tail_is_the_rest}
+use Rattle.link_marks.proofs.partition.RingsKept.{reached_kept, reached_ring}
+use Rattle.link_marks.proofs.partition.SettledRest.{tail_is_the_rest}
 use Rattle.page_image.specs.Contents.{Contents, records_of_page}
 use Rattle.nested_writer.specs.IsStack.{IsStack}
 use Rattle.nested_writer.specs.Released.{IsWrittenPage}

@@ -7,15 +7,15 @@ use Rattle.trace_model.specs.History.{as_record, reserved_records}
 use Rattle.trace_model.specs.Links.{Link, normal_link, header_link, update_link}
 use Rattle.trace_model.specs.Ring.{Core, Reader, ReaderPhase, loading_link, loading_done, storing_link, swapping, link_into}
 use Rattle.trace_model.specs.Steps as model
-use Rattle.trace_model.proofs.StepCases as cases
-use Rattle.trace_model.proofs.StepIs.{step_by}
+use Rattle.trace_model.proofs.steps.StepCases as cases
+use Rattle.trace_model.proofs.steps.StepIs.{step_by}
 use Rattle.link_marks.specs.KeptLinks.{ReaderKept}
 use Rattle.link_marks.specs.RingKept.{IsRingKept}
-use Rattle.link_marks.proofs.AnswersRight.{passed_below, moving_right}
-use Rattle.link_marks.proofs.LinkFills.{fill_at, normal_tells, header_tells}
-use Rattle.link_marks.proofs.Positions.{at_position, one_position}
-use Rattle.link_marks.proofs.RingsKept.{reached_kept, reached_further}
-use Rattle.link_marks.proofs.StepsDetermined.{steps_are_determined}
+use Rattle.link_marks.proofs.frames.AnswersRight.{passed_below, moving_right}
+use Rattle.link_marks.proofs.links.LinkFills.{fill_at, normal_tells, header_tells}
+use Rattle.link_marks.proofs.links.Positions.{at_position, one_position}
+use Rattle.link_marks.proofs.partition.RingsKept.{reached_kept, reached_further}
+use Rattle.link_marks.proofs.steps.StepsDetermined.{steps_are_determined}
 use Rattle.ring_steps.specs.declared.rule.Shape.{Shape}
 use Rattle.ring_steps.specs.Views.{Reading}
 use Rattle.ring_steps.specs.Seats.{IsReaderStep}

@@ -3,15 +3,15 @@ use Rattle.std.proofs.Common.{◌≡◌, ◌≢◌, ℕ, List, [], ◌∷◌, le
 use Rattle.trace_model.specs.Frames.{Kind, for_record, for_close, FrameState, waiting, reserved, left, Phase as ModelPhase, idle, releasing, Frame, no_frame}
 use Rattle.trace_model.specs.Ring.{Core}
 use Rattle.trace_model.specs.Steps as model
-use Rattle.trace_model.proofs.StepCases as cases
+use Rattle.trace_model.proofs.steps.StepCases as cases
 use Rattle.trace_model.specs.Steps.{Step}
-use Rattle.trace_model.proofs.StepCases.{ReleaseFillStep, releases, releases_last}
-use Rattle.trace_model.proofs.EventSteps.{no_top_step}
+use Rattle.trace_model.proofs.steps.StepCases.{ReleaseFillStep, releases, releases_last}
+use Rattle.trace_model.proofs.steps.EventSteps.{no_top_step}
 use Rattle.link_marks.specs.FrameOutcomes.{IsLeaving}
 use Rattle.link_marks.specs.KeptStack.{MayBeIn}
-use Rattle.link_marks.proofs.RingsKept.{reached_kept}
-use Rattle.link_marks.proofs.StackSteps.{top_agrees, wishing_left}
-use Rattle.link_marks.proofs.TopSteps.{top_stepped}
+use Rattle.link_marks.proofs.partition.RingsKept.{reached_kept}
+use Rattle.link_marks.proofs.frames.StackSteps.{top_agrees, wishing_left}
+use Rattle.link_marks.proofs.frames.TopSteps.{top_stepped}
 use Rattle.nested_writer.specs.declared.frame.Frame as stack
 use Rattle.nested_writer.specs.Calls.{top_of}
 use Rattle.ring_frames.specs.declared.answer.Answer.{Answer}

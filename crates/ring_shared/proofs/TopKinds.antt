@@ -3,9 +3,9 @@ use Rattle.std.proofs.Common.{◌≡◌, ◌≢◌, ℕ, ◌⊎◌, List, [], �
 use Rattle.trace_model.specs.Frames.{Kind, for_record, for_close, FrameState, waiting, reserved, left, Refusal, crowded, worn, owner, helper, Phase, idle, looking, claiming, looking_next, marking, clearing, opening, releasing, wishing, Frame}
 use Rattle.trace_model.specs.History.{reserved_records}
 use Rattle.trace_model.specs.Ring.{Core}
-use Rattle.link_marks.proofs.TopSteps.{top_stepped}
+use Rattle.link_marks.proofs.frames.TopSteps.{top_stepped}
 use Rattle.trace_model.specs.Steps.{steps, Step, Answer, going, gone, refused, reserved_as, leave_answer, frames_after_leave, after_next, begin_answer, after_begin, with_new_tail, closing_phase}
-use Rattle.trace_model.proofs.StepCases.{BeginsAgain, IdleStep, reserves, finds_nothing, is_crowded, is_worn, notes, FrameStep, load_link_late, sees_free, sees_header, sees_update, claim_late, claims, claim_fails, load_next_late, sees_normal, sees_other, mark_late, marks, mark_fails, clears, open_late, opens, releases, releases_last, grants, closes_more, goes_away}
+use Rattle.trace_model.proofs.steps.StepCases.{BeginsAgain, IdleStep, reserves, finds_nothing, is_crowded, is_worn, notes, FrameStep, load_link_late, sees_free, sees_header, sees_update, claim_late, claims, claim_fails, load_next_late, sees_normal, sees_other, mark_late, marks, mark_fails, clears, open_late, opens, releases, releases_last, grants, closes_more, goes_away}
 
 pub data TopStep (frame : Frame) (below : List Frame) (answer : Answer) (after : List Frame) : Type 0 where
   stays : (next : Frame)

@@ -6,11 +6,11 @@ use Rattle.trace_model.specs.Packing.{IsPacked}
 use Rattle.trace_model.specs.History.{IsHistory, HistoryEvent, push, reserve, leave, Reservation, reservation_for, record_frame, records_with_payload, WriterState, writer_after, reserved_records}
 use Rattle.trace_model.specs.Frames.{Kind, for_record, for_close, FrameState, waiting, left, Refusal, Frame}
 use Rattle.trace_model.specs.Steps as model
-use Rattle.trace_model.proofs.HistoryPrefixes.{writer-append}
-use Rattle.trace_model.proofs.StepSound.{cases_of}
+use Rattle.trace_model.proofs.histories.HistoryPrefixes.{writer-append}
+use Rattle.trace_model.proofs.steps.StepSound.{cases_of}
 use Rattle.link_marks.specs.FrameOutcomes.{IsReserving, IsLeaving}
-use Rattle.link_marks.proofs.PackedRuns.{runs_packed}
-use Rattle.link_marks.proofs.RingsKept.{reached_kept}
+use Rattle.link_marks.proofs.contents.PackedRuns.{runs_packed}
+use Rattle.link_marks.proofs.partition.RingsKept.{reached_kept}
 use Rattle.nested_writer.specs.declared.fault.WriteFault.{WriteFault}
 use Rattle.nested_writer.specs.declared.stack.leave.Ended.{Ended as How}
 use Rattle.nested_writer.specs.declared.stack.leave.Ended.TheVariants.{Pending, Full}

@@ -7,8 +7,8 @@ use Rattle.atomic_table.specs.Table.{takes, Allows, Splits}
 use Rattle.atomic_table.proofs.Lists.{set_else}
 use Rattle.trace_model.specs.Ring.{Core, page_at}
 use Rattle.link_marks.specs.RingKept.{IsRingKept}
-use Rattle.link_marks.proofs.PageChanges.{pages_differ}
-use Rattle.link_marks.proofs.RingsKept.{reached_kept}
+use Rattle.link_marks.proofs.contents.PageChanges.{pages_differ}
+use Rattle.link_marks.proofs.partition.RingsKept.{reached_kept}
 use Rattle.ring_steps.specs.declared.rule.Shape.{Shape}
 use Rattle.ring_steps.specs.Views.{Writing, writing_of, Reading, SeatView, laid, whole, writes, reads, writing, passed, reading, ArePlaced, made, running}
 use Rattle.ring_steps.specs.Shown.{Homes, IsHome, HasBody, AreHomes, IsShown, Shows}

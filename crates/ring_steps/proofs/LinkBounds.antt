@@ -9,15 +9,15 @@ use Rattle.trace_model.specs.Links.{Link, word_of, update_link, FitsWord}
 use Rattle.trace_model.specs.Frames.{Phase, marking, clearing, Frame, noted_fill, owned_update}
 use Rattle.trace_model.specs.Ring.{Core, link_into}
 use Rattle.trace_model.specs.Steps.{Answer}
-use Rattle.trace_model.proofs.StepCases.{ClearUpdateStep, clears}
-use Rattle.trace_model.proofs.LinkWords.{word_tells}
+use Rattle.trace_model.proofs.steps.StepCases.{ClearUpdateStep, clears}
+use Rattle.trace_model.proofs.words.LinkWords.{word_tells}
 use Rattle.link_marks.specs.KeptLinks.{spot, passed_spot}
 use Rattle.link_marks.specs.RingKept.{IsRingKept}
 use Rattle.link_marks.specs.Reached.{IsReached}
-use Rattle.link_marks.proofs.FrameChanges.{top_kept}
-use Rattle.link_marks.proofs.PageChanges.{page_below}
-use Rattle.link_marks.proofs.TopSteps.{top_stepped}
-use Rattle.link_marks.proofs.RingsKept.{reached_kept}
+use Rattle.link_marks.proofs.links.FrameChanges.{top_kept}
+use Rattle.link_marks.proofs.contents.PageChanges.{page_below}
+use Rattle.link_marks.proofs.frames.TopSteps.{top_stepped}
+use Rattle.link_marks.proofs.partition.RingsKept.{reached_kept}
 use Rattle.ring_steps.specs.declared.rule.Shape.{Shape}
 use Rattle.ring_steps.specs.Views.{Writing, writing_of}
 use Rattle.ring_steps.specs.Seats.{Leads, IsWriterStep}

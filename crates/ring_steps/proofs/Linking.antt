@@ -13,19 +13,19 @@ use Rattle.trace_model.specs.Links.{Link, word_of, normal_link, header_link, upd
 use Rattle.trace_model.specs.Frames.{Role, owner, helper, Phase, looking, claiming, looking_next, marking, clearing, opening, wishing, Frame, noted_fill}
 use Rattle.trace_model.specs.Ring.{Core, link_into, links_with, page_at}
 use Rattle.trace_model.specs.Steps.{steps, going, Answer, MayOpen, after_next, in_phase, with_head_claimed, with_link, contents_of, Step}
-use Rattle.trace_model.proofs.StepCases.{LoadLinkStep, load_link_late, sees_free, sees_header, sees_update, ClaimHeadStep, claim_late, claims, claim_fails, LoadNextStep, load_next_late, sees_normal, sees_other, MarkHeadStep, mark_late, marks, mark_fails, ClearUpdateStep, clears, LoadWishStep, grants, closes_more, goes_away}
-use Rattle.trace_model.proofs.LinkWords.{word_tells}
+use Rattle.trace_model.proofs.steps.StepCases.{LoadLinkStep, load_link_late, sees_free, sees_header, sees_update, ClaimHeadStep, claim_late, claims, claim_fails, LoadNextStep, load_next_late, sees_normal, sees_other, MarkHeadStep, mark_late, marks, mark_fails, ClearUpdateStep, clears, LoadWishStep, grants, closes_more, goes_away}
+use Rattle.trace_model.proofs.words.LinkWords.{word_tells}
 use Rattle.link_marks.specs.KeptLinks.{passed_spot}
 use Rattle.link_marks.specs.RingKept.{IsRingKept}
 use Rattle.link_marks.specs.Reached.{IsReached}
-use Rattle.link_marks.proofs.Positions.{page_turn}
-use Rattle.link_marks.proofs.FrameChanges.{top_kept}
-use Rattle.link_marks.proofs.LinksFit.{links_fit_words}
-use Rattle.link_marks.proofs.PrivateSteps.{IsPrivateOf}
-use Rattle.link_marks.proofs.SeenLinks.{claims_fail_behind_the_head}
-use Rattle.link_marks.proofs.TopSteps.{top_stepped}
-use Rattle.link_marks.proofs.RingsKept.{reached_kept, reached_further}
-use Rattle.link_marks.proofs.StepsGiven.{each_event_is_a_step}
+use Rattle.link_marks.proofs.links.Positions.{page_turn}
+use Rattle.link_marks.proofs.links.FrameChanges.{top_kept}
+use Rattle.link_marks.proofs.links.LinksFit.{links_fit_words}
+use Rattle.link_marks.proofs.seats.PrivateSteps.{IsPrivateOf}
+use Rattle.link_marks.proofs.links.SeenLinks.{claims_fail_behind_the_head}
+use Rattle.link_marks.proofs.frames.TopSteps.{top_stepped}
+use Rattle.link_marks.proofs.partition.RingsKept.{reached_kept, reached_further}
+use Rattle.link_marks.proofs.steps.StepsGiven.{each_event_is_a_step}
 use Rattle.ring_steps.specs.declared.rule.Shape.{Shape}
 use Rattle.ring_steps.specs.Views.{Writing, writing_of, Reading, writing, passed}
 use Rattle.ring_steps.specs.Shown.{page_word, page_before, AreWords, Homes}

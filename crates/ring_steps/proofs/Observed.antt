@@ -5,12 +5,12 @@ use Rattle.trace_model.specs.History.{HistoryEvent, as_record, reserved_records}
 use Rattle.trace_model.specs.Window.{history_events_of}
 use Rattle.trace_model.specs.Ring.{Core}
 use Rattle.trace_model.specs.Steps.{Event, Answer, Step}
-use Rattle.trace_model.proofs.Committed.{committed_len, committed_len-more}
-use Rattle.trace_model.proofs.StepSound.{cases_of}
+use Rattle.trace_model.proofs.histories.Committed.{committed_len, committed_len-more}
+use Rattle.trace_model.proofs.steps.StepSound.{cases_of}
 use Rattle.link_marks.specs.RingKept.{IsRingKept}
-use Rattle.link_marks.proofs.PartitionChanges.{frozen}
-use Rattle.link_marks.proofs.PartitionSteps.{settled}
-use Rattle.link_marks.proofs.ToldSteps.{leads_step}
+use Rattle.link_marks.proofs.partition.PartitionChanges.{frozen}
+use Rattle.link_marks.proofs.partition.PartitionSteps.{settled}
+use Rattle.link_marks.proofs.histories.ToldSteps.{leads_step}
 
 -- the first of the reserved records, as they are by now
 abbrev pub first_records : ℕ → List HistoryEvent → List Record

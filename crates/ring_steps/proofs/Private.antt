@@ -2,14 +2,14 @@
 use Rattle.std.proofs.Common.{◌≡◌, ◌≢◌, ℕ, ◌+◌, ◌<◌, ◌≤◌, List, [], ◌∷◌, length, slice_index_or, sym, ap, ◌∙◌, subst, arith}
 use Rattle.trace_model.specs.Ring.{Core, page_at}
 use Rattle.trace_model.specs.Steps.{contents_of, Event, Answer, Exchange, Step}
-use Rattle.trace_model.proofs.StepSound.{cases_of}
+use Rattle.trace_model.proofs.steps.StepSound.{cases_of}
 use Rattle.link_marks.specs.RingKept.{IsRingKept}
 use Rattle.link_marks.specs.Reached.{IsReached}
 use Rattle.link_marks.specs.Seats.{PrivateRun}
-use Rattle.link_marks.proofs.PageChanges.{pages_differ}
-use Rattle.link_marks.proofs.PrivateSteps.{private_result, changes_privately, IsPrivateOf}
-use Rattle.link_marks.proofs.SeatPages.{private_leaves_other_pages}
-use Rattle.link_marks.proofs.RingsKept.{reached_kept, reached_further}
+use Rattle.link_marks.proofs.contents.PageChanges.{pages_differ}
+use Rattle.link_marks.proofs.seats.PrivateSteps.{private_result, changes_privately, IsPrivateOf}
+use Rattle.link_marks.proofs.seats.SeatPages.{private_leaves_other_pages}
+use Rattle.link_marks.proofs.partition.RingsKept.{reached_kept, reached_further}
 use Rattle.ring_steps.specs.Views.{Reading}
 use Rattle.ring_steps.specs.Shown.{Homes, IsHome, AreWords, AreHomes, IsReading, IsShown}
 use Rattle.ring_steps.proofs.Observed.{first_records, observed_stays}

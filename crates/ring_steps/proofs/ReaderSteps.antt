@@ -4,11 +4,11 @@ use Rattle.std.proofs.Common.{◌≡◌, ℕ, ◌+◌, List, refl, sym, ap, ◌�
 use Rattle.atomic_table.specs.Table.{keeps}
 use Rattle.trace_model.specs.Ring.{Core, ReaderPhase, storing_link, swapping, Reader, AreApart}
 use Rattle.trace_model.specs.Steps.{wishes, wished_for, with_wish, Step}
-use Rattle.trace_model.proofs.StepCases.{store_wish_step}
-use Rattle.trace_model.proofs.StepIs.{step_by}
+use Rattle.trace_model.proofs.steps.StepCases.{store_wish_step}
+use Rattle.trace_model.proofs.steps.StepIs.{step_by}
 use Rattle.link_marks.specs.KeptLinks.{ReaderKept}
 use Rattle.link_marks.specs.RingKept.{IsRingKept}
-use Rattle.link_marks.proofs.RingsKept.{reached_kept, reached_further}
+use Rattle.link_marks.proofs.partition.RingsKept.{reached_kept, reached_further}
 use Rattle.ring_steps.specs.declared.rule.Shape.{Shape}
 use Rattle.ring_steps.specs.Views.{Reading, reading}
 use Rattle.ring_steps.specs.Shown.{Homes, IsReading, IsShown}

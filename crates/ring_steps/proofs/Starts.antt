@@ -16,8 +16,8 @@ use Rattle.trace_model.specs.Links.{Link, word_of, normal_link}
 use Rattle.trace_model.specs.Ring.{Core, Reader, IsStart, link_into, page_at}
 use Rattle.link_marks.specs.FirstLinks.{IsFirstLink}
 use Rattle.link_marks.specs.Reached.{IsReached}
-use Rattle.link_marks.proofs.Positions.{at_position, apart}
-use Rattle.link_marks.proofs.OneNewRing.{new_ring_is_one}
+use Rattle.link_marks.proofs.links.Positions.{at_position, apart}
+use Rattle.link_marks.proofs.partition.OneNewRing.{new_ring_is_one}
 use Rattle.page_image.specs.Contents.{Contents}
 use Rattle.ring_steps.specs.declared.rule.Shape.{Shape}
 use Rattle.ring_steps.specs.Views.{Writing, writing_of, laid, ArePlaced, begun}

@@ -17,12 +17,12 @@ use Rattle.trace_model.specs.Links.{word_of, normal_link, header_link, FitsWord}
 use Rattle.trace_model.specs.Packing.{first_of_fill}
 use Rattle.trace_model.specs.Ring.{PageRecords, Core, ReaderPhase, loading_link, swapping, Reader, link_into, fill_of}
 use Rattle.trace_model.specs.Steps as model
-use Rattle.trace_model.proofs.StepCases as cases
+use Rattle.trace_model.proofs.steps.StepCases as cases
 use Rattle.trace_model.specs.Steps.{contents_of}
-use Rattle.trace_model.proofs.LinkWords.{word_tells}
+use Rattle.trace_model.proofs.words.LinkWords.{word_tells}
 use Rattle.link_marks.specs.KeptLinks.{Spot, spot, ReaderKept}
 use Rattle.link_marks.specs.RingKept.{IsRingKept}
-use Rattle.link_marks.proofs.RecordCounts.{records_few}
+use Rattle.link_marks.proofs.contents.RecordCounts.{records_few}
 use Rattle.page_image.specs.Contents.{Contents, records_of_page}
 use Rattle.nested_writer.specs.Released.{IsWrittenPage}
 use Rattle.ring_steps.specs.declared.rule.Shape.{Shape}

@@ -16,16 +16,16 @@ use Rattle.trace_model.specs.History.{as_record, reserved_records}
 use Rattle.trace_model.specs.Links.{Link, word_of, normal_link, header_link, FitsWord}
 use Rattle.trace_model.specs.Ring.{Core, ReaderPhase, loading_link, loading_done, storing_link, swapping, Reader, AreApart, link_into, page_at}
 use Rattle.trace_model.specs.Steps as model
-use Rattle.trace_model.proofs.StepCases as cases
-use Rattle.trace_model.proofs.StepCases.{loads_header, loads_update, loads_owed, loads_passed, push_step, push_refused, close_step, close_refused, frame_step, frame_lacks, end_step, end_lacks, end_early, read_step, store_wish_step}
-use Rattle.trace_model.proofs.StepSound.{cases_of}
-use Rattle.trace_model.proofs.StepIs.{step_by}
+use Rattle.trace_model.proofs.steps.StepCases as cases
+use Rattle.trace_model.proofs.steps.StepCases.{loads_header, loads_update, loads_owed, loads_passed, push_step, push_refused, close_step, close_refused, frame_step, frame_lacks, end_step, end_lacks, end_early, read_step, store_wish_step}
+use Rattle.trace_model.proofs.steps.StepSound.{cases_of}
+use Rattle.trace_model.proofs.steps.StepIs.{step_by}
 use Rattle.link_marks.specs.RingKept.{IsRingKept}
 use Rattle.link_marks.specs.Seats.{IsOfReader}
-use Rattle.link_marks.proofs.LinksFit.{links_fit_words}
-use Rattle.link_marks.proofs.RingsKept.{reached_kept, reached_further}
-use Rattle.link_marks.proofs.SeatSteps.{reader_leaves_writer}
-use Rattle.link_marks.proofs.StepsGiven.{each_event_is_a_step}
+use Rattle.link_marks.proofs.links.LinksFit.{links_fit_words}
+use Rattle.link_marks.proofs.partition.RingsKept.{reached_kept, reached_further}
+use Rattle.link_marks.proofs.seats.SeatSteps.{reader_leaves_writer}
+use Rattle.link_marks.proofs.steps.StepsGiven.{each_event_is_a_step}
 use Rattle.page_image.specs.Contents.{Contents}
 use Rattle.ring_steps.specs.declared.rule.Shape.{Shape}
 use Rattle.ring_steps.specs.Views.{Reading, reading, reads}

@@ -6,8 +6,8 @@ use Rattle.trace_model.specs.Record.{Record}
 use Rattle.trace_model.specs.Parcel.{Parcel}
 use Rattle.trace_model.specs.Collection.{Has, Misses, Agree, IsBelow, IsSame}
 use Rattle.trace_model.specs.Ring.{Core}
-use Rattle.trace_model.proofs.Collections.{below_more, below_below, below_both}
-use Rattle.trace_model.proofs.Joined.{below_agrees}
+use Rattle.trace_model.proofs.collections.Collections.{below_more, below_below, below_both}
+use Rattle.trace_model.proofs.collections.Joined.{below_agrees}
 use Rattle.link_marks.specs.Reached.{IsReached}
 use Rattle.world_model.specs.World.{parcel_of}
 use Rattle.world_model.specs.Headline.{IsExact}

@@ -5,8 +5,8 @@ use Rattle.std.specs.List.{slice_get}
 use Rattle.std.proofs.lemmas.Option.{slice_get_within, slice_get-get_or}
 use Rattle.std.proofs.lemmas.List.Elements.{Contains-append_cases}
 use Rattle.trace_model.specs.Parcel.{Parcel}
-use Rattle.trace_model.proofs.Collections.{same_back, same_same, same_parcels}
-use Rattle.trace_model.proofs.Joined.{joined_least}
+use Rattle.trace_model.proofs.collections.Collections.{same_back, same_same, same_parcels}
+use Rattle.trace_model.proofs.collections.Joined.{joined_least}
 use Rattle.text_model.specs.Script.{Script}
 use Rattle.text_model.specs.ScriptLimits.{IsWithinLimits}
 use Rattle.world_model.specs.World.{World}

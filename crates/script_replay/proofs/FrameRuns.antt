@@ -7,7 +7,7 @@ use Rattle.trace_model.specs.Frames.{Frame, no_frame}
 use Rattle.trace_model.specs.Ring.{Core}
 use Rattle.trace_model.specs.Steps as model
 use Rattle.trace_model.specs.Steps.{steps, refused, Step, Exchange}
-use Rattle.trace_model.proofs.StepSound.{cases_of}
+use Rattle.trace_model.proofs.steps.StepSound.{cases_of}
 use Rattle.text_model.specs.Log as text
 use Rattle.text_model.specs.Script.{step_frame, finish_frame}
 use Rattle.link_marks.specs.Reached.{IsReached}

@@ -4,9 +4,9 @@ use Rattle.std.proofs.lemmas.List.{length-map, length-reverse}
 use Rattle.trace_model.specs.Frames.{FrameState, waiting, reserved, left, Frame}
 use Rattle.trace_model.specs.Ring.{Reader, Core}
 use Rattle.trace_model.specs.Steps.{Event, Answer, Step}
-use Rattle.trace_model.proofs.StepSound.{cases_of}
+use Rattle.trace_model.proofs.steps.StepSound.{cases_of}
 use Rattle.link_marks.specs.Seats.{IsOfReader}
-use Rattle.link_marks.proofs.SeatSteps.{writer_leaves_reader}
+use Rattle.link_marks.proofs.seats.SeatSteps.{writer_leaves_reader}
 use Rattle.world_model.specs.Lanes.{Lane, FitFrames, lane_behind, event_in, event_on_top}
 use Rattle.world_model.specs.World.{parcel_of}
 use Rattle.world_model.proofs.FramesMove.{PushesNone, step_moves}

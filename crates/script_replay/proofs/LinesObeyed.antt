@@ -9,9 +9,9 @@ use mathlib.Core.Logic.{dite}
 use native.Mathlib.Decide.{ℕ_discrete}
 use Rattle.trace_model.specs.Parcel.{Parcel}
 use Rattle.trace_model.specs.Collection.{IsSame, Agree}
-use Rattle.trace_model.proofs.Elements.{some_is}
-use Rattle.trace_model.proofs.Collections.{below_itself, below_below, below_both, same_itself, same_same, same_joined}
-use Rattle.trace_model.proofs.Joined.{joined_left, joined_below}
+use Rattle.trace_model.proofs.collections.Elements.{some_is}
+use Rattle.trace_model.proofs.collections.Collections.{below_itself, below_below, below_both, same_itself, same_same, same_joined}
+use Rattle.trace_model.proofs.collections.Joined.{joined_left, joined_below}
 use Rattle.text_model.specs.Log as model
 use Rattle.text_model.specs.Log.{no_page, delivery_line}
 use Rattle.text_model.specs.Script.{Command, deliver, Script}

@@ -8,13 +8,13 @@ use Rattle.trace_model.specs.Partition.{Piece, IsPartition, first_of}
 use Rattle.trace_model.specs.Ring.{Taken, Core}
 use Rattle.trace_model.specs.Steps as model
 use Rattle.trace_model.specs.Steps.{Event, swapped, Step}
-use Rattle.trace_model.proofs.Elements.{some_is, get_behind}
+use Rattle.trace_model.proofs.collections.Elements.{some_is, get_behind}
 use Rattle.link_marks.specs.RingKept.{IsRingKept}
 use Rattle.link_marks.specs.KeptPartition.{piece_of, pieces_of, covered_total, PartitionAt}
-use Rattle.link_marks.proofs.AnswersRight.{swapped_right}
-use Rattle.link_marks.proofs.PartitionLemmas.{first_new, covered_total-snoc}
-use Rattle.link_marks.proofs.RecordCounts.{numbers_fit}
-use Rattle.link_marks.proofs.RingsKept.{ring_step}
+use Rattle.link_marks.proofs.frames.AnswersRight.{swapped_right}
+use Rattle.link_marks.proofs.partition.PartitionLemmas.{first_new, covered_total-snoc}
+use Rattle.link_marks.proofs.contents.RecordCounts.{numbers_fit}
+use Rattle.link_marks.proofs.partition.RingsKept.{ring_step}
 use Rattle.page_image.specs.Contents.{records_of_page}
 use Rattle.ring_frames.specs.declared.answer.Answer.{Answer}
 use Rattle.ring_frames.specs.declared.answer.Answer.TheVariants.{Pushed, Going, Reserved, Ended, Gone, Refused, Looking, Empty, Moving, Taken as IsTaken, Wished}

@@ -1,7 +1,7 @@
 -- The commands that are kept in fewer bytes: how many they are, one more, and one of them.
 use Rattle.std.proofs.Common.{◌≡◌, ℕ, zero, suc, ◌+◌, List, [], ◌∷◌, ◌++◌, length, Option, Some, None, IfSome, refl, sym, ap, ◌∙◌, arith, append-nil, length-append}
 use Rattle.std.specs.List.{slice_get}
-use Rattle.trace_model.proofs.Elements.{some_is}
+use Rattle.trace_model.proofs.collections.Elements.{some_is}
 use Rattle.trace_script.specs.declared.kept.KeptLine.{KeptLine}
 use Rattle.trace_script.specs.declared.kept_lines.ShortLine.{ShortLine}
 use Rattle.trace_script.specs.ShortLines.{widened, widened_from, all_lines}

@@ -16,18 +16,18 @@ use Rattle.trace_model.specs.Parcel.{Parcel, IsMissingOf}
 use Rattle.trace_model.specs.Collection.{Has}
 use Rattle.trace_model.specs.Ring.{PageRecords, Taken, Core, window_of}
 use Rattle.trace_model.specs.Window.{RingEvent, first_window}
-use Rattle.trace_model.proofs.Elements.{some_is}
-use Rattle.trace_model.proofs.FillFirsts.{first_below, first_rises_to}
-use Rattle.trace_model.proofs.FillOfNumber.{LiesIn, lies_in, ends_before}
-use Rattle.trace_model.proofs.FirstNumbers.{own_records, own_or_skipped}
+use Rattle.trace_model.proofs.collections.Elements.{some_is}
+use Rattle.trace_model.proofs.packing.FillFirsts.{first_below, first_rises_to}
+use Rattle.trace_model.proofs.packing.FillOfNumber.{LiesIn, lies_in, ends_before}
+use Rattle.trace_model.proofs.collections.FirstNumbers.{own_records, own_or_skipped}
 use Rattle.link_marks.specs.KeptPartition.{piece_of, pieces_of}
 use Rattle.link_marks.specs.Reached.{IsReached}
 use Rattle.link_marks.specs.RingKept.{IsRingKept}
 use Rattle.link_marks.specs.ToldRuns.{fills_taken, fills_lost, numbers_of, IsToldBy}
-use Rattle.link_marks.proofs.RingsKept.{ring_start, reached_kept, taken_partition}
-use Rattle.link_marks.proofs.PackedRuns.{runs_packed}
-use Rattle.link_marks.proofs.TakenHoldRecords.{taken_hold}
-use Rattle.link_marks.proofs.WindowRuns.{passed_by, lost_closed}
+use Rattle.link_marks.proofs.partition.RingsKept.{ring_start, reached_kept, taken_partition}
+use Rattle.link_marks.proofs.contents.PackedRuns.{runs_packed}
+use Rattle.link_marks.proofs.contents.TakenHoldRecords.{taken_hold}
+use Rattle.link_marks.proofs.histories.WindowRuns.{passed_by, lost_closed}
 use Rattle.world_model.specs.World.{parcel_of}
 use Rattle.world_model.specs.Headline.{pieces_in, IsWholeFill, StandsIn, IsOverwrittenBefore, IsCut, IsOneOf, IsExact}
 use Rattle.world_model.specs.RunEvents.{IsRunToldBy}

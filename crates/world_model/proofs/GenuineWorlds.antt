@@ -8,13 +8,13 @@ use Rattle.trace_model.specs.Record.{Record}
 use Rattle.trace_model.specs.Partition.{Piece, IsPartition, first_of}
 use Rattle.trace_model.specs.Parcel.{Parcel, IsGenuine, AreGenuine}
 use Rattle.trace_model.specs.Collection.{Agree, IsLeastUpperBound}
-use Rattle.trace_model.proofs.Joined.{below_agrees, joined_least}
-use Rattle.trace_model.proofs.Collections.{below_more}
-use Rattle.trace_model.proofs.Genuine.{genuine_agree}
+use Rattle.trace_model.proofs.collections.Joined.{below_agrees, joined_least}
+use Rattle.trace_model.proofs.collections.Collections.{below_more}
+use Rattle.trace_model.proofs.collections.Genuine.{genuine_agree}
 use Rattle.text_model.specs.Script.{Command, Script}
 use Rattle.text_model.specs.ScriptLimits.{IsWithinLimits}
 use Rattle.link_marks.specs.KeptPartition.{pieces_of}
-use Rattle.link_marks.proofs.RingsKept.{reached_kept}
+use Rattle.link_marks.proofs.partition.RingsKept.{reached_kept}
 use Rattle.world_model.specs.World.{World, WorldBehind}
 use Rattle.world_model.specs.Headline.{parcels_from, piece_in, pieces_in, IsGenuineWorld}
 use Rattle.world_model.proofs.Lookups.{contains_at, get_map}

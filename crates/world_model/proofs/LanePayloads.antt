@@ -4,10 +4,10 @@ use Rattle.trace_model.specs.Words.{slot_len, padded}
 use Rattle.trace_model.specs.Frames.{Kind, for_record, FrameState, waiting, reserved, left, Frame}
 use Rattle.trace_model.specs.Ring.{Core}
 use Rattle.trace_model.specs.Steps.{Event, pushes, pushes_close, steps, ends, reads, wishes, Answer, pushed, going, reserved_as, pending, full, gone, refused, reading, empty, moving, swapped, wished_for, Step, Exchange}
-use Rattle.trace_model.proofs.StepCases.{StepCases, push_step, push_refused, close_step, close_refused, frame_step, frame_lacks, end_step, end_lacks, end_early, read_step, store_wish_step}
+use Rattle.trace_model.proofs.steps.StepCases.{StepCases, push_step, push_refused, close_step, close_refused, frame_step, frame_lacks, end_step, end_lacks, end_early, read_step, store_wish_step}
 use Rattle.text_model.specs.Script.{Command, begin_frame, step_frame, finish_frame, write, close, step_reader, take_page, wish, deliver}
-use Rattle.trace_model.proofs.Lengths.{slot_len-slot_len, length-padded}
-use Rattle.trace_model.proofs.StepSound.{cases_of}
+use Rattle.trace_model.proofs.words.Lengths.{slot_len-slot_len, length-padded}
+use Rattle.trace_model.proofs.steps.StepSound.{cases_of}
 use Rattle.link_marks.specs.RingLaws.{MayAsk}
 use Rattle.world_model.specs.Lanes.{Lane, IsNewLane, lane_behind, payloads_left, payloads_with, FitsKind, FitFrames, HasPayloads, event_in, event_on_top, FrameRun, StepsFrame, lacks_to_step, steps_on, FinishesFrame, lacks_to_finish, finishes, PushesFrame, FinishesPushed, WritesFrame, ReaderRun, LineRun}
 use Rattle.world_model.proofs.FramesMove.{Moves, stays, changes, pops, PushesNone, step_moves}

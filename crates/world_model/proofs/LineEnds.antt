@@ -7,9 +7,9 @@ use Rattle.trace_model.specs.Steps.{Event, reads, Answer, pushed, going, reserve
 use Rattle.link_marks.specs.Reached.{IsReached}
 use Rattle.link_marks.specs.RingKept.{IsRingKept}
 use Rattle.link_marks.specs.Ranks.{frame_rank, reader_rank}
-use Rattle.link_marks.proofs.FrameEnds.{steps_lower, ends_lower, frames_are_near}
-use Rattle.link_marks.proofs.TakeEnds.{takes_lower, takes_are_near}
-use Rattle.link_marks.proofs.RingsKept.{reached_kept}
+use Rattle.link_marks.proofs.seats.FrameEnds.{steps_lower, ends_lower, frames_are_near}
+use Rattle.link_marks.proofs.seats.TakeEnds.{takes_lower, takes_are_near}
+use Rattle.link_marks.proofs.partition.RingsKept.{reached_kept}
 use Rattle.world_model.specs.Lanes.{Lane, lane_behind, event_in, event_on_top, FrameRun, ReaderRun, IsAnswered}
 use Rattle.world_model.specs.LineEnds.{FrameRunsAreShort, ReaderRunsAreShort}
 use Rattle.world_model.proofs.WorldsKept.{reached_on}

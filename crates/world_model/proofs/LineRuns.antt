@@ -1,8 +1,8 @@
 -- What a line has with a ring is a run of it.
 use Rattle.std.proofs.Common.{ℕ, List, [], ◌∷◌, refl, sym, ap, subst}
 use Rattle.trace_model.specs.Steps.{Event, Answer, pushed, going, reserved_as, pending, full, gone, refused, reading, empty, moving, swapped, wished_for, Step, Exchange, Run}
-use Rattle.trace_model.proofs.StepCases.{frame_lacks}
-use Rattle.trace_model.proofs.StepIs.{step_by}
+use Rattle.trace_model.proofs.steps.StepCases.{frame_lacks}
+use Rattle.trace_model.proofs.steps.StepIs.{step_by}
 use Rattle.text_model.specs.Script.{Command, begin_frame, step_frame, finish_frame, write, close, step_reader, take_page, wish, deliver}
 use Rattle.world_model.specs.Lanes.{Lane, lane_behind, FrameRun, LacksFrame, StepsFrame, lacks_to_step, steps_on, FinishesFrame, lacks_to_finish, finishes, PushesFrame, FinishesPushed, WritesFrame, ReaderRun, Wishes, LineRun}
 

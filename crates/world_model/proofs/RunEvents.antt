@@ -6,12 +6,12 @@ use Rattle.trace_model.specs.History.{HistoryEvent}
 use Rattle.trace_model.specs.Window.{RingEvent, history_events_of, Window, first_window, WindowRunFrom}
 use Rattle.trace_model.specs.Ring.{Reader, Core, IsStart, window_of}
 use Rattle.trace_model.specs.Steps.{Exchange, Run}
-use Rattle.trace_model.proofs.StepSound.{cases_of}
+use Rattle.trace_model.proofs.steps.StepSound.{cases_of}
 use Rattle.link_marks.specs.RingKept.{IsRingKept}
 use Rattle.link_marks.specs.ToldRuns.{fills_taken, numbers_of, IsToldBy}
-use Rattle.link_marks.proofs.RingsKept.{ring_step}
-use Rattle.link_marks.proofs.ToldSteps.{leads_step}
-use Rattle.link_marks.proofs.WindowRuns.{has_none, passed_by, lost_closed, history_events-append, run-append, taken-append}
+use Rattle.link_marks.proofs.partition.RingsKept.{ring_step}
+use Rattle.link_marks.proofs.histories.ToldSteps.{leads_step}
+use Rattle.link_marks.proofs.histories.WindowRuns.{has_none, passed_by, lost_closed, history_events-append, run-append, taken-append}
 use Rattle.world_model.specs.RunEvents.{AreEventsOf, IsRunToldBy}
 
 -- each step has its events

@@ -1,7 +1,7 @@
 use Rattle.std.proofs.Common.{◌≡◌, ℕ, length, replicate, arith, rules}
 use Rattle.std.proofs.lemmas.List.{length-replicate}
 use Rattle.trace_model.specs.Words.{encoding, encoded_len, slot_len}
-use Rattle.trace_model.proofs.Lengths.{length-encoding}
+use Rattle.trace_model.proofs.words.Lengths.{length-encoding}
 use Rattle.page_image.proofs.Behind.{take-put_behind}
 use Rattle.page_image.proofs.put.put_any.Goals as goal
 

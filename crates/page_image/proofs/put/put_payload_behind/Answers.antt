@@ -1,6 +1,6 @@
 use Rattle.std.proofs.Common.{◌≡◌, length, arith, rules}
 use Rattle.trace_model.specs.Words.{encoding, encoded_len, padded}
-use Rattle.trace_model.proofs.Lengths.{length-encoding, length-padded}
+use Rattle.trace_model.proofs.words.Lengths.{length-encoding, length-padded}
 use Rattle.page_image.proofs.Behind.{take-put_behind}
 use Rattle.page_image.proofs.put.put_payload_behind.Goals as goal
 

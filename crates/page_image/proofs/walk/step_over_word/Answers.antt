@@ -5,7 +5,7 @@ use Rattle.record_words.specs.Next.{DataAt, StandsAt, EndingAt, IsRead}
 use Rattle.record_words.specs.declared.next.Word.{Word as Told}
 use Rattle.page_image.proofs.Counting.{passed-data, passed-extend, passed-stamp, passed-padding, whole-ending, overflow-first, few_more, IsData-moves}
 use Rattle.page_image.proofs.Left.{left-data, left-extend, left-stamp, left-padding, left-none, left-fault, left-late_data, left-late_extend}
-use Rattle.trace_model.proofs.Appended.{IsData-not_stamp}
+use Rattle.trace_model.proofs.words.Appended.{IsData-not_stamp}
 use Rattle.page_image.proofs.walk.step_over_word.Goals as goal
 
 pub returns-in_err-later_moment-in-Data-clause-fault : goal.returns-in_err-later_moment-in-Data-clause-fault

@@ -1,5 +1,5 @@
 use Rattle.std.proofs.Common.{arith}
-use Rattle.trace_model.proofs.ParcelParts.{HasNumbers-of}
+use Rattle.trace_model.proofs.images.ParcelParts.{HasNumbers-of}
 use Rattle.page_numbers.proofs.numbers.read_numbers.Goals as goal
 
 pub returns-clause-numbers : goal.returns-clause-numbers

@@ -1,6 +1,6 @@
 use Rattle.std.proofs.Common.{◌≤◌, ◌^◌, ◌-◌, ℕ, refl, sym, subst, length, arith}
 use Rattle.trace_model.specs.Words.{padded, encoding}
-use Rattle.trace_model.proofs.Lengths.{length-bytes_of_extend}
+use Rattle.trace_model.proofs.words.Lengths.{length-bytes_of_extend}
 use borrow.Rule.Slice.PartMut.{put_mid}
 use Rattle.record_words.specs.Puts.{Puts}
 use Rattle.record_words.proofs.Headers.{encoding-extended, puts_behind}

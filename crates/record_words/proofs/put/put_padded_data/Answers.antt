@@ -1,6 +1,6 @@
 use Rattle.std.proofs.Common.{refl, sym, ◌∙◌}
 use Rattle.trace_model.specs.Words.{padded}
-use Rattle.trace_model.proofs.Lengths.{length-padded}
+use Rattle.trace_model.proofs.words.Lengths.{length-padded}
 use Rattle.record_words.proofs.Headers.{bytes-data_word_of, length-data_header, puts_behind}
 use Rattle.record_words.proofs.put.put_padded_data.Goals as goal
 

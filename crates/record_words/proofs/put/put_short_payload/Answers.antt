@@ -1,6 +1,6 @@
 use Rattle.std.proofs.Common.{refl, sym, ◌∙◌, arith}
 use Rattle.trace_model.specs.Words.{padded}
-use Rattle.trace_model.proofs.Lengths.{length-padded}
+use Rattle.trace_model.proofs.words.Lengths.{length-padded}
 use Rattle.record_words.proofs.Headers.{length-le32, bytes-data_word_of, data_header-short, puts_behind}
 use Rattle.record_words.proofs.put.put_short_payload.Goals as goal
 

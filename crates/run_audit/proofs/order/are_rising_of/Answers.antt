@@ -1,7 +1,7 @@
 use Rattle.std.proofs.Common.{◌≡◌, ◌+◌, ◌-◌, ◌<◌, ℕ, Some, refl, sym, ap, ◌∙◌, subst, arith}
 use Rattle.std.specs.List.{slice_get}
 use Rattle.trace_model.specs.Parcel.{Parcel}
-use Rattle.trace_model.proofs.Elements.{some_is}
+use Rattle.trace_model.proofs.collections.Elements.{some_is}
 use Rattle.page_numbers.specs.Parcels.{as_parcel, as_parcels}
 use Rattle.page_numbers.proofs.AsParcels.{as_many, parcel_read}
 use Rattle.run_audit.proofs.Rising.{rise_none, rise_more, rise_all}

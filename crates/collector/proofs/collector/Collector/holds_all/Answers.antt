@@ -1,6 +1,6 @@
 use Rattle.std.proofs.Common.{◌<◌, [], ◌∷◌, length, refl, arith}
-use Rattle.trace_model.proofs.Joined.{joined_left}
-use Rattle.trace_model.proofs.Collections.{below_below}
+use Rattle.trace_model.proofs.collections.Joined.{joined_left}
+use Rattle.trace_model.proofs.collections.Collections.{below_below}
 use Rattle.page_numbers.specs.Parcels.{as_parcel}
 use Rattle.page_numbers.proofs.AsParcels.{parcel_is, as_many}
 use Rattle.collector.proofs.Merging.{taken_below, all_below, one_below}

@@ -1,4 +1,4 @@
-use Rattle.link_marks.proofs.AnswersRight.{empty_right, moving_right, swapped_right}
+use Rattle.link_marks.proofs.frames.AnswersRight.{empty_right, moving_right, swapped_right}
 use Rattle.link_marks.proofs.laws.answers.reader_answers_are_right.Goals as goal
 
 pub returns : goal.returns

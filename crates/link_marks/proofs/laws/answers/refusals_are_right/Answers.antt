@@ -1,5 +1,5 @@
-use Rattle.link_marks.proofs.AnswersRight.{crowded_right, worn_right}
-use Rattle.link_marks.proofs.RefusalsDue.{refusals_due}
+use Rattle.link_marks.proofs.frames.AnswersRight.{crowded_right, worn_right}
+use Rattle.link_marks.proofs.frames.RefusalsDue.{refusals_due}
 use Rattle.link_marks.proofs.laws.answers.refusals_are_right.Goals as goal
 
 pub returns : goal.returns

@@ -1,4 +1,4 @@
-use Rattle.link_marks.proofs.FrameOutcomes.{frames_reserve, frames_leave}
+use Rattle.link_marks.proofs.frames.FrameOutcomes.{frames_reserve, frames_leave}
 use Rattle.link_marks.proofs.laws.ends.frames_reserve_or_leave.Goals as goal
 
 pub returns : goal.returns

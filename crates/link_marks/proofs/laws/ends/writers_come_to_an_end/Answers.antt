@@ -1,4 +1,4 @@
-use Rattle.link_marks.proofs.WriterEnds.{writer_steps_lower, writers_near}
+use Rattle.link_marks.proofs.seats.WriterEnds.{writer_steps_lower, writers_near}
 use Rattle.link_marks.proofs.laws.ends.writers_come_to_an_end.Goals as goal
 
 pub returns : goal.returns

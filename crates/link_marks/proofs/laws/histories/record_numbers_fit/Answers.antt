@@ -1,4 +1,4 @@
-use Rattle.link_marks.proofs.RecordCounts.{records_few, numbers_fit}
+use Rattle.link_marks.proofs.contents.RecordCounts.{records_few, numbers_fit}
 use Rattle.link_marks.proofs.laws.histories.record_numbers_fit.Goals as goal
 
 pub returns : goal.returns

@@ -1,5 +1,5 @@
-use Rattle.link_marks.proofs.PackedRuns.{runs_packed}
-use Rattle.link_marks.proofs.TakenHoldRecords.{taken_hold}
+use Rattle.link_marks.proofs.contents.PackedRuns.{runs_packed}
+use Rattle.link_marks.proofs.contents.TakenHoldRecords.{taken_hold}
 use Rattle.link_marks.proofs.laws.histories.runs_are_packed.Goals as goal
 
 pub returns : goal.returns

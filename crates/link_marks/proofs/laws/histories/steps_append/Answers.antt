@@ -1,4 +1,4 @@
-use Rattle.link_marks.proofs.StepsAppend.{steps_append, appended_is_one}
+use Rattle.link_marks.proofs.histories.StepsAppend.{steps_append, appended_is_one}
 use Rattle.link_marks.proofs.laws.histories.steps_append.Goals as goal
 
 pub returns : goal.returns

@@ -1,6 +1,6 @@
-use Rattle.link_marks.proofs.RingsKept.{taken_partition}
-use Rattle.link_marks.proofs.UnreadRest.{rest_is_unread}
-use Rattle.link_marks.proofs.SettledRest.{tail_is_the_rest}
+use Rattle.link_marks.proofs.partition.RingsKept.{taken_partition}
+use Rattle.link_marks.proofs.partition.UnreadRest.{rest_is_unread}
+use Rattle.link_marks.proofs.partition.SettledRest.{tail_is_the_rest}
 use Rattle.link_marks.proofs.laws.histories.taken_fills_partition_committed.Goals as goal
 
 pub returns : goal.returns

@@ -1,4 +1,4 @@
-use Rattle.link_marks.proofs.LinksFit.{links_fit_words}
+use Rattle.link_marks.proofs.links.LinksFit.{links_fit_words}
 use Rattle.link_marks.proofs.laws.links.links_fit_words.Goals as goal
 
 pub returns : goal.returns

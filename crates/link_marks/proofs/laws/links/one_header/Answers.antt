@@ -1,4 +1,4 @@
-use Rattle.link_marks.proofs.Relinking.{one_header, headers_owed, headers_once}
+use Rattle.link_marks.proofs.links.Relinking.{one_header, headers_owed, headers_once}
 use Rattle.link_marks.proofs.laws.links.one_header.Goals as goal
 
 pub returns : goal.returns

@@ -1,4 +1,4 @@
-use Rattle.link_marks.proofs.Relinking.{owners_clear, updates_claimed}
+use Rattle.link_marks.proofs.links.Relinking.{owners_clear, updates_claimed}
 use Rattle.link_marks.proofs.laws.links.owners_clear.Goals as goal
 
 pub returns : goal.returns

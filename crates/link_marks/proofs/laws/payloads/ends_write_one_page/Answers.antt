@@ -1,4 +1,4 @@
-use Rattle.link_marks.proofs.Payloads as payloads
+use Rattle.link_marks.proofs.contents.Payloads as payloads
 use Rattle.link_marks.proofs.laws.payloads.ends_write_one_page.Goals as goal
 
 pub returns : goal.returns

@@ -1,4 +1,4 @@
-use Rattle.link_marks.proofs.StepsGiven.{each_event_is_a_step}
+use Rattle.link_marks.proofs.steps.StepsGiven.{each_event_is_a_step}
 use Rattle.link_marks.proofs.laws.rings.each_event_is_a_step.Goals as goal
 
 pub returns : goal.returns

@@ -1,4 +1,4 @@
-use Rattle.link_marks.proofs.OneNewRing.{new_ring_is_one}
+use Rattle.link_marks.proofs.partition.OneNewRing.{new_ring_is_one}
 use Rattle.link_marks.proofs.laws.rings.new_ring_is_one.Goals as goal
 
 pub returns : goal.returns

@@ -1,7 +1,7 @@
 use Rattle.std.proofs.Common.{◌≡◌, ℕ}
 use Rattle.trace_model.specs.Ring.{Core, IsStart, window_of}
 use Rattle.trace_model.specs.Window.{first_window}
-use Rattle.link_marks.proofs.RingsKept.{ring_start}
+use Rattle.link_marks.proofs.partition.RingsKept.{ring_start}
 use Rattle.link_marks.proofs.laws.rings.start_is_kept.Goals as goal
 
 first : (start : ℕ) (c : Core) (n : ℕ) → IsStart n start c → window_of c ≡ first_window start

@@ -1,4 +1,4 @@
-use Rattle.link_marks.proofs.RingsKept.{is_ring, ring_step, reached_kept, reached_ring}
+use Rattle.link_marks.proofs.partition.RingsKept.{is_ring, ring_step, reached_kept, reached_ring}
 use Rattle.link_marks.proofs.laws.rings.steps_keep_ring.Goals as goal
 
 pub returns : goal.returns

@@ -1,4 +1,4 @@
-use Rattle.link_marks.proofs.SeenLinks.{frames_have_seen_links, claims_fail_behind_the_head}
+use Rattle.link_marks.proofs.links.SeenLinks.{frames_have_seen_links, claims_fail_behind_the_head}
 use Rattle.link_marks.proofs.laws.seats.frames_have_seen_links.Goals as goal
 
 pub returns : goal.returns

@@ -1,6 +1,6 @@
-use Rattle.link_marks.proofs.PrivateSteps.{private_touches_no_word}
-use Rattle.link_marks.proofs.SeatPages.{private_leaves_other_pages}
-use Rattle.link_marks.proofs.PrivateCommutes.{private_commutes}
+use Rattle.link_marks.proofs.seats.PrivateSteps.{private_touches_no_word}
+use Rattle.link_marks.proofs.seats.SeatPages.{private_leaves_other_pages}
+use Rattle.link_marks.proofs.seats.PrivateCommutes.{private_commutes}
 use Rattle.link_marks.proofs.laws.seats.private_steps_commute.Goals as goal
 
 pub returns : goal.returns

@@ -1,7 +1,7 @@
-use Rattle.trace_model.proofs.StepSound.{cases_of}
-use Rattle.trace_model.proofs.StepIs.{step_by}
-use Rattle.link_marks.proofs.SeatSteps.{writer_reads_no_reader, writer_leaves_reader, reader_reads_no_writer, reader_leaves_writer}
-use Rattle.link_marks.proofs.SeatPages.{reader_leaves_open_pages}
+use Rattle.trace_model.proofs.steps.StepSound.{cases_of}
+use Rattle.trace_model.proofs.steps.StepIs.{step_by}
+use Rattle.link_marks.proofs.seats.SeatSteps.{writer_reads_no_reader, writer_leaves_reader, reader_reads_no_writer, reader_leaves_writer}
+use Rattle.link_marks.proofs.seats.SeatPages.{reader_leaves_open_pages}
 use Rattle.link_marks.proofs.laws.seats.seats_are_apart.Goals as goal
 
 pub returns : goal.returns

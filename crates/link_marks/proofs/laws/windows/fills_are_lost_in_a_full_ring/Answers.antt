@@ -1,4 +1,4 @@
-use Rattle.link_marks.proofs.CountMoves.{losses_need_a_full_ring, closes_need_no_frame}
+use Rattle.link_marks.proofs.steps.CountMoves.{losses_need_a_full_ring, closes_need_no_frame}
 use Rattle.link_marks.proofs.laws.windows.fills_are_lost_in_a_full_ring.Goals as goal
 
 pub returns : goal.returns

@@ -1,7 +1,7 @@
 use Rattle.std.proofs.Common.{[]}
 use Rattle.trace_model.specs.Window.{first_window}
 use Rattle.trace_model.specs.Ring.{window_of}
-use Rattle.link_marks.proofs.WindowRuns.{passed_by, not_both, taken_closed, lost_closed}
+use Rattle.link_marks.proofs.histories.WindowRuns.{passed_by, not_both, taken_closed, lost_closed}
 use Rattle.link_marks.proofs.laws.windows.passed_fills_are_taken_or_lost.Goals as goal
 
 pub returns : goal.returns

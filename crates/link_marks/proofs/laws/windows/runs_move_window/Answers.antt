@@ -1,4 +1,4 @@
-use Rattle.link_marks.proofs.ToldSteps.{run_told, run_extends, counts_rise}
+use Rattle.link_marks.proofs.histories.ToldSteps.{run_told, run_extends, counts_rise}
 use Rattle.link_marks.proofs.laws.windows.runs_move_window.Goals as goal
 
 pub returns : goal.returns

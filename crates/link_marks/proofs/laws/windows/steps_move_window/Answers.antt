@@ -1,7 +1,7 @@
-use Rattle.link_marks.proofs.WindowEvents.{one_window_event, nothing_happens}
-use Rattle.link_marks.proofs.HistorySteps.{step_owed}
+use Rattle.link_marks.proofs.histories.WindowEvents.{one_window_event, nothing_happens}
+use Rattle.link_marks.proofs.histories.HistorySteps.{step_owed}
 use Rattle.link_marks.proofs.laws.windows.steps_move_window.Goals as goal
-use Rattle.trace_model.proofs.StepSound.{cases_of}
+use Rattle.trace_model.proofs.steps.StepSound.{cases_of}
 
 pub returns : goal.returns
 returns c = record {

@@ -1,5 +1,5 @@
-use Rattle.link_marks.proofs.WishSteps.{wishes_held, gone_has_looked, wishes_answered, wished_tails_closed}
-use Rattle.link_marks.proofs.WishedPages.{ends_on_wished}
+use Rattle.link_marks.proofs.wishes.WishSteps.{wishes_held, gone_has_looked, wishes_answered, wished_tails_closed}
+use Rattle.link_marks.proofs.wishes.WishedPages.{ends_on_wished}
 use Rattle.link_marks.proofs.laws.wishes.wishes_are_answered.Goals as goal
 
 pub returns : goal.returns

@@ -1,6 +1,6 @@
 use Rattle.std.proofs.Common.{sym, subst}
 use Rattle.trace_model.specs.Ring.{fill_of}
-use Rattle.trace_model.proofs.NextEvent.{settled_at_rest}
+use Rattle.trace_model.proofs.histories.NextEvent.{settled_at_rest}
 use Rattle.nested_writer.specs.Stack.{Stack}
 use Rattle.nested_writer.specs.Released.{IsWrittenPage, AreCommitted}
 use Rattle.nested_writer.proofs.Releasing.{only_tail, all_left, tail_written, tail_committed}

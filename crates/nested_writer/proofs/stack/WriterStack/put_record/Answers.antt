@@ -2,7 +2,7 @@ use Rattle.std.proofs.Common.{◌≡◌, ℕ, ◌+◌, ◌-◌, ◌≤◌, max, 
 use Rattle.trace_model.specs.History.{HistoryEvent, push, reserve, leave, reserved_records}
 use Rattle.trace_model.specs.Packing.{opens_of, is_wished}
 use Rattle.trace_model.specs.Words.{padded, encoded_len}
-use Rattle.trace_model.proofs.Lengths.{length-padded}
+use Rattle.trace_model.proofs.words.Lengths.{length-padded}
 use Rattle.record_words.specs.declared.put.Place.{Place}
 use Rattle.page_image.specs.Contents.{Contents, is_blank}
 use Rattle.nested_writer.specs.Stack.{Stack}

@@ -1,5 +1,5 @@
 use Rattle.std.proofs.Common.{◌/◌, ◌^◌, arith}
-use Rattle.trace_model.proofs.ImageParts.{commit_word-commit_from}
+use Rattle.trace_model.proofs.images.ImageParts.{commit_word-commit_from}
 use Rattle.page_image.proofs.image.header.commit_of.Goals as goal
 
 pub returns : goal.returns

@@ -1,5 +1,5 @@
 use Rattle.std.proofs.Common.{◌∙◌, refl, arith}
-use Rattle.trace_model.proofs.Overwritten.{place-within}
+use Rattle.trace_model.proofs.words.Overwritten.{place-within}
 use Rattle.page_image.proofs.Overwriting.{payload_written}
 use Rattle.page_image.proofs.page.Page.payload_mut.Goals as goal
 

@@ -3,7 +3,7 @@ use Rattle.std.proofs.lemmas.List.{with_items_is}
 use Rattle.std.proofs.lemmas.Bool.{cond-true, cond-false}
 use Rattle.std.specs.Vec.{with_items}
 use Rattle.trace_model.specs.Words.{encoding, encoded_len, padded, slot_len}
-use Rattle.trace_model.proofs.Lengths.{slot_len_ge, length-padded}
+use Rattle.trace_model.proofs.words.Lengths.{slot_len_ge, length-padded}
 use Rattle.trace_model.specs.Reading.{EndsInRecord}
 use Rattle.trace_model.specs.Order.{moment_of_last}
 use Rattle.page_image.specs.Contents.{Contents, is_blank, records_of_page}

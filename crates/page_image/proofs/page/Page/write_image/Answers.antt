@@ -3,7 +3,7 @@ use Rattle.std.specs.declared.alloc.Global.{Global}
 use Rattle.std.proofs.Common.{◌≡◌, ℕ, ◌+◌, ◌-◌, Bool, true, false, cond, List, [], ◌++◌, length, take, drop, replicate, sym, ap, ◌∙◌, subst, arith, length-take-le, append-nil}
 use Rattle.std.specs.Int.{to_le_bytes, w64}
 use Rattle.trace_model.specs.Image.{le64, Commit, commit_word, commit_of, stores_count, stored_count, DecodesImage, missed_told}
-use Rattle.trace_model.proofs.Images.{DecodesImage-image_of}
+use Rattle.trace_model.proofs.images.Images.{DecodesImage-image_of}
 use Rattle.page_image.specs.Contents.{Contents, records_of_page}
 use Rattle.page_image.proofs.ImageWrites.{written-image_of, behind-image_of}
 use Rattle.page_image.proofs.page.Page.write_image.Goals.{then-stores_count+in_ok-extend_from_slice-4, else-stores_count}

@@ -1,6 +1,6 @@
 use Rattle.std.proofs.Common.{List, ℕ, sym, subst, arith}
 use Rattle.trace_model.specs.ParcelBytes.{DecodesParcel}
-use Rattle.trace_model.proofs.Parcels.{DecodesParcel-bytes_of_parcel}
+use Rattle.trace_model.proofs.images.Parcels.{DecodesParcel-bytes_of_parcel}
 use Rattle.page_numbers.specs.Parcels.{as_parcel}
 use Rattle.page_numbers.proofs.Writing.{each_told}
 use Rattle.page_numbers.proofs.parcel.Parcel.to_bytes.Goals as goal

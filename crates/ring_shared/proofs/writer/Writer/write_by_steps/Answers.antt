@@ -1,7 +1,7 @@
 use Rattle.std.specs.Prelude.{Result, Err, ◌-◌, ◌++◌, replicate}
 use Rattle.std.proofs.Common.{rules, ◌≡◌, ℕ, List, length, sym, ap, ◌∙◌, arith}
 use Rattle.trace_model.specs.Words.{slot_len, padded}
-use Rattle.trace_model.proofs.Lengths.{slot_len_ge, length-padded}
+use Rattle.trace_model.proofs.words.Lengths.{slot_len_ge, length-padded}
 use Rattle.std.proofs.lemmas.Result.{err_from_is_err_and}
 use Rattle.nested_writer.specs.declared.fault.WriteFault.{WriteFault}
 use Rattle.nested_writer.specs.declared.frame.Slot.{Slot}

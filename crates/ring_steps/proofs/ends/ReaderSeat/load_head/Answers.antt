@@ -1,5 +1,5 @@
 use Rattle.std.proofs.Common.{ℕ, ◌%◌, ap, ◌∙◌}
-use Rattle.trace_model.proofs.LinkWords.{no_mark}
+use Rattle.trace_model.proofs.words.LinkWords.{no_mark}
 use Rattle.ring_steps.proofs.Allowing.{reader_allows}
 use Rattle.ring_steps.proofs.Taking.{load_link_moves}
 use Rattle.ring_steps.proofs.ends.ReaderSeat.load_head.Goals as goal

@@ -1,5 +1,5 @@
 use Rattle.std.proofs.Common.{ℕ, ◌%◌, ap, ◌∙◌, arith}
-use Rattle.trace_model.proofs.LinkWords.{no_mark}
+use Rattle.trace_model.proofs.words.LinkWords.{no_mark}
 use Rattle.link_marks.specs.ModelLinks.{link_of}
 use Rattle.ring_steps.specs.Views.{writing}
 use Rattle.ring_steps.proofs.Allowing.{writer_allows}

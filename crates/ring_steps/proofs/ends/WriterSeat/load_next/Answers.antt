@@ -1,7 +1,7 @@
 use Rattle.std.proofs.Common.{ℕ, ◌%◌, refl, ap, ◌∙◌, arith}
 use Rattle.trace_model.specs.Frames.{looking_next}
 use Rattle.trace_model.specs.Ring.{link_into}
-use Rattle.trace_model.proofs.LinkWords.{no_mark}
+use Rattle.trace_model.proofs.words.LinkWords.{no_mark}
 use Rattle.link_marks.specs.ModelLinks.{link_of}
 use Rattle.ring_steps.specs.Views.{writing}
 use Rattle.ring_steps.proofs.Allowing.{writer_allows}

@@ -1,5 +1,5 @@
-use Rattle.trace_model.proofs.Listings.{one_listing, once, one_line}
-use Rattle.trace_model.proofs.ListingsMade.{some_listing}
+use Rattle.trace_model.proofs.collections.Listings.{one_listing, once, one_line}
+use Rattle.trace_model.proofs.collections.ListingsMade.{some_listing}
 use Rattle.trace_model.proofs.laws.collections.listings_are_one.Goals as goal
 
 pub returns : goal.returns

@@ -1,5 +1,5 @@
-use Rattle.trace_model.proofs.Collections.{below_more, same_parcels, repeated, joined_commutes, joined_regrouped, joined_twice, same_joined}
-use Rattle.trace_model.proofs.Joined.{below_agrees}
+use Rattle.trace_model.proofs.collections.Collections.{below_more, same_parcels, repeated, joined_commutes, joined_regrouped, joined_twice, same_joined}
+use Rattle.trace_model.proofs.collections.Joined.{below_agrees}
 use Rattle.trace_model.proofs.laws.collections.order_and_repeats_change_nothing.Goals as goal
 
 pub returns : goal.returns

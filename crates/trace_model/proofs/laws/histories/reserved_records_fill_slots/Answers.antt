@@ -1,4 +1,4 @@
-use Rattle.trace_model.proofs.CommittedWritten.{reserved-FillsSlot}
+use Rattle.trace_model.proofs.histories.CommittedWritten.{reserved-FillsSlot}
 use Rattle.trace_model.proofs.laws.histories.reserved_records_fill_slots.Goals as goal
 
 pub returns : goal.returns

@@ -1,6 +1,6 @@
 use Rattle.std.proofs.Common.{arith}
 use Rattle.trace_model.specs.declared.limits.TheConstants.{MAX_IMAGE}
-use Rattle.trace_model.proofs.Images.{DecodesImageWithin-other, DecodesImageWithin-larger, DecodesImageWithin-unique}
+use Rattle.trace_model.proofs.images.Images.{DecodesImageWithin-other, DecodesImageWithin-larger, DecodesImageWithin-unique}
 use Rattle.trace_model.proofs.laws.images.image_limit_may_grow.Goals as goal
 
 pub returns : goal.returns

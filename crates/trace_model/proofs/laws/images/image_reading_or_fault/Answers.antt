@@ -1,4 +1,4 @@
-use Rattle.trace_model.proofs.Images.{image_read_or_faulty, DecodesImage-FirstImageFault, DecodesImage-unique, FirstImageFault-unique}
+use Rattle.trace_model.proofs.images.Images.{image_read_or_faulty, DecodesImage-FirstImageFault, DecodesImage-unique, FirstImageFault-unique}
 use Rattle.trace_model.proofs.laws.images.image_reading_or_fault.Goals as goal
 
 pub returns : goal.returns

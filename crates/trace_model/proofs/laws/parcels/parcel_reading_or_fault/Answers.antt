@@ -1,4 +1,4 @@
-use Rattle.trace_model.proofs.Parcels.{parcel_read_or_faulty, DecodesParcel-FirstParcelFault, DecodesParcel-unique, FirstParcelFault-unique}
+use Rattle.trace_model.proofs.images.Parcels.{parcel_read_or_faulty, DecodesParcel-FirstParcelFault, DecodesParcel-unique, FirstParcelFault-unique}
 use Rattle.trace_model.proofs.laws.parcels.parcel_reading_or_fault.Goals as goal
 
 pub returns : goal.returns

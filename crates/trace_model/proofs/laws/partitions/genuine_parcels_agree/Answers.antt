@@ -1,4 +1,4 @@
-use Rattle.trace_model.proofs.Genuine.{has_of_records, misses_of_records, genuine_agree}
+use Rattle.trace_model.proofs.collections.Genuine.{has_of_records, misses_of_records, genuine_agree}
 use Rattle.trace_model.proofs.laws.partitions.genuine_parcels_agree.Goals as goal
 
 pub returns : goal.returns

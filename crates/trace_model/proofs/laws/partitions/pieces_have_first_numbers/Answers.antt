@@ -1,4 +1,4 @@
-use Rattle.trace_model.proofs.FirstNumbers.{numbered_from, first_is_count, count_is_first, own_records}
+use Rattle.trace_model.proofs.collections.FirstNumbers.{numbered_from, first_is_count, count_is_first, own_records}
 use Rattle.trace_model.proofs.laws.partitions.pieces_have_first_numbers.Goals as goal
 
 pub returns : goal.returns

@@ -1,4 +1,4 @@
-use Rattle.trace_model.proofs.Windows.{window_event_keeps, window_kept}
+use Rattle.trace_model.proofs.collections.Windows.{window_event_keeps, window_kept}
 use Rattle.trace_model.proofs.laws.windows.windows_keep_order.Goals as goal
 
 pub returns : goal.returns

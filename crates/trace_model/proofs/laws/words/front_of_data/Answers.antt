@@ -1,4 +1,4 @@
-use Rattle.trace_model.proofs.WordFaults.{front_cases, HasWord-HasEnding, HasWord-HasFault, HasEnding-HasFault}
+use Rattle.trace_model.proofs.words.WordFaults.{front_cases, HasWord-HasEnding, HasWord-HasFault, HasEnding-HasFault}
 use Rattle.trace_model.proofs.laws.words.front_of_data.Goals as goal
 
 pub returns-clause-one : goal.returns-clause-one

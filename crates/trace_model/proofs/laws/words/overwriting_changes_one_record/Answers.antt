@@ -1,5 +1,5 @@
 use Rattle.trace_model.proofs.laws.words.overwriting_changes_one_record.Goals as goal
-use Rattle.trace_model.proofs.Places.{Decodes-overwritten, EndsInRecord-overwritten, IsPlaceOf-overwritten}
+use Rattle.trace_model.proofs.words.Places.{Decodes-overwritten, EndsInRecord-overwritten, IsPlaceOf-overwritten}
 
 pub returns : goal.returns
 returns c = record {

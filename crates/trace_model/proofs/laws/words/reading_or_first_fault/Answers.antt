@@ -1,4 +1,4 @@
-use Rattle.trace_model.proofs.FirstFaults.{read_or_faulty, Decodes-FirstFault, FirstFault-unique}
+use Rattle.trace_model.proofs.words.FirstFaults.{read_or_faulty, Decodes-FirstFault, FirstFault-unique}
 use Rattle.trace_model.proofs.laws.words.reading_or_first_fault.Goals as goal
 
 pub returns : goal.returns

@@ -1,4 +1,4 @@
-use Rattle.trace_model.proofs.Collections.{same_parcels}
+use Rattle.trace_model.proofs.collections.Collections.{same_parcels}
 use Rattle.world_model.proofs.GenuineWorlds.{taken_agree, collectors_join}
 use Rattle.world_model.proofs.laws.worlds.collectors_join.Goals as goal
 

@@ -1,0 +1,3 @@
+-- the worked examples and the wrong steps
+pub mod ExamplesRun
+pub mod WrongStepsRefused

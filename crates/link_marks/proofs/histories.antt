@@ -1,0 +1,7 @@
+-- the history of the frames
+pub mod Histories
+pub mod HistorySteps
+pub mod WindowEvents
+pub mod StepsAppend
+pub mod WindowRuns
+pub mod ToldSteps

@@ -1,0 +1,4 @@
+-- the wish
+pub mod Tails
+pub mod WishSteps
+pub mod WishedPages
