@@ -1,5 +1,5 @@
--- The private step of a frame at the tail: its record is reserved, or there is nothing to close; or a page is needed, and
--- refused or noted.
+-- The private step of a frame at the tail: its record is reserved, or there is nothing to close; or a page is needed,
+-- and refused or noted.
 use Rattle.std.proofs.Common.{◌≡◌, ◌≢◌, ℕ, ◌+◌, ◌<◌, ◌≤◌, List, [], ◌∷◌, ◌++◌, length, ◌⊎◌, Option, Some, None, refl, sym, ap, ◌∙◌, subst, inl, inr}
 use Rattle.std.specs.Prelude.{Ok, Err}
 use Rattle.trace_model.specs.declared.limits.TheConstants.{LINK_FILLS}
