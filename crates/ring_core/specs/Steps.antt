@@ -33,7 +33,7 @@ Makes old event result new = (n size start : ℕ) (c : Core)
 abbrev pub IsSomeCore : CoreValue → Type 0
 IsSomeCore v = (n size start : ℕ) × (c : Core) × IsCore n size start v c
 
--- so of a value that `new` made: a word that nobody outside takes apart
+-- so it is; opaque, so that a search doesn't look for the state: who needs it writes `unfolding`
 unfoldable pub IsReachedCore : CoreValue → Type 0
 IsReachedCore v = IsSomeCore v
 
@@ -67,7 +67,7 @@ GivesBodyBack (Read body) answer = GivesBack body answer
 GivesBodyBack Wish answer = Unit {0}
 
 -- The event is one step of the model, whose answer is the value's. The body of a `Read` is given back but for a page;
--- payloads stay in their slots; a slot that was reserved holds only zeros; and of a push, and of a step by which the
+-- payloads stay in their slots; the slot that this answer reserves holds only zeros; and of a push, and of a step by which the
 -- frame on top goes on or reserves, the payload's length is known.
 pub record Obeys (event : Event) (old : CoreValue) (result : Answer) (new : CoreValue) : Type 0 where
   pub step : Makes old (event_of old event) result new
@@ -76,7 +76,7 @@ pub record Obeys (event : Event) (old : CoreValue) (result : Answer) (new : Core
   pub zeros : ZerosSlot old.stack result new.stack
   pub top : StepsTop event result old.stack new.stack
 
--- so is a step of the reader, which has this body
+-- so is a step of the reader, which has this body; and the stack stays
 pub record MakesRead (old : CoreValue) (body : List ℕ) (result : Answer) (new : CoreValue) : Type 0 where
   pub step : Makes old model.reads result new
   pub given_back : GivesBack body result

@@ -18,7 +18,7 @@ pub record AreWriterFields (v : WriterValue) : Type 0 where
   pub frames_are : AreFrames v.shape.pages v.shape.size v.shape.start v.frames core
   pub pages_are : v.part.open_pages ≡ v.pages
 
--- so of an end that ring made: a word that nobody outside takes apart
+-- so they are; opaque, so that a search doesn't look for the state: who needs it writes `unfolding`
 unfoldable pub IsWriter : WriterValue → Type 0
 IsWriter v = AreWriterFields v
 

@@ -22,8 +22,9 @@ pub record HasLeavingTop (v : WriterValue) : Type 0 where
   pub writer : IsWriter v
   pub top : (frame : Frame) × (below : List Frame) × (v.part.frames ≡ frame ∷ below) × IsLeaving frame.kind frame.state
 
--- What an answer says of the slots: the payloads that aren't ended stay in theirs; a slot that was reserved holds only
--- zeros; the frames are the same if the one on top has reserved, and it was on top of the others if it is gone.
+-- What an answer says of the slots: the payloads that aren't ended stay in theirs; the slot that this answer reserves
+-- holds only zeros; each frame has the same room if the one on top has reserved, and the room of the top one is gone if
+-- it is.
 pub record KeepsSlots (old : WriterValue) (result : Answer) (new : WriterValue) : Type 0 where
   pub payloads : KeepsPayloads old.frames.stack new.frames.stack
   pub zeros : ZerosSlot old.frames.stack result new.frames.stack

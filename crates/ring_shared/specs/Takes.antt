@@ -207,7 +207,7 @@ EmptyAfter v (Done (Page page missed)) = Unit {0}
 EmptyAfter v (Done (Empty done back)) = FoundEmpty v done
 EmptyAfter v (Done (Moving fill back)) = Unit {0}
 
--- the reader is at a take, whose answer isn't given yet
+-- the reader keeps no `Empty` of a take
 pub record IsTaking (v : ReaderValue) : Type 0 where
   pub reader : IsReader v
   pub again : v.empty_at ≡ None

@@ -30,7 +30,7 @@ pub record SameSeat (old new : WriterSeat) : Type 0 where
   pub table : writer_table new ≡ writer_table old
   pub knows : passed_in old ≤ passed_in new
 
--- so does the reader's
+-- the reader's seat stays one of the same ring
 pub record SameReaderSeat (old new : ReaderSeat) : Type 0 where
   pub shape : new.shape ≡ old.shape
   pub table : reader_table new ≡ reader_table old

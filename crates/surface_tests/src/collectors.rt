@@ -37,7 +37,9 @@ fn a_collector_is_merged_and_listed(rt: HostRuntime) -> Result<(), Fail> {
     assert!(rt; merged == Ok(()) && other.same(&collector));
     assert!(rt; other.missing(CpuId(0)).next() == Some((RecordNo(0), RecordNo(0))));
     assert!(rt; other.records(CpuId(0)).next().is_some() && other.parcels().len() == 1);
-    for line in &listing(rt.alloc(), &other)? {
+    let lines = listing(rt.alloc(), &other)?;
+    assert!(rt; lines.len() == 1);
+    for line in &lines {
         assert!(rt; line.moment == Moment(2) && line.bytes == b"abcd".as_slice());
     }
     Ok(())

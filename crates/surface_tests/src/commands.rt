@@ -1,13 +1,11 @@
 //! The commands of the program, from an input to an output.
+use crate::scripts::SCRIPT;
 use command_io::{DONE, REFUSED, Std};
 use image_dump::dump_to;
 use replay_command::replay_to;
 use std::alloc::Global;
 use std::process::Abort;
 use std::test::Fail;
-
-/// A record that is taken and delivered.
-const SCRIPT: &[u8] = b"pages 2\nsize 32\ncpus 1\ncollectors 1\nc0 w 1 aa\nc0 c\nc0 t\nd 0 c0 0\n";
 
 /// A page with one record of moment 100.
 const IMAGE: &[u8] = b"\x64\0\0\0\0\0\0\0\x08\0\0\0\0\0\0\0\x01\0\0\0abcd";
@@ -35,8 +33,9 @@ fn a_script_is_replayed(rt: HostRuntime) {
 #[test]
 fn its_log_is_printed_first(rt: HostRuntime) {
     let (status, text) = replayed(rt.alloc(), SCRIPT, true);
-    let log = b"7 c0 taken fill 0 first 0 count 1 missed 0\n8 d 0 c0 0 new\n".as_slice();
-    assert!(rt; status == DONE && text.starts_with(log));
+    let printed =
+        b"7 c0 taken fill 0 first 0 count 1 missed 0\n8 d 0 c0 0 new\ncollector 0\n0 0 1 aa000000\n".as_slice();
+    assert!(rt; status == DONE && text.as_slice() == printed);
 }
 
 #[test]

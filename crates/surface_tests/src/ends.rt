@@ -81,7 +81,7 @@ fn a_record_is_written_by_its_steps(rt: HostRuntime) -> Result<(), Fail> {
 }
 
 #[test]
-fn a_payload_of_its_length_is_copied(rt: HostRuntime) -> Result<(), Fail> {
+fn what_is_lent_has_the_length_pushed(rt: HostRuntime) -> Result<(), Fail> {
     let (mut writer, _reader) = ring(rt.alloc(), 2, 32)?;
     let Answer::Pushed = writer.begin(100, 4) else {
         return Err(Fail::new("no frame is pushed"));

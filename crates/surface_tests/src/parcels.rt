@@ -29,7 +29,8 @@ fn a_parcel_is_read_from_its_bytes(rt: HostRuntime) -> Result<(), Fail> {
     let parcel = parcel_of(rt.alloc(), 1, b"abcd")?;
     let bytes: Vec<u8> = parcel.to_bytes(rt.alloc())?;
     let again = Parcel::from_bytes(rt.alloc(), &bytes)?;
-    assert!(rt; again.has_page_of(&parcel));
+    assert!(rt; again.has_page_of(&parcel) && again.cpu() == CpuId(0));
+    assert!(rt; again.fill() == FillNo(1) && again.missed() == 1);
     let shared = again.share()?;
     assert!(rt; shared.sharers() == 2);
     let cut: Option<ParcelFault> = Parcel::from_bytes(rt.alloc(), b"").err();
