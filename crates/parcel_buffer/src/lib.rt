@@ -1,0 +1,137 @@
+//! A page as parcel bytes in a caller's buffer, for which no memory is taken: `docs/FORMATS.md`, "Parcel bytes".
+#![tactic(auto)]
+
+ghost use Rattle.std.specs.Prelude.{◌≡◌, ◌+◌, ◌-◌, ◌≤◌, ◌++◌, ℕ, List, take, drop, length, replicate, true, ◌↔◌};
+ghost use Rattle.std.specs.Int.{to_le_bytes, w64};
+ghost use Rattle.trace_model.specs.declared.limits.TheConstants.{MAX_SIZE};
+ghost use Rattle.trace_model.specs.Image.{commit_word, commit_of, stores_count as is_count_stored, stored_count};
+ghost use Rattle.trace_model.specs.ParcelBytes.{IsParcel, DecodesParcel};
+ghost use Rattle.page_image.specs.Contents.{IsPage};
+ghost use Rattle.page_numbers.specs.Parcels.{parcel_of};
+ghost use Rattle.page_numbers.specs.Written.{bytes_of_page};
+ghost use Rattle.parcel_buffer.specs.Fronts.{HasAtFront};
+
+use page_image::Page;
+use trace_model::CpuId;
+
+/// How many bytes of a parcel are before its page's data: four numbers, the page's time, and its commit word.
+pub const HEADER: usize = 48;
+
+/// How many bytes the count of missed events takes.
+const NUMBER: usize = 8;
+
+/// Bit 30 of a commit word: a count of missed events is stored after the data.
+const STORED: u64 = 1 << 30;
+
+/// Bit 31 of a commit word: events were missed.
+const MISSED: u64 = 1 << 31;
+
+/// Puts the page to the front of `out` as a parcel of this CPU, with so many numbers missing before its records: the
+/// bytes that `Parcel::to_bytes` makes. The answer is how many they are: `HEADER`, and as many as the page's size.
+pub fn put_parcel(out: &mut [u8], cpu: CpuId, page: &Page, missed: u64) -> usize
+    requires there { HEADER + page.now.size ≤ length out.old }
+    requires fits { length page.now.bytes ≤ page.now.size }
+    requires limit { page.now.size ≤ MAX_SIZE }
+    ensures bytes { HasAtFront out.old (bytes_of_page cpu.0 page.now missed) out.new }
+    ensures len { length (bytes_of_page cpu.0 page.now missed) ≡ result }
+    ensures size { result ≡ HEADER + page.now.size }
+    ensures reads { IsPage page.now → IsParcel (parcel_of cpu.0 page.now missed)
+        → DecodesParcel (bytes_of_page cpu.0 page.now missed) (parcel_of cpu.0 page.now missed) }
+{
+    let size = page.end() + room(page);
+    let stored = stores_count(page.end(), missed, size);
+    put_number(out, 0, u64::from(cpu.0));
+    put_number(out, 8, page.fill().0);
+    put_number(out, 16, page.first().0);
+    put_number(out, 24, missed);
+    put_number(out, 32, page.time());
+    put_number(out, 40, commit_number(page.end(), missed, stored));
+    put(out, HEADER, page.data());
+    let end = HEADER + page.end();
+    let behind = put_count(out, end, missed, stored);
+    put_zeros(out, behind, HEADER + size);
+    HEADER + size
+}
+
+/// How many bytes of the page its records leave.
+fn room(page: &Page) -> usize
+    requires fits { length page.now.bytes ≤ page.now.size }
+    requires limit { page.now.size ≤ MAX_SIZE }
+    ensures room { length page.now.bytes + result ≡ page.now.size }
+    ensures limit { page.now.size ≤ MAX_SIZE }
+{
+    page.size() - page.end()
+}
+
+/// Whether a count of missed events is stored after `end` bytes of data, on a page of this size.
+fn stores_count(end: usize, missed: u64, size: usize) -> bool
+    requires end { end ≤ size }
+    requires limit { size ≤ MAX_SIZE }
+    ensures { (contents : List ℕ) → length contents ≡ end → result ≡ is_count_stored contents missed size }
+{
+    missed > 0 && end + NUMBER <= size
+}
+
+/// The commit word of an image with `end` bytes of data.
+fn commit_number(end: usize, missed: u64, stored: bool) -> u64
+    requires limit { end ≤ MAX_SIZE }
+    ensures { (contents : List ℕ) (size : ℕ)
+        → length contents ≡ end
+        → stored ≡ is_count_stored contents missed size
+        → result ≡ commit_word (commit_of contents missed size) }
+{
+    let count = if stored { STORED } else { 0 };
+    let events = if missed > 0 { MISSED } else { 0 };
+    end as u64 + count + events
+}
+
+/// Puts the count of missed events to `at`, if it is stored: the answer is where the bytes after it begin.
+fn put_count(out: &mut [u8], at: usize, missed: u64, stored: bool) -> usize
+    requires room { stored ≡ true → at + NUMBER ≤ length out.old }
+    requires short { at + NUMBER ≤ usize.MAX }
+    ensures put { (contents : List ℕ) (size : ℕ)
+        → stored ≡ is_count_stored contents missed size
+        → take result out.new ≡ take at out.old ++ stored_count contents missed size }
+    ensures end { (contents : List ℕ) (size : ℕ)
+        → stored ≡ is_count_stored contents missed size
+        → result ≡ at + length (stored_count contents missed size) }
+    ensures behind { drop result out.new ≡ drop result out.old }
+    ensures len { length out.new ≡ length out.old }
+{
+    if stored {
+        put_number(out, at, missed);
+        return at + NUMBER;
+    }
+    at
+}
+
+/// Puts a number to `at`, its lowest byte first.
+fn put_number(out: &mut [u8], at: usize, number: u64)
+    requires { at + NUMBER ≤ length out.old }
+    ensures put { take (at + NUMBER) out.new ≡ take at out.old ++ to_le_bytes w64 number }
+    ensures behind { drop (at + NUMBER) out.new ≡ drop (at + NUMBER) out.old }
+    ensures len { length out.new ≡ length out.old }
+{
+    put(out, at, &number.to_le_bytes());
+}
+
+/// Puts the bytes to `at`.
+fn put(out: &mut [u8], at: usize, bytes: &[u8])
+    requires { at + length bytes.now ≤ length out.old }
+    ensures put { take (at + length bytes.now) out.new ≡ take at out.old ++ bytes.now }
+    ensures behind { drop (at + length bytes.now) out.new ≡ drop (at + length bytes.now) out.old }
+    ensures len { length out.new ≡ length out.old }
+{
+    out[at..at + bytes.len()].copy_from_slice(bytes);
+}
+
+/// Puts zeros from `at` up to `end`.
+fn put_zeros(out: &mut [u8], at: usize, end: usize)
+    requires order { at ≤ end }
+    requires end { end ≤ length out.old }
+    ensures put { take end out.new ≡ take at out.old ++ replicate (end - at) 0 }
+    ensures behind { drop end out.new ≡ drop end out.old }
+    ensures len { length out.new ≡ length out.old }
+{
+    out[at..end].fill(0);
+}

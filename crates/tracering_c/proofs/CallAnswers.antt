@@ -1,0 +1,41 @@
+-- What calls answer, as numbers of C; and what a handle held, if its end was taken out.
+use Rattle.std.proofs.Common.{◌≡◌, ℕ, ℤ, List, length, Option, Some, None, is_some, IsSomeAnd, refl, sym, ap, ◌∙◌, subst, w32, to_z, of_z}
+use Rattle.std.proofs.lemmas.Bool.{false≢true}
+use Rattle.nested_writer.specs.declared.fault.WriteFault.{WriteFault}
+use Rattle.ring_shared.specs.Value.{WriterValue}
+use Rattle.ring_shared.specs.WholeWrites.{IsRefusedWrite}
+use Rattle.tracering_c.specs.declared.ends.ReaderEnd.{ReaderEnd}
+use Rattle.tracering_c.specs.declared.taken.Taken.{Taken}
+use Rattle.tracering_c.specs.Codes.{fault_code}
+use Rattle.tracering_c.specs.Calls.{WritesSo, TakesSo, is_page, is_empty, is_moving, has_no_room}
+
+abbrev fault_or : WriteFault → Option WriteFault → WriteFault
+fault_or fault None = fault
+fault_or fault (Some other) = other
+
+pub refused_so : (old : WriterValue) (moment : ℕ) (payload : List ℕ) (code : ℤ) (new : WriterValue) (fault : WriteFault) → code ≡ fault_code fault → IsRefusedWrite old.shape old.part moment (length payload) fault new.part → WritesSo old moment payload code new
+refused_so old moment payload code new fault code_is is = record {
+  refusal = Some fault;
+  written = λ none. absurd (false≢true (sym (ap is_some none)));
+  refused = λ other same. subst (λ (f : WriteFault). (code ≡ fault_code f) × IsRefusedWrite old.shape old.part moment (length payload) f new.part) (ap (fault_or fault) same) (code_is, is);
+}
+
+-- the number of a take's answer fits its type
+pub takes_so : (old : ReaderEnd) (out : List ℕ) (was : Taken) (code : ℤ) (left : List ℕ) (told : Taken) (new : ReaderEnd) → TakesSo old out was code left told new → TakesSo old out was (to_z w32 (of_z w32 code)) left told new
+takes_so old out was code left told new (is_page page missed c t g d) = is_page page missed (ap (λ (n : ℤ). to_z w32 (of_z w32 n)) c) t g d
+takes_so old out was code left told new (is_empty done c e a o w) = is_empty done (ap (λ (n : ℤ). to_z w32 (of_z w32 n)) c) e a o w
+takes_so old out was code left told new (is_moving fill c m o w) = is_moving fill (ap (λ (n : ℤ). to_z w32 (of_z w32 n)) c) m o w
+takes_so old out was code left told new (has_no_room c s n o w) = has_no_room (ap (λ (k : ℤ). to_z w32 (of_z w32 k)) c) s n o w
+
+-- an end that was taken out is what the handle held
+pub held_is : {V B : Type 0} (value : B → V) (held : Option V) (result : Option B) (end : B) → result ≡ Some end → (held ≡ None → result ≡ None) → ((x : V) → held ≡ Some x → IsSomeAnd result (λ (b : B). value b ≡ x)) → held ≡ Some (value end)
+held_is value None result end is none some = absurd (false≢true (sym (ap is_some (sym is ∙ none refl))))
+held_is {V} {B} value (Some x) result end is none some = ap (λ (v : V). Some v) (sym (subst (λ (o : Option B). IsSomeAnd o (λ (b : B). value b ≡ x)) is (some x refl)))
+
+abbrev there_or : {X : Type 0} → X → Option X → X
+there_or x None = x
+there_or x (Some y) = y
+
+-- what is there is one value
+pub one_is_there : {X : Type 0} (held : Option X) (x y : X) → held ≡ Some x → held ≡ Some y → x ≡ y
+one_is_there {X} held x y is also = ap (λ (o : Option X). there_or x o) (sym is ∙ also)

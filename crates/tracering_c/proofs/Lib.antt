@@ -1,0 +1,5 @@
+pub mod WriterSteps
+pub mod ReaderSteps
+pub mod FaultCodes
+pub mod Unread
+pub mod CallAnswers

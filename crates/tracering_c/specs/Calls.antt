@@ -1,0 +1,119 @@
+-- What the calls of C make of a ring's ends.
+use Rattle.std.specs.Prelude.{◌≡◌, ◌+◌, ◌<◌, ℕ, ℤ, pos, ◌++◌, List, drop, length, Option, Some, None}
+use Rattle.trace_model.specs.declared.numbers.FillNo.{FillNo}
+use Rattle.trace_model.specs.Steps as model
+use Rattle.trace_model.specs.ParcelBytes.{DecodesParcel}
+use Rattle.nested_writer.specs.declared.fault.WriteFault.{WriteFault}
+use Rattle.nested_writer.specs.Lent.{Lent, lent_bytes, with_bytes}
+use Rattle.nested_writer.specs.Lending.{IsLent}
+use Rattle.ring_frames.specs.declared.answer.Answer.{Answer}
+use Rattle.ring_frames.specs.Answers.{top_bytes}
+use Rattle.page_image.specs.Contents.{Contents}
+use Rattle.parcel_buffer.specs.Fronts.{HasAtFront}
+use Rattle.page_numbers.specs.Written.{bytes_of_page}
+use Rattle.page_numbers.specs.Parcels.{parcel_of}
+use Rattle.ring_shared.specs.Value.{WriterValue}
+use Rattle.ring_shared.specs.Lending.{with_lent}
+use Rattle.ring_shared.specs.Calls.{MakesSome}
+use Rattle.ring_shared.specs.Finishing.{Finishes}
+use Rattle.ring_shared.specs.WholeWrites.{IsWritten, IsRefusedWrite}
+use Rattle.ring_shared.specs.Takes.{IsPageTaken, IsEmptyFound, IsSentAway}
+use Rattle.ring_shared.specs.Settling.{IsSettled, unread_page}
+use Rattle.ring_shared.specs.declared.settling.Settled.{Settled}
+use Rattle.tracering_c.specs.declared.ends.ReaderEnd.{ReaderEnd}
+use Rattle.tracering_c.specs.declared.taken.Taken.{Taken}
+use Rattle.tracering_c.specs.Codes.{fault_code, answer_code}
+
+-- ---- the writer
+
+-- The record is written whole, and the answer is 0; or it is refused, and the answer is the refusal's number.
+pub record WritesSo (old : WriterValue) (moment : ℕ) (payload : List ℕ) (code : ℤ) (new : WriterValue) : Type 0 where
+  pub refusal : Option WriteFault
+  pub written : refusal ≡ None → (code ≡ pos 0) × IsWritten old.shape old.part moment payload new.part
+  pub refused : (fault : WriteFault)
+      → refusal ≡ Some fault
+      → (code ≡ fault_code fault) × IsRefusedWrite old.shape old.part moment (length payload) fault new.part
+
+-- The event's step is made, and the number is that of its answer.
+pub record MakesSo (old : WriterValue) (event : model.Event) (code : ℤ) (new : WriterValue) : Type 0 where
+  pub answer : Answer
+  pub makes : MakesSome old event answer new
+  pub code_is : code ≡ answer_code answer
+
+-- The frame on top is stepped as far as it gets, and the number is that of its answer.
+pub record FinishesSo (old : WriterValue) (code : ℤ) (new : WriterValue) : Type 0 where
+  pub answer : Answer
+  pub finishes : Finishes old.shape old.part answer new.part
+  pub code_is : code ≡ answer_code answer
+
+-- The frame on top ends with the payload in its slot.
+abbrev pub EndsSo : WriterValue → ℤ → WriterValue → Type 0
+EndsSo old code new = MakesSo old (model.ends (top_bytes old.frames.stack old.frames.stack.frames)) code new
+
+-- The bytes are put to the front of the slot of the record on top, and nothing else of the writer changes.
+pub record IsPut (old : WriterValue) (bytes : List ℕ) (new : WriterValue) : Type 0 where
+  pub lent : Lent
+  pub is_lent : IsLent old.frames.stack lent
+  pub new_is : new ≡ with_lent old (with_bytes lent (bytes ++ drop (length bytes) (lent_bytes lent)))
+
+-- ---- the reader
+
+-- these are the numbers of the page, and of so many bytes
+pub record AreNumbersOf (page : Contents) (missed len : ℕ) (taken : Taken) : Type 0 where
+  pub fill : taken.fill ≡ page.fill
+  pub first : taken.first ≡ page.first
+  pub missed_is : taken.missed ≡ missed
+  pub count : taken.count ≡ page.count
+  pub len_is : taken.len ≡ len
+
+-- The page is given as parcel bytes, at the front of the buffer, with its numbers.
+pub record IsGiven (cpu : ℕ) (page : Contents) (missed : ℕ) (out left : List ℕ) (told : Taken) : Type 0 where
+  pub bytes : HasAtFront out (bytes_of_page cpu page missed) left
+  pub numbers : AreNumbersOf page missed (length (bytes_of_page cpu page missed)) told
+
+-- A page is taken and given, and the answer is 0; or nothing is taken and nothing is given: no closed page is unread,
+-- or a move of the head isn't finished, or the buffer is shorter than a parcel of the ring.
+pub data TakesSo (old : ReaderEnd) (out : List ℕ) (was : Taken) (code : ℤ) (left : List ℕ) (told : Taken)
+    (new : ReaderEnd) : Type 0 where
+  is_page : (page : Contents) (missed : ℕ)
+      → code ≡ pos 0
+      → IsPageTaken old.reader.shape old.reader.part page missed new.reader.part
+      → IsGiven old.cpu.0 page missed out left told
+      → DecodesParcel (bytes_of_page old.cpu.0 page missed) (parcel_of old.cpu.0 page missed)
+      → TakesSo old out was code left told new
+  is_empty : (done : ℕ)
+      → code ≡ pos 15
+      → IsEmptyFound old.reader.shape old.reader.part done new.reader.part
+      → new.reader.empty_at ≡ Some done
+      → left ≡ out
+      → told ≡ was
+      → TakesSo old out was code left told new
+  is_moving : (fill : FillNo)
+      → code ≡ pos 16
+      → IsSentAway old.reader.shape old.reader.part fill.0 new.reader.part
+      → left ≡ out
+      → told ≡ was
+      → TakesSo old out was code left told new
+  has_no_room : code ≡ pos 17
+      → length out < 48 + old.reader.shape.size
+      → new ≡ old
+      → left ≡ out
+      → told ≡ was
+      → TakesSo old out was code left told new
+
+-- ---- both
+
+-- nothing is reported
+abbrev pub nothing_told : Taken
+nothing_told = record { fill = 0; first = 0; missed = 0; count = 0; len = 0 }
+
+-- The page that no take has answered is given, if there is one, with nothing missing before it.
+abbrev pub IsLastGiven : ℕ → Option Contents → (out left : List ℕ) → Taken → Type 0
+IsLastGiven cpu None out left told = (left ≡ out) × (told ≡ nothing_told)
+IsLastGiven cpu (Some page) out left told = IsGiven cpu page 0 out left told
+
+-- The two ends are joined, and what no take has answered is given.
+pub record SettlesSo (writer : WriterValue) (end : ReaderEnd) (out left : List ℕ) (told : Taken) : Type 0 where
+  pub settled : Settled
+  pub is : IsSettled writer.shape writer.part end.reader.part settled
+  pub given : IsLastGiven end.cpu.0 (unread_page settled) out left told

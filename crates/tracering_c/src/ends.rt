@@ -1,0 +1,36 @@
+//! A ring's two ends, each with what its calls need.
+use page_image::Body;
+use ring_shared::{Reader, Writer};
+use trace_model::CpuId;
+
+/// The writer.
+#[derive(Drop)]
+pub struct WriterEnd {
+    pub writer: Writer,
+}
+
+/// The reader, the CPU under which its pages are parcels, and the body that its next take hands in.
+#[derive(Drop)]
+pub struct ReaderEnd {
+    pub cpu: CpuId,
+    pub reader: Reader,
+    pub body: Option<Body>,
+}
+
+impl ReaderEnd {
+    ghost use Rattle.std.specs.Prelude.{◌≡◌, ◌≤◌};
+    ghost use Rattle.trace_model.specs.declared.limits.TheConstants.{MAX_SIZE};
+    ghost use Rattle.tracering_c.specs.Ends.{IsReaderEnd};
+
+    /// How many bytes of data the ring's pages have.
+    pub(crate) fn size(&self) -> usize
+        requires { IsReaderEnd self.now }
+        ensures size { result ≡ self.now.reader.shape.size }
+        ensures limit { result ≤ MAX_SIZE }
+    {
+        let Some(body) = &self.body else {
+            unreachable!()
+        };
+        body.size()
+    }
+}

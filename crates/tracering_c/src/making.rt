@@ -1,0 +1,104 @@
+//! A new ring, and its ends' end.
+ghost use Rattle.std.specs.Prelude.{◌≡◌, ◌≢◌, Some, None, IfSome, IsSomeAnd, is_some, true, pos};
+ghost use Rattle.trace_model.specs.declared.limits.TheConstants.{START_FILL};
+ghost use Rattle.ring_shared.specs.NewEnds.{AreNewEnds};
+ghost use Rattle.ring_shared.specs.Calls.{IsWriter};
+ghost use Rattle.tracering_c.specs.declared.ends.WriterEnd.{WriterEnd as WriterValue};
+ghost use Rattle.tracering_c.specs.declared.ends.ReaderEnd.{ReaderEnd as ReaderValue};
+ghost use Rattle.tracering_c.specs.Ends.{IsReaderEnd};
+
+use crate::codes::{ABSENT, BAD_CPU, BAD_SIZE, DONE, IN_USE, NO_MEMORY};
+use crate::ends::{ReaderEnd, WriterEnd};
+use crate::handle::{ReaderHandle, WriterHandle};
+use page_image::Body;
+use std::alloc::Global;
+use trace_model::{CpuId, MAX_CPUS, MAX_PAGES, MAX_SIZE, MIN_PAGES, MIN_SIZE};
+
+/// A new ring of this CPU, of `pages` pages of `size` bytes of data, for two handles that have none. All its memory is
+/// taken here.
+#[unsafe(no_mangle)]
+pub extern "C" fn tracering_raw_new(
+    alloc: Global,
+    w: &mut WriterHandle,
+    r: &mut ReaderHandle,
+    cpu: u32,
+    pages: usize,
+    size: usize,
+) -> i32
+    requires writer { IfSome w.old.held.value (λ x. IsWriter x.writer) }
+    requires reader { IfSome r.old.held.value (λ x. IsReaderEnd x) }
+    ensures ring { result ≡ pos 0 → IsSomeAnd w.new.held.value (λ left. IsSomeAnd r.new.held.value (λ right.
+        AreNewEnds (record { pages = pages; size = size; start = START_FILL }) left.writer right.reader)) }
+    ensures cpu { result ≡ pos 0 → IsSomeAnd r.new.held.value (λ right. right.cpu.0 ≡ cpu) }
+    ensures writer_stays { result ≢ pos 0 → w.new ≡ w.old }
+    ensures reader_stays { result ≢ pos 0 → r.new ≡ r.old }
+    ensures in_use { is_some w.old.held.value ≡ true → result ≡ pos 9 }
+    ensures in_use_too { is_some r.old.held.value ≡ true → result ≡ pos 9 }
+    ensures writer { IfSome w.new.held.value (λ x. IsWriter x.writer) }
+    ensures reader { IfSome r.new.held.value (λ x. IsReaderEnd x) }
+{
+    if w.live || r.live {
+        return IN_USE;
+    }
+    if cpu >= MAX_CPUS {
+        return BAD_CPU;
+    }
+    if pages < MIN_PAGES || pages > MAX_PAGES || size < MIN_SIZE || size > MAX_SIZE {
+        return BAD_SIZE;
+    }
+    if size % 4 != 0 {
+        return BAD_SIZE;
+    }
+    let Ok((writer, reader)) = ring_shared::ring(alloc, pages, size) else {
+        return NO_MEMORY;
+    };
+    let Ok(body) = Body::new(alloc, size) else {
+        return NO_MEMORY;
+    };
+    let Ok(left) = Box::new(alloc, WriterEnd { writer }) else {
+        return NO_MEMORY;
+    };
+    let Ok(right) = Box::new(
+        alloc,
+        ReaderEnd {
+            cpu: CpuId(cpu),
+            reader,
+            body: Some(body),
+        },
+    ) else {
+        return NO_MEMORY;
+    };
+    *w = WriterHandle::of(left);
+    *r = ReaderHandle::of(right);
+    DONE
+}
+
+/// Frees the writer.
+#[unsafe(no_mangle)]
+pub extern "C" fn tracering_raw_writer_free(alloc: Global, w: &mut WriterHandle) -> i32
+    requires writer { IfSome w.old.held.value (λ x. IsWriter x.writer) }
+    ensures absent { w.old.held.value ≡ None → result ≡ pos 8 }
+    ensures stays { w.old.held.value ≡ None → w.new ≡ w.old }
+    ensures freed { (x : WriterValue) → w.old.held.value ≡ Some x → result ≡ pos 0 }
+    ensures none { w.new.held.value ≡ None }
+{
+    let Some(_end) = w.take_out(alloc) else {
+        return ABSENT;
+    };
+    DONE
+}
+
+/// Frees the reader.
+#[unsafe(no_mangle)]
+pub extern "C" fn tracering_raw_reader_free(alloc: Global, r: &mut ReaderHandle) -> i32
+    requires reader { IfSome r.old.held.value (λ x. IsReaderEnd x) }
+    ensures absent { r.old.held.value ≡ None → result ≡ pos 8 }
+    ensures stays { r.old.held.value ≡ None → r.new ≡ r.old }
+    ensures freed { (x : ReaderValue) → r.old.held.value ≡ Some x → result ≡ pos 0 }
+    ensures none { r.new.held.value ≡ None }
+{
+    let Some(_end) = r.take_out(alloc) else {
+        return ABSENT;
+    };
+    DONE
+}

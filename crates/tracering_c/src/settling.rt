@@ -1,0 +1,122 @@
+//! The two ends of a ring, settled.
+ghost use Rattle.std.specs.Prelude.{◌≡◌, ◌≢◌, ◌+◌, ◌≤◌, ◌<◌, ◌↔◌, [], Some, None, length, IfSome, pos};
+ghost use Rattle.ring_shared.specs.Calls.{IsWriter};
+ghost use Rattle.tracering_c.specs.declared.ends.WriterEnd.{WriterEnd as WriterValue};
+ghost use Rattle.tracering_c.specs.declared.ends.ReaderEnd.{ReaderEnd as ReaderValue};
+ghost use Rattle.tracering_c.specs.Ends.{IsReaderEnd, AreOfOneRing};
+ghost use Rattle.tracering_c.specs.Calls.{SettlesSo};
+
+use crate::codes::{ABSENT, DONE, NO_ROOM, NOT_AT_REST, UNREAD};
+use crate::ends::{ReaderEnd, WriterEnd};
+use crate::handle::{ReaderHandle, WriterHandle};
+use crate::taken::Taken;
+use parcel_buffer::{HEADER, put_parcel};
+use ring_shared::{SettleFault, settle};
+use std::alloc::Global;
+
+/// Joins the two ends of a ring, and puts the parcel of the page that no take has answered to the front of `out`.
+#[unsafe(no_mangle)]
+pub extern "C" fn tracering_raw_settle(
+    alloc: Global,
+    w: &mut WriterHandle,
+    r: &mut ReaderHandle,
+    out: &mut [u8],
+    taken: &mut Taken,
+) -> i32
+    requires writer { IfSome w.old.held.value (λ x. IsWriter x.writer) }
+    requires reader { IfSome r.old.held.value (λ x. IsReaderEnd x) }
+    requires one_ring { (left : WriterValue) (right : ReaderValue)
+        → w.old.held.value ≡ Some left → r.old.held.value ≡ Some right
+        → AreOfOneRing left.writer right.reader }
+    ensures absent { w.old.held.value ≡ None → result ≡ pos 8 }
+    ensures reader_absent { (left : WriterValue) → w.old.held.value ≡ Some left → r.old.held.value ≡ None
+        → result ≡ pos 8 }
+    ensures settled { (left : WriterValue) (right : ReaderValue)
+        → w.old.held.value ≡ Some left → r.old.held.value ≡ Some right
+        → result ≡ pos 0 → SettlesSo left.writer right out.old out.new taken.new }
+    ensures at_rest { (left : WriterValue) (right : ReaderValue)
+        → w.old.held.value ≡ Some left → r.old.held.value ≡ Some right
+        → result ≡ pos 18 ↔ left.writer.part.frames ≢ [] }
+    ensures unread { (left : WriterValue) (right : ReaderValue)
+        → w.old.held.value ≡ Some left → r.old.held.value ≡ Some right
+        → result ≡ pos 19 → right.reader.empty_at ≢ Some left.writer.part.done }
+    ensures no_room { (left : WriterValue) (right : ReaderValue)
+        → w.old.held.value ≡ Some left → r.old.held.value ≡ Some right
+        → result ≡ pos 17 → length out.old < 48 + right.reader.shape.size }
+    ensures gone { result ≡ pos 0 → w.new.held.value ≡ None }
+    ensures reader_gone { result ≡ pos 0 → r.new.held.value ≡ None }
+    ensures stays { result ≢ pos 0 → w.new.held.value ≡ w.old.held.value }
+    ensures reader_stays { result ≢ pos 0 → r.new.held.value ≡ r.old.held.value }
+    ensures out_stays { result ≢ pos 0 → out.new ≡ out.old }
+    ensures taken_stays { result ≢ pos 0 → taken.new ≡ taken.old }
+{
+    let Some(left) = w.take_out(alloc) else {
+        return ABSENT;
+    };
+    let Some(right) = r.take_out(alloc) else {
+        *w = WriterHandle::of(left);
+        return ABSENT;
+    };
+    let code = why_not(&left, &right, out.len());
+    if code != DONE {
+        *w = WriterHandle::of(left);
+        *r = ReaderHandle::of(right);
+        return code;
+    }
+    *taken = settle_into(alloc, Box::into_inner(left), Box::into_inner(right), out);
+    DONE
+}
+
+/// Why these ends can't be settled into a buffer of `room` bytes.
+fn why_not(left: &WriterEnd, right: &ReaderEnd, room: usize) -> i32
+    requires writer { IsWriter left.now.writer }
+    requires reader { IsReaderEnd right.now }
+    ensures at_rest { result ≡ pos 18 ↔ left.now.writer.part.frames ≢ [] }
+    ensures unread { result ≡ pos 19 → right.now.reader.empty_at ≢ Some left.now.writer.part.done }
+    ensures no_room { result ≡ pos 17 → room < 48 + right.now.reader.shape.size }
+    ensures read { result ≡ pos 0 → right.now.reader.empty_at ≡ Some left.now.writer.part.done }
+    ensures room { result ≡ pos 0 → 48 + right.now.reader.shape.size ≤ room }
+    ensures rest { result ≡ pos 0 → left.now.writer.part.frames ≡ [] }
+{
+    if left.writer.depth() > 0 {
+        return NOT_AT_REST;
+    }
+    if right.reader.empty_at() != Some(left.writer.done()) {
+        return UNREAD;
+    }
+    if room < HEADER + right.size() {
+        return NO_ROOM;
+    }
+    DONE
+}
+
+/// `tracering_raw_settle`, of the ends themselves.
+fn settle_into(alloc: Global, left: WriterEnd, right: ReaderEnd, out: &mut [u8]) -> Taken
+    requires writer { IsWriter left.writer }
+    requires reader { IsReaderEnd right }
+    requires one_ring { AreOfOneRing left.writer right.reader }
+    requires rest { left.writer.part.frames ≡ [] }
+    requires read { right.reader.empty_at ≡ Some left.writer.part.done }
+    requires room { 48 + right.reader.shape.size ≤ length out.old }
+    ensures { SettlesSo left.writer right out.old out.new result }
+{
+    let ReaderEnd { cpu, reader, .. } = right;
+    let WriterEnd { writer, .. } = left;
+    let settled = match settle(alloc, writer, reader) {
+        Ok(settled) => settled,
+        Err(SettleFault::NoMemory(..)) => unreachable!(),
+    };
+    match settled.unread() {
+        Some(page) => {
+            let len = put_parcel(out, cpu, page, 0);
+            Taken::of(page, 0, len)
+        }
+        None => Taken {
+            fill: 0,
+            first: 0,
+            missed: 0,
+            count: 0,
+            len: 0,
+        },
+    }
+}
