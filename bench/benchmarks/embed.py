@@ -1,0 +1,90 @@
+"""The library for C: records written by a C program, beside a plain ring in C and LTTng-UST
+
+A ring of 64 pages of 4,080 bytes; payloads of 8 to 112 bytes, of pseudo-random lengths. The plain ring has the same
+protocol: the two have to leave as many records for a reader. LTTng-UST is measured if its packages are there
+(lttng-tools, liblttng-ust-dev), in a session that overwrites 64 buffers of 4,096 bytes for each processor.
+"""
+
+import contextlib
+import shutil
+import subprocess
+import time
+
+from lib import count, tables
+from lib.programs import BENCH, TOP, Failure, call, tried
+
+NEEDS = ("rt", "cc", "valgrind")
+# How many records the program writes in a round.
+ROUND = 8_400
+WAYS = (("library", "`tracering_write`"), ("plain", "plain ring in C"), ("copy", "only a copy of the same bytes"))
+
+
+def embedded(folder):
+    """The program that writes by the library, by the plain ring, or only copies."""
+    call([TOP / "tracering-lib"])
+    program = folder / "embed"
+    call(["cc", "-O2", f"-I{TOP}/include", "-o", program, BENCH / "rivals/embed/main.c", TOP / "out/libtracering.a"])
+    return program
+
+
+@contextlib.contextmanager
+def session(folder):
+    """A session of LTTng-UST that overwrites what is oldest."""
+    with subprocess.Popen(["lttng-sessiond", "--no-kernel", "--quiet"], stderr=subprocess.DEVNULL) as daemon:
+        try:
+            create = ["lttng", "create", "embed", "--snapshot", "-o", folder / "session"]
+            for _ in range(50):
+                if not tried(create)[0]:
+                    break
+                time.sleep(0.2)
+            else:
+                raise Failure("no session of LTTng can be made")
+            buffers = ["--overwrite", "--num-subbuf=64", "--subbuf-size=4096"]
+            call(["lttng", "enable-channel", "--userspace", *buffers, "channel"])
+            call(["lttng", "enable-event", "--userspace", "--channel", "channel", "embed:record"])
+            call(["lttng", "start"])
+            yield
+            call(["lttng", "destroy", "embed"])
+        finally:
+            daemon.terminate()
+
+
+def instructions(program, given, way):
+    """How many instructions a record takes."""
+    command = [program, *given]
+    few, many = (count.callgrind([*command, str(n), "1"], function=f"round_of_{way}") for n in (2, 22))
+    return (many - few) / (20 * ROUND)
+
+
+def nanoseconds(program, given):
+    return int(count.output([program, *given, "10", "200"]).split()[0]) / (10 * ROUND)
+
+
+def measured(program, given, way):
+    return instructions(program, given, way), nanoseconds(program, given)
+
+
+def run(folder):
+    program = embedded(folder)
+    left = {way: count.output([program, way, "2", "1"]).split()[1] for way in ("library", "plain")}
+    if left["library"] != left["plain"]:
+        raise Failure(f"embed: a reader finds {left}")
+    found = [(what, *measured(program, [way], way)) for way, what in WAYS]
+    if shutil.which("lttng-sessiond"):
+        rival = folder / "lttng"
+        source = BENCH / "rivals/lttng"
+        call(["cc", "-O2", f"-I{source}", "-o", rival, source / "main.c", "-llttng-ust", "-ldl"])
+        with session(folder):
+            found.append(("LTTng-UST, with its own clock", *measured(rival, [], "lttng")))
+    yield "Instructions a record; the rival is the plain ring in C."
+    yield ""
+    yield from tables.compared_head()
+    for what, took, _ in found:
+        limit = 100 if what == WAYS[0][1] else None
+        yield tables.compared(what, took, found[1][1], limit=limit, digits=1)
+    yield ""
+    yield "Nanoseconds a record, the least of 200 runs, and millions of records a second."
+    yield ""
+    yield from tables.head("What", "Nanoseconds", "Millions a second")
+    for what, _, took in found:
+        yield tables.line([what, f"{took:.1f}", f"{1000 / took:.1f}"])

@@ -1,0 +1,282 @@
+// Checks of the library for C: which misuse is refused; and a writer's thread, a reader's thread, and a signal's
+// handler that writes between the writer's calls, in the middle of them, and nested in records. The reader looks at
+// each record's number, moment and payload. Prints the same whatever the schedule, and ends with 0 if all is well.
+// `checks RECORDS` says how many records the writer makes.
+#define _DEFAULT_SOURCE
+#include "tracering.h"
+
+#include <pthread.h>
+#include <signal.h>
+#include <stdatomic.h>
+#include <stdio.h>
+#include <stdlib.h>
+#include <string.h>
+#include <sys/time.h>
+
+enum { PAGES = 64, SIZE = 4080, LONGEST = 200 };
+
+static struct tracering_writer writer;
+static _Atomic uint64_t moment;
+static _Atomic uint64_t from_handler, amid_calls;
+static atomic_int done, faults;
+
+// A payload says of itself which one it is: its length, and then that counted on.
+static void fill(uint8_t *payload, size_t len)
+{
+    for (size_t i = 0; i < len; i++)
+        payload[i] = (uint8_t)(len + i);
+}
+
+static int32_t write_filled(size_t len)
+{
+    uint8_t payload[LONGEST];
+    fill(payload, len);
+    return tracering_write(&writer, ++moment, payload, len);
+}
+
+// The handler writes one record, or two of which the second is nested, and leaves no frame behind. Amid a call of the
+// writer on its handle it is refused.
+static int32_t write_nested(size_t len)
+{
+    uint8_t payload[LONGEST];
+    fill(payload, len);
+    size_t depth = tracering_depth(&writer);
+    int32_t code = tracering_begin(&writer, ++moment, len);
+    if (code != TRACERING_DONE)
+        return code;
+    code = tracering_finish(&writer);
+    if (code != TRACERING_RESERVED) {
+        if (tracering_depth(&writer) > depth)
+            (void)tracering_finish(&writer);
+        return code;
+    }
+    faults += tracering_put(&writer, payload, len) != TRACERING_DONE;
+    if (write_filled(7) == TRACERING_DONE)
+        from_handler++;
+    faults += tracering_end(&writer) != TRACERING_DONE;
+    if (depth == 0)
+        faults += tracering_finish(&writer) != TRACERING_DONE;
+    return TRACERING_DONE;
+}
+
+static void on_signal(int signal)
+{
+    static unsigned count;
+    int32_t code = signal == SIGUSR1 || ++count % 2 ? write_filled(12) : write_nested(40);
+    if (code == TRACERING_DONE)
+        from_handler++;
+    else if (code == TRACERING_BUSY)
+        amid_calls++;
+    else if (code != TRACERING_TOO_DEEP && code != TRACERING_CROWDED)
+        faults++;
+}
+
+// The record is written by its parts, so that the handler's are nested in it.
+static int32_t write_by_parts(const uint8_t *payload, size_t len)
+{
+    int32_t code = tracering_begin(&writer, ++moment, len);
+    if (code != TRACERING_DONE)
+        return code;
+    code = tracering_finish(&writer);
+    if (code != TRACERING_RESERVED)
+        return code;
+    code = tracering_put(&writer, payload, len);
+    if (code == TRACERING_DONE)
+        raise(SIGUSR1);
+    code = tracering_end(&writer);
+    if (code != TRACERING_DONE)
+        return code;
+    return tracering_depth(&writer) ? tracering_finish(&writer) : TRACERING_DONE;
+}
+
+static uint64_t write_records(uint64_t count)
+{
+    uint8_t payload[LONGEST];
+    uint64_t written = 0;
+    for (uint64_t i = 0; i < count; i++) {
+        size_t len = 1 + i % LONGEST;
+        fill(payload, len);
+        int32_t code = i % 8 ? tracering_write(&writer, ++moment, payload, len) : write_by_parts(payload, len);
+        written += code == TRACERING_DONE;
+    }
+    return written;
+}
+
+struct seen {
+    struct tracering_reader reader;
+    uint64_t pages, records, missed, next, faults;
+};
+
+static uint64_t number_at(const uint8_t *at, int bytes)
+{
+    uint64_t number = 0;
+    for (int i = bytes; i-- > 0;)
+        number = number << 8 | at[i];
+    return number;
+}
+
+// Looks at a parcel: its numbers, its image's header, how many records it has, and their payloads.
+static void look_at(struct seen *seen, const uint8_t *parcel, const struct tracering_taken *taken)
+{
+    seen->faults += number_at(parcel, 8) != 3 || number_at(parcel + 8, 8) != taken->fill
+        || number_at(parcel + 16, 8) != taken->first || number_at(parcel + 24, 8) != taken->missed;
+    uint64_t commit = number_at(parcel + 40, 8), len = commit & 0x3fffffff, count = 0;
+    seen->faults += len > SIZE || (commit >> 31 & 1) != (taken->missed > 0);
+    const uint8_t *data = parcel + TRACERING_HEADER;
+    for (uint64_t at = 0; at < len; count++) {
+        uint64_t type = number_at(data + at, 4) & 31;
+        uint64_t slot = type ? 4 * type : number_at(data + at + 4, 4) - 4, before = type ? 4 : 8;
+        const uint8_t *payload = data + at + before;
+        // The slot is the payload's length, rounded up: its first byte is the length.
+        uint64_t own = payload[0];
+        seen->faults += type > 28 || own > slot || slot - own > 3;
+        for (uint64_t i = 0; i < slot && own <= slot; i++)
+            seen->faults += payload[i] != (i < own ? (uint8_t)(own + i) : 0);
+        at += before + slot;
+    }
+    seen->faults += count != taken->count;
+}
+
+static void *read_pages(void *given)
+{
+    static uint8_t out[TRACERING_HEADER + SIZE];
+    struct seen *seen = given;
+    for (;;) {
+        int last = atomic_load(&done);
+        struct tracering_taken taken;
+        int32_t code = tracering_take(&seen->reader, out, sizeof out, &taken);
+        if (code == TRACERING_DONE) {
+            seen->faults += taken.first != seen->next + taken.missed || taken.len != sizeof out;
+            seen->next = taken.first + taken.count;
+            seen->pages++;
+            seen->records += taken.count;
+            seen->missed += taken.missed;
+            look_at(seen, out, &taken);
+        } else if (code == TRACERING_EMPTY && last) {
+            return NULL;
+        }
+    }
+}
+
+// Misuse that a call can see is refused.
+static int refusals(void)
+{
+    enum { ROOM = TRACERING_HEADER + 64 };
+    struct tracering_writer none = {0}, made = {0}, busy = {.in_call = 1};
+    struct tracering_reader reader = {0}, no_reader = {0};
+    struct tracering_taken taken;
+    uint8_t byte[ROOM] = {0};
+    int bad = 0;
+    bad += tracering_write(&none, 1, byte, 1) != TRACERING_ABSENT;
+    bad += tracering_begin(&none, 1, 1) != TRACERING_ABSENT;
+    bad += tracering_begin_close(&none) != TRACERING_ABSENT;
+    bad += tracering_finish(&none) != TRACERING_ABSENT;
+    bad += tracering_put(&none, byte, 1) != TRACERING_ABSENT;
+    bad += tracering_end(&none) != TRACERING_ABSENT;
+    bad += tracering_depth(&none) != 0;
+    bad += tracering_take(&reader, byte, ROOM, &taken) != TRACERING_ABSENT;
+    bad += tracering_wish(&reader) != TRACERING_ABSENT;
+    bad += tracering_settle(&none, &reader, byte, ROOM, &taken) != TRACERING_ABSENT;
+    bad += tracering_writer_free(&none) != TRACERING_ABSENT;
+    bad += tracering_reader_free(&reader) != TRACERING_ABSENT;
+    bad += tracering_write(&busy, 1, byte, 1) != TRACERING_BUSY;
+    bad += tracering_finish(&busy) != TRACERING_BUSY;
+    bad += tracering_writer_free(&busy) != TRACERING_BUSY;
+    bad += tracering_new(&busy, &reader, 0, 2, 64) != TRACERING_BUSY;
+    bad += tracering_new(NULL, &reader, 0, 2, 64) != TRACERING_NULL;
+    bad += tracering_write(NULL, 1, byte, 1) != TRACERING_NULL;
+    bad += tracering_write(&none, 1, NULL, 1) != TRACERING_NULL;
+    bad += tracering_put(&none, NULL, 1) != TRACERING_NULL;
+    bad += tracering_take(&reader, NULL, ROOM, &taken) != TRACERING_NULL;
+    bad += tracering_take(&reader, byte, ROOM, NULL) != TRACERING_NULL;
+    bad += tracering_new(&made, &reader, 256, 2, 64) != TRACERING_BAD_CPU;
+    bad += tracering_new(&made, &reader, 0, 1, 64) != TRACERING_BAD_SIZE;
+    bad += tracering_new(&made, &reader, 0, 1025, 64) != TRACERING_BAD_SIZE;
+    bad += tracering_new(&made, &reader, 0, 2, 28) != TRACERING_BAD_SIZE;
+    bad += tracering_new(&made, &reader, 0, 2, 66) != TRACERING_BAD_SIZE;
+    bad += tracering_new(&made, &reader, 0, 2, 65524) != TRACERING_BAD_SIZE;
+    bad += made.held.at || made.held.live || made.in_call || reader.held.at || reader.held.live || reader.in_call;
+    bad += tracering_new(&made, &reader, 255, 2, 64) != TRACERING_DONE;
+    bad += tracering_new(&made, &reader, 0, 2, 64) != TRACERING_IN_USE;
+    bad += tracering_new(&none, &reader, 0, 2, 64) != TRACERING_IN_USE;
+    bad += tracering_finish(&made) != TRACERING_NO_FRAME;
+    bad += tracering_end(&made) != TRACERING_NO_FRAME;
+    bad += tracering_put(&made, NULL, 0) != TRACERING_NO_FRAME;
+    bad += tracering_write(&made, 1, byte, 61) != TRACERING_TOO_LONG;
+    bad += tracering_write(&made, 1ull << 59, byte, 1) != TRACERING_LATE_MOMENT;
+    bad += tracering_write(&made, 1, NULL, 0) != TRACERING_DONE;
+    bad += tracering_begin(&made, 1, 3) != TRACERING_DONE;
+    bad += tracering_put(&made, byte, 3) != TRACERING_NOT_RESERVED;
+    bad += tracering_end(&made) != TRACERING_NOT_RESERVED;
+    bad += tracering_depth(&made) != 1;
+    bad += tracering_settle(&made, &reader, byte, ROOM, &taken) != TRACERING_NOT_AT_REST;
+    bad += tracering_finish(&made) != TRACERING_RESERVED;
+    bad += tracering_put(&made, byte, 5) != TRACERING_TOO_LONG;
+    bad += tracering_put(&made, "abc", 3) != TRACERING_DONE;
+    bad += tracering_end(&made) != TRACERING_DONE;
+    bad += tracering_finish(&made) != TRACERING_DONE;
+    bad += tracering_depth(&made) != 0;
+    bad += tracering_take(&reader, byte, ROOM - 1, &taken) != TRACERING_NO_ROOM;
+    bad += tracering_settle(&made, &reader, byte, ROOM, &taken) != TRACERING_UNREAD;
+    bad += tracering_take(&reader, byte, ROOM, &taken) != TRACERING_EMPTY;
+    bad += tracering_wish(&reader) != TRACERING_DONE;
+    bad += tracering_begin_close(&made) != TRACERING_DONE;
+    bad += tracering_finish(&made) != TRACERING_DONE;
+    bad += tracering_take(&reader, byte, ROOM, &taken) != TRACERING_DONE;
+    bad += taken.count != 2 || taken.first != 0 || taken.missed != 0 || taken.len != ROOM || taken.fill != 0;
+    bad += memcmp(byte + 60, "abc", 4) != 0;
+    bad += tracering_write(&made, 5, "last", 4) != TRACERING_DONE;
+    bad += tracering_take(&reader, byte, ROOM, &taken) != TRACERING_EMPTY;
+    bad += tracering_settle(&made, &reader, byte, ROOM - 1, &taken) != TRACERING_NO_ROOM;
+    bad += tracering_settle(&made, &no_reader, byte, ROOM, &taken) != TRACERING_ABSENT;
+    bad += tracering_settle(&made, &reader, byte, ROOM, &taken) != TRACERING_DONE;
+    bad += taken.count != 1 || taken.first != 2 || taken.missed != 0 || taken.len != ROOM || taken.fill != 1;
+    bad += memcmp(byte + 52, "last", 4) != 0;
+    bad += tracering_write(&made, 9, byte, 1) != TRACERING_ABSENT;
+    bad += tracering_writer_free(&made) != TRACERING_ABSENT;
+    bad += tracering_reader_free(&reader) != TRACERING_ABSENT;
+    bad += tracering_new(&made, &reader, 0, 2, 64) != TRACERING_DONE;
+    bad += tracering_writer_free(&made) != TRACERING_DONE;
+    bad += tracering_wish(&reader) != TRACERING_DONE;
+    bad += tracering_reader_free(&reader) != TRACERING_DONE;
+    return bad;
+}
+
+int main(int argc, char **argv)
+{
+    uint64_t count = argc > 1 ? strtoull(argv[1], NULL, 10) : 200000;
+    int bad = refusals();
+    printf("refusals: %s\n", bad ? "wrong" : "as they are to be");
+
+    static struct seen seen;
+    struct sigaction action = {.sa_handler = on_signal};
+    struct itimerval often = {.it_interval = {.tv_usec = 50}, .it_value = {.tv_usec = 50}}, never = {0};
+    sigset_t alarms;
+    pthread_t reader;
+    sigemptyset(&alarms);
+    sigaddset(&alarms, SIGALRM);
+    // The alarms are for this thread alone: the reader's is made while they are blocked.
+    if (tracering_new(&writer, &seen.reader, 3, PAGES, SIZE) != TRACERING_DONE || sigaction(SIGUSR1, &action, NULL)
+        || sigaction(SIGALRM, &action, NULL) || pthread_sigmask(SIG_BLOCK, &alarms, NULL)
+        || pthread_create(&reader, NULL, read_pages, &seen) || pthread_sigmask(SIG_UNBLOCK, &alarms, NULL)
+        || setitimer(ITIMER_REAL, &often, NULL))
+        return 1;
+    uint64_t written = write_records(count);
+    // An alarm that is still to come would write after the close.
+    if (setitimer(ITIMER_REAL, &never, NULL) || pthread_sigmask(SIG_BLOCK, &alarms, NULL))
+        return 1;
+    if (tracering_begin_close(&writer) != TRACERING_DONE || tracering_finish(&writer) != TRACERING_DONE)
+        bad++;
+    atomic_store(&done, 1);
+    pthread_join(reader, NULL);
+    bad += written != count || faults || seen.faults || seen.records + seen.missed != written + from_handler
+        || from_handler < (count + 7) / 8;
+    if (bad || argc > 2)
+        fprintf(stderr, "records %llu, from handlers %llu, refused amid calls %llu, missed %llu, faults %llu and %d\n",
+            (unsigned long long)written, (unsigned long long)from_handler, (unsigned long long)amid_calls,
+            (unsigned long long)seen.missed, (unsigned long long)seen.faults, faults);
+    printf("records: each is taken or counted as missed: %s\n", bad ? "no" : "yes");
+    tracering_writer_free(&writer);
+    tracering_reader_free(&seen.reader);
+    return bad != 0;
+}

@@ -1,0 +1,193 @@
+//! A trace ring with a writer's end and a reader's end, each of which may go to a thread of its own.
+//!
+//! `include/tracering.h` says what each call does. What is a condition there is kept here by types: an end is in one
+//! call at a time, since calls borrow it, and it is freed when it is dropped.
+use std::os::raw::c_void;
+use std::ptr::null_mut;
+use std::sync::atomic::{AtomicU64, Ordering};
+
+#[repr(C)]
+struct Handle {
+    at: *mut c_void,
+    live: bool,
+}
+
+/// What is reported of a page that is given. `include/tracering.h` has the units.
+#[repr(C)]
+#[derive(Clone, Copy, Debug, Default, PartialEq, Eq)]
+pub struct Taken {
+    pub fill: u64,
+    pub first: u64,
+    pub missed: u64,
+    pub count: u64,
+    pub len: usize,
+}
+
+/// The bytes of a parcel before its page's data.
+pub const HEADER: usize = 48;
+
+/// Why a call is refused.
+#[derive(Clone, Copy, Debug, PartialEq, Eq)]
+pub enum Fault {
+    TooDeep,
+    TooLong,
+    LateMoment,
+    Crowded,
+    Worn,
+    NoFrame,
+    NotReserved,
+    Absent,
+    InUse,
+    Busy,
+    Null,
+    NoMemory,
+    BadSize,
+    BadCpu,
+    Empty,
+    Moving,
+    NoRoom,
+    NotAtRest,
+    Unread,
+    /// These are ends of two rings.
+    OtherRing,
+}
+
+const FAULTS: [Fault; 19] = {
+    use Fault::*;
+    [
+        TooDeep, TooLong, LateMoment, Crowded, Worn, NoFrame, NotReserved, Absent, InUse, Busy, Null, NoMemory, BadSize,
+        BadCpu, Empty, Moving, NoRoom, NotAtRest, Unread,
+    ]
+};
+
+fn done(code: i32) -> Result<(), Fault> {
+    match code {
+        1..=19 => Err(FAULTS[code as usize - 1]),
+        _ => Ok(()),
+    }
+}
+
+extern "C" {
+    fn tracering_raw_new(w: *mut Handle, r: *mut Handle, cpu: u32, pages: usize, size: usize) -> i32;
+    fn tracering_raw_write(w: *mut Handle, moment: u64, payload: *const u8, len: usize) -> i32;
+    fn tracering_raw_begin(w: *mut Handle, moment: u64, len: usize) -> i32;
+    fn tracering_raw_begin_close(w: *mut Handle) -> i32;
+    fn tracering_raw_finish(w: *mut Handle) -> i32;
+    fn tracering_raw_put(w: *mut Handle, bytes: *const u8, len: usize) -> i32;
+    fn tracering_raw_end(w: *mut Handle) -> i32;
+    fn tracering_raw_depth(w: *mut Handle) -> usize;
+    fn tracering_raw_take(r: *mut Handle, out: *mut u8, room: usize, taken: *mut Taken) -> i32;
+    fn tracering_raw_wish(r: *mut Handle) -> i32;
+    fn tracering_raw_settle(w: *mut Handle, r: *mut Handle, out: *mut u8, room: usize, taken: *mut Taken) -> i32;
+    fn tracering_raw_writer_free(w: *mut Handle) -> i32;
+    fn tracering_raw_reader_free(r: *mut Handle) -> i32;
+}
+
+/// The end at which records are written, and its ring's number.
+pub struct Writer(Handle, u64);
+/// The end at which pages are taken, and its ring's number.
+pub struct Reader(Handle, u64);
+/// A record that is reserved and not ended: its slot is lent. Others may be written meanwhile, by `nested`; it ends
+/// when this is dropped.
+pub struct Open<'a>(&'a mut Writer);
+
+// The library's proof that both of its handles may go to another thread is in crates/tracering_c.
+unsafe impl Send for Writer {}
+unsafe impl Send for Reader {}
+
+/// The two ends of a new ring of this CPU, of `pages` pages of `size` bytes of data each.
+pub fn ring(cpu: u32, pages: usize, size: usize) -> Result<(Writer, Reader), Fault> {
+    static RINGS: AtomicU64 = AtomicU64::new(0);
+    let none = || Handle { at: null_mut(), live: false };
+    let number = RINGS.fetch_add(1, Ordering::Relaxed);
+    let (mut w, mut r) = (Writer(none(), number), Reader(none(), number));
+    done(unsafe { tracering_raw_new(&mut w.0, &mut r.0, cpu, pages, size) }).map(|()| (w, r))
+}
+
+/// Joins the two ends of a ring: what no take has answered goes to the front of `out`, as a parcel. Its length is 0 if
+/// there is nothing.
+pub fn settle(mut w: Writer, mut r: Reader, out: &mut [u8]) -> Result<Taken, (Writer, Reader, Fault)> {
+    if w.1 != r.1 {
+        return Err((w, r, Fault::OtherRing));
+    }
+    let mut taken = Taken::default();
+    let code = unsafe { tracering_raw_settle(&mut w.0, &mut r.0, out.as_mut_ptr(), out.len(), &mut taken) };
+    done(code).map(|()| taken).map_err(|fault| (w, r, fault))
+}
+
+impl Writer {
+    /// Writes a record whole.
+    pub fn write(&mut self, moment: u64, payload: &[u8]) -> Result<(), Fault> {
+        done(unsafe { tracering_raw_write(&mut self.0, moment, payload.as_ptr(), payload.len()) })
+    }
+
+    /// Reserves a record, to be written in parts; if it is refused, nothing of it is left.
+    pub fn begin(&mut self, moment: u64, len: usize) -> Result<Open<'_>, Fault> {
+        let depth = unsafe { tracering_raw_depth(&mut self.0) };
+        done(unsafe { tracering_raw_begin(&mut self.0, moment, len) })?;
+        let reserved = done(unsafe { tracering_raw_finish(&mut self.0) });
+        if reserved.is_err() {
+            self.finish_above(depth);
+        }
+        reserved.map(|()| Open(self))
+    }
+
+    /// Closes the page that is written, so that it can be taken.
+    pub fn close(&mut self) -> Result<(), Fault> {
+        done(unsafe { tracering_raw_begin_close(&mut self.0) })?;
+        done(unsafe { tracering_raw_finish(&mut self.0) })
+    }
+
+    fn finish_above(&mut self, depth: usize) {
+        if unsafe { tracering_raw_depth(&mut self.0) } > depth {
+            let _refusal = unsafe { tracering_raw_finish(&mut self.0) };
+        }
+    }
+}
+
+impl Open<'_> {
+    /// Copies the bytes to the front of the record's slot.
+    pub fn put(&mut self, bytes: &[u8]) -> Result<(), Fault> {
+        done(unsafe { tracering_raw_put(&mut self.0 .0, bytes.as_ptr(), bytes.len()) })
+    }
+
+    /// The writer, for records that are nested in this one.
+    pub fn nested(&mut self) -> &mut Writer {
+        self.0
+    }
+}
+
+impl Drop for Open<'_> {
+    fn drop(&mut self) {
+        let _refusal = unsafe { tracering_raw_end(&mut self.0 .0) };
+        // The outermost record's frame stays until it is completed; one that is nested is gone with its end.
+        if unsafe { tracering_raw_depth(&mut self.0 .0) } == 1 {
+            self.0.finish_above(0);
+        }
+    }
+}
+
+impl Reader {
+    /// Takes the oldest page that is closed and unread: its parcel goes to the front of `out`.
+    pub fn take(&mut self, out: &mut [u8]) -> Result<Taken, Fault> {
+        let mut taken = Taken::default();
+        done(unsafe { tracering_raw_take(&mut self.0, out.as_mut_ptr(), out.len(), &mut taken) }).map(|()| taken)
+    }
+
+    /// Wishes for the page that is written to be closed.
+    pub fn wish(&mut self) -> Result<(), Fault> {
+        done(unsafe { tracering_raw_wish(&mut self.0) })
+    }
+}
+
+impl Drop for Writer {
+    fn drop(&mut self) {
+        let _code = unsafe { tracering_raw_writer_free(&mut self.0) };
+    }
+}
+
+impl Drop for Reader {
+    fn drop(&mut self) {
+        let _code = unsafe { tracering_raw_reader_free(&mut self.0) };
+    }
+}

@@ -1,0 +1,83 @@
+// A flight recorder, to be copied. Two threads record events, each in a ring of its own, and a signal's handler
+// records its own between them. Nobody reads meanwhile: each ring keeps the newest events. When the program is hit by
+// a fault, the handler of that dumps what the rings have to standard output, as parcels of TRACERING_HEADER + SIZE
+// bytes each.
+#define _POSIX_C_SOURCE 200809L
+#include "tracering.h"
+
+#include <pthread.h>
+#include <signal.h>
+#include <stdint.h>
+#include <stdio.h>
+#include <string.h>
+#include <unistd.h>
+
+enum { CPUS = 2, PAGES = 4, SIZE = 128, EVENTS = 100 };
+
+static struct tracering_writer writers[CPUS];
+static struct tracering_reader readers[CPUS];
+// Which of the rings the thread writes.
+static _Thread_local int cpu;
+
+static void record(uint64_t moment, const char *event)
+{
+    // A flight recorder goes on if an event is refused: in a handler that interrupts this very call, for example.
+    (void)tracering_write(&writers[cpu], moment, event, strlen(event));
+}
+
+static void on_signal(int signal)
+{
+    (void)signal;
+    record(0, "signal");
+}
+
+// Dumps the pages of a ring. `take` allocates nothing and waits for nothing, so a handler may make it.
+static void dump(struct tracering_reader *reader)
+{
+    uint8_t parcel[TRACERING_HEADER + SIZE];
+    struct tracering_taken taken;
+    for (int page = 0; page < PAGES; page++)
+        if (tracering_take(reader, parcel, sizeof parcel, &taken) == TRACERING_DONE)
+            if (write(STDOUT_FILENO, parcel, taken.len) < 0)
+                _exit(1);
+}
+
+// The thread's own page that is written is closed first, unless the fault is amid a call on its ring.
+static void on_fault(int signal)
+{
+    record(0, "fault");
+    if (tracering_begin_close(&writers[cpu]) == TRACERING_DONE)
+        (void)tracering_finish(&writers[cpu]);
+    for (int each = 0; each < CPUS; each++)
+        dump(&readers[each]);
+    _exit(128 + signal);
+}
+
+static void *work(void *given)
+{
+    cpu = 1;
+    for (uint64_t event = 0; event < EVENTS; event++)
+        record(10 * event + 5, "work");
+    if (tracering_begin_close(&writers[cpu]) == TRACERING_DONE)
+        (void)tracering_finish(&writers[cpu]);
+    return given;
+}
+
+int main(void)
+{
+    for (uint32_t each = 0; each < CPUS; each++)
+        if (tracering_new(&writers[each], &readers[each], each, PAGES, SIZE) != TRACERING_DONE)
+            return 1;
+    struct sigaction fault = {.sa_handler = on_fault}, other = {.sa_handler = on_signal};
+    pthread_t worker;
+    if (sigaction(SIGSEGV, &fault, NULL) || sigaction(SIGUSR1, &other, NULL)
+        || pthread_create(&worker, NULL, work, NULL))
+        return 1;
+    for (uint64_t event = 0; event < EVENTS; event++) {
+        record(10 * event, "main");
+        if (event % 20 == 0)
+            raise(SIGUSR1);
+    }
+    pthread_join(worker, NULL);
+    raise(SIGSEGV);
+}

@@ -1,0 +1,291 @@
+// A running trace ring: a writer's end and a reader's end, each behind a handle.
+//
+// One thread writes and one thread reads; neither waits for the other. Records are numbered from 0 on. If the ring is
+// full, the oldest closed page is overwritten, and the reader knows how many records were lost. What is taken is a
+// parcel: a page with its CPU, its fill, its first record's number and the count of lost records, in bytes that can be
+// stored and sent (docs/FORMATS.md, "Parcel bytes"). This library collects no parcels; a Rattle program can, by the crate
+// `collector`.
+//
+// Handles. A handle is all zeros ({0}) before its first call. Only the calls below change it, and it must not be
+// copied.
+//
+// Answers. A call answers TRACERING_DONE or another number that isn't positive if it did something, and else a positive
+// one: the reason why it did nothing. Each call may answer these, which its own list leaves out:
+//   TRACERING_NULL     a pointer is null (one to bytes may be, if their number is 0)
+//   TRACERING_ABSENT   the handle has nothing: it is new, or it was freed
+//   TRACERING_BUSY     the handle is in another call, which this one interrupts
+// Then nothing is changed.
+//
+// Conditions that no call can check: a pointer is valid, with as many bytes as are stated; no two arguments of one call
+// overlap; a handle is in one call at a time, other than by a signal's handler.
+//
+// Threads. A writer's handle belongs to one thread at a time, and so does a reader's. A handle may be handed to another
+// thread if the hand-over orders memory, as pthread_create, pthread_join and a lock do.
+//
+// Signals. A handler may call write, begin, put, finish, end, begin_close and depth on the handle of the thread that
+// it interrupts: its records are nested. Amid a call on that handle they answer BUSY (depth: 0). It may call take and
+// wish on a reader's handle in the same way. It must not call those that take or release memory: new, settle, and
+// those that free. It completes what it begins.
+#ifndef TRACERING_H
+#define TRACERING_H
+
+#include <signal.h>
+#include <stdbool.h>
+#include <stddef.h>
+#include <stdint.h>
+
+#ifdef __cplusplus
+extern "C" {
+#endif
+
+// What the exports know of a handle.
+struct tracering_held {
+    void *at;
+    bool live;
+};
+
+// A handle: `in_call` is set as long as it is in a call, so that one which interrupts it is refused.
+struct tracering_writer {
+    struct tracering_held held;
+    volatile sig_atomic_t in_call;
+};
+
+struct tracering_reader {
+    struct tracering_held held;
+    volatile sig_atomic_t in_call;
+};
+
+// What is reported of a page that is given.
+struct tracering_taken {
+    uint64_t fill;   // which fill of its ring it was: the first one is 0
+    uint64_t first;  // the number of its first record
+    uint64_t missed; // how many records were lost between the page taken before and this one
+    uint64_t count;  // how many records it has
+    size_t len;      // how many bytes its parcel takes: TRACERING_HEADER and the ring's `size`
+};
+
+// The bytes of a parcel before its page's data.
+#define TRACERING_HEADER 48
+
+// What calls answer.
+enum {
+    TRACERING_RESERVED = -1,     // finish: the record of the frame on top is reserved
+    TRACERING_DONE = 0,          // the call did what it says
+    TRACERING_TOO_DEEP = 1,      // four frames are begun and not completed
+    TRACERING_TOO_LONG = 2,      // the payload doesn't fit a page; put: the bytes don't fit the slot
+    TRACERING_LATE_MOMENT = 3,   // the moment is 2^59 or later
+    TRACERING_CROWDED = 4,       // a page is needed, and all are begun and not closed
+    TRACERING_WORN = 5,          // a page is needed, and the ring has begun its last one, after 2^48
+    TRACERING_NO_FRAME = 6,      // nothing is begun
+    TRACERING_NOT_RESERVED = 7,  // the frame on top has no record: not yet, not any more, or it is a close
+    TRACERING_ABSENT = 8,        // the handle has nothing
+    TRACERING_IN_USE = 9,        // a handle that something new is to go to isn't all zeros
+    TRACERING_BUSY = 10,         // the handle is in another call
+    TRACERING_NULL = 11,         // a pointer is null
+    TRACERING_NO_MEMORY = 12,    // there is no memory
+    TRACERING_BAD_SIZE = 13,     // a ring can't have this number of pages or this size
+    TRACERING_BAD_CPU = 14,      // there is no such CPU
+    TRACERING_EMPTY = 15,        // no closed page is unread
+    TRACERING_MOVING = 16,       // a move of the head isn't finished: try again
+    TRACERING_NO_ROOM = 17,      // the buffer is too short
+    TRACERING_NOT_AT_REST = 18,  // settle: a frame is begun and not completed
+    TRACERING_UNREAD = 19        // settle: a closed page may be unread
+};
+
+// The exports of the library, which the functions below call. They have two more conditions: no pointer is null, and no
+// handle is in another call.
+int32_t tracering_raw_new(struct tracering_held *, struct tracering_held *, uint32_t, size_t, size_t);
+int32_t tracering_raw_write(struct tracering_held *, uint64_t, const uint8_t *, size_t);
+int32_t tracering_raw_begin(struct tracering_held *, uint64_t, size_t);
+int32_t tracering_raw_begin_close(struct tracering_held *);
+int32_t tracering_raw_finish(struct tracering_held *);
+int32_t tracering_raw_put(struct tracering_held *, const uint8_t *, size_t);
+int32_t tracering_raw_end(struct tracering_held *);
+size_t tracering_raw_depth(struct tracering_held *);
+int32_t tracering_raw_take(struct tracering_held *, uint8_t *, size_t, struct tracering_taken *);
+int32_t tracering_raw_wish(struct tracering_held *);
+int32_t tracering_raw_settle(struct tracering_held *, struct tracering_held *, uint8_t *, size_t,
+    struct tracering_taken *);
+int32_t tracering_raw_writer_free(struct tracering_held *);
+int32_t tracering_raw_reader_free(struct tracering_held *);
+
+// Bytes that may be null if there are none.
+static inline const uint8_t *tracering_bytes(const void *bytes)
+{
+    return (const uint8_t *)(bytes ? bytes : "");
+}
+
+// Marks a handle as in a call, unless it is in one already. What comes after the mark is done after it, as a handler of
+// the same thread sees it.
+static inline bool tracering_enter(volatile sig_atomic_t *in_call)
+{
+    if (*in_call)
+        return false;
+    *in_call = 1;
+    __atomic_signal_fence(__ATOMIC_SEQ_CST);
+    return true;
+}
+
+// Takes the mark away, after all that was done before.
+static inline int32_t tracering_leave(volatile sig_atomic_t *in_call, int32_t code)
+{
+    __atomic_signal_fence(__ATOMIC_SEQ_CST);
+    *in_call = 0;
+    return code;
+}
+
+// A new ring of `pages` pages (2 to 1,024), and a spare one, of `size` bytes of data each (32 to 65,520, a multiple of
+// 4). Its parcels are those of this CPU (below 256). All memory of the ring is taken here.
+// IN_USE, BAD_CPU, BAD_SIZE, NO_MEMORY.
+static inline int32_t tracering_new(struct tracering_writer *w, struct tracering_reader *r, uint32_t cpu, size_t pages,
+    size_t size)
+{
+    if (!(w && r))
+        return TRACERING_NULL;
+    if (w->in_call || r->in_call)
+        return TRACERING_BUSY;
+    return tracering_raw_new(&w->held, &r->held, cpu, pages, size);
+}
+
+// ---- The writer's calls, of its thread and of handlers that interrupt it. None takes memory or waits.
+
+// Writes a record of `len` bytes whole, nested in the frames that are begun. Moments are a caller's units, below
+// 2^59; one that is earlier than the last record's is raised to that. TOO_DEEP, TOO_LONG, LATE_MOMENT, CROWDED, WORN.
+static inline int32_t tracering_write(struct tracering_writer *w, uint64_t moment, const void *payload, size_t len)
+{
+    if (!(w && (payload || !len)))
+        return TRACERING_NULL;
+    if (!tracering_enter(&w->in_call))
+        return TRACERING_BUSY;
+    return tracering_leave(&w->in_call, tracering_raw_write(&w->held, moment, tracering_bytes(payload), len));
+}
+
+// A record by its parts, so that others may be written between them: begin, finish, put, end, finish. Each record has a
+// frame from its begin on; a frame that is begun later is above it, and is completed before it.
+// begin: a record of `len` bytes. TOO_DEEP, TOO_LONG, LATE_MOMENT.
+static inline int32_t tracering_begin(struct tracering_writer *w, uint64_t moment, size_t len)
+{
+    if (!w)
+        return TRACERING_NULL;
+    if (!tracering_enter(&w->in_call))
+        return TRACERING_BUSY;
+    return tracering_leave(&w->in_call, tracering_raw_begin(&w->held, moment, len));
+}
+
+// begin_close: a close of the page that is written, so that it can be taken; `finish` carries it out. TOO_DEEP.
+static inline int32_t tracering_begin_close(struct tracering_writer *w)
+{
+    if (!w)
+        return TRACERING_NULL;
+    if (!tracering_enter(&w->in_call))
+        return TRACERING_BUSY;
+    return tracering_leave(&w->in_call, tracering_raw_begin_close(&w->held));
+}
+
+// finish: reserves the record of the frame on top (RESERVED), in a slot of zeros, or completes a frame that was
+// ended, a close, or one that was refused (DONE). CROWDED, WORN: the frame on top is refused, and its record isn't
+// written; if `depth` still counts the frame, one more `finish` completes it. NO_FRAME.
+static inline int32_t tracering_finish(struct tracering_writer *w)
+{
+    if (!w)
+        return TRACERING_NULL;
+    if (!tracering_enter(&w->in_call))
+        return TRACERING_BUSY;
+    return tracering_leave(&w->in_call, tracering_raw_finish(&w->held));
+}
+
+// put: copies the bytes to the front of the slot of the record on top, which is reserved: its `len` bytes, rounded up
+// to whole words of 4, and at least one. TOO_LONG, NO_FRAME, NOT_RESERVED.
+static inline int32_t tracering_put(struct tracering_writer *w, const void *bytes, size_t len)
+{
+    if (!(w && (bytes || !len)))
+        return TRACERING_NULL;
+    if (!tracering_enter(&w->in_call))
+        return TRACERING_BUSY;
+    return tracering_leave(&w->in_call, tracering_raw_put(&w->held, tracering_bytes(bytes), len));
+}
+
+// end: the record on top ends with the bytes in its slot. If its frame is the only one, `finish` completes it; others
+// are gone. NO_FRAME, NOT_RESERVED.
+static inline int32_t tracering_end(struct tracering_writer *w)
+{
+    if (!w)
+        return TRACERING_NULL;
+    if (!tracering_enter(&w->in_call))
+        return TRACERING_BUSY;
+    return tracering_leave(&w->in_call, tracering_raw_end(&w->held));
+}
+
+// How many frames are begun and not completed: 0 to 4. 0 also if the call is refused.
+static inline size_t tracering_depth(struct tracering_writer *w)
+{
+    if (!w || !tracering_enter(&w->in_call))
+        return 0;
+    size_t depth = tracering_raw_depth(&w->held);
+    (void)tracering_leave(&w->in_call, 0);
+    return depth;
+}
+
+// ---- The reader's calls, of its thread and of handlers that interrupt it. None takes memory or waits.
+
+// Takes the oldest page that is closed and unread: its parcel goes to the front of `out`. `out` has room for
+// TRACERING_HEADER and the ring's `size` bytes at least, and all of them are written. EMPTY, MOVING, NO_ROOM: then
+// `out` and `taken` are not changed, and no page is taken.
+static inline int32_t tracering_take(struct tracering_reader *r, void *out, size_t room, struct tracering_taken *taken)
+{
+    if (!(r && out && taken))
+        return TRACERING_NULL;
+    if (!tracering_enter(&r->in_call))
+        return TRACERING_BUSY;
+    return tracering_leave(&r->in_call, tracering_raw_take(&r->held, (uint8_t *)out, room, taken));
+}
+
+// Wishes for the page that is written to be closed, which the writer does at the end of its next record.
+static inline int32_t tracering_wish(struct tracering_reader *r)
+{
+    if (!r)
+        return TRACERING_NULL;
+    if (!tracering_enter(&r->in_call))
+        return TRACERING_BUSY;
+    return tracering_leave(&r->in_call, tracering_raw_wish(&r->held));
+}
+
+// ---- The calls of whoever has both ends, or is done with one. They release memory: no handler may make them.
+
+// Joins the two ends of one ring (of one: no call can look at that): the pages that were taken, and then the one that
+// is given here, have all records that were written, except those that are counted as missed. It is given as `take`
+// does; if it has no record, `taken->len` is 0. Both handles are all zeros afterwards. NOT_AT_REST: a frame is begun
+// and not completed. UNREAD: take until EMPTY first. NO_ROOM. Then neither handle is changed.
+static inline int32_t tracering_settle(struct tracering_writer *w, struct tracering_reader *r, void *out, size_t room,
+    struct tracering_taken *taken)
+{
+    if (!(w && r && out && taken))
+        return TRACERING_NULL;
+    if (w->in_call || r->in_call)
+        return TRACERING_BUSY;
+    return tracering_raw_settle(&w->held, &r->held, (uint8_t *)out, room, taken);
+}
+
+// Each frees its end; the ring's memory is released with the second. The handle is all zeros afterwards.
+static inline int32_t tracering_writer_free(struct tracering_writer *w)
+{
+    if (!w)
+        return TRACERING_NULL;
+    if (!tracering_enter(&w->in_call))
+        return TRACERING_BUSY;
+    return tracering_leave(&w->in_call, tracering_raw_writer_free(&w->held));
+}
+
+static inline int32_t tracering_reader_free(struct tracering_reader *r)
+{
+    if (!r)
+        return TRACERING_NULL;
+    if (!tracering_enter(&r->in_call))
+        return TRACERING_BUSY;
+    return tracering_leave(&r->in_call, tracering_raw_reader_free(&r->held));
+}
+
+#ifdef __cplusplus
+}
+#endif
+#endif
