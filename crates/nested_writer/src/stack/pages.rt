@@ -14,6 +14,7 @@ impl WriterStack {
     ghost use Rattle.trace_model.specs.declared.limits.TheConstants.{LINK_FILLS};
     ghost use Rattle.trace_model.specs.History.{HistoryEvent, open_fill, reserved_records, is_settled};
     ghost use Rattle.trace_model.specs.Ring.{fill_of};
+    ghost use Rattle.page_image.specs.Contents.{IsPage};
     ghost use Rattle.nested_writer.specs.Stack.{opened, next_number, blank_page};
     ghost use Rattle.nested_writer.specs.Calls.{with_tail, MayAddPage, IsAtBottom};
     ghost use Rattle.nested_writer.specs.Allotted.{HasActed};
@@ -63,6 +64,8 @@ impl WriterStack {
         ensures committed { (start : ℕ) (history : List HistoryEvent)
             → IsStack start history self.old
             → AreCommitted history result }
+        ensures page { Stands self.old → IsPage result }
+        ensures size { Stands self.old → result.size ≡ self.old.size }
         ensures holds_some { (start : ℕ) (history : List HistoryEvent)
             → IsStack start history self.old
             → 0 < result.count }
@@ -90,6 +93,8 @@ impl WriterStack {
         requires none { self.frames ≡ [] }
         ensures tail { result ≡ self.tail }
         ensures alone { self.older ≡ [] }
+        ensures page { Stands self → IsPage result }
+        ensures size { Stands self → result.size ≡ self.size }
         ensures written { (start : ℕ) (history : List HistoryEvent)
             → IsStack start history self
             → IsWrittenPage self.size self.done (fill_of history start self.done) result }

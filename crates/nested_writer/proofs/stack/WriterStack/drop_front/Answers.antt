@@ -4,7 +4,7 @@ use Rattle.page_image.specs.Contents.{Contents}
 use Rattle.nested_writer.specs.Stack.{Stack}
 use Rattle.nested_writer.specs.Inside.{stack_of}
 use Rattle.nested_writer.specs.Calls.{IsAtBottom}
-use Rattle.nested_writer.specs.IsStack.{IsStack}
+use Rattle.nested_writer.specs.IsStack.{IsStack, Stands}
 use Rattle.nested_writer.proofs.Dropping.{released}
 use Rattle.nested_writer.proofs.Releasing.{front_written, front_committed, front_some}
 use Rattle.nested_writer.proofs.Staying.{acted_stays}
@@ -35,3 +35,11 @@ returns-clause-holds_some c = λ start h k.
 
 pub returns-clause-stays : goal.returns-clause-stays
 returns-clause-stays c = acted_stays c.args.self.now _ [] (returns-clause-stack c)
+
+pub returns-clause-page : goal.returns-clause-page
+unfolding Stands
+returns-clause-page c = λ stands. let (start, h, k) = stands in (returns-clause-written c start h k).page_reads
+
+pub returns-clause-size : goal.returns-clause-size
+unfolding Stands
+returns-clause-size c = λ stands. let (start, h, k) = stands in (returns-clause-written c start h k).size_is
