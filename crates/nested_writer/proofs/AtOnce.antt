@@ -37,7 +37,7 @@ use Rattle.nested_writer.specs.Calls.{after_leave}
 use Rattle.nested_writer.specs.AtOnce.{MayStand, with_left}
 use Rattle.nested_writer.specs.IsStack.{is_tail, IsStack}
 use Rattle.trace_model.specs.Packing.{opens_of, is_wished}
-use Rattle.nested_writer.proofs.Pushing.{pushed_record, same_of}
+use Rattle.nested_writer.proofs.Pushing.{pushed_record, same_of, of_frames}
 use Rattle.nested_writer.proofs.Leaving.{of_left}
 use Rattle.nested_writer.proofs.Reserving.{IsPut, reserved_record}
 use Rattle.nested_writer.proofs.Lending.{in_tail}
@@ -174,25 +174,12 @@ stands_again start h s moment len none may k = record {
 
 -- and goes again
 pub goes_again : (start : ℕ) (h : List HistoryEvent) (s : Stack) (f : Frame) → s.frames ≡ f ∷ [] → f.progress ≡ Left None → IsStack start h s → IsStack start h (record s { frames = [] })
-goes_again start h s f top_is gone k =
-    let o = k.holds in
-    record {
-      keeps = k.keeps;
-      stack_is = k.stack_is ∙ ap (λ (fs : List Frame). pushed_of (model_frames fs)) top_is ∙ ap (λ (p : Progress). pushed_onto (kind_of f.purpose) (state_of p) []) gone;
-      fit = k.fit;
-      holds = record {
-        begun = o.begun;
-        from_start = o.from_start;
-        rising = o.rising;
-        room = o.room;
-        last_is = o.last_is;
-        in_time = o.in_time;
-        large = o.large;
-        older_are = o.older_are;
-        tail_is = o.tail_is;
-        frames_are = tt;
-      };
-    }
+goes_again start h s f top_is gone k = record {
+  keeps = k.keeps;
+  stack_is = k.stack_is ∙ ap (λ (fs : List Frame). pushed_of (model_frames fs)) top_is ∙ ap (λ (p : Progress). pushed_onto (kind_of f.purpose) (state_of p) []) gone;
+  fit = k.fit;
+  holds = of_frames (is_wished h) [] tt k.holds;
+}
 
 -- ---- the stack
 

@@ -35,7 +35,7 @@ use Rattle.nested_writer.specs.Stack.{Stack, tail_fill, kind_of, state_of, model
 use Rattle.nested_writer.specs.Calls.{after_leave}
 use Rattle.nested_writer.specs.IsStack.{IsPageOf, IsOpenPage, is_tail, is_older, IsUnwritten, StandsAt, AreBefore, FramesStand, IsStackOf, IsStack}
 use Rattle.nested_writer.proofs.Pushing.{same_of}
-use Rattle.nested_writer.proofs.Standing.{as_many, frames_on}
+use Rattle.nested_writer.proofs.Standing.{unwritten_in, as_many, frames_on}
 use Rattle.nested_writer.proofs.Reserving.{cuts_are}
 use Rattle.nested_writer.proofs.Leaving.{frames_left, pushed_after_leave}
 
@@ -178,17 +178,7 @@ module _ (start : ℕ) (cuts : List ℕ) (xs : List Reservation) (found : Bool) 
   same_plain = plain-finished (Some slot.number) (Some payload) xs
 
   lies_on : (n : ℕ) (l : Slot) → l.number < slot.number → IsUnwritten s.done s.older s.tail xs n l → IsUnwritten s.done s.older s.tail xs' n l
-  lies_on n l low other = record {
-    page = other.page;
-    open_page = other.open_page;
-    first_le = other.first_le;
-    place = other.place;
-    fills_slot = other.fills_slot;
-    reservation = other.reservation;
-    at = get_unfinished slot.number l.number payload xs low ∙ other.at;
-    len_is = other.len_is;
-    unwritten = other.unwritten;
-  }
+  lies_on n l low other = unwritten_in other.page other other.open_page other.first_le other.place (get_unfinished slot.number l.number payload xs low ∙ other.at)
 
   pub of_ended : s.frames ≡ top ∷ below → top.progress ≡ Reserved slot → IsStackOf start cuts xs' found (after_leave s top below)
   of_ended top_is has =

@@ -18,7 +18,7 @@ use Rattle.nested_writer.specs.declared.frame.Frame.{Frame}
 use Rattle.nested_writer.specs.Stack.{Stack, opened, kind_of, state_of, model_frames}
 use Rattle.nested_writer.specs.Calls.{with_progress, frames_after_leave, after_leave, end_with, HasLeft, IsAtBottom}
 use Rattle.nested_writer.specs.IsStack.{StandsAt, AreBefore, MayBePushed, FramesStand, IsStackOf, IsStack}
-use Rattle.nested_writer.proofs.Pushing.{same_of}
+use Rattle.nested_writer.proofs.Pushing.{same_of, of_frames}
 use Rattle.nested_writer.proofs.Reserving.{end_is, tail_some}
 
 -- ---- a frame leaves
@@ -33,18 +33,7 @@ frames_left size done older tail cuts records found top [] may st = (may, (tt, (
 frames_left size done older tail cuts records found top (next ∷ below) may st = st
 
 pub of_left : (start : ℕ) (cuts : List ℕ) (records : List Reservation) (found : Bool) (s : Stack) (top : Frame) (below : List Frame) → MayBePushed s.size (kind_of top.purpose) → FramesStand s.size s.done s.older s.tail cuts records found below → IsStackOf start cuts records found s → IsStackOf start cuts records found (after_leave s top below)
-of_left start cuts records found s top below may st k = record {
-  begun = k.begun;
-  from_start = k.from_start;
-  rising = k.rising;
-  room = k.room;
-  last_is = k.last_is;
-  in_time = k.in_time;
-  large = k.large;
-  older_are = k.older_are;
-  tail_is = k.tail_is;
-  frames_are = frames_left s.size s.done s.older s.tail cuts records found top below may st;
-}
+of_left start cuts records found s top below may st k = of_frames found (frames_after_leave top below) (frames_left s.size s.done s.older s.tail cuts records found top below may st) k
 
 may_leave : (kind : Kind) (stack : List PushedFrame) → MayLeave (pushed_frame kind waiting ∷ stack) None
 may_leave (for_record moment len) stack = refl
@@ -77,18 +66,8 @@ of_progress : (start : ℕ) (cuts : List ℕ) (records : List Reservation) (foun
     → IsStackOf start cuts records found (with_progress s top below progress)
 of_progress start cuts records found s top below progress top_is waits st k =
     let frames = subst (FramesStand s.size s.done s.older s.tail cuts records found) top_is k.frames_are in
-    record {
-      begun = k.begun;
-      from_start = k.from_start;
-      rising = k.rising;
-      room = k.room;
-      last_is = k.last_is;
-      in_time = k.in_time;
-      large = k.large;
-      older_are = k.older_are;
-      tail_is = k.tail_is;
-      frames_are = (frames.0, st, subst (λ (state : FrameState). IfSome (number_of state) (λ number. AreBefore number below)) (sym waits) tt, (λ e. absurd (waits_not_left (sym waits ∙ e))), frames.4);
-    }
+    of_frames found (record top { progress = progress } ∷ below)
+    (frames.0, st, subst (λ (state : FrameState). IfSome (number_of state) (λ number. AreBefore number below)) (sym waits) tt, (λ e. absurd (waits_not_left (sym waits ∙ e))), frames.4) k
   where
     waits_not_left : waiting ≡ left → ⊥
     waits_not_left e = cc
@@ -149,18 +128,8 @@ asked start h s bottom top_is gone some k =
       stack_is = wished_stack h [] empty;
       fit = fit_more s.size h wished k.fit tt;
       holds = same_of start (opens_of h) (opens_of (h ++ wished ∷ [])) (reserved_records h) (reserved_records (h ++ wished ∷ [])) true (is_wished (h ++ wished ∷ [])) _
-          (opens_of-wished h) (records_snoc h wished) (is_wished-wished h) record {
-            begun = o.begun;
-            from_start = o.from_start;
-            rising = o.rising;
-            room = o.room;
-            last_is = o.last_is;
-            in_time = o.in_time;
-            large = o.large;
-            older_are = o.older_are;
-            tail_is = o.tail_is;
-            frames_are = (frames.0, (omega arith, (λ e. (tail_some start (opens_of h) (reserved_records h) (is_wished h) s o some, refl))), tt, (λ e. refl), tt);
-          };
+          (opens_of-wished h) (records_snoc h wished) (is_wished-wished h)
+          (of_frames true (record bottom { progress = Left (Some (opened s)) } ∷ []) (frames.0, (omega arith, (λ e. (tail_some start (opens_of h) (reserved_records h) (is_wished h) s o some, refl))), tt, (λ e. refl), tt) o);
     }
 
 -- the same, by the number as it is worked out

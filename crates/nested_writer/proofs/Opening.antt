@@ -27,7 +27,7 @@ use Rattle.nested_writer.specs.Calls.{with_tail, HasNoted, MayAddPage}
 use Rattle.nested_writer.specs.IsStack.{IsPageOf, is_tail, is_older, IsUnwritten, StandsAt, MayBePushed, FramesStand, IsStackOf, IsStack}
 use Rattle.nested_writer.proofs.Pushing.{same_of}
 use Rattle.nested_writer.proofs.NewStack.{nothing}
-use Rattle.nested_writer.proofs.Standing.{more, frames_on, all_before}
+use Rattle.nested_writer.proofs.Standing.{unwritten_in, more, frames_on, all_before}
 use Rattle.nested_writer.proofs.Reserving.{cuts_are, number_is}
 
 -- the first number of a fill that was begun before
@@ -59,20 +59,12 @@ get_in_longer (z ∷ xs) y (suc k) x at = ⊎_elim inl (λ (e, is). inr (ap suc 
 
 module _ (start : ℕ) (cuts : List ℕ) (records : List Reservation) (found : Bool) (s : Stack) (k : IsStackOf start cuts records found s) (page : Contents) (blank : page ≡ blank_page s.size (next_number s) (opened s)) (reads : IsPage page) where
   lies_on : (n : ℕ) (l : Slot) → l.number < length records → IsUnwritten s.done s.older s.tail records n l → IsUnwritten s.done (s.older ++ s.tail ∷ []) page records n l
-  lies_on n l low lies = record {
-    page = lies.page;
-    open_page = elim lies.open_page [
-      | is_tail at is ↦ is_older (length s.older) at (ap (slice_get (s.older ++ s.tail ∷ [])) (plus_none (length s.older)) ∙ get_behind s.older (s.tail ∷ []) 0 ∙ ap Some (sym is))
-      | is_older j at is ↦ is_older j at (get_in_front s.older (s.tail ∷ []) j lies.page is)
-    ];
-    first_le = lies.first_le;
-    place = lies.place;
-    fills_slot = lies.fills_slot;
-    reservation = lies.reservation;
-    at = lies.at;
-    len_is = lies.len_is;
-    unwritten = lies.unwritten;
-  }
+  lies_on n l low lies = unwritten_in lies.page lies
+      (elim lies.open_page [
+        | is_tail at is ↦ is_older (length s.older) at (ap (slice_get (s.older ++ s.tail ∷ [])) (plus_none (length s.older)) ∙ get_behind s.older (s.tail ∷ []) 0 ∙ ap Some (sym is))
+        | is_older j at is ↦ is_older j at (get_in_front s.older (s.tail ∷ []) j lies.page is)
+      ])
+      lies.first_le lies.place lies.at
     where
       plus_none : (m : ℕ) → m ≡ m + 0
       plus_none m = omega arith

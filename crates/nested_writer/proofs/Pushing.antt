@@ -14,27 +14,21 @@ use Rattle.trace_model.proofs.packing.PackedHistories.{fit_more, is_wished-push,
 use Rattle.nested_writer.specs.declared.frame.Purpose.{Purpose}
 use Rattle.nested_writer.specs.declared.frame.Purpose.TheVariants.{Record, Close}
 use Rattle.nested_writer.specs.declared.frame.Progress.TheVariants.{Waiting}
+use Rattle.nested_writer.specs.declared.frame.Frame.{Frame}
 use Rattle.nested_writer.specs.Stack.{Stack, kind_of}
 use Rattle.nested_writer.specs.Calls.{with_frame}
-use Rattle.nested_writer.specs.IsStack.{MayBePushed, IsStackOf, IsStack}
+use Rattle.nested_writer.specs.IsStack.{MayBePushed, FramesStand, IsStackOf, IsStack}
 
 -- by equations of the cuts, the records and the wish
 pub same_of : (start : ℕ) (cuts cuts' : List ℕ) (records records' : List Reservation) (found found' : Bool) (s : Stack) → cuts' ≡ cuts → records' ≡ records → found' ≡ found → IsStackOf start cuts records found s → IsStackOf start cuts' records' found' s
 same_of start cuts cuts' records records' found found' s a b c k = subst (λ (l : List ℕ). IsStackOf start l records' found' s) (sym a) (subst (λ (l : List Reservation). IsStackOf start cuts l found' s) (sym b) (subst (λ (f : Bool). IsStackOf start cuts records f s) (sym c) k))
 
+-- with other frames, and what is noted of a wish
+pub of_frames : {start : ℕ} {cuts : List ℕ} {records : List Reservation} {found : Bool} {s : Stack} (found' : Bool) (frames : List Frame) → FramesStand s.size s.done s.older s.tail cuts records found' frames → IsStackOf start cuts records found s → IsStackOf start cuts records found' (record s { frames = frames })
+of_frames found' frames are k = assumption (are, k)
+
 of_pushed : (start : ℕ) (cuts : List ℕ) (records : List Reservation) (found : Bool) (s : Stack) (purpose : Purpose) → MayBePushed s.size (kind_of purpose) → IsStackOf start cuts records found s → IsStackOf start cuts records found (with_frame s record { purpose = purpose; progress = Waiting None })
-of_pushed start cuts records found s purpose may k = record {
-  begun = k.begun;
-  from_start = k.from_start;
-  rising = k.rising;
-  room = k.room;
-  last_is = k.last_is;
-  in_time = k.in_time;
-  large = k.large;
-  older_are = k.older_are;
-  tail_is = k.tail_is;
-  frames_are = (may, (tt, (λ e. absurd (none-some _ e))), tt, (λ e. cc), k.frames_are);
-}
+of_pushed start cuts records found s purpose may k = of_frames found (record { purpose = purpose; progress = Waiting None } ∷ s.frames) (may, (tt, (λ e. absurd (none-some _ e))), tt, (λ e. cc), k.frames_are) k
 
 -- a record that is this much shorter than a page has room in an empty one
 pub surely_fits : (size len : ℕ) → MIN_SIZE ≤ size → len ≤ size - 12 → encoded_len len 0 true ≤ size

@@ -88,15 +88,7 @@ module _ (size start : ℕ) (h : List HistoryEvent) (fill : ℕ) (page : Content
   reads_as = records_read (records_of_page page) its p.holds.each its_written
 
   pub page_written : IsWrittenPage size fill (fill_of h start fill) page
-  page_written = record {
-    page_reads = p.page_reads;
-    size_is = p.size_is;
-    fill_is = p.fill_is;
-    first_is = p.first_is;
-    holds = p.holds;
-    written = its_written;
-    records_are = reads_as;
-  }
+  page_written = assumption (p, its_written, reads_as)
 
   pub page_committed : fill - start ≤ length (opens_of h) → AreCommitted h page
   page_committed low =

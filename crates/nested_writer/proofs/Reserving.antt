@@ -30,7 +30,7 @@ use Rattle.nested_writer.specs.Stack.{Stack, tail_fill, next_number, kind_of, st
 use Rattle.nested_writer.specs.IsStack.{is_tail, is_older, IsUnwritten, AreBefore, MayBePushed, FramesStand, IsStackOf, IsStack}
 use Rattle.nested_writer.specs.Calls.{end_with}
 use Rattle.nested_writer.proofs.Pushing.{same_of}
-use Rattle.nested_writer.proofs.Standing.{as_many, frames_on, all_before}
+use Rattle.nested_writer.proofs.Standing.{unwritten_in, as_many, frames_on, all_before}
 
 -- ---- the last fill
 
@@ -157,28 +157,11 @@ module _ (start : ℕ) (cuts : List ℕ) (records : List Reservation) (found : B
 
   lies_on : (n : ℕ) (l : Slot) → l.number < length records → IsUnwritten s.done s.older s.tail records n l → IsUnwritten s.done s.older tail' (records ++ r ∷ []) n l
   lies_on n l low lies = elim lies.open_page [
-    | is_tail at is ↦ record {
-      page = tail';
-      open_page = is_tail at refl;
-      first_le = let le = lies.first_le in let same = ap (λ (q : Contents). q.first) is in let stays = p.first in omega arith;
-      place = subst (λ (f : ℕ). IsPlaceOf tail'.bytes (l.number - f) l.place.start l.place.len) (sym p.first) (p.places_stay _ _ _ (subst (λ (q : Contents). IsPlaceOf q.bytes (l.number - q.first) l.place.start l.place.len) is lies.place));
-      fills_slot = lies.fills_slot;
-      reservation = lies.reservation;
-      at = get_in_front records (r ∷ []) l.number lies.reservation lies.at;
-      len_is = lies.len_is;
-      unwritten = lies.unwritten;
-    }
-    | is_older j at is ↦ record {
-      page = lies.page;
-      open_page = is_older j at is;
-      first_le = lies.first_le;
-      place = lies.place;
-      fills_slot = lies.fills_slot;
-      reservation = lies.reservation;
-      at = get_in_front records (r ∷ []) l.number lies.reservation lies.at;
-      len_is = lies.len_is;
-      unwritten = lies.unwritten;
-    }
+    | is_tail at is ↦ unwritten_in tail' lies (is_tail at refl)
+        (let le = lies.first_le in let same = ap (λ (q : Contents). q.first) is in let stays = p.first in omega arith)
+        (subst (λ (f : ℕ). IsPlaceOf tail'.bytes (l.number - f) l.place.start l.place.len) (sym p.first) (p.places_stay _ _ _ (subst (λ (q : Contents). IsPlaceOf q.bytes (l.number - q.first) l.place.start l.place.len) is lies.place)))
+        (get_in_front records (r ∷ []) l.number lies.reservation lies.at)
+    | is_older j at is ↦ unwritten_in lies.page lies (is_older j at is) lies.first_le lies.place (get_in_front records (r ∷ []) l.number lies.reservation lies.at)
   ]
 
   pub of_reserved : s.frames ≡ top ∷ below → top.purpose ≡ ForRecord moment len → moment < MOMENT_LIMIT → length tail'.bytes ≤ s.size → IsStackOf start cuts (records ++ r ∷ []) found after

@@ -1,7 +1,9 @@
 -- What holds of frames stays so if what is around them changes.
-use Rattle.std.proofs.Common.{◌≡◌, ℕ, ◌+◌, ◌<◌, ◌≤◌, Bool, List, [], ◌∷◌, length, Option, Some, None, IfSome, ap, ◌∙◌, arith}
+use Rattle.std.proofs.Common.{◌≡◌, ℕ, ◌+◌, ◌-◌, ◌<◌, ◌≤◌, Bool, List, [], ◌∷◌, length, Option, Some, None, IfSome, ap, ◌∙◌, arith}
 use Rattle.std.proofs.lemmas.Option.{none-some, slice_get_within}
+use Rattle.std.specs.List.{slice_get}
 use Rattle.trace_model.specs.History.{Reservation}
+use Rattle.trace_model.specs.Overwriting.{IsPlaceOf}
 use Rattle.trace_model.specs.Fitting.{NeedsFill}
 use Rattle.trace_model.specs.Frames.{Kind, FrameState, waiting, left, number_of}
 use Rattle.trace_model.proofs.collections.Elements.{some_is}
@@ -11,7 +13,26 @@ use Rattle.nested_writer.specs.declared.frame.Progress.{Progress}
 use Rattle.nested_writer.specs.declared.frame.Progress.TheVariants.{Waiting, Through, Reserved, Left}
 use Rattle.nested_writer.specs.declared.frame.Frame.{Frame}
 use Rattle.nested_writer.specs.Stack.{kind_of, state_of}
-use Rattle.nested_writer.specs.IsStack.{IsUnwritten, IsNoted, StandsAt, AreBefore, FramesStand}
+use Rattle.nested_writer.specs.IsStack.{IsOpenPage, IsUnwritten, IsNoted, StandsAt, AreBefore, FramesStand}
+
+-- a record lies unwritten in this page, if that is open and has its place, and the record keeps its number
+pub unwritten_in : {done done' : ℕ} {older older' : List Contents} {tail tail' : Contents} {records records' : List Reservation} {len : ℕ} {slot : Slot} (page : Contents) (lies : IsUnwritten done older tail records len slot)
+    → IsOpenPage done' older' tail' slot.fill page
+    → page.first ≤ slot.number
+    → IsPlaceOf page.bytes (slot.number - page.first) slot.place.start slot.place.len
+    → slice_get records' slot.number ≡ Some lies.reservation
+    → IsUnwritten done' older' tail' records' len slot
+unwritten_in page lies open_page first_le place at = record {
+  page = page;
+  open_page = open_page;
+  first_le = first_le;
+  place = place;
+  fills_slot = lies.fills_slot;
+  reservation = lies.reservation;
+  at = at;
+  len_is = lies.len_is;
+  unwritten = lies.unwritten;
+}
 
 -- what a frame noted, after more fills are begun
 noted_later : (o o' : ℕ) (noted : Option ℕ) → o ≤ o' → IsNoted o noted → IsNoted o' noted

@@ -25,7 +25,7 @@ use Rattle.nested_writer.specs.Stack.{Stack, tail_fill, model_frames}
 use Rattle.nested_writer.specs.Calls.{IsTopSlot}
 use Rattle.nested_writer.specs.Lending.{with_slot}
 use Rattle.nested_writer.specs.IsStack.{IsPageOf, is_tail, is_older, IsUnwritten, IsStackOf, IsStack}
-use Rattle.nested_writer.proofs.Standing.{as_many, frames_on, all_before}
+use Rattle.nested_writer.proofs.Standing.{unwritten_in, as_many, frames_on, all_before}
 use Rattle.nested_writer.proofs.Ending.{place_inside}
 use Rattle.nested_writer.proofs.Lending.{slot_lies, in_tail, in_older}
 
@@ -113,45 +113,21 @@ module _ (start : ℕ) (cuts : List ℕ) (xs : List Reservation) (found : Bool) 
 
     lies_in_tail : (n : ℕ) (l : Slot) → l.number < length xs → IsUnwritten s.done s.older s.tail xs n l → IsUnwritten s.done s.older tail' xs n l
     lies_in_tail n l low other = elim other.open_page [
-      | is_tail at page_is ↦ record {
-        page = tail';
-        open_page = is_tail at refl;
-        first_le = let le = other.first_le in let e = ap (λ (p : Contents). p.first) page_is in omega arith;
-        place = place_stays s.size (tail_fill s) cuts xs (length cuts) s.tail k.tail_is slot.number slot.place.start slot.place.len lies.reservation part tail_low tail_place lies.at lies.unwritten fills (l.number - s.tail.first) l.place.start l.place.len
-            (subst (λ (p : Contents). IsPlaceOf p.bytes (l.number - p.first) l.place.start l.place.len) page_is other.place);
-        fills_slot = other.fills_slot;
-        reservation = other.reservation;
-        at = other.at;
-        len_is = other.len_is;
-        unwritten = other.unwritten;
-      }
-      | is_older j at there ↦ record {
-        page = other.page;
-        open_page = is_older j at there;
-        first_le = other.first_le;
-        place = other.place;
-        fills_slot = other.fills_slot;
-        reservation = other.reservation;
-        at = other.at;
-        len_is = other.len_is;
-        unwritten = other.unwritten;
-      }
+      | is_tail at page_is ↦ unwritten_in tail' other (is_tail at refl)
+          (let le = other.first_le in let e = ap (λ (p : Contents). p.first) page_is in omega arith)
+          (place_stays s.size (tail_fill s) cuts xs (length cuts) s.tail k.tail_is slot.number slot.place.start slot.place.len lies.reservation part tail_low tail_place lies.at lies.unwritten fills (l.number - s.tail.first) l.place.start l.place.len
+          (subst (λ (p : Contents). IsPlaceOf p.bytes (l.number - p.first) l.place.start l.place.len) page_is other.place))
+          other.at
+      | is_older j at there ↦ unwritten_in other.page other (is_older j at there) other.first_le other.place other.at
     ]
 
     pub of_tail_written : IsStackOf start cuts xs found (record s { tail = with_payload s.tail slot.place.start part })
-    of_tail_written = record {
-      begun = k.begun;
-      from_start = k.from_start;
-      rising = k.rising;
-      room = k.room;
-      last_is = k.last_is;
-      in_time = k.in_time;
-      large = k.large;
-      older_are = k.older_are;
-      tail_is = page_written s.size (tail_fill s) cuts xs (length cuts) s.tail k.tail_is slot.number slot.place.start slot.place.len lies.reservation part tail_low tail_place lies.at lies.unwritten fills;
-      frames_are = frames_on s.size s.done s.older s.tail cuts xs found s.done s.older tail' cuts xs found (length xs) (as_many refl (λ kind state needs. needs)) lies_in_tail
-          s.frames (all_before s.size s.done s.older s.tail cuts xs found s.frames k.frames_are) k.frames_are;
-    }
+    of_tail_written = assumption (
+      page_written s.size (tail_fill s) cuts xs (length cuts) s.tail k.tail_is slot.number slot.place.start slot.place.len lies.reservation part tail_low tail_place lies.at lies.unwritten fills,
+      frames_on s.size s.done s.older s.tail cuts xs found s.done s.older tail' cuts xs found (length xs) (as_many refl (λ kind state needs. needs)) lies_in_tail
+          s.frames (all_before s.size s.done s.older s.tail cuts xs found s.frames k.frames_are) k.frames_are,
+      k,
+    )
 
   module _ (i : ℕ) (is : slice_get s.older i ≡ Some lies.page) where
     abbrev page' : Contents
@@ -165,44 +141,18 @@ module _ (start : ℕ) (cuts : List ℕ) (xs : List Reservation) (found : Bool) 
 
     lies_in_older : (n : ℕ) (l : Slot) → l.number < length xs → IsUnwritten s.done s.older s.tail xs n l → IsUnwritten s.done older' s.tail xs n l
     lies_in_older n l low other = elim other.open_page [
-      | is_tail at page_is ↦ record {
-        page = other.page;
-        open_page = is_tail (let e = long in omega arith) page_is;
-        first_le = other.first_le;
-        place = other.place;
-        fills_slot = other.fills_slot;
-        reservation = other.reservation;
-        at = other.at;
-        len_is = other.len_is;
-        unwritten = other.unwritten;
-      }
+      | is_tail at page_is ↦ unwritten_in other.page other (is_tail (let e = long in omega arith) page_is) other.first_le other.place other.at
       | is_older j at there ↦ by_index j at there (dite (ℕ_discrete j i) (λ e. inl e) (λ ne. inr ne))
     ]
       where
         by_index : (j : ℕ) → l.fill ≡ s.done + j → slice_get s.older j ≡ Some other.page → (j ≡ i) ⊎ (j ≢ i) → IsUnwritten s.done older' s.tail xs n l
-        by_index j at there (inl e) = let same : other.page ≡ lies.page = some_is other.page lies.page (sym there ∙ ap (slice_get s.older) e ∙ is) in record {
-          page = page';
-          open_page = is_older j at (ap (slice_get older') e ∙ set_here s.older i page' lies.page is);
-          first_le = let le = other.first_le in let f = ap (λ (p : Contents). p.first) same in omega arith;
-          place = place_stays s.size (s.done + i) cuts xs (s.done - start + i) lies.page (k.older_are i lies.page is) slot.number slot.place.start slot.place.len lies.reservation part lies.first_le lies.place lies.at lies.unwritten fills (l.number - lies.page.first) l.place.start l.place.len
-              (subst (λ (p : Contents). IsPlaceOf p.bytes (l.number - p.first) l.place.start l.place.len) same other.place);
-          fills_slot = other.fills_slot;
-          reservation = other.reservation;
-          at = other.at;
-          len_is = other.len_is;
-          unwritten = other.unwritten;
-        }
-        by_index j at there (inr ne) = record {
-          page = other.page;
-          open_page = is_older j at (set_other s.older i page' j other.page ne there);
-          first_le = other.first_le;
-          place = other.place;
-          fills_slot = other.fills_slot;
-          reservation = other.reservation;
-          at = other.at;
-          len_is = other.len_is;
-          unwritten = other.unwritten;
-        }
+        by_index j at there (inl e) = let same : other.page ≡ lies.page = some_is other.page lies.page (sym there ∙ ap (slice_get s.older) e ∙ is) in
+            unwritten_in page' other (is_older j at (ap (slice_get older') e ∙ set_here s.older i page' lies.page is))
+            (let le = other.first_le in let f = ap (λ (p : Contents). p.first) same in omega arith)
+            (place_stays s.size (s.done + i) cuts xs (s.done - start + i) lies.page (k.older_are i lies.page is) slot.number slot.place.start slot.place.len lies.reservation part lies.first_le lies.place lies.at lies.unwritten fills (l.number - lies.page.first) l.place.start l.place.len
+            (subst (λ (p : Contents). IsPlaceOf p.bytes (l.number - p.first) l.place.start l.place.len) same other.place))
+            other.at
+        by_index j at there (inr ne) = unwritten_in other.page other (is_older j at (set_other s.older i page' j other.page ne there)) other.first_le other.place other.at
 
     pub of_older_written : IsStackOf start cuts xs found (record s { older = slice_set s.older i (with_payload lies.page slot.place.start part) })
     of_older_written = record {

@@ -1,24 +1,19 @@
 use Rattle.std.proofs.Common.{◌≡◌, ◌+◌, ℕ, ◌∷◌, [], length, sym, ap, ◌∙◌, subst, arith}
-use Rattle.trace_model.specs.History.{open_fill, reserved_records}
-use Rattle.trace_model.specs.Packing.{opens_of, is_wished}
+use Rattle.trace_model.specs.History.{open_fill}
 use Rattle.nested_writer.specs.Stack.{Stack, opened, next_number, blank_page}
 use Rattle.nested_writer.specs.Inside.{stack_of}
 use Rattle.nested_writer.specs.Calls.{MayAddPage}
 use Rattle.nested_writer.specs.IsStack.{IsStack, Stands}
-use Rattle.nested_writer.proofs.Bounds.{number_fits}
+use Rattle.nested_writer.proofs.Bounds.{stands_fits}
 use Rattle.nested_writer.proofs.Answering.{number_counts}
 use Rattle.nested_writer.proofs.Opening.{page_may_be_added}
 use Rattle.nested_writer.proofs.Staying.{acted_stays}
 use Rattle.nested_writer.proofs.stack.WriterStack.add_page.Goals as goal
 
 pub overflow_add-first : goal.overflow_add-first
-unfolding Stands
 overflow_add-first c =
-    let (start, history, k) = c.requires.stack in
-    let s : Stack = stack_of c.self.inside in
-    let k' = (subst (IsStack start history) (sym c.self.view_is) k).holds in
     let fills = c.self.invariant.fills in
-    let fits = number_fits start (opens_of history) (reserved_records history) (is_wished history) s k' (omega arith) in
+    let fits = stands_fits (stack_of c.self.inside) (subst Stands (sym c.self.view_is) c.requires.stack) (omega arith) in
     omega (arith, c.first_number.ensures, c.count.ensures.count)
 
 pub returns-clause-stack : goal.returns-clause-stack

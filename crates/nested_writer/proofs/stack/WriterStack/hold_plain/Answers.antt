@@ -1,6 +1,5 @@
 use Rattle.std.proofs.Common.{◌≡◌, ◌+◌, [], ◌∷◌, Some, None, refl, sym, ap, ◌∙◌, subst, arith}
-use Rattle.trace_model.specs.History.{reserve, reserved_records}
-use Rattle.trace_model.specs.Packing.{opens_of, is_wished}
+use Rattle.trace_model.specs.History.{reserve}
 use Rattle.nested_writer.specs.declared.frame.Frame.{Frame}
 use Rattle.nested_writer.specs.declared.frame.Slot.{Slot}
 use Rattle.nested_writer.specs.declared.frame.Pushed.{Pushed}
@@ -10,7 +9,7 @@ use Rattle.nested_writer.specs.Stack.{Stack, tail_fill, next_number}
 use Rattle.nested_writer.specs.Inside.{stack_of, frames_from}
 use Rattle.nested_writer.specs.IsStack.{IsStack, Stands}
 use Rattle.nested_writer.proofs.Tops.{top_is}
-use Rattle.nested_writer.proofs.Bounds.{tail_ends_at, number_fits}
+use Rattle.nested_writer.proofs.Bounds.{stands_ends_at, stands_fits}
 use Rattle.nested_writer.specs.Allotted.{HasActed}
 use Rattle.nested_writer.specs.Calls.{ReservesRecord}
 use Rattle.nested_writer.specs.PlainTop.{IsPlainTop}
@@ -18,20 +17,13 @@ use Rattle.nested_writer.proofs.Plain.{plain_put, plain_reserved, plain_acted}
 use Rattle.nested_writer.proofs.stack.WriterStack.hold_plain.Goals as goal
 
 pub overflow_add-number : goal.overflow_add-number
-unfolding Stands
 overflow_add-number c =
-    let (start, history, k) = c.requires.stack in
-    let s : Stack = stack_of c.self.inside in
-    let k' = (subst (IsStack start history) (sym c.self.view_is) k).holds in
     let fills = c.self.invariant.fills in
-    let fits = number_fits start (opens_of history) (reserved_records history) (is_wished history) s k' (omega arith) in
+    let fits = stands_fits (stack_of c.self.inside) (subst Stands (sym c.self.view_is) c.requires.stack) (omega arith) in
     omega (arith, c.first_number.ensures, c.count.ensures.count)
 
 pub put_plain-place-requires-clause-last : goal.put_plain-place-requires-clause-last
-unfolding Stands
-put_plain-place-requires-clause-last c =
-    let (start, history, k) = c.requires.stack in
-    tail_ends_at start (opens_of history) (reserved_records history) (is_wished history) (stack_of c.self.inside) (subst (IsStack start history) (sym c.self.view_is) k).holds
+put_plain-place-requires-clause-last c = stands_ends_at (stack_of c.self.inside) (subst Stands (sym c.self.view_is) c.requires.stack)
 
 abbrev waits_of : Pushed → Frame
 waits_of pushed = record { purpose = Record pushed.moment pushed.len; progress = Waiting None }
@@ -69,20 +61,7 @@ acts : (c : goal.After-hold) → HasActed (stack_of c.self.inside) (reserve ∷ 
 acts c =
     let s : Stack = stack_of c.self.inside in
     let put = c.put_plain-place.ensures in
-    plain_acted s c.args.pushed (plain c) c.put_plain-place.new.self.page c.put_plain-place.result (slot_of c).number (slot_of c).fill (number_is c) (fill_is c) record {
-      page = put.page;
-      records = put.records;
-      long = put.longer;
-      time = put.time;
-      count = put.count;
-      first = put.first;
-      fill = put.fill;
-      size = put.size;
-      ends = put.ends;
-      number = put.number;
-      places_stay = put.places_stay;
-      len_is = put.len_is;
-    }
+    plain_acted s c.args.pushed (plain c) c.put_plain-place.new.self.page c.put_plain-place.result (slot_of c).number (slot_of c).fill (number_is c) (fill_is c) (assumption put)
 
 pub returns-clause-reserved : goal.returns-clause-reserved
 returns-clause-reserved c = λ top below on_top.

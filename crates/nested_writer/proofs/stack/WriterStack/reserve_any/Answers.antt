@@ -1,6 +1,5 @@
 use Rattle.std.proofs.Common.{◌≡◌, ℕ, ◌+◌, ◌-◌, ◌≤◌, max, Bool, [], ◌∷◌, ◌++◌, List, length, sym, ap, ◌∙◌, subst, arith, rules}
-use Rattle.trace_model.specs.History.{reserve, reserved_records}
-use Rattle.trace_model.specs.Packing.{opens_of, is_wished}
+use Rattle.trace_model.specs.History.{reserve}
 use Rattle.trace_model.specs.Words.{encoded_len}
 use Rattle.page_image.specs.Contents.{is_blank}
 use Rattle.nested_writer.specs.declared.frame.Frame.{Frame}
@@ -12,18 +11,14 @@ use Rattle.nested_writer.specs.Inside.{stack_of, frames_from}
 use Rattle.nested_writer.specs.Calls.{HasRecordRoom}
 use Rattle.nested_writer.specs.IsStack.{IsStack, Stands}
 use Rattle.nested_writer.proofs.Tops.{top_is}
-use Rattle.nested_writer.proofs.Bounds.{tail_ends_at, number_fits}
+use Rattle.nested_writer.proofs.Bounds.{stands_ends_at, stands_fits}
 use Rattle.nested_writer.proofs.Reserving.{reserved_with}
 use Rattle.nested_writer.proofs.stack.WriterStack.reserve_any.Goals as goal
 
 pub overflow_add-number : goal.overflow_add-number
-unfolding Stands
 overflow_add-number c =
-    let (start, history, k) = c.requires.stack in
-    let s : Stack = stack_of c.self.inside in
-    let k' = (subst (IsStack start history) (sym c.self.view_is) k).holds in
     let fills = c.self.invariant.fills in
-    let fits = number_fits start (opens_of history) (reserved_records history) (is_wished history) s k' (omega arith) in
+    let fits = stands_fits (stack_of c.self.inside) (subst Stands (sym c.self.view_is) c.requires.stack) (omega arith) in
     omega (arith, c.first_number.ensures, c.count.ensures.count)
 
 pub put-place-requires : goal.put-place-requires
@@ -33,7 +28,7 @@ put-place-requires c =
       room = search rules;
       order = search rules;
       in_time = search rules;
-      last = tail_ends_at start (opens_of history) (reserved_records history) (is_wished history) (stack_of c.self.inside) (subst (IsStack start history) (sym c.self.view_is) k).holds;
+      last = stands_ends_at (stack_of c.self.inside) (subst Stands (sym c.self.view_is) c.requires.stack);
       ends = search rules;
     }
 
@@ -55,17 +50,4 @@ returns-clause-stack c = λ start history old.
     let slot : Slot = record { number = c.first_number.result.0 + c.count.result; fill = c.fill_number-fill.result.0; place = c.put-place.result } in
     rw c.hold_any.ensures (subst (λ (p : Purpose). IsStack start (history ++ reserve ∷ []) (record s { tail = c.put-place.new.self.page; last_moment = c.args.raised; frames = record { purpose = p; progress = Reserved slot } ∷ items })) purpose
     (reserved_with start history s top items c.args.moment c.args.len noted c.put-place.new.self.page c.put-place.result c.args.raised (c.first_number.result.0 + c.count.result) c.fill_number-fill.result.0
-    raised (omega (arith, c.first_number.ensures, c.count.ensures.count)) fill_is (on_top' ∙ ap (λ (fs : List Frame). top ∷ fs) (sym found.1)) purpose waits (omega (arith, put.longer, room')) record {
-      page = put.page;
-      records = put.records;
-      long = put.longer;
-      time = put.time;
-      count = put.count;
-      first = put.first;
-      fill = put.fill;
-      size = put.size;
-      ends = put.ends;
-      number = put.number;
-      places_stay = put.places_stay;
-      len_is = put.len_is;
-    } k))
+    raised (omega (arith, c.first_number.ensures, c.count.ensures.count)) fill_is (on_top' ∙ ap (λ (fs : List Frame). top ∷ fs) (sym found.1)) purpose waits (omega (arith, put.longer, room')) (assumption put) k))
