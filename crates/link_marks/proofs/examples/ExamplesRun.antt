@@ -47,25 +47,7 @@ four_pages = record {
 }
 
 pub two_start : IsStart 2 0 two_pages
-two_start = record {
-  positions = refl;
-  first_link = refl;
-  links = links_at;
-  pages = refl;
-  order = order_at;
-  spare = refl;
-  spare_link = refl;
-  head = refl;
-  done = refl;
-  opened = refl;
-  wish = refl;
-  frames = refl;
-  open_pages = refl;
-  reader = refl;
-  bodies = refl;
-  held = held_at;
-  history = refl;
-}
+two_start = assumption (links_at, order_at, held_at)
   where
     links_at : (f : ℕ) → 0 < f → f < 0 + 2 → link_into 2 two_pages.links f ≡ normal_link (f % 2) f
     links_at zero low high = absurd (omega arith)
@@ -84,25 +66,7 @@ two_start = record {
     held_at (suc (suc (suc p))) low = absurd (omega arith)
 
 pub four_start : IsStart 4 0 four_pages
-four_start = record {
-  positions = refl;
-  first_link = refl;
-  links = links_at;
-  pages = refl;
-  order = order_at;
-  spare = refl;
-  spare_link = refl;
-  head = refl;
-  done = refl;
-  opened = refl;
-  wish = refl;
-  frames = refl;
-  open_pages = refl;
-  reader = refl;
-  bodies = refl;
-  held = held_at;
-  history = refl;
-}
+four_start = assumption (links_at, order_at, held_at)
   where
     links_at : (f : ℕ) → 0 < f → f < 0 + 4 → link_into 4 four_pages.links f ≡ normal_link (f % 4) f
     links_at zero low high = absurd (omega arith)

