@@ -9,7 +9,7 @@ use Rattle.image_dump.specs.Dumps.{DumpGives}
 use Rattle.replay_command.specs.Commands.{ReplayGives}
 use Rattle.text_model.specs.Script.{Script}
 use Rattle.trace_cli.specs.Answers.{AreSound}
-use Rattle.trace_cli.specs.Runs.{IsRunOutput, RunGives}
+use Rattle.run_command.specs.Runs.{IsRunOutput, RunGives}
 
 -- what it may be then
 abbrev Causes : (gives : List ℕ → List ℕ → ℕ → Type 0) → SourceRun → SinkRun → Type 0

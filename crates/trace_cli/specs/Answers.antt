@@ -5,7 +5,7 @@ use Rattle.command_line.specs.declared.call.Call.{Call}
 use Rattle.command_line.specs.declared.call.Call.TheVariants.{Replay, Run, Dump}
 use Rattle.image_dump.specs.Dumps.{DumpGives}
 use Rattle.replay_command.specs.Commands.{ReplayGives}
-use Rattle.trace_cli.specs.Runs.{RunGives}
+use Rattle.run_command.specs.Runs.{RunGives}
 
 -- what a call's command gives for a text
 abbrev pub CallGives : Call → List ℕ → List ℕ → ℕ → Type 0

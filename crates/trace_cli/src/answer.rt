@@ -4,11 +4,11 @@ ghost use Rattle.command_io.specs.CommandRun.{IsCommandRun, IsRefusedCall, sourc
 ghost use Rattle.command_line.specs.declared.call.Call.{Call as CallSeen};
 ghost use Rattle.trace_cli.specs.Answers.{CallGives};
 
-use crate::running::run_to;
 use command_io::{Sink, Source, USAGE, print_memory_line};
 use command_line::{Call, CallFault};
 use image_dump::dump_to;
 use replay_command::replay_to;
+use run_command::run_to;
 use std::alloc::Global;
 use std::sync::Wait;
 use std::thread::Threads;

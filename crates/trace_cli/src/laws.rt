@@ -6,7 +6,7 @@ ghost use Rattle.command_io.specs.CommandRun.{IsCommandRun, SinkRun, SourceRun};
 ghost use Rattle.image_dump.specs.Dumps.{DumpGives};
 ghost use Rattle.replay_command.specs.Commands.{ReplayGives};
 ghost use Rattle.trace_cli.specs.Answers.{AreSound};
-ghost use Rattle.trace_cli.specs.Runs.{RunGives};
+ghost use Rattle.run_command.specs.Runs.{RunGives};
 
 use command_io::{END_FAILED, THREAD_LINE};
 use trace_model::MAX_INPUT;

@@ -4,7 +4,6 @@
 
 mod answer;
 mod laws;
-mod running;
 
 use crate::answer::answer_to;
 use command_io::message_for;
@@ -12,7 +11,7 @@ pub use command_io::{Sink, Source, Std};
 use command_line::given_call;
 pub use image_dump::dump_to;
 pub use replay_command::replay_to;
-pub use running::run_to;
+pub use run_command::run_to;
 use std::process::ExitCode;
 
 // What is chosen here, `answer_to` and `message_for` say. The rest has no contract: that the line goes to standard

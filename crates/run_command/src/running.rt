@@ -7,7 +7,7 @@ ghost use Rattle.command_io.specs.Output.{bytes_of, status_of};
 ghost use Rattle.run_audit.specs.Audit.{taken_in};
 ghost use Rattle.run_text.specs.Printing.{AuditedShown, IsAuditedPrintOf, printed_run};
 ghost use Rattle.threaded_run.specs.Runs.{IsRan};
-ghost use Rattle.trace_cli.specs.Runs.{IsRunOutput, RunGives};
+ghost use Rattle.run_command.specs.Runs.{IsRunOutput, RunGives};
 
 use command_io::{Command, Output, Sink, Source, run_command};
 use line_writer::OpenGate;

@@ -1,5 +1,5 @@
 use Rattle.std.proofs.Common.{inl, refl}
-use Rattle.trace_cli.proofs.running.print_run.Goals as goal
+use Rattle.run_command.proofs.running.print_run.Goals as goal
 
 -- what the run left is printed
 pub returns-in_ok-print_ran-in-Some : goal.returns-in_ok-print_ran-in-Some

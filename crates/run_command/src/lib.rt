@@ -1,0 +1,6 @@
+//! The command `run`: a script in, the printing of what its threads left out.
+#![tactic(auto)]
+
+mod running;
+
+pub use running::run_to;
