@@ -5,6 +5,7 @@ use std::marker::Model;
 /// The writer's end of a running ring, in a state that calls of it reach.
 #[derive(Drop)]
 pub struct WriterEnd {
+    /// The end itself.
     pub writer: Writer,
 }
 

@@ -7,7 +7,9 @@ use trace_model::{CpuId, FillNo};
 /// Which end of a ring asks.
 #[derive(Clone, Copy, Debug, PartialEq, Eq)]
 pub enum Who {
+    /// The writer, after a fill that it has closed.
     Writer,
+    /// The reader, after a page that it has taken.
     Reader,
 }
 

@@ -8,8 +8,11 @@ use trace_model::{Moment, RecordNo};
 /// with the zeros that fill the record's slot.
 #[derive(Clone, Copy, Debug, PartialEq, Eq)]
 pub struct Entry<'a> {
+    /// Its number among the records of its CPU, from 0.
     pub number: RecordNo,
+    /// When it was made.
     pub moment: Moment,
+    /// Its slot: the payload, and zeros up to whole words.
     pub bytes: &'a [u8],
 }
 

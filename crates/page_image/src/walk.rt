@@ -13,8 +13,11 @@ use record_words::{Place, Word, WordFault, next_word};
 /// before it.
 #[derive(Clone, Copy, Debug)]
 pub struct Reached {
+    /// How many bytes of the data were read.
     pub at: usize,
+    /// The moment after the last word that was read.
     pub moment: u64,
+    /// How many records were read.
     pub count: u64,
 }
 
@@ -22,7 +25,9 @@ pub struct Reached {
 /// The record's moment is the one reached.
 #[derive(Clone, Copy, Debug)]
 pub struct Passed {
+    /// Where the payload of a record is; padding and times have none.
     pub payload: Option<Place>,
+    /// How far the words are read after it.
     pub behind: Reached,
 }
 

@@ -12,7 +12,9 @@ use byteorder::{ByteOrder, LittleEndian};
 /// Where a payload is in the data of a page: its first byte and its length, in bytes.
 #[derive(Clone, Copy, Debug, PartialEq, Eq)]
 pub struct Place {
+    /// The offset of its first byte in the data.
     pub start: usize,
+    /// How many bytes it takes.
     pub len: usize,
 }
 

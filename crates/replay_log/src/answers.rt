@@ -16,6 +16,7 @@ use trace_model::{CpuId, NoMemory};
 pub struct At {
     /// The number of the line among all lines of the text, from 1.
     pub line: u64,
+    /// The CPU of the ring.
     pub cpu: CpuId,
 }
 

@@ -16,6 +16,19 @@ use std::marker::Model;
 
 /// A ring of N pages and a spare, the writer's frames and the reader. The page of a fill that is begun and not closed
 /// is the writer's; any other page is at home, or is the reader's.
+///
+/// ```
+/// let mut core = Core::new(rt.alloc(), 2, 32)?;
+/// let push = Event::Push {
+///     moment: 100,
+///     len: 4,
+/// };
+/// assert!(rt; matches!(core.step(push), Answer::Pushed));
+/// assert!(rt; matches!(core.step(Event::Step), Answer::Reserved(RecordNo(0))));
+/// core.top_mut()?.fill(7);
+/// assert!(rt; matches!(core.step(Event::End), Answer::Ended(Ended::Full)));
+/// assert!(rt; matches!(core.step(Event::Step), Answer::Gone));
+/// ```
 #[derive(Drop)]
 pub struct Core {
     /// The writer's frames, the pages that they write, and how many fills are begun and closed.

@@ -30,6 +30,15 @@ pub fn ring_at(
 }
 
 /// The two ends of a new ring whose first fill has the number `START_FILL`.
+///
+/// ```
+/// let (mut writer, _reader): (Writer, Reader) = ring(rt.alloc(), 2, 32)?;
+/// assert!(rt; matches!(writer.begin(100, 4), Answer::Pushed));
+/// assert!(rt; matches!(writer.step(), Answer::Reserved(RecordNo(0))));
+/// writer.top_mut()?.fill(7);
+/// assert!(rt; matches!(writer.end(), Answer::Ended(Ended::Full)));
+/// assert!(rt; matches!(writer.step(), Answer::Gone));
+/// ```
 pub fn ring(alloc: Global, pages: usize, size: usize) -> Result<(Writer, Reader), NoMemory>
     requires limits { HasRingLimits pages size }
     ensures { IfOk result (λ ends. AreNewEnds (record { pages = pages; size = size; start = START_FILL })

@@ -17,6 +17,7 @@ pub struct WriterSeat {
     pub(crate) board: Arc<Board>,
     pub(crate) seat: Place,
     pub(crate) ghost_part: GhostPart,
+    /// The shape of its ring.
     pub shape: Shape,
     ghost key_is: { (arc_value board).shared.key ≡ shape },
     ghost table: { IsTableOf shape (arc_value board).shared.table_id },
@@ -39,6 +40,7 @@ impl fmt::Debug for WriterSeat {
 pub struct ReaderSeat {
     pub(crate) board: Arc<Board>,
     pub(crate) seat: Place,
+    /// The shape of its ring.
     pub shape: Shape,
     ghost key_is: { (arc_value board).shared.key ≡ shape },
     ghost table: { IsTableOf shape (arc_value board).shared.table_id },

@@ -19,8 +19,11 @@ pub(crate) const LINKS: usize = 3;
 /// The number of a ring's pages, their data size in bytes, and the number of its first fill.
 #[derive(Clone, Copy, Debug)]
 pub struct Shape {
+    /// How many pages the ring has, without the reader's.
     pub pages: usize,
+    /// How many bytes of data each page has.
     pub size: usize,
+    /// The number of the first fill.
     pub start: u64,
 }
 

@@ -56,5 +56,6 @@ pub enum Command<'a> {
 pub struct ScriptLine<'a> {
     /// The number of its line among all lines of the text, from 1.
     pub number: u64,
+    /// What it asks for.
     pub command: Command<'a>,
 }

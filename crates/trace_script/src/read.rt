@@ -129,7 +129,8 @@ fn script_in(alloc: Global, text: &[u8]) -> Result<Script, ScriptFault>
 pub fn read_script(alloc: Global, text: &[u8]) -> Result<Script, ScriptFault>
     // What is read is what the text spells, which is one script.
     ensures script { IfOk result (λ script. ParsesScript text.now script) }
-    // A fault is the text's first one; or memory ran out, and all lines up to a command's have none.
+    // A fault is the text's first one. If memory was refused, the text begins with the lines of a header and at least
+    // one command's, and none of these lines has a fault.
     ensures fault { IfErr result (λ fault. TellsFirstFault text.now fault) }
 {
     script_in(alloc, text)
