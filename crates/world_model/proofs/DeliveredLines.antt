@@ -9,7 +9,7 @@ use native.Mathlib.Decide.{ℕ_discrete}
 use Rattle.trace_model.specs.Parcel.{Parcel}
 use Rattle.trace_model.proofs.collections.Elements.{some_is}
 use Rattle.text_model.specs.Script.{Command, begin_frame, step_frame, finish_frame, write, close, step_reader, take_page, wish, deliver, Script}
-use Rattle.world_model.specs.World.{World, RunsLine, DeliversTaken, DeliversFill, delivers, lacks, Obeys, ObeysAll, WorldOf}
+use Rattle.world_model.specs.World.{World, RunsLine, DeliversFill, delivers, lacks, Obeys, ObeysAll, WorldOf}
 use Rattle.world_model.proofs.Lookups.{element_at, contains_at, get_set_here, get_set_other}
 
 -- the parcel was delivered to this collector

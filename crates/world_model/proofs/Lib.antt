@@ -5,11 +5,14 @@ pub mod TakenPages
 -- a payload for each frame
 pub mod FramesMove
 pub mod LanePayloads
+-- the same by functions
+pub mod LinesMade
 -- worlds: what every line keeps
 pub mod Lookups
 pub mod WorldsKept
 pub mod DeliveredLines
 pub mod OneWorld
+pub mod WorldsMade
 pub mod RunEvents
 pub mod Cuts
 pub mod GenuineWorlds

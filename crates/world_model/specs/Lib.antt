@@ -1,6 +1,8 @@
 pub mod Lanes
+pub mod LineMade
 pub mod Log
 pub mod World
+pub mod WorldMade
 pub mod RunEvents
 pub mod Headline
 pub mod LineEnds
