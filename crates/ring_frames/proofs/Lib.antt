@@ -2,6 +2,8 @@ pub mod Same
 pub mod Reshown
 pub mod Privately
 pub mod Pushed
+pub mod Told
+pub mod FramePayloads
 pub mod Pushes
 pub mod Left
 pub mod Ended

@@ -29,6 +29,7 @@ use Rattle.nested_writer.specs.Allotted.{HasActed, HasFit, IsAllotted}
 use Rattle.nested_writer.specs.Answered.{WantsFill, IsAnswered}
 use Rattle.nested_writer.specs.Ends.{IsEnd}
 use Rattle.nested_writer.specs.IsStack.{IsOpenPage, is_tail, is_older, IsUnwritten, StandsAt, FramesStand, IsStack}
+use Rattle.ring_frames.specs.Value.{FramesValue}
 use Rattle.ring_frames.specs.Answers.{bytes_in, HoldSlot, KeepsPayloads, below_top, EndsPayload}
 use Rattle.ring_frames.proofs.Ended.{page_found}
 
@@ -56,6 +57,10 @@ kept_then old mid new first then slot held =
     let (there, same) = first slot held in
     let (still, more) = then slot there in
     (still, same ∙ more)
+
+-- of a value whose view is that one
+pub kept_called : {v x : FramesValue} → v ≡ x → (after : Stack) → KeepsPayloads v.stack after → KeepsPayloads x.stack after
+kept_called view_is after kept = subst (λ (y : FramesValue). KeepsPayloads y.stack after) view_is kept
 
 pub pushed_kept : (old new : Stack) (f : Frame) → new ≡ with_frame old f → KeepsPayloads old new
 pushed_kept old new f is = kept_same old new (other_frames old new _ is) (λ slot held. subst (λ (s : Stack). HoldSlot s.frames slot) (sym is) (inr held))

@@ -1,5 +1,6 @@
 -- The push of a frame as a private step: it is on the stack, or refused.
-use Rattle.std.proofs.Common.{◌≡◌, ◌⊎◌, ⊎_elim, ℕ, ◌+◌, ◌<◌, ◌≤◌, true, [], ◌∷◌, ◌++◌, length, inl, inr, refl, sym, ap, subst, arith}
+use Rattle.std.proofs.Common.{◌≡◌, ◌⊎◌, ⊎_elim, ℕ, ◌+◌, ◌<◌, ◌≤◌, true, false, [], ◌∷◌, ◌++◌, length, inl, inr, refl, sym, ap, subst, arith}
+use Rattle.std.specs.Prelude.{Result, Err}
 use mathlib.Core.Logic.{dite}
 use native.Mathlib.Decide.{dec_le}
 use Rattle.trace_model.specs.declared.limits.TheConstants.{MAX_FRAMES, MOMENT_LIMIT}
@@ -98,3 +99,11 @@ close_refused n size start v c fault k deep none =
     dite (dec_le MAX_FRAMES (length v.stack.frames))
     (λ many. stays n size start v c model.pushes_close fault TooDeep k (deep many) (step_by (cases.close_refused refl (has_no_room n size start v c k many) refl refl)) tt)
     (λ few. absurd (none (omega arith)))
+
+-- ---- what the stack answers a push
+
+pub same_fault : {A : Type 0} {a b : WriteFault} → ◌≡◌ {A = Result A WriteFault} (Err a) (Err b) → a ≡ b
+same_fault e = cc
+
+pub not_pushed : false ≡ true → ⊥
+not_pushed e = cc
