@@ -1,9 +1,12 @@
 //! The stack of a ring's nested writers, by itself.
+ghost use Rattle.nested_writer.specs.IsStack.{Stands};
+
 use nested_writer::{Allot, Ended, WriteFault, WriterStack};
 use page_image::{Body, Page, Place};
+use page_numbers::Parcel;
 use std::process::Abort;
 use std::test::Fail;
-use trace_model::{FillNo, RecordNo};
+use trace_model::{CpuId, FillNo, RecordNo};
 
 /// A place of a payload of four bytes, that of the first record of a page.
 const FRONT: Allot = Allot::Fits(Place { start: 4, len: 4 });
@@ -13,6 +16,18 @@ const SECOND: Allot = Allot::Fits(Place { start: 12, len: 4 });
 
 /// The place of a payload that fills a page of 32 bytes.
 const WHOLE: Allot = Allot::Fits(Place { start: 4, len: 28 });
+
+/// Reserves a record at each of these moments, each amid the one before: the example of a loop at the crate's head.
+fn reserve_all(stack: &mut WriterStack, moments: &[u64]) -> Result<(), WriteFault>
+    requires stack { Stands stack.old }
+    ensures stack { Stands stack.new }
+{
+    for moment in moments {
+        stack.begin(*moment, 4)?;
+        stack.allot()?;
+    }
+    Ok(())
+}
 
 /// Compares a page with its fill, the number of its first record and its data.
 fn compare(rt: &impl Abort, page: &Page, fill: u64, first: u64, data: &[u8]) {
@@ -58,18 +73,30 @@ fn a_nested_record_is_pending(rt: HostRuntime) -> Result<(), Fail> {
     Ok(())
 }
 
+/// The frame below the one that is refused is on top again.
 #[test]
 fn a_third_page_is_refused_while_two_are_open(rt: HostRuntime) -> Result<(), Fail> {
     let mut stack = WriterStack::new(rt.alloc(), 2, 32)?;
     stack.begin(1, 28)?;
-    assert!(rt; stack.allot() == Ok(WHOLE));
+    let Allot::Fits(_) = stack.allot()? else {
+        return Err(Fail::new("no record is reserved"));
+    };
     stack.begin(2, 28)?;
-    assert!(rt; stack.allot() == Ok(Allot::NeedsPage));
+    let Allot::NeedsPage = stack.allot()? else {
+        return Err(Fail::new("no page is needed"));
+    };
     stack.add_page(Body::new(rt.alloc(), 32)?);
-    assert!(rt; stack.allot() == Ok(WHOLE));
-    assert!(rt; stack.end() == Ok(Ended::Pending));
+    let Allot::Fits(_) = stack.allot()? else {
+        return Err(Fail::new("no record is reserved on a second page"));
+    };
+    let Ok(Ended::Pending) = stack.end() else {
+        return Err(Fail::new("the frame below is gone"));
+    };
     stack.begin(3, 28)?;
-    assert!(rt; stack.allot() == Err(WriteFault::Crowded));
+    let Err(WriteFault::Crowded) = stack.allot() else {
+        return Err(Fail::new("a third page is begun"));
+    };
+    stack.top_mut()?.copy_from_slice(&[1; 28]);
     assert!(rt; stack.end() == Ok(Ended::Full));
     Ok(())
 }
@@ -83,11 +110,61 @@ fn a_tail_is_closed_if_it_is_asked_for(rt: HostRuntime) -> Result<(), Fail> {
     assert!(rt; stack.end() == Ok(Ended::Full));
     assert!(rt; stack.ask_close());
     stack.add_page(Body::new(rt.alloc(), 32)?);
-    let front = stack.drop_front();
-    assert!(rt; front.count() == 1);
+    let front = Parcel::of(rt.alloc(), CpuId(0), stack.drop_front(), 0)?;
+    assert!(rt; front.fill() == FillNo(0) && front.count() == 1);
+    stack.pop_bottom();
+    let tail = Parcel::of(rt.alloc(), CpuId(0), stack.into_tail(), 0)?;
+    assert!(rt; tail.fill() == FillNo(1) && tail.count() == 0);
+    Ok(())
+}
+
+#[test]
+fn records_are_reserved_each_amid_the_one_before(rt: HostRuntime) -> Result<(), Fail> {
+    let mut stack = WriterStack::new(rt.alloc(), 2, 32)?;
+    reserve_all(&mut stack, &[1, 2, 3])?;
+    assert!(rt; stack.depth() == 3);
+    Ok(())
+}
+
+/// The slot has the length of the payload, up to the end of its last word.
+#[test]
+fn a_payload_is_written_byte_by_byte(rt: HostRuntime) -> Result<(), Fail> {
+    let mut stack = WriterStack::new(rt.alloc(), 2, 32)?;
+    stack.begin(1, 5)?;
+    let Allot::Fits(_) = stack.allot()? else {
+        return Err(Fail::new("no record is reserved"));
+    };
+    stack.top_mut()?[0] = 7;
+    let slot = stack.top_mut()?;
+    slot[1] = 8;
+    assert!(rt; slot.len() == 8);
+    let slot: &mut [u8] = stack.top_mut()?;
+    slot[7] = 9;
+    assert!(rt; &*slot == b"\x07\x08\0\0\0\0\0\x09".as_slice());
+    Ok(())
+}
+
+/// A record that begins before the last one has its moment.
+#[test]
+fn moments_never_fall(rt: HostRuntime) -> Result<(), Fail> {
+    let mut stack = WriterStack::new(rt.alloc(), 2, 32)?;
+    stack.begin(9, 4)?;
+    let _first = stack.allot()?;
+    stack.begin(4, 4)?;
+    let Allot::Fits(_) = stack.allot()? else {
+        return Err(Fail::new("no record is reserved behind the first"));
+    };
+    let Ok(Ended::Pending) = stack.end() else {
+        return Err(Fail::new("the frame below is gone"));
+    };
+    let Ok(Ended::Full) = stack.end() else {
+        return Err(Fail::new("the bottom frame doesn't stay"));
+    };
     stack.pop_bottom();
     let tail = stack.into_tail();
-    assert!(rt; tail.count() == 0);
+    assert!(rt;
+        tail.time() == 9 && tail.data() == b"\x01\0\0\0\0\0\0\0\x01\0\0\0\0\0\0\0".as_slice()
+    );
     Ok(())
 }
 
@@ -96,8 +173,28 @@ fn what_cannot_be_begun_is_refused(rt: HostRuntime) -> Result<(), Fail> {
     let mut stack = WriterStack::new(rt.alloc(), 2, 32)?;
     assert!(rt; stack.begin(2, 29) == Err(WriteFault::TooLong));
     assert!(rt; stack.begin(1 << 59, 28) == Err(WriteFault::LateMoment));
+    assert!(rt; stack.begin((1 << 59) - 1, 28) == Ok(()));
+    Ok(())
+}
+
+#[test]
+fn what_no_frame_has_is_refused(rt: HostRuntime) -> Result<(), Fail> {
+    let mut stack = WriterStack::new(rt.alloc(), 2, 32)?;
     assert!(rt; stack.top_mut().err() == Some(WriteFault::NoFrame));
     assert!(rt; stack.end() == Err(WriteFault::NoFrame));
+    Ok(())
+}
+
+#[test]
+fn a_fifth_frame_is_refused(rt: HostRuntime) -> Result<(), Fail> {
+    let mut stack = WriterStack::new(rt.alloc(), 2, 32)?;
+    stack.begin(1, 4)?;
+    stack.begin(2, 4)?;
+    stack.begin(3, 4)?;
+    stack.begin(4, 4)?;
+    assert!(rt; stack.begin(5, 4) == Err(WriteFault::TooDeep));
+    assert!(rt; stack.top_mut().err() == Some(WriteFault::NotReserved));
+    assert!(rt; stack.end() == Err(WriteFault::NotReserved));
     Ok(())
 }
 
