@@ -7,7 +7,7 @@ pub mod Releasing
 pub mod Beginning
 pub mod ReaderSteps
 pub mod Taking
-pub mod TopKinds
+pub mod Lens
 pub mod NewCores
 pub mod Runs
 pub mod Lent

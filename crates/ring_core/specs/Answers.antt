@@ -1,14 +1,15 @@
 -- What an event of a ring means in the model, and what comes with its answer.
-use Rattle.std.specs.Prelude.{◌≡◌, ℕ, List, Some}
+use Rattle.std.specs.Prelude.{◌≡◌, ℕ, List, ◌∷◌, Some, None}
 use Rattle.trace_model.specs.Steps as model
 use Rattle.page_image.specs.Contents.{IsPage}
 use Rattle.nested_writer.specs.Stack.{Stack}
-use Rattle.nested_writer.specs.Next.{pushed_len}
+use Rattle.nested_writer.specs.declared.stack.leave.Ended.TheVariants.{Pending}
 use Rattle.ring_core.specs.declared.event.Event.{Event}
 use Rattle.ring_core.specs.declared.event.Event.TheVariants.{Push, PushClose, Step, End, Read, Wish}
 use Rattle.ring_frames.specs.declared.answer.Answer.{Answer}
 use Rattle.ring_frames.specs.declared.answer.Answer.TheVariants.{Pushed, Going, Reserved, Ended, Gone, Refused, Looking, Empty, Moving, Taken as IsTaken, Wished}
-use Rattle.ring_frames.specs.Answers.{top_bytes, KeepsPayloads, EndsPayload, KeepsTop}
+use Rattle.ring_frames.specs.Answers.{top_bytes, KeepsPayloads, EndsPayload}
+use Rattle.ring_frames.specs.Lens.{lens, IsOneMore, KeepsLens}
 use Rattle.ring_core.specs.Value.{CoreValue}
 
 -- ---- events
@@ -32,14 +33,15 @@ StepsPayloads End old new = EndsPayload old new
 StepsPayloads (Read body) old new = KeepsPayloads old new
 StepsPayloads Wish old new = KeepsPayloads old new
 
--- The payload's length that the frame on top was pushed for: a push says it, and steps and the reader keep it.
-abbrev pub StepsTop : Event → Answer → Stack → Stack → Type 0
-StepsTop (Push moment len) result old new = result ≡ Pushed → pushed_len new.frames ≡ Some len
-StepsTop PushClose result old new = Unit {0}
-StepsTop Step result old new = KeepsTop result old new
-StepsTop End result old new = Unit {0}
-StepsTop (Read body) result old new = pushed_len new.frames ≡ pushed_len old.frames
-StepsTop Wish result old new = pushed_len new.frames ≡ pushed_len old.frames
+-- How long the payloads are that the frames were pushed for: a push puts one on top, and one that ends above others
+-- leaves them; steps say it by their answer, and the reader keeps them.
+abbrev pub StepsLens : Event → Answer → Stack → Stack → Type 0
+StepsLens (Push moment len) result old new = result ≡ Pushed → lens new ≡ Some len ∷ lens old
+StepsLens PushClose result old new = result ≡ Pushed → lens new ≡ None ∷ lens old
+StepsLens Step result old new = KeepsLens result old new
+StepsLens End result old new = result ≡ Ended Pending → IsOneMore (lens old) (lens new)
+StepsLens (Read body) result old new = lens new ≡ lens old
+StepsLens Wish result old new = lens new ≡ lens old
 
 -- ---- answers
 

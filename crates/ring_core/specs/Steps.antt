@@ -12,7 +12,7 @@ use Rattle.ring_core.specs.declared.event.Event.TheVariants.{Push, PushClose, St
 use Rattle.ring_frames.specs.declared.answer.Answer.{Answer}
 use Rattle.ring_core.specs.Value.{CoreValue}
 use Rattle.ring_core.specs.IsCore.{IsCore}
-use Rattle.ring_core.specs.Answers.{event_of, StepsPayloads, StepsTop, GivesBack}
+use Rattle.ring_core.specs.Answers.{event_of, StepsPayloads, StepsLens, GivesBack}
 
 -- In this state the event has an answer and a state after it, by a step of the model. The value's answer means the
 -- model's answer, and the value after it shows the model's state.
@@ -67,14 +67,14 @@ GivesBodyBack (Read body) answer = GivesBack body answer
 GivesBodyBack Wish answer = Unit {0}
 
 -- The event is one step of the model, whose answer is the value's. The body of a `Read` is given back but for a page;
--- payloads stay in their slots; the slot that this answer reserves holds only zeros; and of a push, and of a step by which the
--- frame on top goes on or reserves, the payload's length is known.
+-- payloads stay in their slots; the slot that this answer reserves holds only zeros; and it is known how long the
+-- payloads are that the frames were pushed for.
 pub record Obeys (event : Event) (old : CoreValue) (result : Answer) (new : CoreValue) : Type 0 where
   pub step : Makes old (event_of old event) result new
   pub given_back : GivesBodyBack event result
   pub payloads : StepsPayloads event old.stack new.stack
   pub zeros : ZerosSlot old.stack result new.stack
-  pub top : StepsTop event result old.stack new.stack
+  pub lens : StepsLens event result old.stack new.stack
 
 -- so is a step of the reader, which has this body; and the stack stays
 pub record MakesRead (old : CoreValue) (body : List ℕ) (result : Answer) (new : CoreValue) : Type 0 where

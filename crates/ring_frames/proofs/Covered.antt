@@ -12,7 +12,8 @@ use Rattle.nested_writer.specs.Stack.{Stack, state_of}
 use Rattle.nested_writer.specs.IsStack.{AreBefore, FramesStand}
 use Rattle.ring_frames.specs.declared.phase.Phase.{Phase}
 use Rattle.ring_frames.specs.Value.{FramesValue}
-use Rattle.ring_frames.specs.Answers.{HoldSlot, below_top}
+use Rattle.nested_writer.specs.Next.{below_top}
+use Rattle.ring_frames.specs.Answers.{HoldSlot}
 use Rattle.ring_frames.specs.AreFrames.{ring_frames, AreBelow, AreFrames}
 
 -- ---- numbers of frames
@@ -34,7 +35,7 @@ number_low number other (f ∷ frames) [] before none = absurd none
 number_low number other (f ∷ frames) (phase ∷ phases) before (inl is) = subst (λ (s : FrameState). IfSome (number_of s) (λ n. n < number)) is before.0
 number_low number other (f ∷ frames) (phase ∷ phases) before (inr there) = number_low number other frames phases before.1 there
 
-enough_phases : (frames : List Frame) (phase : Phase) (below : List Phase) → AreBelow frames below → length frames ≤ length (phase ∷ below)
+pub enough_phases : (frames : List Frame) (phase : Phase) (below : List Phase) → AreBelow frames below → length frames ≤ length (phase ∷ below)
 enough_phases [] phase below are = omega arith
 enough_phases (top ∷ frames) phase below are = omega (arith, are)
 

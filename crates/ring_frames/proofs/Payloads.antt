@@ -29,8 +29,9 @@ use Rattle.nested_writer.specs.Allotted.{HasActed, HasFit, IsAllotted}
 use Rattle.nested_writer.specs.Answered.{WantsFill, IsAnswered}
 use Rattle.nested_writer.specs.Ends.{IsEnd}
 use Rattle.nested_writer.specs.IsStack.{IsOpenPage, is_tail, is_older, IsUnwritten, StandsAt, FramesStand, IsStack}
+use Rattle.nested_writer.specs.Next.{below_top}
 use Rattle.ring_frames.specs.Value.{FramesValue}
-use Rattle.ring_frames.specs.Answers.{bytes_in, HoldSlot, KeepsPayloads, below_top, EndsPayload}
+use Rattle.ring_frames.specs.Answers.{bytes_in, HoldSlot, KeepsPayloads, EndsPayload}
 use Rattle.ring_frames.proofs.Ended.{page_found}
 
 -- ---- the same pages

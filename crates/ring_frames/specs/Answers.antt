@@ -13,8 +13,8 @@ use Rattle.nested_writer.specs.declared.frame.Slot.{Slot}
 use Rattle.nested_writer.specs.declared.frame.Progress.{Progress}
 use Rattle.nested_writer.specs.declared.frame.Progress.TheVariants.{Waiting, Through, Reserved as HasReserved, Left}
 use Rattle.nested_writer.specs.declared.frame.Frame.{Frame}
-use Rattle.nested_writer.specs.Next.{pushed_len}
 use Rattle.nested_writer.specs.Stack.{Stack}
+use Rattle.nested_writer.specs.Next.{below_top}
 use Rattle.nested_writer.specs.Calls.{LacksSlot, IsTopSlot}
 use Rattle.nested_writer.specs.Released.{IsWrittenPage}
 use Rattle.ring_frames.specs.declared.answer.Answer.{Answer}
@@ -51,11 +51,6 @@ abbrev pub KeepsPayloads : Stack → Stack → Type 0
 KeepsPayloads old new = (slot : Slot)
     → HoldSlot old.frames slot
     → HoldSlot new.frames slot × (bytes_in old slot ≡ bytes_in new slot)
-
--- the frames below the one on top
-abbrev pub below_top : List Frame → List Frame
-below_top [] = []
-below_top (top ∷ below) = below
 
 -- As the frame on top ends, each slot that was reserved keeps its bytes, and that of a frame below stays reserved.
 abbrev pub EndsPayload : Stack → Stack → Type 0
@@ -102,8 +97,3 @@ ZerosSlot old result new = (number : RecordNo) (slot : Slot)
     → LacksSlot old.frames
     → IsTopSlot new.frames slot
     → bytes_in new slot ≡ replicate slot.place.len 0
-
--- If the frame on top continues or its record is reserved by this answer, its payload is of the same length as before.
-pub record KeepsTop (result : Answer) (old new : Stack) : Type 0 where
-  pub going : result ≡ Going → pushed_len new.frames ≡ pushed_len old.frames
-  pub reserved : (number : RecordNo) → result ≡ Reserved number → pushed_len new.frames ≡ pushed_len old.frames

@@ -1,5 +1,5 @@
 -- The payload of the frame on top, which is lent out to be written.
-use Rattle.std.specs.Prelude.{◌≡◌, ◌≤◌, ◌↔◌, ℕ, List, [], ◌∷◌, length, Some, Result, Err, IsOk, IfOk}
+use Rattle.std.specs.Prelude.{◌≡◌, ◌≤◌, ◌↔◌, ℕ, List, [], ◌∷◌, length, Option, Some, Result, Err, IsOk, IfOk}
 use Rattle.std.specs.Borrow.{LendsIfOk, MutBor, Fml}
 use Rattle.trace_model.specs.Words.{slot_len}
 use Rattle.trace_model.specs.Frames.{for_record, Frame as ModelFrame}
@@ -11,13 +11,14 @@ use Rattle.nested_writer.specs.declared.fault.WriteFault.{WriteFault}
 use Rattle.nested_writer.specs.declared.fault.WriteFault.TheVariants.{NoFrame, NotReserved}
 use Rattle.record_words.specs.declared.put.Place.{Place}
 use Rattle.nested_writer.specs.Calls.{LacksSlot}
-use Rattle.nested_writer.specs.Next.{pushed_len, top_place}
+use Rattle.nested_writer.specs.Next.{top_place}
 use Rattle.nested_writer.specs.Lent.{Lent, lent_bytes, with_bytes}
 use Rattle.nested_writer.specs.Lending.{IsLent, with_slot, with_top}
 use Rattle.nested_writer.specs.contracts.payload.Payload as payload_rows
 use Rattle.ring_frames.specs.Value.{FramesValue}
 use Rattle.ring_frames.specs.AreFrames.{AreFrames}
 use Rattle.ring_frames.specs.Answers.{bytes_in, top_bytes, HoldSlot}
+use Rattle.ring_frames.specs.Lens.{lens}
 use Rattle.ring_frames.specs.contracts.frames.Frames.{the_row}
 
 -- the frames with these bytes in a slot
@@ -62,8 +63,8 @@ pub record LendsSlot (s : Stack) (result : Result (MutBor Lent) WriteFault) : Ty
   pub not_reserved : result ≡ Err NotReserved ↔ LacksSlot s.frames
   pub held : (place : Place) → top_place s.frames ≡ Some place → IsOk result
   pub lent : IfOk result (λ payload. IsLent s payload.now)
-  pub len : (len : ℕ)
-      → pushed_len s.frames ≡ Some len
+  pub len : (len : ℕ) (below : List (Option ℕ))
+      → lens s ≡ Some len ∷ below
       → IfOk result (λ payload. length (lent_bytes payload.now) ≡ slot_len len)
   pub word : IfOk result (λ payload. 4 ≤ length (lent_bytes payload.now))
   pub payload : IfOk result (λ payload. lent_bytes payload.now ≡ top_bytes s s.frames)

@@ -3,6 +3,7 @@ pub mod Stage
 pub mod Inside
 pub mod AreFrames
 pub mod Answers
+pub mod Lens
 pub mod Phases
 pub mod ReaderPhases
 pub mod Steps

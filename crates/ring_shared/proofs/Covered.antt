@@ -5,7 +5,8 @@ use Rattle.nested_writer.specs.declared.frame.Slot.{Slot}
 use Rattle.nested_writer.specs.declared.frame.Frame.{Frame}
 use Rattle.nested_writer.specs.Stack.{Stack}
 use Rattle.nested_writer.specs.Lending.{with_slot}
-use Rattle.ring_frames.specs.Answers.{bytes_in, HoldSlot, KeepsPayloads, below_top, EndsPayload}
+use Rattle.nested_writer.specs.Next.{below_top}
+use Rattle.ring_frames.specs.Answers.{bytes_in, HoldSlot, KeepsPayloads, EndsPayload}
 use Rattle.ring_frames.specs.AreFrames.{AreFrames}
 use Rattle.ring_frames.specs.Lending.{LeavesOthers}
 use Rattle.ring_frames.proofs.Payloads.{below_held}

@@ -2,7 +2,8 @@
 use Rattle.std.specs.Prelude.{◌≡◌}
 use Rattle.nested_writer.specs.declared.frame.Slot.{Slot}
 use Rattle.nested_writer.specs.Stack.{Stack}
-use Rattle.ring_frames.specs.Answers.{bytes_in, HoldSlot, below_top}
+use Rattle.nested_writer.specs.Next.{below_top}
+use Rattle.ring_frames.specs.Answers.{bytes_in, HoldSlot}
 
 -- Each slot that a frame of the old stack has reserved, one below the top has reserved in the new one, with the same
 -- bytes.
