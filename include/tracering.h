@@ -3,8 +3,8 @@
 // One thread writes and one thread reads; neither waits for the other. Records are numbered from 0 on. If the ring is
 // full, the oldest closed page is overwritten, and the reader knows how many records were lost. What is taken is a
 // parcel: a page with its CPU, its fill, its first record's number and the count of lost records, in bytes that can be
-// stored and sent (docs/FORMATS.md, "Parcel bytes"). This library collects no parcels; a Rattle program can, by the crate
-// `collector`.
+// stored and sent (docs/FORMATS.md, "Parcel bytes"). This library collects no parcels; a Rattle program can, by the
+// crate `collector`.
 //
 // Handles. A handle is all zeros ({0}) before its first call. Only the calls below change it, and it must not be
 // copied.
