@@ -1,22 +1,15 @@
 -- The reader's fields after a step that takes nothing.
-use Rattle.std.proofs.Common.{◌≡◌, ◌≢◌, ℕ, ◌+◌, ◌-◌, ◌≤◌, length, Some, None, sym, ap, ◌∙◌, subst}
+use Rattle.std.proofs.Common.{◌≡◌, ℕ, length, Some, None, sym, ap, ◌∙◌, subst}
 use Rattle.atomic_table.specs.Seated.{TableId}
-use Rattle.trace_model.specs.Links.{normal_link}
 use Rattle.trace_model.specs.Ring as ring
-use Rattle.trace_model.specs.Steps as model
-use Rattle.link_marks.specs.ModelLinks.{link_of}
-use Rattle.link_marks.specs.declared.link.Link.{Link}
-use Rattle.link_marks.specs.declared.link.Mark.{Mark}
-use Rattle.link_marks.specs.declared.link.Mark.TheVariants.{Normal, Header, Update}
 use Rattle.link_marks.proofs.partition.RingsKept.{reached_kept}
 use Rattle.ring_frames.specs.ReaderPhases.{reader_phase_of}
 use Rattle.ring_frames.specs.declared.reader.Reader.{Reader}
 use Rattle.ring_steps.specs.declared.rule.Shape.{Shape}
 use Rattle.ring_steps.specs.Views.{Reading}
-use Rattle.ring_steps.specs.Taking.{IsRead}
 use Rattle.ring_shared.specs.Value.{ReaderValue}
-use Rattle.ring_shared.specs.Takes.{IsReaderPart, KeepsSlot, SawPage, FoundEmpty, IsReader, ReadsSo}
-use Rattle.ring_shared.proofs.TakeSteps.{Stays, sees_header, sees_update, sees_owed, sees_passed, header_answers, update_answers, owed_answers, passed_answers}
+use Rattle.ring_shared.specs.Takes.{IsReaderPart, KeepsSlot, SawPage, FoundEmpty, IsReader}
+use Rattle.ring_shared.proofs.TakeSteps.{Stays}
 
 -- the reader as the model has it
 abbrev pub AreFields : ring.Reader → Reader → Type 0
@@ -57,38 +50,3 @@ module _ (w v : ReaderValue) (same : w ≡ v) (is : IsReader v) where
 pub positions : (v : ReaderValue) → IsReader v → length v.order ≡ v.shape.pages
 positions v is = let kept = reached_kept v.shape.pages v.shape.size v.shape.start is.part.core is.part.reached in
     ap (length {A = ℕ}) (sym is.order_is ∙ is.part.is.order_is) ∙ kept.links.apart.pages
-
--- ---- what a load of a link states, by its mark
-
--- the link that is loaded is that into the position of the hint
-abbrev pub SeesLink : ReaderValue → Link → ring.Core → Type 0
-SeesLink v l core = ring.link_into v.shape.pages core.links v.part.reader.hint ≡ link_of l
-
-module _ (v : ReaderValue) (l : Link) (after : Reading) (read : IsRead v.shape v.part (SeesLink v l) after) (at : v.part.reader.phase ≡ ring.loading_link) where
-  link_is : (mark : Mark) → l.mark ≡ mark → ring.link_into v.shape.pages read.1.core.links v.part.reader.hint ≡ link_of record { mark = mark; page = l.page; fill = l.fill }
-  link_is mark is = read.1.seen ∙ ap (λ (m : Mark). link_of record { mark = m; page = l.page; fill = l.fill }) is
-
-  pub at_header : l.mark ≡ Header → Stays v.shape v.part after (record v.part.reader { phase = ring.loading_done l.page l.fill; hint = l.fill }) × (v.part.reader.hint ≤ l.fill)
-  at_header is = sees_header v.shape v.part after (SeesLink v l) read.0 read.1 at l.page l.fill (link_is Header is)
-
-  pub at_update : l.mark ≡ Update → Stays v.shape v.part after (record v.part.reader { phase = ring.loading_link; hint = l.fill + 1 }) × (v.part.reader.hint ≤ l.fill + 1)
-  at_update is = sees_update v.shape v.part after (SeesLink v l) read.0 read.1 at l.page l.fill (link_is Update is)
-
-  pub at_owed : l.mark ≡ Normal → l.fill ≡ v.part.reader.hint → Stays v.shape v.part after v.part.reader
-  at_owed is here = sees_owed v.shape v.part after (SeesLink v l) read.0 read.1 at l.page (link_is Normal is ∙ ap (normal_link l.page) here)
-
-  pub at_passed : l.mark ≡ Normal → l.fill ≢ v.part.reader.hint
-      → Stays v.shape v.part after (record v.part.reader { phase = ring.loading_link; hint = l.fill + 1 - v.shape.pages }) × (v.part.reader.hint + v.shape.pages ≤ l.fill + 1)
-  at_passed is other = sees_passed v.shape v.part after (SeesLink v l) read.0 read.1 at l.page l.fill (link_is Normal is) other
-
-  pub header_answers_so : l.mark ≡ Header → ReadsSo v.shape v.part model.reading after
-  header_answers_so is = header_answers v.shape v.part after (SeesLink v l) read.0 read.1 at l.page l.fill (link_is Header is)
-
-  pub update_answers_so : l.mark ≡ Update → ReadsSo v.shape v.part (model.moving (l.fill + 1)) after
-  update_answers_so is = update_answers v.shape v.part after (SeesLink v l) read.0 read.1 at l.page l.fill (link_is Update is)
-
-  pub owed_answers_so : l.mark ≡ Normal → l.fill ≡ v.part.reader.hint → ReadsSo v.shape v.part (model.moving v.part.reader.hint) after
-  owed_answers_so is here = owed_answers v.shape v.part after (SeesLink v l) read.0 read.1 at l.page (link_is Normal is ∙ ap (normal_link l.page) here)
-
-  pub passed_answers_so : l.mark ≡ Normal → l.fill ≢ v.part.reader.hint → ReadsSo v.shape v.part model.reading after
-  passed_answers_so is other = passed_answers v.shape v.part after (SeesLink v l) read.0 read.1 at l.page l.fill (link_is Normal is) other

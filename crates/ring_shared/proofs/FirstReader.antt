@@ -1,5 +1,5 @@
 -- The reader's part of a new ring.
-use Rattle.std.proofs.Common.{◌≡◌, ℕ, zero, suc, ◌+◌, ◌<◌, List, [], ◌∷◌, ◌++◌, get_or, take, map, refl, sym, ap, ◌∙◌, subst, arith}
+use Rattle.std.proofs.Common.{◌≡◌, ℕ, zero, suc, ◌+◌, List, [], ◌∷◌, ◌++◌, take, map, refl, sym, ap, ◌∙◌, subst, arith}
 use Rattle.std.proofs.lemmas.List.{ext_get_or}
 use Rattle.trace_model.specs.History.{as_record, reserved_records}
 use Rattle.trace_model.specs.Ring.{Reader}
@@ -7,18 +7,13 @@ use Rattle.link_marks.proofs.partition.OneNewRing.{new_ring_is_one}
 use Rattle.ring_steps.specs.declared.rule.Shape.{Shape}
 use Rattle.ring_steps.specs.Views.{Reading}
 use Rattle.ring_steps.specs.NewRings.{IsShape, counted, first_reading}
-use Rattle.ring_steps.proofs.Starts.{counted_length}
+use Rattle.ring_steps.proofs.Starts.{counted_length, counted_at}
 use Rattle.ring_shared.specs.Takes.{IsReaderPart}
 
 -- one number more
 pub counted_more : (from count : ℕ) → counted from (suc count) ≡ counted from count ++ (from + count) ∷ []
 counted_more from zero = ap (λ (k : ℕ). k ∷ []) (let e : from ≡ from + zero = omega arith in e)
 counted_more from (suc count) = ap (λ (l : List ℕ). from ∷ l) (counted_more (suc from) count ∙ ap (λ (k : ℕ). counted (suc from) count ++ k ∷ []) (let e : suc from + count ≡ from + suc count = omega arith in e))
-
-counted_at : (from count i : ℕ) → i < count → get_or (counted from count) i 0 ≡ from + i
-counted_at from zero i low = absurd (omega arith)
-counted_at from (suc count) zero low = omega arith
-counted_at from (suc count) (suc i) low = counted_at (suc from) count i (omega arith) ∙ (let e : suc from + i ≡ from + suc i = omega arith in e)
 
 -- it is that of a state that steps reach
 pub first_part : (shape : Shape) (part : Reading) → IsShape shape → part ≡ first_reading shape → IsReaderPart shape part

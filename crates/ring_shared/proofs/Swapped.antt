@@ -14,10 +14,11 @@ use Rattle.nested_writer.specs.Released.{IsWrittenPage}
 use Rattle.ring_steps.specs.declared.rule.Shape.{Shape}
 use Rattle.ring_steps.specs.Views.{Reading}
 use Rattle.ring_steps.specs.Swapping.{HeadTaken, HeadMissed}
+use Rattle.ring_steps.proofs.TakeSteps.{facts, hint_is}
 use Rattle.ring_shared.specs.declared.take.Take.TheVariants.{Page}
 use Rattle.ring_shared.specs.declared.take.Turn.TheVariants.{Done}
 use Rattle.ring_shared.specs.Takes.{IsReaderPart, IsPageTaken, ReadsSo, IsAnswered}
-use Rattle.ring_shared.proofs.TakeSteps.{Stays, known_after, facts, hint_is, so}
+use Rattle.ring_shared.proofs.TakeSteps.{Stays, known_after, so, stays}
 
 -- the records that a reader has observed are parted into what it took and what was lost between
 pub parted : (shape : Shape) (part : Reading) → IsReaderPart shape part → IsPartition part.observed (pieces_of part.reader.taken) []
@@ -61,14 +62,7 @@ module _ (shape : Shape) (before : Reading) (page fill : ℕ) (after : Reading) 
       let sees : ring.Core → Type 0 = λ core. ring.link_into shape.pages core.links fill ≢ header_link page fill in
       let seen = (facts shape before after sees model.reading h.step (ring.swapping page fill) at).0 in
       let fill_is = seen.fill_is in let hint = hint_is shape before after sees model.reading h.step in (
-        record {
-          known = known_after shape before after sees model.reading h.step;
-          order_is = ap (λ (r : Reading). r.order) h.after_is;
-          spare_is = ap (λ (r : Reading). r.spare) h.after_is;
-          wish_is = ap (λ (r : Reading). r.wish) h.after_is;
-          observed_is = ap (λ (r : Reading). r.observed) h.after_is;
-          reader_is = ap (λ (r : Reading). r.reader) h.after_is;
-        },
+        stays shape before after sees model.reading h.step (record before.reader { phase = ring.loading_link; hint = fill + 1 }) before.spare_link before.keeps_spare h.after_is,
         omega arith,
       )
 
@@ -77,9 +71,9 @@ module _ (shape : Shape) (before : Reading) (page fill : ℕ) (after : Reading) 
 pub swap_answers : (shape : Shape) (before : Reading) (page fill : ℕ) (after : Reading) (taken : Contents) → HeadTaken shape before page fill taken after → IsAnswered shape before (Done (Page taken (taken.first - before.reader.expected))) after
 swap_answers shape before page fill after taken h = record {
   told = model.swapped h.told;
-  step = so shape before after (λ core. ring.link_into shape.pages core.links fill ≡ header_link page fill) (model.swapped h.told) h.step (model.swapped h.told) refl;
+  step = so shape before after (λ core. ring.link_into shape.pages core.links fill ≡ header_link page fill) (model.swapped h.told) h.step;
   tells = (h.told, refl, record { written = subst (λ (f : ℕ). IsWrittenPage shape.size f h.told.held taken) (sym h.fill_is) h.written; missed_is = sym h.skipped_is });
 }
 
 pub miss_answers : (shape : Shape) (before : Reading) (page fill : ℕ) (after : Reading) → HeadMissed shape before page fill after → ReadsSo shape before model.reading after
-miss_answers shape before page fill after h = so shape before after (λ core. ring.link_into shape.pages core.links fill ≢ header_link page fill) model.reading h.step model.reading refl
+miss_answers shape before page fill after h = so shape before after (λ core. ring.link_into shape.pages core.links fill ≢ header_link page fill) model.reading h.step

@@ -15,6 +15,7 @@ pub mod Paging
 pub mod Linking
 pub mod LinkBounds
 pub mod Taking
+pub mod TakeSteps
 pub mod ObservedMore
 pub mod SwapWords
 pub mod Swaps

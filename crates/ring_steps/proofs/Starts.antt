@@ -30,7 +30,7 @@ pub counted_length : (from count : ℕ) → length (counted from count) ≡ coun
 counted_length from zero = refl
 counted_length from (suc count) = ap suc (counted_length (suc from) count)
 
-counted_at : (from count i : ℕ) → i < count → get_or (counted from count) i 0 ≡ from + i
+pub counted_at : (from count i : ℕ) → i < count → get_or (counted from count) i 0 ≡ from + i
 counted_at from zero i low = absurd (omega arith)
 counted_at from (suc count) zero low = omega arith
 counted_at from (suc count) (suc i) low = counted_at (suc from) count i (omega arith) ∙ (let e : suc from + i ≡ from + suc i = omega arith in e)

@@ -1,13 +1,14 @@
 //! The reader's steps.
-ghost use Rattle.std.specs.Prelude.{◌≡◌, ℕ, ◌+◌, ⊤, true, false};
+ghost use Rattle.std.specs.Prelude.{◌≡◌, ◌≢◌, ◌+◌, ◌-◌, ◌<◌, ◌≤◌, ⊤, true, false};
 ghost use Rattle.trace_model.specs.Links.{FitsWord, header_link};
-ghost use Rattle.trace_model.specs.Ring.{loading_link, loading_done, storing_link, link_into, page_at};
-ghost use Rattle.trace_model.specs.Steps.{wishes, wished_for};
+ghost use Rattle.trace_model.specs.Ring.{loading_link, loading_done, storing_link, page_at};
+ghost use Rattle.trace_model.specs.Steps.{wishes, wished_for, reading, moving, empty};
 ghost use Rattle.link_marks.specs.ModelLinks.{link_of};
+ghost use Rattle.link_marks.specs.declared.link.Mark.TheVariants.{Normal, Header, Update};
 ghost use Rattle.ring_steps.specs.Shown.{page_before};
 ghost use Rattle.ring_steps.specs.Seats.{IsReaderStep};
 ghost use Rattle.ring_steps.specs.Ends.{reading_in, SameReaderSeat};
-ghost use Rattle.ring_steps.specs.Taking.{IsRead};
+ghost use Rattle.ring_steps.specs.Taking.{page_found, fill_found, IsLoadingDone, IsStoringLink, LinkLoaded, DoneLoaded, SpareLinked};
 
 use crate::ends::ReaderSeat;
 use crate::links::link_in;
@@ -36,28 +37,51 @@ impl ReaderSeat {
         );
     }
 
-    /// A load of the number of closed fills: the fill that the reader found is closed, or it finds none.
+    /// A load of the number of closed fills: the fill that the reader found is closed, and it will store the spare's
+    /// link; or no closed fill is unread, all below its hint are passed, and it looks for the head again.
     pub fn load_done(&mut self) -> u64
-        requires due { (page fill : ℕ) × ((reading_in self.old).reader.phase ≡ loading_done page fill) }
+        requires due { IsLoadingDone (reading_in self.old) }
         ensures same { SameReaderSeat self.old self.new }
-        ensures step { IsRead self.old.shape (reading_in self.old) (λ core. core.done ≡ result)
+        ensures closed { fill_found (reading_in self.old) < result
+            → DoneLoaded self.old.shape (reading_in self.old) result reading
+            (storing_link (page_found (reading_in self.old)) (fill_found (reading_in self.old)))
             (reading_in self.new) }
+        ensures none { result ≤ fill_found (reading_in self.old)
+            → DoneLoaded self.old.shape (reading_in self.old) result (empty result) loading_link
+            (reading_in self.new) }
+        ensures all { result ≤ fill_found (reading_in self.old) → (reading_in self.old).reader.hint ≡ result }
         ensures spare { (reading_in self.new).keeps_spare ≡ (reading_in self.old).keeps_spare }
     {
         load::<Brand, _>(&self.board, self.shape, &mut self.seat, DONE, &())
     }
 
-    /// A load of the link into the position of the reader's hint, from the word of the page before that position. A
-    /// reader that keeps the spare's slot gives it back.
+    /// A load of the link into the position of the reader's hint, from the word of the page before that position. At a
+    /// HEADER the reader has found the head, this page as this fill; at an UPDATE the head is moved on behind this
+    /// fill; at a NORMAL that has the hint as its fill it will be moved there; and at any other NORMAL the reader
+    /// looks on, a round below the fill behind this one. A reader that keeps the spare's slot gives it back.
     pub fn load_head(&mut self, page: u16) -> Link
         requires due { (reading_in self.old).reader.phase ≡ loading_link }
         requires page { page ≡ page_before self.old.shape.pages (reading_in self.old).order
             (reading_in self.old).reader.hint }
         ensures same { SameReaderSeat self.old self.new }
-        ensures step { IsRead self.old.shape (reading_in self.old)
-            (λ core. link_into self.old.shape.pages core.links (reading_in self.old).reader.hint
-            ≡ link_of result) (reading_in self.new) }
         ensures fits { FitsWord (link_of result) }
+        ensures header { result.mark ≡ Header
+            → LinkLoaded self.old.shape (reading_in self.old) (link_of result) reading
+            (loading_done result.page result.fill) result.fill (reading_in self.new) }
+        ensures update { result.mark ≡ Update
+            → LinkLoaded self.old.shape (reading_in self.old) (link_of result) (moving (result.fill + 1))
+            loading_link (result.fill + 1) (reading_in self.new) }
+        ensures owed { result.mark ≡ Normal
+            → result.fill ≡ (reading_in self.old).reader.hint
+            → LinkLoaded self.old.shape (reading_in self.old) (link_of result) (moving result.fill) loading_link
+            result.fill (reading_in self.new) }
+        ensures passed { result.mark ≡ Normal
+            → result.fill ≢ (reading_in self.old).reader.hint
+            → LinkLoaded self.old.shape (reading_in self.old) (link_of result) reading loading_link
+            (result.fill + 1 - self.old.shape.pages) (reading_in self.new) }
+        ensures behind { result.mark ≡ Normal
+            → result.fill ≢ (reading_in self.old).reader.hint
+            → (reading_in self.old).reader.hint + self.old.shape.pages ≤ result.fill }
         ensures spare { (reading_in self.new).keeps_spare ≡ false }
     {
         let word = page as usize + LINKS;
@@ -67,14 +91,14 @@ impl ReaderSeat {
     /// A store of the link of the spare, which will lead to the fill after the one that is taken. The reader takes
     /// the spare's slot.
     pub fn store_spare_link(&mut self, spare: u16, link: Link)
-        requires due { (page fill : ℕ)
-            × ((reading_in self.old).reader.phase ≡ storing_link page fill)
-            × (link_of link
-            ≡ header_link (page_at self.old.shape.pages (reading_in self.old).order (fill + 1)) (fill + 1)) }
+        requires due { IsStoringLink (reading_in self.old) }
+        requires link { link_of link
+            ≡ header_link (page_at self.old.shape.pages (reading_in self.old).order
+            (fill_found (reading_in self.old) + 1)) (fill_found (reading_in self.old) + 1) }
         requires spare { spare ≡ (reading_in self.old).spare }
         requires given_back { (reading_in self.old).keeps_spare ≡ false }
         ensures same { SameReaderSeat self.old self.new }
-        ensures step { IsRead self.old.shape (reading_in self.old) (λ _. ⊤) (reading_in self.new) }
+        ensures linked { SpareLinked self.old.shape (reading_in self.old) (link_of link) (reading_in self.new) }
         ensures spare { (reading_in self.new).keeps_spare ≡ true }
     {
         let word = link.pack();

@@ -6,6 +6,16 @@ use page_image::Body;
 use ring_frames::ReaderPhase;
 use trace_model::FillNo;
 
+/// What a link means to a take that looks for the head.
+enum Found {
+    /// This page is the head, as this fill.
+    Head { page: u16, fill: u64 },
+    /// The head is moved on, and each fill below this one is passed: the take answers so.
+    Moved { fill: u64 },
+    /// The fills below this one are passed, and the take looks there.
+    Passed { fill: u64 },
+}
+
 impl Reader {
     ghost use Rattle.std.specs.Prelude.{◌≡◌, length};
     ghost use Rattle.trace_model.specs.Ring.{page_at};
@@ -43,20 +53,19 @@ impl Reader {
         let hint = self.at.hint;
         let pages = self.order.len() as u64;
         let front = self.page_at(hint + pages - 1);
-        let Link { mark, page, fill } = self.seat.load_head(front);
-        match mark {
-            Mark::Header => {
+        let link = self.seat.load_head(front);
+        match found_at(link, hint, pages) {
+            Found::Head { page, fill } => {
                 self.at.phase = ReaderPhase::LoadingDone { page, fill };
                 self.at.hint = fill;
                 Turn::Looking(body)
             }
-            Mark::Update => {
-                self.at.hint = fill + 1;
-                Turn::Done(Take::Moving(FillNo(fill + 1), body))
+            Found::Moved { fill } => {
+                self.at.hint = fill;
+                Turn::Done(Take::Moving(FillNo(fill), body))
             }
-            Mark::Normal if fill == hint => Turn::Done(Take::Moving(FillNo(hint), body)),
-            Mark::Normal => {
-                self.at.hint = fill + 1 - pages;
+            Found::Passed { fill } => {
+                self.at.hint = fill;
                 Turn::Looking(body)
             }
         }
@@ -117,3 +126,27 @@ impl Reader {
         }
     }
 }
+
+/// What the link into the position of the hint means, in a ring of this number of pages.
+fn found_at(link: Link, hint: u64, pages: u64) -> Found
+    requires fits { link.fill < LINK_FILLS }
+    requires passed { link.mark ≡ Normal → link.fill ≢ hint → pages ≤ link.fill + 1 }
+    ensures header { link.mark ≡ Header → result ≡ Found.Head link.page link.fill }
+    ensures update { link.mark ≡ Update → result ≡ Found.Moved (link.fill + 1) }
+    ensures owed { link.mark ≡ Normal → link.fill ≡ hint → result ≡ Found.Moved hint }
+    ensures passed { link.mark ≡ Normal → link.fill ≢ hint → result ≡ Found.Passed (link.fill + 1 - pages) }
+{
+    let Link { mark, page, fill } = link;
+    match mark {
+        Mark::Header => Found::Head { page, fill },
+        Mark::Update => Found::Moved { fill: fill + 1 },
+        Mark::Normal if fill == hint => Found::Moved { fill: hint },
+        Mark::Normal => Found::Passed {
+            fill: fill + 1 - pages,
+        },
+    }
+}
+
+ghost use Rattle.std.specs.Prelude.{◌≡◌, ◌≢◌, ◌+◌, ◌-◌, ◌<◌, ◌≤◌};
+ghost use Rattle.trace_model.specs.declared.limits.TheConstants.{LINK_FILLS};
+ghost use Rattle.link_marks.specs.declared.link.Mark.TheVariants.{Normal, Header, Update};
