@@ -2,6 +2,7 @@
 use Rattle.std.proofs.Common.{◌≡◌, ℕ, suc, ◌+◌, ◌-◌, ◌<◌, ◌≤◌, List, [], ◌∷◌, ◌++◌, length, take, drop, get_or, reverse, map, sym, ap, ◌∙◌, arith}
 use Rattle.std.specs.Prelude.{slice_set}
 use Rattle.std.proofs.lemmas.List.{map-append, reverse-append, length-reverse, length-drop, length-map, length-take-le, take-append-drop, take-map, take-take, take_more_set, drop_at, get_or-take, get_or-map, get_or-reverse}
+use Rattle.ring_frames.proofs.FramePayloads.{left_first}
 
 -- ---- one more
 
@@ -16,19 +17,6 @@ pushed_first f items depth x low =
     ∙ reverse-append (map f (take depth items)) (f x ∷ [])
 
 -- ---- those of the lowest frames are the last ones
-
-lowest_last : (xs : List (List ℕ)) (depth : ℕ)
-    → reverse (take depth xs) ≡ drop (length (reverse xs) - depth) (reverse xs)
-lowest_last xs depth =
-    let whole : reverse xs ≡ reverse (drop depth xs) ++ reverse (take depth xs) =
-    ap reverse (sym (take-append-drop depth xs)) ∙ reverse-append (take depth xs) (drop depth xs) in
-    sym (ap (drop (length (reverse xs) - depth)) whole
-    ∙ drop_at (reverse (drop depth xs)) (reverse (take depth xs)) (length (reverse xs) - depth)
-    (omega (arith, length-reverse (drop depth xs), length-reverse xs, length-drop depth xs)))
-
-left_first : {B : Type 0} (f : B → List ℕ) (items : List B) (depth : ℕ)
-    → reverse (map f (take depth items)) ≡ drop (length (reverse (map f items)) - depth) (reverse (map f items))
-left_first f items depth = ap reverse (sym (take-map f depth items)) ∙ lowest_last (map f items) depth
 
 pub fewer_left : {B : Type 0} (f : B → List ℕ) (items : List B) (depth fewer : ℕ)
     → fewer ≤ depth

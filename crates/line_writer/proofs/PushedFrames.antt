@@ -10,10 +10,10 @@ use Rattle.world_model.specs.Lanes.{FitsKind, FitFrames}
 use Rattle.line_model.specs.WriterCalls.{Writer, IsWriterCall}
 use Rattle.line_model.proofs.PushParts.{Pushing, pushing_of}
 use Rattle.line_model.proofs.CloseParts.{Closing, closing_of}
-use Rattle.nested_writer.specs.declared.stack.leave.Ended.TheVariants.{Pending, Full}
 use Rattle.ring_frames.specs.declared.answer.Answer.{Answer}
 use Rattle.ring_frames.specs.declared.answer.Answer.TheVariants as answer
 use Rattle.ring_frames.specs.Answers.{IsAnswerOf}
+use Rattle.ring_frames.proofs.Told.{told_pushed}
 use Rattle.ring_steps.specs.declared.rule.Shape.{Shape}
 use Rattle.ring_steps.specs.Views.{Writing}
 use Rattle.ring_shared.specs.Value.{WriterValue}
@@ -78,20 +78,6 @@ module _ (shape : Shape) (before : Writing) (result : Answer) (after : Writing) 
       (call_of shape before pushes_close result after c))
 
 -- ---- what the answer means
-
-told_pushed : (size : ℕ) (a : Answer) (told : model.Answer) → IsAnswerOf size a told → told ≡ pushed → a ≢ answer.Pushed → ⊥
-told_pushed size answer.Pushed told t is not = not refl
-told_pushed size answer.Going told t is not = let z : ⊥ = cc in z
-told_pushed size (answer.Reserved number) told t is not = let z : ⊥ = cc in z
-told_pushed size (answer.Ended Pending) told t is not = let z : ⊥ = cc in z
-told_pushed size (answer.Ended Full) told t is not = let z : ⊥ = cc in z
-told_pushed size answer.Gone told t is not = let z : ⊥ = cc in z
-told_pushed size (answer.Refused fault) told t is not = let z : ⊥ = cc in z
-told_pushed size (answer.Looking body) told t is not = let z : ⊥ = cc in z
-told_pushed size (answer.Empty done body) told t is not = let z : ⊥ = cc in z
-told_pushed size (answer.Moving fill body) told t is not = let z : ⊥ = cc in z
-told_pushed size (answer.Taken page missed) told t is not = let e = t.1 in let z : ⊥ = cc in z
-told_pushed size (answer.Wished fill) told t is not = let z : ⊥ = cc in z
 
 pushed_told : (size : ℕ) (a : Answer) (told : model.Answer) → IsAnswerOf size a told → a ≡ answer.Pushed → told ≡ pushed
 pushed_told size a told t is = subst (λ (x : Answer). IsAnswerOf size x told) is t

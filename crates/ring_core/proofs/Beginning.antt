@@ -111,21 +111,12 @@ module _ (n size start : ℕ) (v : CoreValue) (c : Core) (core : IsCore n size s
       stepped n size start v value c model.steps result answer after core
       (step_by (cases.frame_step top.frame top.below refl top.is_top (subst (λ (p : ModelPhase). cases.FrameStep n size c top.frame top.below p answer after) (sym (top.phase_is ∙ ap phase_of is)) (cases.opens (sym s.frames.opened_is) refl refl))))
       tells
-      (subst (HasStateOf n size start value) (sym same) record {
-        frames = subst (AreFrames n size start new) same are;
-        positions = s.positions;
-        links_are = s.links_are;
-        spare_link_is = s.spare_link_is;
-        order_is = s.order_is;
-        spare_is = s.spare_is;
-        wish_is = s.wish_is;
-        reader_phase_is = s.reader_phase_is;
-        hint_is = s.hint_is;
-        seen_is = s.seen_is;
-        expected_is = s.expected_is;
-        closed = λ f low high. subst (λ (pages : List PageRecords). IsHome (slice_set v.homes page None) size (page_at n c.order f) f (model.contents_of (private_state tail after.frames after.history pages) (page_at n c.order f))) (sym held) (closed f low high);
-        free = free;
-      })
+      (subst (HasStateOf n size start value) (sym same) (assumption (
+        subst (AreFrames n size start new) same are,
+        (λ (f : ℕ) (low : c.head ≤ f) (high : f < c.done). subst (λ (pages : List PageRecords). IsHome (slice_set v.homes page None) size (page_at n c.order f) f (model.contents_of (private_state tail after.frames after.history pages) (page_at n c.order f))) (sym held) (closed f low high)),
+        free,
+        s,
+      )))
 
   -- what was taken from the page's home is that page
   pub comes_out : (out : Option Contents) → out ≡ get_or v.homes page out → (body : Contents) × (out ≡ Some body) × (body.size ≡ v.stack.size)

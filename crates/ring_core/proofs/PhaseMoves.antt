@@ -1,6 +1,6 @@
 -- The frame on top goes on in another phase, for the fill that it noted; meanwhile links may be set, and the head
 -- may go on.
-use Rattle.std.proofs.Common.{◌≡◌, ℕ, ◌≤◌, List, ◌∷◌, length, Some, refl, sym, subst, arith}
+use Rattle.std.proofs.Common.{◌≡◌, ℕ, ◌<◌, ◌≤◌, List, ◌∷◌, length, Some, refl, sym, subst, arith}
 use Rattle.trace_model.specs.Links.{Link}
 use Rattle.trace_model.specs.Frames as model
 use Rattle.trace_model.specs.Frames.{Frame, noted_fill}
@@ -27,22 +27,12 @@ pub shows_moved : (n size start : ℕ) (v : CoreValue) (c : Core) (frame : Frame
     → length shown ≡ n
     → c.head ≤ head
     → HasStateOf n size start (record v { phase = to; links = shown }) (record c { frames = record frame { phase = phase_of to } ∷ below; links = links; head = head })
-shows_moved n size start v c frame below to links shown head o s top was is same wide later = record {
-  frames = same_frames n size start (record (frames_of v) { phase = to }) (in_phase c frame below (phase_of to)) (record c { frames = record frame { phase = phase_of to } ∷ below; links = links; head = head })
-      (goes_on (frames_of v) to o record { before = was; behind = is } n size start c frame below s.frames top) refl refl refl refl;
-  positions = wide;
-  links_are = same;
-  spare_link_is = s.spare_link_is;
-  order_is = s.order_is;
-  spare_is = s.spare_is;
-  wish_is = s.wish_is;
-  reader_phase_is = s.reader_phase_is;
-  hint_is = s.hint_is;
-  seen_is = s.seen_is;
-  expected_is = s.expected_is;
-  closed = λ f low high. s.closed f (omega arith) high;
-  free = s.free;
-}
+shows_moved n size start v c frame below to links shown head o s top was is same wide later = assumption (
+    same_frames n size start (record (frames_of v) { phase = to }) (in_phase c frame below (phase_of to)) (record c { frames = record frame { phase = phase_of to } ∷ below; links = links; head = head })
+        (goes_on (frames_of v) to o record { before = was; behind = is } n size start c frame below s.frames top) refl refl refl refl,
+    (λ (f : ℕ) (low : head ≤ f) (high : f < c.done). s.closed f (omega arith) high),
+    s,
+  )
 
 -- only the phase changes
 pub shows_phase : (n size start : ℕ) (v : CoreValue) (c : Core) (frame : Frame) (below : List Frame) (to : Phase) (o : ℕ) → HasStateOf n size start v c → c.frames ≡ frame ∷ below

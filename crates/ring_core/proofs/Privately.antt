@@ -31,21 +31,8 @@ closed_is_other n size start c f k low high i inside e =
 pub shows_reframed : (n size start : ℕ) (v : CoreValue) (c : Core) (new : FramesValue) (frames : List Frame) (history : List HistoryEvent) (held : List PageRecords) → HasStateOf n size start v c → AreFrames n size start new (private_state c frames history held)
     → ((f : ℕ) → c.head ≤ f → f < c.done → contents_of (private_state c frames history held) (page_at n c.order f) ≡ contents_of c (page_at n c.order f))
     → HasStateOf n size start (with_frames v new) (private_state c frames history held)
-shows_reframed n size start v c new frames history held s are holds = record {
-  frames = are;
-  positions = s.positions;
-  links_are = s.links_are;
-  spare_link_is = s.spare_link_is;
-  order_is = s.order_is;
-  spare_is = s.spare_is;
-  wish_is = s.wish_is;
-  reader_phase_is = s.reader_phase_is;
-  hint_is = s.hint_is;
-  seen_is = s.seen_is;
-  expected_is = s.expected_is;
-  closed = λ f low high. subst (IsHome v.homes size (page_at n c.order f) f) (sym (holds f low high)) (s.closed f low high);
-  free = s.free;
-}
+shows_reframed n size start v c new frames history held s are holds =
+    assumption (are, (λ (f : ℕ) (low : c.head ≤ f) (high : f < c.done). subst (IsHome v.homes size (page_at n c.order f) f) (sym (holds f low high)) (s.closed f low high)), s)
 
 -- a private step of the frames is one of the ring
 pub made_privately : (v : CoreValue) (event : model.Event) (result : Answer) (new : FramesValue) → MakesPrivate (frames_of v) event result new → Makes v event result (with_frames v new)

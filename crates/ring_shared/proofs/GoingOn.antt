@@ -14,6 +14,7 @@ use Rattle.ring_frames.specs.Steps.{GoesOnIn, IsNotedIn}
 use Rattle.ring_shared.specs.Value.{WriterValue}
 use Rattle.ring_shared.specs.Calls.{IsWriter, AreWriterFields, MakesSome}
 use Rattle.link_marks.proofs.frames.TopSteps.{top_stepped}
+use Rattle.ring_shared.proofs.Called.{writer_seen, top_seen, phase_seen}
 use Rattle.ring_shared.proofs.Standing.{frames_like, frames_in, top_in, made}
 
 -- the step of the frame on top in a phase makes of the writer's part that the frame goes on in another
@@ -23,7 +24,7 @@ Moves v from to c after = (frame : Frame) (below : List Frame)
     → writing_of after ≡ writing_of (model.in_phase c frame below to)
 
 -- it continues in this phase, which was chosen by what the word stated
-pub goes_on : (v new : WriterValue) (w : AreWriterFields v) (some : v.frames.stack.frames ≢ []) (from : ModelPhase) (noted : ℕ) (chosen to : Phase) (sees : Core → Type 0)
+goes_on : (v new : WriterValue) (w : AreWriterFields v) (some : v.frames.stack.frames ≢ []) (from : ModelPhase) (noted : ℕ) (chosen to : Phase) (sees : Core → Type 0)
     → phase_of v.frames.phase ≡ from
     → noted_fill from ≡ Some noted
     → noted_fill (phase_of to) ≡ Some noted
@@ -47,6 +48,23 @@ goes_on v new w some from noted chosen to sees at was is same shape_is table_is 
     (ap (λ (p : Writing). p.open_pages) part ∙ ap (λ (p : Writing). p.open_pages) s.before_is ∙ w.pages_are ∙ sym pages_is)
 
 -- the same of a value whose view is that one, and of an answer
-pub as_called : (v x new : WriterValue) (result : Answer) → v ≡ x → result ≡ Going → MakesSome v model.steps Going new → MakesSome x model.steps result new
+as_called : (v x new : WriterValue) (result : Answer) → v ≡ x → result ≡ Going → MakesSome v model.steps Going new → MakesSome x model.steps result new
 unfolding IsWriter
 as_called v x new result view_is is makes = subst (λ (r : Answer). MakesSome x model.steps r new) (sym is) (subst (λ (y : WriterValue). MakesSome y model.steps Going new) view_is makes)
+
+-- a call of a writer whose view is that one, in this phase, makes the step
+pub goes_on_called : {v x new : WriterValue} {result : Answer} (view_is : v ≡ x) (w : AreWriterFields x) (some : x.frames.stack.frames ≢ []) {phase : Phase} (at : x.frames.phase ≡ phase) (noted : ℕ) (chosen to : Phase) (sees : Core → Type 0)
+    → noted_fill (phase_of phase) ≡ Some noted
+    → noted_fill (phase_of to) ≡ Some noted
+    → chosen ≡ to
+    → new.shape ≡ v.shape
+    → new.table ≡ v.table
+    → new.pages ≡ v.pages
+    → ((fill : ℕ) → IsNotedIn v.frames.phase chosen fill → GoesOnIn v.frames chosen new.frames)
+    → result ≡ Going
+    → (s : IsWriterStep v.shape v.part sees model.going new.part)
+    → Moves v (phase_of phase) (phase_of to) s.core s.next
+    → MakesSome x model.steps result new
+goes_on_called {v = v} {x = x} {new = new} {result = result} view_is w some {phase = phase} at noted chosen to sees was is same shape_is table_is pages_is on answer s moves =
+    as_called v x new result view_is answer
+    (goes_on v new (writer_seen view_is w) (top_seen view_is some) (phase_of phase) noted chosen to sees (phase_seen view_is at) was is same shape_is table_is pages_is on s moves)

@@ -14,7 +14,9 @@ use Rattle.ring_steps.specs.Views.{Writing, writing_of}
 use Rattle.ring_steps.specs.Seats.{IsWriterStep}
 use Rattle.ring_steps.specs.Paging.{IsTopIn}
 use Rattle.ring_shared.specs.Value.{WriterValue}
-use Rattle.ring_shared.specs.Calls.{IsWriter, MakesSome}
+use Rattle.ring_frames.specs.Value.{phase_of}
+use Rattle.ring_shared.specs.Calls.{IsWriter, AreWriterFields, MakesSome}
+use Rattle.ring_shared.proofs.Standing.{phase_shown}
 use Rattle.ring_shared.specs.Nearer.{IsNearer}
 
 -- ---- phases
@@ -75,7 +77,7 @@ module _ (v new : WriterValue) (shape_is : new.shape ≡ v.shape) (knows : v.pas
         (subst (λ (w : Writing). rank_part v.shape.pages new.passed w < rank_part v.shape.pages v.passed (writing_of core)) after_is lower))
 
   -- a step of a frame that is in neither of these two phases, or in one of them late
-  pub nearer_quietly : (result : Answer) (phase : Phase) → MakesSome v model.steps result new → IsTopIn v.part.frames phase → IsQuiet v.part.opened phase → IsNearer v new
+  nearer_quietly : (result : Answer) (phase : Phase) → MakesSome v model.steps result new → IsTopIn v.part.frames phase → IsQuiet v.part.opened phase → IsNearer v new
   unfolding IsWriter
   nearer_quietly result phase m top quiet =
       let in_phase : (other : Phase) → IsTopIn v.part.frames other → IsQuiet v.part.opened other = λ other at. subst (IsQuiet v.part.opened) (one_phase v.part.frames phase other top at) quiet in
@@ -96,3 +98,9 @@ module _ (v new : WriterValue) (shape_is : new.shape ≡ v.shape) (knows : v.pas
       nearer s.core s.next answer s.reached s.before_is s.step s.after_is
       (λ o at now. low)
       (λ o p at now. absurd (let same : looking noted ≡ claiming o p = one_phase v.part.frames (looking noted) (claiming o p) top at in cc))
+
+-- the same of a call of a writer whose view is that one, whose frame on top is in a quiet phase
+pub stays_near : {v x new : WriterValue} {result : Answer} → v ≡ x → AreWriterFields x → x.frames.stack.frames ≢ [] → (phase : Phase) → phase_of x.frames.phase ≡ phase → MakesSome x model.steps result new → v.passed ≤ new.passed → IsQuiet x.part.opened phase → IsNearer x new
+unfolding IsWriter
+stays_near {x = x} {new = new} {result = result} view_is w some phase at m knows quiet =
+    nearer_quietly x new m.shape_is (subst (λ (y : WriterValue). y.passed ≤ new.passed) view_is knows) result phase m (phase_shown x w phase some at) quiet

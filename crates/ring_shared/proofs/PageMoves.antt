@@ -18,6 +18,7 @@ use Rattle.ring_frames.specs.Fills.{OpensFill, Releases, released_in, LooksForWi
 use Rattle.ring_shared.specs.Value.{WriterValue}
 use Rattle.ring_shared.specs.Calls.{IsWriter, AreWriterFields, MakesSome}
 use Rattle.link_marks.proofs.frames.TopSteps.{top_stepped}
+use Rattle.ring_shared.proofs.Called.{writer_seen, top_seen}
 use Rattle.ring_shared.proofs.Standing.{FramesIn, kept_now, frames_in, top_in, made}
 
 -- a frame that begins again keeps the writer's pages
@@ -97,3 +98,14 @@ is_written v w page new releases =
     let r = releases v.shape.pages v.shape.size v.shape.start c w.reached w.frames_are in
     subst (λ (p : Writing). IsWrittenPage v.shape.size p.done (fill_of p.history v.shape.start p.done) page) w.part_is
     (subst (λ (h : PageRecords). IsWrittenPage v.shape.size c.done h page) (k.contents.each c.done low high) r.written)
+
+-- a call of a writer whose view is that one, which looks for the wish
+pub looks_called : {v x new : WriterValue} (view_is : v ≡ x) → AreWriterFields x → x.frames.stack.frames ≢ [] → new.shape ≡ v.shape → new.table ≡ v.table → (sees : Core → Type 0) (wish : ℕ) (result : Answer) (answer : model.Answer)
+    → LooksForWish v.frames wish result new.frames
+    → new.pages ≡ v.pages
+    → (s : IsWriterStep v.shape v.part sees answer new.part)
+    → (sees s.core → s.core.wish ≡ wish)
+    → MakesSome x model.steps result new
+looks_called {v = v} {new = new} view_is w some shape_is table_is sees wish result answer looks pages_is s is_wish =
+    subst (λ (y : WriterValue). MakesSome y model.steps result new) view_is
+    (looks_for_wish v new (writer_seen view_is w) (top_seen view_is some) shape_is table_is sees wish result answer looks pages_is s is_wish)

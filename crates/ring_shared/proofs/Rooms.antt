@@ -27,7 +27,7 @@ use Rattle.ring_shared.specs.Lending.{FitsFrame}
 use Rattle.ring_shared.specs.WholeWrites.{IsWritten, IsRefusedWrite}
 use Rattle.ring_shared.specs.Finishing.{MakesSteps, at_once, one_more, Leaves, is_gone, was_refused, FinishesFrame, FinishesTop, Finishes}
 use Rattle.ring_shared.specs.Rooms.{room_of, rooms_of, rooms, IsOneMore, IsTopRoom}
-use Rattle.ring_shared.proofs.Finishes.{IsRefusal, is_refusal, is_gone_told}
+use Rattle.ring_frames.proofs.Told.{IsRefusal, is_refusal, is_gone_told}
 use Rattle.ring_shared.proofs.PushedEnded.{push_answers}
 use Rattle.ring_shared.proofs.Standing.{kept_now}
 use Rattle.ring_shared.proofs.WholeWrites.{reserved_top}

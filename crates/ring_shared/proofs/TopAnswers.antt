@@ -28,7 +28,7 @@ use Rattle.ring_shared.specs.Calls.{AreWriterFields, IsCall}
 use Rattle.ring_shared.specs.Finishing.{IsTarget}
 use Rattle.ring_shared.proofs.Targets.{IsOnTop, frames_of}
 use Rattle.ring_shared.proofs.Depths.{depth_is}
-use Rattle.ring_shared.proofs.Finishes.{IsRefusal, is_going, is_refusal, is_number}
+use Rattle.ring_frames.proofs.Told.{IsRefusal, is_going, is_refusal, is_number}
 use Rattle.ring_shared.proofs.FinishParts.{HasNumber, TellsTop}
 use Rattle.ring_shared.proofs.Standing.{kept_now, top_in}
 

@@ -29,7 +29,7 @@ use Rattle.ring_shared.specs.Calls.{AreWriterFields, IsCall}
 use Rattle.ring_shared.specs.Finishing.{IsReservedOr, is_reserved, stays_refused, is_refused, Reserves, Leaves, is_gone, was_refused, FinishesFrame, FinishesTop, Finishes, met_behind}
 use Rattle.ring_shared.specs.WholeWrites.{GoesAway, IsReserved, EndsRecord, IsRefusedWrite, IsWritten}
 use Rattle.ring_shared.proofs.Targets.{frames_of}
-use Rattle.ring_shared.proofs.Finishes.{IsRefusal, is_refusal}
+use Rattle.ring_frames.proofs.Told.{IsRefusal, is_refusal, is_pushed, is_pending, is_full}
 use Rattle.ring_shared.proofs.PushedEnded.{IsPushed, push_answers, HasEnded, end_answers}
 
 -- ---- answers
@@ -50,48 +50,6 @@ met_refusal (Wished fill) fault e = absurd (cc)
 
 pub not_refused : (result : Answer) → ((fault : WriteFault) → met_behind None result ≢ Some fault) → IsRefusal result → ⊥
 not_refused result none (fault, is) = none fault (ap (met_behind None) is)
-
-is_pushed : (size : ℕ) (result : Answer) (told : model.Answer) → IsAnswerOf size result told → told ≡ model.pushed → result ≡ Pushed
-is_pushed size Pushed told t e = refl
-is_pushed size Going told t e = absurd (let both : model.going ≡ model.pushed = sym t ∙ e in cc)
-is_pushed size (Reserved number) told t e = absurd (let both : model.reserved_as number.0 ≡ model.pushed = sym t ∙ e in cc)
-is_pushed size (Ended Pending) told t e = absurd (let both : model.pending ≡ model.pushed = sym t ∙ e in cc)
-is_pushed size (Ended Full) told t e = absurd (let both : model.full ≡ model.pushed = sym t ∙ e in cc)
-is_pushed size Gone told t e = absurd (let both : model.gone ≡ model.pushed = sym t ∙ e in cc)
-is_pushed size (Refused fault) told t e = absurd (let both : model.refused (refusal_of fault) ≡ model.pushed = sym t ∙ e in cc)
-is_pushed size (Looking body) told t e = absurd (let both : model.reading ≡ model.pushed = sym t ∙ e in cc)
-is_pushed size (Empty done body) told t e = absurd (let both : model.empty done ≡ model.pushed = sym t ∙ e in cc)
-is_pushed size (Moving fill body) told t e = absurd (let both : model.moving fill.0 ≡ model.pushed = sym t ∙ e in cc)
-is_pushed size (Taken page missed) told t e = absurd (let both : model.swapped t.0 ≡ model.pushed = sym t.1 ∙ e in cc)
-is_pushed size (Wished fill) told t e = absurd (let both : model.wished_for fill.0 ≡ model.pushed = sym t ∙ e in cc)
-
-is_pending : (size : ℕ) (result : Answer) (told : model.Answer) → IsAnswerOf size result told → told ≡ model.pending → result ≡ Ended Pending
-is_pending size Pushed told t e = absurd (let both : model.pushed ≡ model.pending = sym t ∙ e in cc)
-is_pending size Going told t e = absurd (let both : model.going ≡ model.pending = sym t ∙ e in cc)
-is_pending size (Reserved number) told t e = absurd (let both : model.reserved_as number.0 ≡ model.pending = sym t ∙ e in cc)
-is_pending size (Ended Pending) told t e = refl
-is_pending size (Ended Full) told t e = absurd (let both : model.full ≡ model.pending = sym t ∙ e in cc)
-is_pending size Gone told t e = absurd (let both : model.gone ≡ model.pending = sym t ∙ e in cc)
-is_pending size (Refused fault) told t e = absurd (let both : model.refused (refusal_of fault) ≡ model.pending = sym t ∙ e in cc)
-is_pending size (Looking body) told t e = absurd (let both : model.reading ≡ model.pending = sym t ∙ e in cc)
-is_pending size (Empty done body) told t e = absurd (let both : model.empty done ≡ model.pending = sym t ∙ e in cc)
-is_pending size (Moving fill body) told t e = absurd (let both : model.moving fill.0 ≡ model.pending = sym t ∙ e in cc)
-is_pending size (Taken page missed) told t e = absurd (let both : model.swapped t.0 ≡ model.pending = sym t.1 ∙ e in cc)
-is_pending size (Wished fill) told t e = absurd (let both : model.wished_for fill.0 ≡ model.pending = sym t ∙ e in cc)
-
-is_full : (size : ℕ) (result : Answer) (told : model.Answer) → IsAnswerOf size result told → told ≡ model.full → result ≡ Ended Full
-is_full size Pushed told t e = absurd (let both : model.pushed ≡ model.full = sym t ∙ e in cc)
-is_full size Going told t e = absurd (let both : model.going ≡ model.full = sym t ∙ e in cc)
-is_full size (Reserved number) told t e = absurd (let both : model.reserved_as number.0 ≡ model.full = sym t ∙ e in cc)
-is_full size (Ended Pending) told t e = absurd (let both : model.pending ≡ model.full = sym t ∙ e in cc)
-is_full size (Ended Full) told t e = refl
-is_full size Gone told t e = absurd (let both : model.gone ≡ model.full = sym t ∙ e in cc)
-is_full size (Refused fault) told t e = absurd (let both : model.refused (refusal_of fault) ≡ model.full = sym t ∙ e in cc)
-is_full size (Looking body) told t e = absurd (let both : model.reading ≡ model.full = sym t ∙ e in cc)
-is_full size (Empty done body) told t e = absurd (let both : model.empty done ≡ model.full = sym t ∙ e in cc)
-is_full size (Moving fill body) told t e = absurd (let both : model.moving fill.0 ≡ model.full = sym t ∙ e in cc)
-is_full size (Taken page missed) told t e = absurd (let both : model.swapped t.0 ≡ model.full = sym t.1 ∙ e in cc)
-is_full size (Wished fill) told t e = absurd (let both : model.wished_for fill.0 ≡ model.full = sym t ∙ e in cc)
 
 -- ---- finished frames
 

@@ -6,16 +6,3 @@ use Rattle.std.proofs.lemmas.List.{map-append, reverse-append, length-reverse, l
 pub pushed_first : {B : Type 0} (f : B → List ℕ) (items : List B) (x : B)
     → reverse (map f (items ++ x ∷ [])) ≡ f x ∷ reverse (map f items)
 pushed_first f items x = ap reverse (map-append f items (x ∷ [])) ∙ reverse-append (map f items) (f x ∷ [])
-
--- those of the lowest frames are the last ones
-lowest_last : (xs : List (List ℕ)) (depth : ℕ) → reverse (take depth xs) ≡ drop (length (reverse xs) - depth) (reverse xs)
-lowest_last xs depth =
-    let whole : reverse xs ≡ reverse (drop depth xs) ++ reverse (take depth xs) =
-    ap reverse (sym (take-append-drop depth xs)) ∙ reverse-append (take depth xs) (drop depth xs) in
-    sym (ap (drop (length (reverse xs) - depth)) whole
-    ∙ drop_at (reverse (drop depth xs)) (reverse (take depth xs)) (length (reverse xs) - depth)
-    (omega (arith, length-reverse (drop depth xs), length-reverse xs, length-drop depth xs)))
-
-pub left_first : {B : Type 0} (f : B → List ℕ) (items : List B) (depth : ℕ)
-    → reverse (map f (take depth items)) ≡ drop (length (reverse (map f items)) - depth) (reverse (map f items))
-left_first f items depth = ap reverse (sym (take-map f depth items)) ∙ lowest_last (map f items) depth

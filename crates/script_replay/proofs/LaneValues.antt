@@ -1,5 +1,6 @@
 -- What a lane as a value shows of each lane that it is, and what a step of a ring that pushes no frame makes of it.
 use Rattle.std.proofs.Common.{◌≡◌, ℕ, suc, ◌-◌, List, [], ◌∷◌, length, drop, map, refl, sym, ap, ◌∙◌, arith}
+use Rattle.std.specs.Prelude.{IfSome}
 use Rattle.std.proofs.lemmas.List.{length-map, length-reverse}
 use Rattle.trace_model.specs.Frames.{FrameState, waiting, reserved, left, Frame}
 use Rattle.trace_model.specs.Ring.{Reader, Core}
@@ -7,10 +8,11 @@ use Rattle.trace_model.specs.Steps.{Event, Answer, Step}
 use Rattle.trace_model.proofs.steps.StepSound.{cases_of}
 use Rattle.link_marks.specs.Seats.{IsOfReader}
 use Rattle.link_marks.proofs.seats.SeatSteps.{writer_leaves_reader}
-use Rattle.world_model.specs.Lanes.{Lane, FitFrames, lane_behind, event_in, event_on_top}
+use Rattle.world_model.specs.Lanes.{Lane, HasPayloads, FitFrames, lane_behind, event_in, event_on_top}
 use Rattle.world_model.specs.World.{parcel_of}
 use Rattle.world_model.proofs.FramesMove.{PushesNone, step_moves}
 use Rattle.world_model.proofs.LanePayloads.{fit_moved, pushes_none}
+use Rattle.page_numbers.specs.Parcels.{as_parcels}
 use Rattle.nested_writer.specs.declared.frame.Frame as stack
 use Rattle.ring_frames.specs.declared.phase.Phase.{Phase}
 use Rattle.ring_core.specs.Value.{CoreValue}
@@ -85,6 +87,17 @@ value_behind v core = record v {
       drop (length v.payloads - length core.stack.frames) v.payloads;
 }
 
+-- a lane, in another state
+pub moved_lane : {n size start cpu : ℕ} {old new : LaneValue} {lane after : Lane}
+    → IsLane n size start cpu old lane
+    → IsCore n size start new.core after.core
+    → new.payloads ≡ after.payloads
+    → HasPayloads after
+    → IfSome new.body (λ body. length body ≡ size)
+    → as_parcels new.taken ≡ map (parcel_of cpu) after.core.reader.taken
+    → IsLane n size start cpu new after
+moved_lane is core payloads fit body taken = assumption (core, payloads, fit, body, taken, is)
+
 -- a step that takes no page
 pub behind : (n size start cpu : ℕ) (v : LaneValue) (lane : Lane) (event : Event) (answer : Answer) (after : Core)
     (core : CoreValue)
@@ -96,20 +109,11 @@ pub behind : (n size start cpu : ℕ) (v : LaneValue) (lane : Lane) (event : Eve
     → IsLane n size start cpu (value_behind v core) (lane_behind lane after)
 behind n size start cpu v lane event answer after core is none step core_is same =
     let depth : length core.stack.frames ≡ length after.frames = frames_shown n size start core after core_is in
-    record {
-      most = is.most;
-      small = is.small;
-      large = is.large;
-      words = is.words;
-      known = is.known;
-      is_core = core_is;
-      payloads_are = (λ i. let payloads : List (List ℕ) = is.payloads_are i in
-          drop (length payloads - depth i) payloads);
-      fit = fit_moved lane.core.frames after.frames lane.payloads is.fit
-          (step_moves n size lane.core event answer after none (cases_of step));
-      body = is.body;
-      taken_are = is.taken_are ∙ ap (map (parcel_of cpu)) (sym same);
-    }
+    moved_lane is core_is
+    (λ i. let payloads : List (List ℕ) = is.payloads_are i in drop (length payloads - depth i) payloads)
+    (fit_moved lane.core.frames after.frames lane.payloads is.fit
+    (step_moves n size lane.core event answer after none (cases_of step)))
+    is.body (is.taken_are ∙ ap (map (parcel_of cpu)) (sym same))
 
 -- a step of the writer takes none
 pub taken_stay : (n size : ℕ) (c : Core) (event : Event) (answer : Answer) (after : Core)

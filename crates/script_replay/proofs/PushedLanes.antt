@@ -15,9 +15,10 @@ use Rattle.ring_core.specs.declared.event.Event.{Event}
 use Rattle.ring_core.specs.declared.event.Event.TheVariants as event
 use Rattle.ring_frames.specs.declared.answer.Answer.{Answer}
 use Rattle.ring_frames.specs.declared.answer.Answer.TheVariants as answer
-use Rattle.nested_writer.specs.declared.stack.leave.Ended.TheVariants.{Pending, Full}
 use Rattle.ring_core.specs.Value.{CoreValue}
+use Rattle.nested_writer.specs.declared.stack.leave.Ended.TheVariants.{Pending, Full}
 use Rattle.ring_frames.specs.Answers.{IsAnswerOf}
+use Rattle.ring_frames.proofs.Told.{told_pushed}
 use Rattle.ring_core.specs.Answers.{event_of}
 use Rattle.ring_core.specs.Steps.{IsStep, Makes}
 use Rattle.replay_log.specs.declared.line.LogLine.{LogLine}
@@ -26,7 +27,7 @@ use Rattle.script_replay.specs.Value.{LaneValue}
 use Rattle.script_replay.specs.Lanes.{IsLane, Happens}
 use Rattle.script_replay.specs.Frames.{IsPushOf, push_event, IsPushed, Pushes}
 use Rattle.script_replay.proofs.Logs.{told_one, told_more}
-use Rattle.script_replay.proofs.LaneValues.{taken_stay}
+use Rattle.script_replay.proofs.LaneValues.{moved_lane, taken_stay}
 use Rattle.script_replay.proofs.Told.{IsTold}
 
 -- what a push makes of the frames
@@ -119,22 +120,14 @@ pushed_lane n size start cpu old new lane push payload answer core is of s new_i
   step = s.step;
   tells = s.tells;
   is_lane = subst (λ (v : LaneValue). IsLane n size start cpu v (lane_with lane payload s.answer s.after)) (sym new_is)
-      record {
-        most = is.most;
-        small = is.small;
-        large = is.large;
-        words = is.words;
-        known = is.known;
-        is_core = s.is_core;
-        payloads_are = ap (payloads_with payload s.answer) is.payloads_are;
-        fit = fits_behind payload lane s.answer s.after is.fit
-            (push_ends n size payload lane.core s.answer s.after push of s.step);
-        body = is.body;
-        taken_are = is.taken_are
-            ∙ ap (map (parcel_of cpu))
-            (sym (taken_stay n size lane.core (push_event push) s.answer s.after (not_of_reader push payload of)
-            s.step));
-      };
+      (moved_lane is s.is_core (ap (payloads_with payload s.answer) is.payloads_are)
+      (fits_behind payload lane s.answer s.after is.fit
+      (push_ends n size payload lane.core s.answer s.after push of s.step))
+      is.body
+      (is.taken_are
+      ∙ ap (map (parcel_of cpu))
+      (sym (taken_stay n size lane.core (push_event push) s.answer s.after (not_of_reader push payload of)
+      s.step))));
 }
 
 -- the push of the value is that of the model
@@ -273,21 +266,6 @@ written n size start cpu line lane push payload a between new first log more p i
     }
 
 -- ---- a push that is refused
-
--- the model answers `pushed` if the ring does
-told_pushed : (size : ℕ) (a : Answer) (told : model.Answer) → IsAnswerOf size a told → told ≡ pushed → a ≢ answer.Pushed → ⊥
-told_pushed size answer.Pushed told t is not = not refl
-told_pushed size answer.Going told t is not = let z : ⊥ = cc in z
-told_pushed size (answer.Reserved number) told t is not = let z : ⊥ = cc in z
-told_pushed size (answer.Ended Pending) told t is not = let z : ⊥ = cc in z
-told_pushed size (answer.Ended Full) told t is not = let z : ⊥ = cc in z
-told_pushed size answer.Gone told t is not = let z : ⊥ = cc in z
-told_pushed size (answer.Refused fault) told t is not = let z : ⊥ = cc in z
-told_pushed size (answer.Looking body) told t is not = let z : ⊥ = cc in z
-told_pushed size (answer.Empty done body) told t is not = let z : ⊥ = cc in z
-told_pushed size (answer.Moving fill body) told t is not = let z : ⊥ = cc in z
-told_pushed size (answer.Taken page missed) told t is not = let e = t.1 in let z : ⊥ = cc in z
-told_pushed size (answer.Wished fill) told t is not = let z : ⊥ = cc in z
 
 none_follows : (n size : ℕ) (payload : List ℕ) (c : Core) (told : model.Answer) (after : Core) (lane : Lane)
     → (told ≡ pushed → ⊥)

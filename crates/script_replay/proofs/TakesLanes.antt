@@ -31,6 +31,7 @@ use Rattle.replay_log.specs.LogTypes.{shown_log}
 use Rattle.script_replay.specs.Value.{LaneValue}
 use Rattle.script_replay.specs.Lanes.{IsLane, IsLaneOf, MakesExchanges}
 use Rattle.script_replay.specs.Takes.{ReadsOnce, MayKeep, Keeps}
+use Rattle.script_replay.proofs.LaneValues.{moved_lane}
 use Rattle.script_replay.proofs.Logs.{told_one}
 use Rattle.script_replay.proofs.Told.{IsTold}
 use Rattle.script_replay.proofs.TakesNumbers as numbers
@@ -65,18 +66,9 @@ module _ (n size start cpu : ℕ) (v : LaneValue) (lane : Lane) (is : IsLane n s
       → IfSome new.body (λ body. length body ≡ size)
       → as_parcels new.taken ≡ as_parcels v.taken ++ parcels_in cpu answer
       → IsLane n size start cpu new (lane_behind lane after)
-  reader_behind new core payloads body taken = record {
-    most = is.most;
-    small = is.small;
-    large = is.large;
-    words = is.words;
-    known = is.known;
-    is_core = core;
-    payloads_are = payloads ∙ is.payloads_are ∙ sym all_left;
-    fit = fit_moved lane.core.frames after.frames lane.payloads is.fit (stays frames_stay);
-    body = body;
-    taken_are = taken ∙ sym takes;
-  }
+  reader_behind new core payloads body taken =
+      moved_lane is core (payloads ∙ is.payloads_are ∙ sym all_left)
+      (fit_moved lane.core.frames after.frames lane.payloads is.fit (stays frames_stay)) body (taken ∙ sym takes)
 
 -- ---- the wish
 

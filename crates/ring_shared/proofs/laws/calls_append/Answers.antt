@@ -2,12 +2,4 @@ use Rattle.ring_shared.proofs.CallsAppend.{calls_append, pushes_append, closes_a
 use Rattle.ring_shared.proofs.laws.calls_append.Goals as goal
 
 pub returns : goal.returns
-returns c = record {
-  calls = calls_append;
-  pushes = pushes_append;
-  closes = closes_append;
-  ends = ends_append;
-  reserves = reservations_append;
-  again = numbers_again;
-  refusals = refusals_append;
-}
+returns c = assumption (calls_append, pushes_append, closes_append, ends_append, reservations_append, numbers_again, refusals_append)

@@ -2,11 +2,4 @@ use Rattle.ring_shared.proofs.WholeAppends.{finishes_reserve, finishes_refused, 
 use Rattle.ring_shared.proofs.laws.whole_calls_append.Goals as goal
 
 pub returns : goal.returns
-returns c = record {
-  reserves = finishes_reserve;
-  refused = finishes_refused;
-  closes = finishes_close;
-  leaves = finishes_left;
-  writes = writes_append;
-  refused_writes = refused_writes_append;
-}
+returns c = assumption (finishes_reserve, finishes_refused, finishes_close, finishes_left, writes_append, refused_writes_append)

@@ -2,9 +2,4 @@ use Rattle.ring_shared.proofs.WholeAppends.{writes_reserve, refused_writes_reser
 use Rattle.ring_shared.proofs.laws.writes_reserve_their_record.Goals as goal
 
 pub returns : goal.returns
-returns c = record {
-  writes = writes_reserve;
-  refused = refused_writes_reserve_none;
-  frames = refused_writes_leave_no_frame;
-  padded = padded_twice;
-}
+returns c = assumption (writes_reserve, refused_writes_reserve_none, refused_writes_leave_no_frame, padded_twice)

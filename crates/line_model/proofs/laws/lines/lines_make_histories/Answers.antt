@@ -2,11 +2,4 @@ use Rattle.line_model.proofs.ExamplesMade.{one_write, refused_begin, begin_and_s
 use Rattle.line_model.proofs.laws.lines.lines_make_histories.Goals as goal
 
 pub returns : goal.returns
-returns c = record {
-  one_write = one_write;
-  refused = refused_begin;
-  steps = begin_and_steps;
-  nested = nested_frames;
-  dropped = no_dropped_write;
-  three = records_of_three;
-}
+returns c = assumption (one_write, refused_begin, begin_and_steps, nested_frames, no_dropped_write, records_of_three)

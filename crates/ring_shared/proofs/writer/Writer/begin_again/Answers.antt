@@ -10,7 +10,7 @@ use Rattle.ring_shared.proofs.Privately.{step_leads, seen_call}
 use Rattle.ring_steps.specs.Ends.{passed_in}
 use Rattle.ring_shared.proofs.Standing.{phase_shown}
 use Rattle.ring_shared.proofs.Bounds.{opened_now}
-use Rattle.ring_shared.proofs.Nearing.{nearer_quietly, quiet_late}
+use Rattle.ring_shared.proofs.Nearing.{stays_near, quiet_late}
 use Rattle.ring_shared.proofs.writer.Writer.begin_again.Goals as goal
 
 pub note-requires : goal.note-requires
@@ -31,8 +31,6 @@ pub returns-clause-nearer : goal.returns-clause-nearer
 unfolding IsWriter
 returns-clause-nearer c =
     let x : WriterValue = c.args.self.now in
-    let m = returns-clause-makes c in
     let (noted, is, late) = c.requires.passed in
-    nearer_quietly x _ m.shape_is (subst (λ (y : WriterValue). y.passed ≤ passed_in c.note.new.self) c.self.view_is c.note.ensures.same.knows) _
-    (phase_of x.frames.phase) m (phase_shown x c.requires.framed.writer (phase_of x.frames.phase) c.requires.framed.top refl)
+    stays_near c.self.view_is c.requires.framed.writer c.requires.framed.top (phase_of x.frames.phase) refl (returns-clause-makes c) c.note.ensures.same.knows
     (quiet_late x.part.opened (phase_of x.frames.phase) noted is (λ now. late (now ∙ sym (opened_now x c.requires.framed.writer))))

@@ -17,7 +17,7 @@ use Rattle.ring_shared.specs.contracts.writer.Writer.{the_view}
 use Rattle.ring_shared.proofs.Standing.{phase_shown}
 use Rattle.ring_shared.proofs.Called.{writer_seen, top_seen, phase_seen}
 use Rattle.ring_shared.proofs.Bounds.{opened_now, fits}
-use Rattle.ring_shared.proofs.GoingOn.{Moves, goes_on, as_called}
+use Rattle.ring_shared.proofs.GoingOn.{Moves, goes_on_called}
 use Rattle.ring_shared.proofs.LinkMoves.{claimed, not_claimed}
 use Rattle.ring_steps.specs.Ends.{passed_in}
 use Rattle.ring_shared.proofs.Nearing.{nearer_claiming}
@@ -72,28 +72,25 @@ unfolding IsWriter
 returns-clause-makes c =
     let v : WriterValue = the_view c.self.inside in
     let w : IsWriter v = writer_seen c.self.view_is c.requires.framed.writer in
-    let some = top_seen c.self.view_is c.requires.framed.top in
-    let at : phase_of v.frames.phase ≡ claiming c.args.noted c.args.page = phase_seen c.self.view_is c.requires.phase in
     let now : c.args.noted ≡ v.part.opened = c.if-noted-opened.false ∙ c.opened.ensures.begun ∙ opened_now v w in
     let pages : c.pages.result ≡ v.shape.pages = c.pages.ensures.pages ∙ w.frames_are.pages_is in
     let most = c.pages.ensures.most in let few : v.shape.pages ≤ MAX_PAGES = omega arith in
-    let round : v.shape.pages ≤ c.args.noted = (fits v w (claiming c.args.noted c.args.page) some at few).0 in
+    let round : v.shape.pages ≤ c.args.noted = (fits v w (claiming c.args.noted c.args.page) (top_seen c.self.view_is c.requires.framed.top) (phase_seen c.self.view_is c.requires.phase) few).0 in
     let lost : ℕ = c.args.noted - c.pages.result in
     let sum : lost + v.shape.pages ≡ c.args.noted = omega arith in
     let new : WriterValue = the_view record { seat = c.claim_head.new.self; frames = c.go_on.new.self; pages = c.self.inside.pages } in
     let s = c.claim_head.ensures.step in
     let here : c.args.noted ≡ s.core.opened = now ∙ ap (λ (p : Writing). p.opened) (sym s.before_is) in
     let there = ap (link_into v.shape.pages s.core.links) now in
-    let goes : (p : Phase) → noted_fill (phase_of p) ≡ Some c.args.noted → c.if-claim_head.phase ≡ p → Moves v (claiming c.args.noted c.args.page) (phase_of p) s.core s.next → MakesSome v model.steps Going new =
-    λ p noted_is is moves. goes_on v new w some (claiming c.args.noted c.args.page) c.args.noted c.if-claim_head.phase p _ at refl noted_is is c.claim_head.ensures.same.shape c.claim_head.ensures.same.table refl c.go_on.ensures.goes_on s moves in
-    as_called v c.args.self.now new (told c.go_on.result) c.self.view_is (ap told c.go_on.ensures.answer)
-    (elim c.if-claim_head.branch [
+    let goes : (p : Phase) → noted_fill (phase_of p) ≡ Some c.args.noted → c.if-claim_head.phase ≡ p → Moves v (claiming c.args.noted c.args.page) (phase_of p) s.core s.next → MakesSome c.args.self.now model.steps (told c.go_on.result) new =
+    λ p noted_is is moves. goes_on_called c.self.view_is c.requires.framed.writer c.requires.framed.top c.requires.phase c.args.noted c.if-claim_head.phase p _ refl noted_is is c.claim_head.ensures.same.shape c.claim_head.ensures.same.table refl c.go_on.ensures.goes_on (ap told c.go_on.ensures.answer) s moves in
+    elim c.if-claim_head.branch [
       | then-claim_head b ↦ goes (LookingNext Owner c.args.noted c.args.page) refl b.phase-is
           (λ frame below step. claimed v.shape.pages s.core frame below model.going s.next c.args.noted c.args.page lost here sum (there ∙ s.seen.0 b.if-claim_head.true) step)
       | else-claim_head b ↦ goes (Looking c.args.noted) refl b.phase-is
           (λ frame below step. not_claimed v.shape.pages s.core frame below model.going s.next c.args.noted c.args.page lost here sum
           (λ e. let truth : false ≡ true = sym b.if-claim_head.false ∙ s.seen.1 (sym there ∙ e) in cc) step)
-    ])
+    ]
 
 pub returns-clause-nearer : goal.returns-clause-nearer
 unfolding IsWriter

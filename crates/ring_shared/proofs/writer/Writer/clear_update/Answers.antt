@@ -11,11 +11,11 @@ use Rattle.ring_shared.specs.contracts.writer.Writer.{the_view}
 use Rattle.ring_shared.proofs.Standing.{phase_shown}
 use Rattle.ring_shared.proofs.Called.{writer_seen, top_seen, phase_seen}
 use Rattle.ring_shared.proofs.Bounds.{done_now, count_now, noted_bounds}
-use Rattle.ring_shared.proofs.GoingOn.{goes_on, as_called}
+use Rattle.ring_shared.proofs.GoingOn.{goes_on_called}
 use Rattle.ring_shared.proofs.LinkMoves.{cleared}
 use Rattle.std.specs.Prelude.{◌≤◌}
 use Rattle.ring_steps.specs.Ends.{passed_in}
-use Rattle.ring_shared.proofs.Nearing.{nearer_quietly}
+use Rattle.ring_shared.proofs.Nearing.{stays_near}
 use Rattle.ring_shared.proofs.writer.Writer.clear_update.Goals as goal
 
 pub overflow_sub-noted : goal.overflow_sub-noted
@@ -69,19 +69,11 @@ pub returns-clause-makes : goal.returns-clause-makes
 unfolding IsWriter
 returns-clause-makes c =
     let v : WriterValue = the_view c.self.inside in
-    let w : IsWriter v = writer_seen c.self.view_is c.requires.framed.writer in
-    let some = top_seen c.self.view_is c.requires.framed.top in
-    let at : phase_of v.frames.phase ≡ clearing c.args.noted c.args.page = phase_seen c.self.view_is c.requires.phase in
-    let new : WriterValue = the_view record { seat = c.clear_update-cleared.new.self; frames = c.go_on.new.self; pages = c.self.inside.pages } in
     let s = c.clear_update-cleared.ensures.step in
-    as_called v c.args.self.now new (told c.go_on.result) c.self.view_is (ap told c.go_on.ensures.answer)
-    (goes_on v new w some (clearing c.args.noted c.args.page) c.args.noted (Opening c.args.noted c.args.page) (Opening c.args.noted c.args.page) _ at refl refl refl c.clear_update-cleared.ensures.same.shape c.clear_update-cleared.ensures.same.table refl c.go_on.ensures.goes_on s
-    (λ frame below step. cleared v.shape.pages s.core frame below model.going s.next c.args.noted c.args.page step))
+    goes_on_called c.self.view_is c.requires.framed.writer c.requires.framed.top c.requires.phase c.args.noted (Opening c.args.noted c.args.page) (Opening c.args.noted c.args.page) _ refl refl refl c.clear_update-cleared.ensures.same.shape c.clear_update-cleared.ensures.same.table refl c.go_on.ensures.goes_on (ap told c.go_on.ensures.answer) s
+    (λ frame below step. cleared v.shape.pages s.core frame below model.going s.next c.args.noted c.args.page step)
 
 pub returns-clause-nearer : goal.returns-clause-nearer
 unfolding IsWriter
 returns-clause-nearer c =
-    let x : WriterValue = c.args.self.now in
-    let m = returns-clause-makes c in
-    nearer_quietly x _ m.shape_is (subst (λ (y : WriterValue). y.passed ≤ passed_in c.clear_update-cleared.new.self) c.self.view_is c.clear_update-cleared.ensures.same.knows) _
-    (clearing c.args.noted c.args.page) m (phase_shown x c.requires.framed.writer (clearing c.args.noted c.args.page) c.requires.framed.top (ap phase_of c.requires.phase)) tt
+    stays_near c.self.view_is c.requires.framed.writer c.requires.framed.top (clearing c.args.noted c.args.page) (ap phase_of c.requires.phase) (returns-clause-makes c) c.clear_update-cleared.ensures.same.knows tt

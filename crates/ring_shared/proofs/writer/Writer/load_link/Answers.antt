@@ -19,7 +19,7 @@ use Rattle.ring_shared.specs.contracts.writer.Writer.{the_view}
 use Rattle.ring_shared.proofs.Standing.{phase_shown}
 use Rattle.ring_shared.proofs.Called.{writer_seen, top_seen, phase_seen}
 use Rattle.ring_shared.proofs.Bounds.{opened_now}
-use Rattle.ring_shared.proofs.GoingOn.{Moves, goes_on, as_called}
+use Rattle.ring_shared.proofs.GoingOn.{Moves, goes_on_called}
 use Rattle.ring_shared.proofs.LinkMoves.{found_at, looked}
 use Rattle.ring_shared.specs.Nearer.{IsNearer}
 use Rattle.ring_shared.proofs.Nearing.{nearer_looking}
@@ -42,8 +42,6 @@ unfolding IsWriter
 returns-clause-makes c =
     let v : WriterValue = the_view c.self.inside in
     let w : IsWriter v = writer_seen c.self.view_is c.requires.framed.writer in
-    let some = top_seen c.self.view_is c.requires.framed.top in
-    let at : phase_of v.frames.phase ≡ looking c.args.noted = phase_seen c.self.view_is c.requires.phase in
     let now : c.args.noted ≡ v.part.opened = c.if-noted-opened.false ∙ c.opened.ensures.begun ∙ opened_now v w in
     let new : WriterValue = the_view record { seat = c.load_link-link.new.self; frames = c.go_on.new.self; pages = c.self.inside.pages } in
     let l = c.load_link-link.result in
@@ -53,14 +51,13 @@ returns-clause-makes c =
     let found : (m : Mark) → l.mark ≡ m → Moves v (looking c.args.noted) (found_at (mark_of m) c.args.noted l.page) s.core s.next =
     λ m e frame below step. subst (λ (k : Mark). writing_of s.next ≡ writing_of (model.in_phase s.core frame below (found_at (mark_of k) c.args.noted l.page))) e
     (looked v.shape.pages s.core frame below model.going s.next c.args.noted (link_of l) here link step) in
-    let goes : (p : Phase) → noted_fill (phase_of p) ≡ Some c.args.noted → c.match-link.phase ≡ p → Moves v (looking c.args.noted) (phase_of p) s.core s.next → MakesSome v model.steps Going new =
-    λ p noted_is is moves. goes_on v new w some (looking c.args.noted) c.args.noted c.match-link.phase p _ at refl noted_is is c.load_link-link.ensures.same.shape c.load_link-link.ensures.same.table refl c.go_on.ensures.goes_on s moves in
-    as_called v c.args.self.now new (told c.go_on.result) c.self.view_is (ap told c.go_on.ensures.answer)
-    (elim c.match-link.branch [
+    let goes : (p : Phase) → noted_fill (phase_of p) ≡ Some c.args.noted → c.match-link.phase ≡ p → Moves v (looking c.args.noted) (phase_of p) s.core s.next → MakesSome c.args.self.now model.steps (told c.go_on.result) new =
+    λ p noted_is is moves. goes_on_called c.self.view_is c.requires.framed.writer c.requires.framed.top c.requires.phase c.args.noted c.match-link.phase p _ refl noted_is is c.load_link-link.ensures.same.shape c.load_link-link.ensures.same.table refl c.go_on.ensures.goes_on (ap told c.go_on.ensures.answer) s moves in
+    elim c.match-link.branch [
       | in-Normal b ↦ goes (Opening c.args.noted l.page) refl b.phase-is (found Normal b.in-Normal.is)
       | in-Header b ↦ goes (Claiming c.args.noted l.page) refl b.phase-is (found Header b.in-Header.is)
       | in-Update b ↦ goes (LookingNext Helper c.args.noted l.page) refl b.phase-is (found Update b.in-Update.is)
-    ])
+    ]
 
 pub returns-clause-nearer : goal.returns-clause-nearer
 unfolding IsWriter

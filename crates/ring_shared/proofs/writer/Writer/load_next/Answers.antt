@@ -16,11 +16,11 @@ use Rattle.ring_shared.specs.Calls.{IsWriter, MakesSome}
 use Rattle.ring_shared.specs.contracts.writer.Writer.{the_view}
 use Rattle.ring_shared.proofs.Standing.{phase_shown}
 use Rattle.ring_shared.proofs.Called.{writer_seen, top_seen, phase_seen}
-use Rattle.ring_shared.proofs.Bounds.{opened_now, noted_bounds, advances}
-use Rattle.ring_shared.proofs.GoingOn.{Moves, goes_on, as_called}
+use Rattle.ring_shared.proofs.Bounds.{pages_called, advances_called, opened_now, noted_bounds, advances}
+use Rattle.ring_shared.proofs.GoingOn.{Moves, goes_on_called}
 use Rattle.ring_shared.proofs.LinkMoves.{noted_after, says_normal, waits, is_passed}
 use Rattle.ring_steps.specs.Ends.{passed_in}
-use Rattle.ring_shared.proofs.Nearing.{nearer_quietly}
+use Rattle.ring_shared.proofs.Nearing.{stays_near}
 use Rattle.ring_shared.proofs.writer.Writer.load_next.Goals.{in-Normal, in_default, in_default-via-in-Normal+else-link-behind, in_default-via-in_default}
 use Rattle.ring_shared.proofs.writer.Writer.load_next.Goals as goal
 
@@ -36,10 +36,8 @@ pub overflow_sub-behind : goal.overflow_sub-behind
 unfolding IsWriter
 overflow_sub-behind c =
     let v : WriterValue = the_view c.self.inside in
-    let w : IsWriter v = writer_seen c.self.view_is c.requires.framed.writer in
-    let pages : c.pages.result ≡ v.shape.pages = c.pages.ensures.pages ∙ w.frames_are.pages_is in
-    let round : v.shape.pages ≤ c.args.noted = advances v w (looking_next (role_of c.args.role) c.args.noted c.args.page) (top_seen c.self.view_is c.requires.framed.top)
-    (phase_seen c.self.view_is c.requires.phase) in omega arith
+    let pages : c.pages.result ≡ v.shape.pages = c.pages.ensures.pages ∙ pages_called c.self.view_is c.requires.framed.writer in
+    let round : v.shape.pages ≤ c.args.noted = advances_called c.self.view_is c.requires.framed.writer c.requires.framed.top c.requires.phase in omega arith
 
 pub load_next-link-requires : goal.load_next-link-requires
 unfolding IsWriter
@@ -64,23 +62,20 @@ unfolding IsWriter
 returns-clause-makes c =
     let v : WriterValue = the_view c.self.inside in
     let w : IsWriter v = writer_seen c.self.view_is c.requires.framed.writer in
-    let some = top_seen c.self.view_is c.requires.framed.top in
     let from : ModelPhase = looking_next (role_of c.args.role) c.args.noted c.args.page in
-    let at : phase_of v.frames.phase ≡ from = phase_seen c.self.view_is c.requires.phase in
     let new : WriterValue = the_view record { seat = c.load_next-link.new.self; frames = c.go_on.new.self; pages = c.self.inside.pages } in
     let s = c.load_next-link.ensures.step in
     let on : MayOpen (role_of c.args.role) c.args.noted s.core.opened = subst (MayOpen (role_of c.args.role) c.args.noted)
     (opened_now v w ∙ ap (λ (p : Writing). p.opened) (sym s.before_is)) (c.stops.ensures.goes_on c.if-stops.false) in
     let pages : c.pages.result ≡ v.shape.pages = c.pages.ensures.pages ∙ w.frames_are.pages_is in
-    let round : v.shape.pages ≤ c.args.noted = advances v w from some at in
+    let round : v.shape.pages ≤ c.args.noted = advances v w from (top_seen c.self.view_is c.requires.framed.top) (phase_seen c.self.view_is c.requires.phase) in
     let behind : ℕ = c.args.noted + 1 - c.pages.result in
     let sum : behind + v.shape.pages ≡ c.args.noted + 1 = omega arith in
     let l = c.load_next-link.result in
     let marked : Mark → Link = λ (m : Mark). record { mark = mark_of m; page = l.page; fill = l.fill } in
-    let goes : (p : Phase) → noted_fill (phase_of p) ≡ Some c.args.noted → c.match-link.phase ≡ p → Moves v from (phase_of p) s.core s.next → MakesSome v model.steps Going new =
-    λ p noted_is is moves. goes_on v new w some from c.args.noted c.match-link.phase p _ at refl noted_is is c.load_next-link.ensures.same.shape c.load_next-link.ensures.same.table refl c.go_on.ensures.goes_on s moves in
-    as_called v c.args.self.now new (told c.go_on.result) c.self.view_is (ap told c.go_on.ensures.answer)
-    (elim c.match-link.branch [
+    let goes : (p : Phase) → noted_fill (phase_of p) ≡ Some c.args.noted → c.match-link.phase ≡ p → Moves v from (phase_of p) s.core s.next → MakesSome c.args.self.now model.steps (told c.go_on.result) new =
+    λ p noted_is is moves. goes_on_called c.self.view_is c.requires.framed.writer c.requires.framed.top c.requires.phase c.args.noted c.match-link.phase p _ refl noted_is is c.load_next-link.ensures.same.shape c.load_next-link.ensures.same.table refl c.go_on.ensures.goes_on (ap told c.go_on.ensures.answer) s moves in
+    elim c.match-link.branch [
       | in-Normal b ↦ goes (Marking c.args.role c.args.noted c.args.page l.page) refl b.phase-is
           (λ frame below step. waits v.shape.pages s.core frame below model.going s.next (role_of c.args.role) c.args.noted c.args.page behind (link_of l) on sum s.seen
           (ap marked b.in-Normal.is ∙ ap (normal_link l.page) b.if-link-behind.true) step)
@@ -91,12 +86,9 @@ returns-clause-makes c =
             | in_default-via-in-Normal+else-link-behind d ↦ d.if-link-behind.false (ap (λ (k : Link). k.fill) e)
             | in_default-via-in_default d ↦ d.in_default.not-Normal (says_normal l.mark (ap (λ (k : Link). k.mark) e))
           ]) step))
-    ])
+    ]
 
 pub returns-clause-nearer : goal.returns-clause-nearer
 unfolding IsWriter
 returns-clause-nearer c =
-    let x : WriterValue = c.args.self.now in
-    let m = returns-clause-makes c in
-    nearer_quietly x _ m.shape_is (subst (λ (y : WriterValue). y.passed ≤ passed_in c.load_next-link.new.self) c.self.view_is c.load_next-link.ensures.same.knows) _
-    (looking_next (role_of c.args.role) c.args.noted c.args.page) m (phase_shown x c.requires.framed.writer (looking_next (role_of c.args.role) c.args.noted c.args.page) c.requires.framed.top (ap phase_of c.requires.phase)) tt
+    stays_near c.self.view_is c.requires.framed.writer c.requires.framed.top (looking_next (role_of c.args.role) c.args.noted c.args.page) (ap phase_of c.requires.phase) (returns-clause-makes c) c.load_next-link.ensures.same.knows tt

@@ -6,12 +6,12 @@ use Rattle.ring_shared.specs.Calls.{IsWriter, MakesSome}
 use Rattle.ring_shared.specs.contracts.writer.Writer.{the_view}
 use Rattle.ring_shared.proofs.Standing.{phase_shown}
 use Rattle.ring_shared.proofs.Called.{writer_seen, top_seen, phase_seen}
-use Rattle.ring_shared.proofs.PageMoves.{looks_for_wish}
+use Rattle.ring_shared.proofs.PageMoves.{looks_called}
 use Rattle.std.specs.Prelude.{◌≤◌}
 use Rattle.ring_frames.specs.Value.{phase_of}
 use Rattle.ring_frames.specs.Phases.{told}
 use Rattle.ring_steps.specs.Ends.{passed_in}
-use Rattle.ring_shared.proofs.Nearing.{nearer_quietly}
+use Rattle.ring_shared.proofs.Nearing.{stays_near}
 use Rattle.ring_shared.proofs.writer.Writer.load_wish.Goals as goal
 
 pub load_wish-wish-requires : goal.load_wish-wish-requires
@@ -24,18 +24,11 @@ load_wish-wish-requires c =
 pub returns-clause-makes : goal.returns-clause-makes
 unfolding IsWriter
 returns-clause-makes c =
-    let v : WriterValue = the_view c.self.inside in
-    let w : IsWriter v = writer_seen c.self.view_is c.requires.framed.writer in
-    let new : WriterValue = the_view record { seat = c.load_wish-wish.new.self; frames = c.load_wish.new.self; pages = c.self.inside.pages } in
     let (answer, step) = c.load_wish-wish.ensures.step in
-    subst (λ (x : WriterValue). MakesSome x model.steps (told c.load_wish.result) new) c.self.view_is
-    (looks_for_wish v new w (top_seen c.self.view_is c.requires.framed.top) c.load_wish-wish.ensures.same.shape c.load_wish-wish.ensures.same.table _ c.load_wish-wish.result (told c.load_wish.result) answer
-    c.load_wish.ensures.looks refl step (λ is. is))
+    looks_called c.self.view_is c.requires.framed.writer c.requires.framed.top c.load_wish-wish.ensures.same.shape c.load_wish-wish.ensures.same.table _ c.load_wish-wish.result (told c.load_wish.result) answer
+    c.load_wish.ensures.looks refl step (λ is. is)
 
 pub returns-clause-nearer : goal.returns-clause-nearer
 unfolding IsWriter
 returns-clause-nearer c =
-    let x : WriterValue = c.args.self.now in
-    let m = returns-clause-makes c in
-    nearer_quietly x _ m.shape_is (subst (λ (y : WriterValue). y.passed ≤ passed_in c.load_wish-wish.new.self) c.self.view_is c.load_wish-wish.ensures.same.knows) _
-    (wishing) m (phase_shown x c.requires.framed.writer (wishing) c.requires.framed.top (ap phase_of c.requires.phase)) tt
+    stays_near c.self.view_is c.requires.framed.writer c.requires.framed.top (wishing) (ap phase_of c.requires.phase) (returns-clause-makes c) c.load_wish-wish.ensures.same.knows tt

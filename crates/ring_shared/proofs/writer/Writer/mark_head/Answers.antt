@@ -11,11 +11,11 @@ use Rattle.ring_shared.specs.Calls.{IsWriter}
 use Rattle.ring_shared.specs.contracts.writer.Writer.{the_view}
 use Rattle.ring_shared.proofs.Standing.{phase_shown}
 use Rattle.ring_shared.proofs.Called.{writer_seen, top_seen, phase_seen}
-use Rattle.ring_shared.proofs.Bounds.{opened_now, noted_bounds, advances, fits}
-use Rattle.ring_shared.proofs.GoingOn.{goes_on, as_called}
+use Rattle.ring_shared.proofs.Bounds.{pages_called, advances_called, opened_now, noted_bounds, advances, fits}
+use Rattle.ring_shared.proofs.GoingOn.{goes_on_called}
 use Rattle.ring_shared.proofs.LinkMoves.{noted_after, marked}
 use Rattle.ring_steps.specs.Ends.{passed_in}
-use Rattle.ring_shared.proofs.Nearing.{nearer_quietly}
+use Rattle.ring_shared.proofs.Nearing.{stays_near}
 use Rattle.ring_shared.proofs.writer.Writer.mark_head.Goals as goal
 
 pub overflow_add-behind : goal.overflow_add-behind
@@ -30,10 +30,8 @@ pub overflow_sub-behind : goal.overflow_sub-behind
 unfolding IsWriter
 overflow_sub-behind c =
     let v : WriterValue = the_view c.self.inside in
-    let w : IsWriter v = writer_seen c.self.view_is c.requires.framed.writer in
-    let pages : c.pages.result ≡ v.shape.pages = c.pages.ensures.pages ∙ w.frames_are.pages_is in
-    let round : v.shape.pages ≤ c.args.noted = advances v w (marking (role_of c.args.role) c.args.noted c.args.page c.args.next) (top_seen c.self.view_is c.requires.framed.top)
-    (phase_seen c.self.view_is c.requires.phase) in omega arith
+    let pages : c.pages.result ≡ v.shape.pages = c.pages.ensures.pages ∙ pages_called c.self.view_is c.requires.framed.writer in
+    let round : v.shape.pages ≤ c.args.noted = advances_called c.self.view_is c.requires.framed.writer c.requires.framed.top c.requires.phase in omega arith
 
 pub mark_head-marked-requires-clause-phase : goal.mark_head-marked-requires-clause-phase
 unfolding IsWriter
@@ -66,24 +64,16 @@ unfolding IsWriter
 returns-clause-makes c =
     let v : WriterValue = the_view c.self.inside in
     let w : IsWriter v = writer_seen c.self.view_is c.requires.framed.writer in
-    let some = top_seen c.self.view_is c.requires.framed.top in
-    let from : ModelPhase = marking (role_of c.args.role) c.args.noted c.args.page c.args.next in
-    let at : phase_of v.frames.phase ≡ from = phase_seen c.self.view_is c.requires.phase in
-    let new : WriterValue = the_view record { seat = c.mark_head-marked.new.self; frames = c.go_on.new.self; pages = c.self.inside.pages } in
     let s = c.mark_head-marked.ensures.step in
     let on : MayOpen (role_of c.args.role) c.args.noted s.core.opened = subst (MayOpen (role_of c.args.role) c.args.noted)
     (opened_now v w ∙ ap (λ (p : Writing). p.opened) (sym s.before_is)) (c.stops.ensures.goes_on c.if-stops.false) in
     let next : Phase = c.after_next.result in
-    as_called v c.args.self.now new (told c.go_on.result) c.self.view_is (ap told c.go_on.ensures.answer)
-    (goes_on v new w some from c.args.noted next next _ at refl (ap noted_fill c.after_next.ensures ∙ noted_after (role_of c.args.role) c.args.noted c.args.page) refl
-    c.mark_head-marked.ensures.same.shape c.mark_head-marked.ensures.same.table refl c.go_on.ensures.goes_on s
+    goes_on_called c.self.view_is c.requires.framed.writer c.requires.framed.top c.requires.phase c.args.noted next next _ refl (ap noted_fill c.after_next.ensures ∙ noted_after (role_of c.args.role) c.args.noted c.args.page) refl
+    c.mark_head-marked.ensures.same.shape c.mark_head-marked.ensures.same.table refl c.go_on.ensures.goes_on (ap told c.go_on.ensures.answer) s
     (λ frame below step. subst (λ (p : ModelPhase). writing_of s.next ≡ writing_of (model.in_phase s.core frame below p)) (sym c.after_next.ensures)
-    (marked v.shape.pages s.core frame below model.going s.next (role_of c.args.role) c.args.noted c.args.page c.args.next on step)))
+    (marked v.shape.pages s.core frame below model.going s.next (role_of c.args.role) c.args.noted c.args.page c.args.next on step))
 
 pub returns-clause-nearer : goal.returns-clause-nearer
 unfolding IsWriter
 returns-clause-nearer c =
-    let x : WriterValue = c.args.self.now in
-    let m = returns-clause-makes c in
-    nearer_quietly x _ m.shape_is (subst (λ (y : WriterValue). y.passed ≤ passed_in c.mark_head-marked.new.self) c.self.view_is c.mark_head-marked.ensures.same.knows) _
-    (marking (role_of c.args.role) c.args.noted c.args.page c.args.next) m (phase_shown x c.requires.framed.writer (marking (role_of c.args.role) c.args.noted c.args.page c.args.next) c.requires.framed.top (ap phase_of c.requires.phase)) tt
+    stays_near c.self.view_is c.requires.framed.writer c.requires.framed.top (marking (role_of c.args.role) c.args.noted c.args.page c.args.next) (ap phase_of c.requires.phase) (returns-clause-makes c) c.mark_head-marked.ensures.same.knows tt

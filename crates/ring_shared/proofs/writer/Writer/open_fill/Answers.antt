@@ -13,7 +13,7 @@ use Rattle.ring_shared.proofs.PageMoves.{opens_fill}
 use Rattle.std.specs.Prelude.{◌≤◌}
 use Rattle.ring_frames.specs.Value.{phase_of}
 use Rattle.ring_steps.specs.Ends.{passed_in}
-use Rattle.ring_shared.proofs.Nearing.{nearer_quietly}
+use Rattle.ring_shared.proofs.Nearing.{stays_near}
 use Rattle.ring_shared.proofs.writer.Writer.open_fill.Goals as goal
 
 pub open_fill-body-requires-clause-phase : goal.open_fill-body-requires-clause-phase
@@ -58,7 +58,4 @@ returns-clause-makes c =
 pub returns-clause-nearer : goal.returns-clause-nearer
 unfolding IsWriter
 returns-clause-nearer c =
-    let x : WriterValue = c.args.self.now in
-    let m = returns-clause-makes c in
-    nearer_quietly x _ m.shape_is (subst (λ (y : WriterValue). y.passed ≤ passed_in c.open_fill-body.new.self) c.self.view_is c.open_fill-body.ensures.same.knows) _
-    (opening c.args.noted c.args.page) m (phase_shown x c.requires.framed.writer (opening c.args.noted c.args.page) c.requires.framed.top (ap phase_of c.requires.phase)) tt
+    stays_near c.self.view_is c.requires.framed.writer c.requires.framed.top (opening c.args.noted c.args.page) (ap phase_of c.requires.phase) (returns-clause-makes c) c.open_fill-body.ensures.same.knows tt

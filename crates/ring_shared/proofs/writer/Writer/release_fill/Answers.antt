@@ -13,7 +13,7 @@ use Rattle.ring_shared.proofs.PageMoves.{closes_fill, is_written}
 use Rattle.std.specs.Prelude.{◌≤◌}
 use Rattle.ring_frames.specs.Value.{phase_of}
 use Rattle.ring_steps.specs.Ends.{passed_in}
-use Rattle.ring_shared.proofs.Nearing.{nearer_quietly}
+use Rattle.ring_shared.proofs.Nearing.{stays_near}
 use Rattle.ring_shared.proofs.writer.Writer.release_fill.Goals as goal
 
 pub release_fill-requires-clause-phase : goal.release_fill-requires-clause-phase
@@ -56,7 +56,4 @@ returns-clause-makes c =
 pub returns-clause-nearer : goal.returns-clause-nearer
 unfolding IsWriter
 returns-clause-nearer c =
-    let x : WriterValue = c.args.self.now in
-    let m = returns-clause-makes c in
-    nearer_quietly x _ m.shape_is (subst (λ (y : WriterValue). y.passed ≤ passed_in c.release_fill.new.self) c.self.view_is c.release_fill.ensures.same.knows) _
-    (releasing) m (phase_shown x c.requires.framed.writer (releasing) c.requires.framed.top (ap phase_of c.requires.phase)) tt
+    stays_near c.self.view_is c.requires.framed.writer c.requires.framed.top (releasing) (ap phase_of c.requires.phase) (returns-clause-makes c) c.release_fill.ensures.same.knows tt

@@ -12,7 +12,7 @@ use Rattle.std.specs.Prelude.{◌≤◌}
 use Rattle.trace_model.specs.Frames.{idle}
 use Rattle.ring_steps.specs.Ends.{passed_in}
 use Rattle.ring_shared.proofs.Standing.{phase_shown}
-use Rattle.ring_shared.proofs.Nearing.{nearer_quietly}
+use Rattle.ring_shared.proofs.Nearing.{stays_near}
 use Rattle.ring_shared.proofs.writer.Writer.reserve.Goals as goal
 
 pub note-requires : goal.note-requires
@@ -31,10 +31,7 @@ returns-clause-makes c =
 pub returns-clause-nearer : goal.returns-clause-nearer
 unfolding IsWriter
 returns-clause-nearer c =
-    let x : WriterValue = c.args.self.now in
-    let m = returns-clause-makes c in
-    nearer_quietly x _ m.shape_is (subst (λ (y : WriterValue). y.passed ≤ passed_in c.note.new.self) c.self.view_is c.note.ensures.same.knows) _
-    (idle) m (phase_shown x c.requires.framed.writer (idle) c.requires.framed.top (ap phase_of c.requires.phase)) tt
+    stays_near c.self.view_is c.requires.framed.writer c.requires.framed.top (idle) (ap phase_of c.requires.phase) (returns-clause-makes c) c.note.ensures.same.knows tt
 
 pub returns-clause-zeros : goal.returns-clause-zeros
 returns-clause-zeros c = subst (λ (x : WriterValue). ZerosSlot x.frames.stack c.reserve.result c.reserve.new.self.stack) c.self.view_is c.reserve.ensures.zeros

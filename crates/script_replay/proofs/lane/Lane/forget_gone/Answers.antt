@@ -1,7 +1,7 @@
 use Rattle.std.proofs.Common.{◌≡◌, ◌-◌, List, ℕ, length, drop, map, reverse, ap, ◌∙◌, Bor}
 use Rattle.script_replay.specs.Value.{LaneValue, lane_of}
 use Rattle.script_replay.proofs.LaneValues.{value_behind}
-use Rattle.script_replay.proofs.FramePayloads.{left_first}
+use Rattle.ring_frames.proofs.FramePayloads.{left_first}
 use Rattle.script_replay.proofs.lane.Lane.forget_gone.Goals as goal
 
 pub returns : goal.returns
