@@ -13,7 +13,7 @@ use Rattle.collector.specs.Index.{IsIn}
 use Rattle.collector.specs.Shown.{IsUnknown}
 use Rattle.collector.specs.Entries.{record_of}
 use Rattle.collector.specs.Adding.{FitsAt, IsThere, IsLookedAt}
-use Rattle.collector.specs.Faults.{IsClashAt, IsTakenAndMissingAt, IsInFront, AgreeInFront, IsAddFault}
+use Rattle.collector.specs.Faults.{IsClashAt, IsTakenAndMissingAt, IsBeforeNumber, AgreeBefore, IsAddFault}
 use Rattle.collector.specs.declared.fault.AddFault.{AddFault}
 use Rattle.collector.specs.declared.fault.AddFault.TheVariants.{Clash, TakenAndMissing, NoMemory}
 use Rattle.collector.proofs.Places.{get_pushed}
@@ -125,13 +125,13 @@ fits_agree ps p agree missing records = record {
 -- ---- the least number at odds
 
 front_agrees : (ps : List Parcel) (p : Parcel) (n : ℕ) → Agree ps
-    → ((m : ℕ) → p.first - p.missed ≤ m → m < n → FitsAt ps p p.cpu m) → AgreeInFront (ps ++ p ∷ []) p.cpu n
+    → ((m : ℕ) → p.first - p.missed ≤ m → m < n → FitsAt ps p p.cpu m) → AgreeBefore (ps ++ p ∷ []) p.cpu n
 front_agrees ps p n agree fits = record {
   no_clash = λ c m front clash. clash.differ (one_of ps p c m agree (fits_front c m front) clash.one clash.other clash.has clash.has_other);
   none_taken_and_missing = λ c m front both. not_both ps p c m agree (fits_front c m front) both.one both.has both.misses;
 }
   where
-    fits_front : (c m : ℕ) → IsInFront c m p.cpu n → FitsAt ps p c m
+    fits_front : (c m : ℕ) → IsBeforeNumber c m p.cpu n → FitsAt ps p c m
     fits_front c m front = ⊎_elim
         (λ (lt : c < p.cpu). apart_fits ps p c m (λ r pair. let e = pair.cpu_is in omega arith) (λ m. let e = m.cpu_is in omega arith))
         (λ (same : (c ≡ p.cpu) × (m < n)). subst (λ (q : ℕ). FitsAt ps p q m) (sym same.0) (⊎_elim
@@ -146,7 +146,7 @@ in_has ps i cpu n x = let found = record_at x.parcel cpu n x.cpu_is x.from x.bel
 
 pub missing_is_taken : (ps : List Parcel) (p : Parcel) (i cpu n : ℕ) → cpu ≡ p.cpu → Agree ps → IsIn ps i cpu n
     → p.first - p.missed ≤ n → n < p.first → ((m : ℕ) → p.first - p.missed ≤ m → m < n → FitsAt ps p p.cpu m)
-    → IsTakenAndMissingAt (ps ++ p ∷ []) cpu n × AgreeInFront (ps ++ p ∷ []) cpu n
+    → IsTakenAndMissingAt (ps ++ p ∷ []) cpu n × AgreeBefore (ps ++ p ∷ []) cpu n
 missing_is_taken ps p i cpu n e agree x low high fits =
     let found = in_has ps i cpu n x in (
       record {
@@ -154,12 +154,12 @@ missing_is_taken ps p i cpu n e agree x low high fits =
         has = (joined_left ps (p ∷ [])).has cpu n found.0 found.1;
         misses = (joined_right ps (p ∷ [])).misses cpu n (misses_own p cpu n record { cpu_is = e; low = omega arith; high = high });
       },
-      subst (λ (q : ℕ). AgreeInFront (ps ++ p ∷ []) q n) (sym e) (front_agrees ps p n agree fits),
+      subst (λ (q : ℕ). AgreeBefore (ps ++ p ∷ []) q n) (sym e) (front_agrees ps p n agree fits),
     )
 
 pub record_is_missing : (ps : List Parcel) (p : Parcel) (cpu n : ℕ) → cpu ≡ p.cpu → Agree ps → Misses ps cpu n
     → p.first ≤ n → n < p.first + length p.records → ((m : ℕ) → p.first - p.missed ≤ m → m < n → FitsAt ps p p.cpu m)
-    → IsTakenAndMissingAt (ps ++ p ∷ []) cpu n × AgreeInFront (ps ++ p ∷ []) cpu n
+    → IsTakenAndMissingAt (ps ++ p ∷ []) cpu n × AgreeBefore (ps ++ p ∷ []) cpu n
 record_is_missing ps p cpu n e agree m from below fits =
     let found = record_at p cpu n e from below in (
       record {
@@ -167,7 +167,7 @@ record_is_missing ps p cpu n e agree m from below fits =
         has = (joined_right ps (p ∷ [])).has cpu n found.0 (has_own p cpu n found.0 found.1);
         misses = (joined_left ps (p ∷ [])).misses cpu n m;
       },
-      subst (λ (q : ℕ). AgreeInFront (ps ++ p ∷ []) q n) (sym e) (front_agrees ps p n agree fits),
+      subst (λ (q : ℕ). AgreeBefore (ps ++ p ∷ []) q n) (sym e) (front_agrees ps p n agree fits),
     )
 
 pair_of : (p : Parcel) (cpu n : ℕ) (r : Record) → IsPairOf p cpu n r → record_of p n ≡ Some r
@@ -176,7 +176,7 @@ pair_of p cpu n r pair = let is = pair.number_is in ap (slice_get p.records) (le
 pub records_clash : (ps : List Parcel) (p q : Parcel) (i cpu n : ℕ) → cpu ≡ p.cpu → Agree ps → IsIn ps i cpu n → slice_get ps i ≡ Some q
     → p.first ≤ n → n < p.first + length p.records → record_of p n ≢ record_of q n
     → ((m : ℕ) → p.first - p.missed ≤ m → m < n → FitsAt ps p p.cpu m)
-    → IsClashAt (ps ++ p ∷ []) cpu n × AgreeInFront (ps ++ p ∷ []) cpu n
+    → IsClashAt (ps ++ p ∷ []) cpu n × AgreeBefore (ps ++ p ∷ []) cpu n
 records_clash ps p q i cpu n e agree x at from below differ fits =
     let own = record_at p cpu n e from below in
     let kept = record_at x.parcel cpu n x.cpu_is x.from x.below in
@@ -188,7 +188,7 @@ records_clash ps p q i cpu n e agree x at from below differ fits =
         has_other = (joined_right ps (p ∷ [])).has cpu n own.0 (has_own p cpu n own.0 own.1);
         differ = λ r. differ (pair_of p cpu n own.0 own.1 ∙ ap Some (sym r) ∙ sym (pair_of x.parcel cpu n kept.0 kept.1) ∙ ap (λ (z : Parcel). record_of z n) same);
       },
-      subst (λ (z : ℕ). AgreeInFront (ps ++ p ∷ []) z n) (sym e) (front_agrees ps p n agree fits),
+      subst (λ (z : ℕ). AgreeBefore (ps ++ p ∷ []) z n) (sym e) (front_agrees ps p n agree fits),
     )
 
 -- ---- one stretch further

@@ -14,47 +14,47 @@ use Rattle.collector.specs.declared.ranges.Content.{Content}
 use Rattle.collector.specs.declared.ranges.Content.TheVariants.{Kept, Missing}
 use Rattle.collector.specs.declared.ranges.Ranges.{Ranges}
 use Rattle.collector.specs.declared.index.Index.{Index}
-use Rattle.collector.specs.Ranges.{HasContent, TellSame, AreApart, IsLaid, IsCopy}
-use Rattle.collector.specs.Index.{TellsOf, AreAllApart, TellSameOf}
+use Rattle.collector.specs.Ranges.{HasContent, ReportSame, AreApart, IsLaid, IsCopy}
+use Rattle.collector.specs.Index.{ReportsOf, AreAllApart, ReportSameOf}
 use Rattle.collector.proofs.Places.{get_pushed, get_set_here, get_set_other}
-use Rattle.collector.proofs.Spans.{keys_tell_same}
+use Rattle.collector.proofs.Spans.{keys_report_same}
 
 -- ---- one CPU's ranges
 
-pub tells_of : (index : Index) (cpu n : ℕ) (content : Content) (ranges : Ranges)
-    → slice_get index.cpus.items cpu ≡ Some ranges → TellsOf index cpu n content → HasContent ranges n content
-tells_of index cpu n content ranges at t = let there = t.at in
-    subst (λ (x : Ranges). HasContent x n content) (let e : t.ranges ≡ ranges = some_is t.ranges ranges (sym there ∙ at) in e) t.tells
+pub reports_of : (index : Index) (cpu n : ℕ) (content : Content) (ranges : Ranges)
+    → slice_get index.cpus.items cpu ≡ Some ranges → ReportsOf index cpu n content → HasContent ranges n content
+reports_of index cpu n content ranges at t = let there = t.at in
+    subst (λ (x : Ranges). HasContent x n content) (let e : t.ranges ≡ ranges = some_is t.ranges ranges (sym there ∙ at) in e) t.reports
 
 -- of a CPU after the last one nothing is stated
-pub tells_none : (index : Index) (cpu n : ℕ) (content : Content) → slice_get index.cpus.items cpu ≡ None → TellsOf index cpu n content → ⊥
-tells_none index cpu n content none t = none-some t.ranges (sym none ∙ t.at)
+pub reports_none : (index : Index) (cpu n : ℕ) (content : Content) → slice_get index.cpus.items cpu ≡ None → ReportsOf index cpu n content → ⊥
+reports_none index cpu n content none t = none-some t.ranges (sym none ∙ t.at)
 
-pub untold_of : (index : Index) (cpu number end : ℕ) (ranges : Ranges) (o : Option Content) → slice_get index.cpus.items cpu ≡ Some ranges
+pub unreported_of : (index : Index) (cpu number end : ℕ) (ranges : Ranges) (o : Option Content) → slice_get index.cpus.items cpu ≡ Some ranges
     → IfNone o ((n : ℕ) (content : Content) → number ≤ n → n < end → HasContent ranges n content → ⊥)
-    → IfNone o ((n : ℕ) (content : Content) → number ≤ n → n < end → TellsOf index cpu n content → ⊥)
-untold_of index cpu number end ranges None at untold = λ n content from below t. untold n content from below (tells_of index cpu n content ranges at t)
-untold_of index cpu number end ranges (Some content) at untold = untold
+    → IfNone o ((n : ℕ) (content : Content) → number ≤ n → n < end → ReportsOf index cpu n content → ⊥)
+unreported_of index cpu number end ranges None at unreported = λ n content from below t. unreported n content from below (reports_of index cpu n content ranges at t)
+unreported_of index cpu number end ranges (Some content) at unreported = unreported
 
-pub untold_here_of : (index : Index) (cpu number : ℕ) (ranges : Ranges) (o : Option Content) → slice_get index.cpus.items cpu ≡ Some ranges
+pub unreported_here_of : (index : Index) (cpu number : ℕ) (ranges : Ranges) (o : Option Content) → slice_get index.cpus.items cpu ≡ Some ranges
     → IfNone o ((content : Content) → HasContent ranges number content → ⊥)
-    → IfNone o ((content : Content) → TellsOf index cpu number content → ⊥)
-untold_here_of index cpu number ranges None at untold = λ content t. untold content (tells_of index cpu number content ranges at t)
-untold_here_of index cpu number ranges (Some content) at untold = untold
+    → IfNone o ((content : Content) → ReportsOf index cpu number content → ⊥)
+unreported_here_of index cpu number ranges None at unreported = λ content t. unreported content (reports_of index cpu number content ranges at t)
+unreported_here_of index cpu number ranges (Some content) at unreported = unreported
 
 -- ---- ranges appended
 
 module _ (old new : Index) (ranges : Ranges) (items_are : new.cpus.items ≡ old.cpus.items ++ ranges ∷ [])
-    (untold : (n : ℕ) (content : Content) → HasContent ranges n content → ⊥) where
+    (unreported : (n : ℕ) (content : Content) → HasContent ranges n content → ⊥) where
   came : (cpu : ℕ) (x : Ranges) → slice_get new.cpus.items cpu ≡ Some x → (slice_get old.cpus.items cpu ≡ Some x) ⊎ ((cpu ≡ length old.cpus.items) × (x ≡ ranges))
   came cpu x at = get_pushed old.cpus.items ranges cpu x (ap (λ (xs : List Ranges). slice_get xs cpu) (sym items_are) ∙ at)
 
-  pub pushed_same : (cpu : ℕ) → TellSameOf old new cpu
+  pub pushed_same : (cpu : ℕ) → ReportSameOf old new cpu
   pushed_same cpu n content = (
-    (λ t. record { ranges = t.ranges; at = ap (λ (xs : List Ranges). slice_get xs cpu) items_are ∙ get_in_front old.cpus.items (ranges ∷ []) cpu t.ranges t.at; tells = t.tells }),
+    (λ t. record { ranges = t.ranges; at = ap (λ (xs : List Ranges). slice_get xs cpu) items_are ∙ get_in_front old.cpus.items (ranges ∷ []) cpu t.ranges t.at; reports = t.reports }),
     (λ t. ⊎_elim
-        (λ (there : slice_get old.cpus.items cpu ≡ Some t.ranges). record { ranges = t.ranges; at = there; tells = t.tells })
-        (λ (p : (cpu ≡ length old.cpus.items) × (t.ranges ≡ ranges)). absurd (untold n content (subst (λ (x : Ranges). HasContent x n content) p.1 t.tells)))
+        (λ (there : slice_get old.cpus.items cpu ≡ Some t.ranges). record { ranges = t.ranges; at = there; reports = t.reports })
+        (λ (p : (cpu ≡ length old.cpus.items) × (t.ranges ≡ ranges)). absurd (unreported n content (subst (λ (x : Ranges). HasContent x n content) p.1 t.reports)))
         (came cpu t.ranges t.at)),
   )
 
@@ -64,7 +64,7 @@ module _ (old new : Index) (ranges : Ranges) (items_are : new.cpus.items ≡ old
       (λ (p : (cpu ≡ length old.cpus.items) × (x ≡ ranges)). subst AreApart (sym p.1) apart)
       (came cpu x at)
 
-pub same_same : (old mid new : Index) (cpu : ℕ) → TellSameOf old mid cpu → TellSameOf mid new cpu → TellSameOf old new cpu
+pub same_same : (old mid new : Index) (cpu : ℕ) → ReportSameOf old mid cpu → ReportSameOf mid new cpu → ReportSameOf old new cpu
 same_same old mid new cpu a b n content =
     ((λ t. (b n content).0 ((a n content).0 t)), (λ t. (a n content).1 ((b n content).1 t)))
 
@@ -78,26 +78,26 @@ module _ (old new : Index) (cpu : ℕ) (before after : Ranges) (at : slice_get o
   other : (q : ℕ) → q ≢ cpu → slice_get new.cpus.items q ≡ slice_get old.cpus.items q
   other q apart = ap (λ (xs : List Ranges). slice_get xs q) items_are ∙ get_set_other old.cpus.items cpu q after apart
 
-  was : (n : ℕ) (content : Content) → (TellsOf old cpu n content ↔ HasContent before n content)
-  was n content = (tells_of old cpu n content before at, λ t. record { ranges = before; at = at; tells = t })
+  was : (n : ℕ) (content : Content) → (ReportsOf old cpu n content ↔ HasContent before n content)
+  was n content = (reports_of old cpu n content before at, λ t. record { ranges = before; at = at; reports = t })
 
-  is : (n : ℕ) (content : Content) → (TellsOf new cpu n content ↔ HasContent after n content)
-  is n content = (tells_of new cpu n content after here, λ t. record { ranges = after; at = here; tells = t })
+  is : (n : ℕ) (content : Content) → (ReportsOf new cpu n content ↔ HasContent after n content)
+  is n content = (reports_of new cpu n content after here, λ t. record { ranges = after; at = here; reports = t })
 
-  pub others_same : (q : ℕ) → q ≢ cpu → TellSameOf old new q
+  pub others_same : (q : ℕ) → q ≢ cpu → ReportSameOf old new q
   others_same q apart n content = (
-    (λ t. record { ranges = t.ranges; at = other q apart ∙ t.at; tells = t.tells }),
-    (λ t. record { ranges = t.ranges; at = sym (other q apart) ∙ t.at; tells = t.tells }),
+    (λ t. record { ranges = t.ranges; at = other q apart ∙ t.at; reports = t.reports }),
+    (λ t. record { ranges = t.ranges; at = sym (other q apart) ∙ t.at; reports = t.reports }),
   )
 
-  pub here_same : TellSame before after → TellSameOf old new cpu
+  pub here_same : ReportSame before after → ReportSameOf old new cpu
   here_same same n content = (
     (λ t. (is n content).1 ((same n content).0 ((was n content).0 t))),
     (λ t. (was n content).1 ((same n content).1 ((is n content).0 t))),
   )
 
   pub here_laid : (low first end parcel : ℕ) → IsLaid (HasContent before) (HasContent after) low first end parcel
-      → IsLaid (TellsOf old cpu) (TellsOf new cpu) low first end parcel
+      → IsLaid (ReportsOf old cpu) (ReportsOf new cpu) low first end parcel
   here_laid low first end parcel laid = record {
     missing = λ n from below. (is n Missing).1 (laid.missing n from below);
     missing_alone = λ n content from below t. laid.missing_alone n content from below ((is n content).0 t);
@@ -114,8 +114,8 @@ module _ (old new : Index) (cpu : ℕ) (before after : Ranges) (at : slice_get o
   }
 
 -- laying ranges over an index that states the same
-pub laid_behind : (old mid new : Index) (cpu low first end parcel : ℕ) → TellSameOf old mid cpu
-    → IsLaid (TellsOf mid cpu) (TellsOf new cpu) low first end parcel → IsLaid (TellsOf old cpu) (TellsOf new cpu) low first end parcel
+pub laid_behind : (old mid new : Index) (cpu low first end parcel : ℕ) → ReportSameOf old mid cpu
+    → IsLaid (ReportsOf mid cpu) (ReportsOf new cpu) low first end parcel → IsLaid (ReportsOf old cpu) (ReportsOf new cpu) low first end parcel
 laid_behind old mid new cpu low first end parcel same laid = record {
   missing = laid.missing;
   missing_alone = laid.missing_alone;
@@ -164,10 +164,10 @@ module _ (index copy : Index) (zip : AllZip IsCopy index.cpus.items copy.cpus.it
   pub copies_apart : AreAllApart index → AreAllApart copy
   copies_apart all cpu x at = let h = source_at cpu x at in copy_apart h.0 x h.2 (all cpu h.0 h.1)
 
-  pub copies_same : (cpu : ℕ) → TellSameOf index copy cpu
+  pub copies_same : (cpu : ℕ) → ReportSameOf index copy cpu
   copies_same cpu n content = (
     (λ t. let h = copy_at cpu t.ranges t.at in
-        record { ranges = h.0; at = h.1; tells = (keys_tell_same t.ranges h.0 (copy_keys t.ranges h.0 h.2) n content).0 t.tells }),
+        record { ranges = h.0; at = h.1; reports = (keys_report_same t.ranges h.0 (copy_keys t.ranges h.0 h.2) n content).0 t.reports }),
     (λ t. let h = source_at cpu t.ranges t.at in
-        record { ranges = h.0; at = h.1; tells = (keys_tell_same h.0 t.ranges (copy_keys h.0 t.ranges h.2) n content).1 t.tells }),
+        record { ranges = h.0; at = h.1; reports = (keys_report_same h.0 t.ranges (copy_keys h.0 t.ranges h.2) n content).1 t.reports }),
   )

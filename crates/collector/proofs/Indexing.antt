@@ -13,20 +13,20 @@ use Rattle.collector.specs.declared.ranges.Content.{Content}
 use Rattle.collector.specs.declared.ranges.Content.TheVariants.{Kept, Missing}
 use Rattle.collector.specs.declared.index.Index.{Index}
 use Rattle.collector.specs.Ranges.{IsLaid, IsCopy}
-use Rattle.collector.specs.Index.{TellsOf, AreAllApart, TellSameOf, IsIn, IsTold, IsIndexed}
+use Rattle.collector.specs.Index.{ReportsOf, AreAllApart, ReportSameOf, IsIn, IsReported, IsIndexed}
 use Rattle.collector.specs.Shown.{IsContentAt}
 use Rattle.collector.proofs.Places.{get_pushed, get_last, get_within}
 use Rattle.collector.proofs.Indexes.{copies_apart, copies_same}
 
 -- ---- none
 
-pub empty_indexed : (index : Index) → AreAllApart index → ((cpu n : ℕ) (content : Content) → TellsOf index cpu n content → ⊥) → IsIndexed [] index
-empty_indexed index apart untold = record {
+pub empty_indexed : (index : Index) → AreAllApart index → ((cpu n : ℕ) (content : Content) → ReportsOf index cpu n content → ⊥) → IsIndexed [] index
+empty_indexed index apart unreported = record {
   sound = λ k p at. absurd (none-some p at);
   apart = apart;
-  one = λ cpu n content other t u. absurd (untold cpu n content t);
-  kept = λ cpu n i t. absurd (untold cpu n (Kept i) t);
-  missing = λ cpu n t. absurd (untold cpu n Missing t);
+  one = λ cpu n content other t u. absurd (unreported cpu n content t);
+  kept = λ cpu n i t. absurd (unreported cpu n (Kept i) t);
+  missing = λ cpu n t. absurd (unreported cpu n Missing t);
   has = λ cpu n r h. absurd (none-some h.parcel h.at);
   misses = λ cpu n m. absurd (none-some m.parcel m.at);
 }
@@ -48,41 +48,41 @@ indexed_agree ps index x = record {
   one_record = λ cpu n r other h g.
       let a = x.has cpu n r h in
       let b = x.has cpu n other g in
-      let e : a.kept ≡ b.kept = kept_same a.kept b.kept (x.one cpu n (Kept a.kept) (Kept b.kept) a.tells b.tells) in
+      let e : a.kept ≡ b.kept = kept_same a.kept b.kept (x.one cpu n (Kept a.kept) (Kept b.kept) a.reports b.reports) in
       let same : a.parcel ≡ b.parcel = some_is a.parcel b.parcel (sym a.at ∙ ap (slice_get ps) e ∙ b.at) in
       same_record b.parcel cpu n r other (subst (λ (p : Parcel). IsPairOf p cpu n r) same a.pair) b.pair;
   not_missing = λ cpu n r h m.
       let a = x.has cpu n r h in
-      let e = x.one cpu n (Kept a.kept) Missing a.tells (x.misses cpu n m) in
+      let e = x.one cpu n (Kept a.kept) Missing a.reports (x.misses cpu n m) in
       cc;
 }
 
 -- ---- what is shown
 
 pub shown_of : (ps : List Parcel) (index : Index) → IsIndexed ps index → (cpu number end : ℕ) (o : Option Content)
-    → IfSome o (λ content. (n : ℕ) → number ≤ n → n < end → TellsOf index cpu n content)
-    → IfNone o ((n : ℕ) (content : Content) → number ≤ n → n < end → TellsOf index cpu n content → ⊥)
+    → IfSome o (λ content. (n : ℕ) → number ≤ n → n < end → ReportsOf index cpu n content)
+    → IfNone o ((n : ℕ) (content : Content) → number ≤ n → n < end → ReportsOf index cpu n content → ⊥)
     → (n : ℕ) → number ≤ n → n < end → IsContentAt ps cpu n o
-shown_of ps index x cpu number end (Some (Kept i)) told untold n from below = x.kept cpu n i (told n from below)
-shown_of ps index x cpu number end (Some Missing) told untold n from below = x.missing cpu n (told n from below)
-shown_of ps index x cpu number end None told untold n from below = record {
-  no_record = λ r h. let a = x.has cpu n r h in untold n (Kept a.kept) from below a.tells;
-  not_missing = λ m. untold n Missing from below (x.misses cpu n m);
+shown_of ps index x cpu number end (Some (Kept i)) reported unreported n from below = x.kept cpu n i (reported n from below)
+shown_of ps index x cpu number end (Some Missing) reported unreported n from below = x.missing cpu n (reported n from below)
+shown_of ps index x cpu number end None reported unreported n from below = record {
+  no_record = λ r h. let a = x.has cpu n r h in unreported n (Kept a.kept) from below a.reports;
+  not_missing = λ m. unreported n Missing from below (x.misses cpu n m);
 }
 
 pub shown_here : (ps : List Parcel) (index : Index) → IsIndexed ps index → (cpu number : ℕ) (o : Option Content)
-    → IfSome o (λ content. TellsOf index cpu number content)
-    → IfNone o ((content : Content) → TellsOf index cpu number content → ⊥) → IsContentAt ps cpu number o
-shown_here ps index x cpu number (Some (Kept i)) told untold = x.kept cpu number i told
-shown_here ps index x cpu number (Some Missing) told untold = x.missing cpu number told
-shown_here ps index x cpu number None told untold = record {
-  no_record = λ r h. let a = x.has cpu number r h in untold (Kept a.kept) a.tells;
-  not_missing = λ m. untold Missing (x.misses cpu number m);
+    → IfSome o (λ content. ReportsOf index cpu number content)
+    → IfNone o ((content : Content) → ReportsOf index cpu number content → ⊥) → IsContentAt ps cpu number o
+shown_here ps index x cpu number (Some (Kept i)) reported unreported = x.kept cpu number i reported
+shown_here ps index x cpu number (Some Missing) reported unreported = x.missing cpu number reported
+shown_here ps index x cpu number None reported unreported = record {
+  no_record = λ r h. let a = x.has cpu number r h in unreported (Kept a.kept) a.reports;
+  not_missing = λ m. unreported Missing (x.misses cpu number m);
 }
 
 -- ---- the same stated
 
-pub indexed_same : (ps : List Parcel) (old new : Index) → IsIndexed ps old → AreAllApart new → ((cpu : ℕ) → TellSameOf old new cpu) → IsIndexed ps new
+pub indexed_same : (ps : List Parcel) (old new : Index) → IsIndexed ps old → AreAllApart new → ((cpu : ℕ) → ReportSameOf old new cpu) → IsIndexed ps new
 indexed_same ps old new x apart same = record {
   sound = x.sound;
   apart = apart;
@@ -90,7 +90,7 @@ indexed_same ps old new x apart same = record {
   kept = λ cpu n i t. x.kept cpu n i ((same cpu n (Kept i)).1 t);
   missing = λ cpu n t. x.missing cpu n ((same cpu n Missing).1 t);
   has = λ cpu n r h. let a = x.has cpu n r h in
-      record { kept = a.kept; parcel = a.parcel; tells = (same cpu n (Kept a.kept)).0 a.tells; at = a.at; pair = a.pair };
+      record { kept = a.kept; parcel = a.parcel; reports = (same cpu n (Kept a.kept)).0 a.reports; at = a.at; pair = a.pair };
   misses = λ cpu n m. (same cpu n Missing).0 (x.misses cpu n m);
 }
 
@@ -109,8 +109,8 @@ record_at p cpu n cpu_is from below =
 module _ (ps : List Parcel) (p : Parcel) (old new : Index) (x : IsIndexed ps old) (is : IsParcel p) (agree : Agree (ps ++ p ∷ []))
     (low end : ℕ) (low_is : low + p.missed ≡ p.first) (end_is : end ≡ p.first + length p.records)
     (apart : AreAllApart new)
-    (laid : IsLaid (TellsOf old p.cpu) (TellsOf new p.cpu) low p.first end (length ps))
-    (others : (other : ℕ) → other ≢ p.cpu → TellSameOf old new other) where
+    (laid : IsLaid (ReportsOf old p.cpu) (ReportsOf new p.cpu) low p.first end (length ps))
+    (others : (other : ℕ) → other ≢ p.cpu → ReportSameOf old new other) where
   -- the parcel has nothing to do with the number
   record IsApartFrom (cpu n : ℕ) : Type 0 where
     no_pair : (r : Record) → IsPairOf p cpu n r → ⊥
@@ -118,10 +118,10 @@ module _ (ps : List Parcel) (p : Parcel) (old new : Index) (x : IsIndexed ps old
 
   -- what becomes of a number
   data Part (cpu n : ℕ) : Type 0 where
-    elsewhere : ((content : Content) → (TellsOf old cpu n content ↔ TellsOf new cpu n content)) → IsApartFrom cpu n → Part cpu n
-    missed : TellsOf new cpu n Missing → ((content : Content) → TellsOf new cpu n content → content ≡ Missing)
+    elsewhere : ((content : Content) → (ReportsOf old cpu n content ↔ ReportsOf new cpu n content)) → IsApartFrom cpu n → Part cpu n
+    missed : ReportsOf new cpu n Missing → ((content : Content) → ReportsOf new cpu n content → content ≡ Missing)
         → IsMissingOf p cpu n → Part cpu n
-    recorded : TellsOf new cpu n (Kept (length ps)) → ((content : Content) → TellsOf new cpu n content → content ≡ Kept (length ps))
+    recorded : ReportsOf new cpu n (Kept (length ps)) → ((content : Content) → ReportsOf new cpu n content → content ≡ Kept (length ps))
         → cpu ≡ p.cpu → p.first ≤ n → n < p.first + length p.records → Part cpu n
 
   part_here : (n : ℕ) → Part p.cpu n
@@ -158,45 +158,45 @@ module _ (ps : List Parcel) (p : Parcel) (old new : Index) (x : IsIndexed ps old
   misses_own : (cpu n : ℕ) → IsMissingOf p cpu n → Misses (ps ++ p ∷ []) cpu n
   misses_own cpu n missing = record { index = length ps; parcel = p; at = get_last ps p; missing = missing }
 
-  one_of : (cpu n : ℕ) (content other : Content) → Part cpu n → TellsOf new cpu n content → TellsOf new cpu n other → content ≡ other
+  one_of : (cpu n : ℕ) (content other : Content) → Part cpu n → ReportsOf new cpu n content → ReportsOf new cpu n other → content ≡ other
   one_of cpu n content other (elsewhere same not) t u = x.one cpu n content other ((same content).1 t) ((same other).1 u)
   one_of cpu n content other (missed there alone m) t u = alone content t ∙ sym (alone other u)
   one_of cpu n content other (recorded there alone c from below) t u = alone content t ∙ sym (alone other u)
 
-  kept_of : (cpu n i : ℕ) → Part cpu n → TellsOf new cpu n (Kept i) → IsIn (ps ++ p ∷ []) i cpu n
+  kept_of : (cpu n i : ℕ) → Part cpu n → ReportsOf new cpu n (Kept i) → IsIn (ps ++ p ∷ []) i cpu n
   kept_of cpu n i (elsewhere same not) t = let a = x.kept cpu n i ((same (Kept i)).1 t) in
       record { parcel = a.parcel; at = get_in_front ps (p ∷ []) i a.parcel a.at; cpu_is = a.cpu_is; from = a.from; below = a.below }
   kept_of cpu n i (missed there alone m) t = absurd (let e = alone (Kept i) t in cc)
   kept_of cpu n i (recorded there alone c from below) t = let e : i ≡ length ps = kept_same i (length ps) (alone (Kept i) t) in
       record { parcel = p; at = ap (slice_get (ps ++ p ∷ [])) e ∙ get_last ps p; cpu_is = c; from = from; below = below }
 
-  missing_of : (cpu n : ℕ) → Part cpu n → TellsOf new cpu n Missing → Misses (ps ++ p ∷ []) cpu n
+  missing_of : (cpu n : ℕ) → Part cpu n → ReportsOf new cpu n Missing → Misses (ps ++ p ∷ []) cpu n
   missing_of cpu n (elsewhere same not) t = (joined_left ps (p ∷ [])).misses cpu n (x.missing cpu n ((same Missing).1 t))
   missing_of cpu n (missed there alone m) t = misses_own cpu n m
   missing_of cpu n (recorded there alone c from below) t = absurd (let e = alone Missing t in cc)
 
-  old_has : (cpu n : ℕ) (r : Record) → Part cpu n → Has ps cpu n r → IsTold (ps ++ p ∷ []) new cpu n r
+  old_has : (cpu n : ℕ) (r : Record) → Part cpu n → Has ps cpu n r → IsReported (ps ++ p ∷ []) new cpu n r
   old_has cpu n r (elsewhere same not) h = let a = x.has cpu n r h in
-      record { kept = a.kept; parcel = a.parcel; tells = (same (Kept a.kept)).0 a.tells; at = get_in_front ps (p ∷ []) a.kept a.parcel a.at; pair = a.pair }
+      record { kept = a.kept; parcel = a.parcel; reports = (same (Kept a.kept)).0 a.reports; at = get_in_front ps (p ∷ []) a.kept a.parcel a.at; pair = a.pair }
   old_has cpu n r (missed there alone m) h = absurd (agree.not_missing cpu n r ((joined_left ps (p ∷ [])).has cpu n r h) (misses_own cpu n m))
   old_has cpu n r (recorded there alone c from below) h =
       let own = record_at p cpu n c from below in
       let e : own.0 ≡ r = agree.one_record cpu n own.0 r (has_own cpu n own.0 own.1) ((joined_left ps (p ∷ [])).has cpu n r h) in
-      record { kept = length ps; parcel = p; tells = there; at = get_last ps p; pair = subst (IsPairOf p cpu n) e own.1 }
+      record { kept = length ps; parcel = p; reports = there; at = get_last ps p; pair = subst (IsPairOf p cpu n) e own.1 }
 
-  own_has : (cpu n : ℕ) (r : Record) → Part cpu n → IsPairOf p cpu n r → IsTold (ps ++ p ∷ []) new cpu n r
+  own_has : (cpu n : ℕ) (r : Record) → Part cpu n → IsPairOf p cpu n r → IsReported (ps ++ p ∷ []) new cpu n r
   own_has cpu n r (elsewhere same not) pair = absurd (not.no_pair r pair)
   own_has cpu n r (missed there alone m) pair = absurd (agree.not_missing cpu n r (has_own cpu n r pair) (misses_own cpu n m))
   own_has cpu n r (recorded there alone c from below) pair =
-      record { kept = length ps; parcel = p; tells = there; at = get_last ps p; pair = pair }
+      record { kept = length ps; parcel = p; reports = there; at = get_last ps p; pair = pair }
 
-  old_misses : (cpu n : ℕ) → Part cpu n → Misses ps cpu n → TellsOf new cpu n Missing
+  old_misses : (cpu n : ℕ) → Part cpu n → Misses ps cpu n → ReportsOf new cpu n Missing
   old_misses cpu n (elsewhere same not) m = (same Missing).0 (x.misses cpu n m)
   old_misses cpu n (missed there alone own) m = there
   old_misses cpu n (recorded there alone c from below) m = let own = record_at p cpu n c from below in
       absurd (agree.not_missing cpu n own.0 (has_own cpu n own.0 own.1) ((joined_left ps (p ∷ [])).misses cpu n m))
 
-  own_misses : (cpu n : ℕ) → Part cpu n → IsMissingOf p cpu n → TellsOf new cpu n Missing
+  own_misses : (cpu n : ℕ) → Part cpu n → IsMissingOf p cpu n → ReportsOf new cpu n Missing
   own_misses cpu n (elsewhere same not) m = absurd (not.not_missing m)
   own_misses cpu n (missed there alone own) m = there
   own_misses cpu n (recorded there alone c from below) m = let under = m.high in absurd (omega arith)
@@ -224,10 +224,10 @@ module _ (ps : List Parcel) (p : Parcel) (old new : Index) (x : IsIndexed ps old
 -- the same, by what the parcel's calls state of it
 pub kept_indexed_at : (ps : List Parcel) (p : Parcel) (old new : Index) → IsIndexed ps old → IsParcel p → Agree (ps ++ p ∷ [])
     → (cpu low first end at : ℕ) → cpu ≡ p.cpu → first ≡ p.first → low + p.missed ≡ p.first → end ≡ p.first + length p.records
-    → at ≡ length ps → AreAllApart new → IsLaid (TellsOf old cpu) (TellsOf new cpu) low first end at
-    → ((other : ℕ) → other ≢ cpu → TellSameOf old new other) → IsIndexed (ps ++ p ∷ []) new
+    → at ≡ length ps → AreAllApart new → IsLaid (ReportsOf old cpu) (ReportsOf new cpu) low first end at
+    → ((other : ℕ) → other ≢ cpu → ReportSameOf old new other) → IsIndexed (ps ++ p ∷ []) new
 kept_indexed_at ps p old new x is agree cpu low first end at cpu_is first_is low_is end_is at_is apart laid others =
-    let at_cpu : IsLaid (TellsOf old p.cpu) (TellsOf new p.cpu) low first end at = subst (λ (q : ℕ). IsLaid (TellsOf old q) (TellsOf new q) low first end at) cpu_is laid in
-    let at_first : IsLaid (TellsOf old p.cpu) (TellsOf new p.cpu) low p.first end at = subst (λ (q : ℕ). IsLaid (TellsOf old p.cpu) (TellsOf new p.cpu) low q end at) first_is at_cpu in
-    let laid_at : IsLaid (TellsOf old p.cpu) (TellsOf new p.cpu) low p.first end (length ps) = subst (λ (q : ℕ). IsLaid (TellsOf old p.cpu) (TellsOf new p.cpu) low p.first end q) at_is at_first in
-    kept_indexed ps p old new x is agree low end low_is end_is apart laid_at (subst (λ (q : ℕ). (other : ℕ) → other ≢ q → TellSameOf old new other) cpu_is others)
+    let at_cpu : IsLaid (ReportsOf old p.cpu) (ReportsOf new p.cpu) low first end at = subst (λ (q : ℕ). IsLaid (ReportsOf old q) (ReportsOf new q) low first end at) cpu_is laid in
+    let at_first : IsLaid (ReportsOf old p.cpu) (ReportsOf new p.cpu) low p.first end at = subst (λ (q : ℕ). IsLaid (ReportsOf old p.cpu) (ReportsOf new p.cpu) low q end at) first_is at_cpu in
+    let laid_at : IsLaid (ReportsOf old p.cpu) (ReportsOf new p.cpu) low p.first end (length ps) = subst (λ (q : ℕ). IsLaid (ReportsOf old p.cpu) (ReportsOf new p.cpu) low p.first end q) at_is at_first in
+    kept_indexed ps p old new x is agree low end low_is end_is apart laid_at (subst (λ (q : ℕ). (other : ℕ) → other ≢ q → ReportSameOf old new other) cpu_is others)

@@ -9,7 +9,7 @@ use Rattle.trace_model.specs.Parcel.{Parcel, IsPairOf}
 use Rattle.trace_model.specs.Collection.{Has, Misses, Agree}
 use Rattle.trace_model.proofs.collections.Elements.{some_is}
 use Rattle.page_borrow.specs.declared.entries.Entry.{Entry}
-use Rattle.page_borrow.specs.Entries.{told}
+use Rattle.page_borrow.specs.Entries.{numbered_record}
 use Rattle.collector.specs.declared.ranges.Content.{Content}
 use Rattle.collector.specs.declared.ranges.Content.TheVariants.{Kept, Missing}
 use Rattle.collector.specs.Index.{IsIn}
@@ -48,8 +48,8 @@ kept_not_missing ps i cpu n agree x m = let found = record_at x.parcel cpu n x.c
 -- what a call of `next` gives, over the records of a parcel from a number on
 module _ (ps : List Parcel) (i cpu n : ℕ) (q : Parcel) (at : slice_get ps i ≡ Some q) (x : IsIn ps i cpu n)
     (s t : List (ℕ × Record)) (r : Option Entry) (left : s ≡ enumerate_from n (drop (n - q.first) q.records))
-    (step : YieldsFirstBy told (λ (left : List (ℕ × Record)). left) s r t) where
-  read_is : (o : Record) → IsPairOf q cpu n o → option_map told r ≡ Some (n, o)
+    (step : YieldsFirstBy numbered_record (λ (left : List (ℕ × Record)). left) s r t) where
+  read_is : (o : Record) → IsPairOf q cpu n o → option_map numbered_record r ≡ Some (n, o)
   read_is o pair = let is = pair.number_is in
       (next_is n (n - q.first) q.records s t r left step).0
       ∙ ap (option_map (numbered n)) (ap (slice_get q.records) (let e : n - q.first ≡ pair.index = omega arith in e) ∙ pair.record_is)
@@ -57,23 +57,23 @@ module _ (ps : List Parcel) (i cpu n : ℕ) (q : Parcel) (at : slice_get ps i �
   found : (o : Record) × IsPairOf q cpu n o
   found = let is = in_is ps i cpu n q at x in record_at q cpu n is.0 is.1 is.2
 
-  number_of : (r : Option Entry) (o : Record) → option_map told r ≡ Some (n, o) → IfSome r (λ entry. (told entry).0 ≡ n)
+  number_of : (r : Option Entry) (o : Record) → option_map numbered_record r ≡ Some (n, o) → IfSome r (λ entry. (numbered_record entry).0 ≡ n)
   number_of None o e = tt
-  number_of (Some entry) o e = let h : told entry ≡ (n, o) = some_is (told entry) (n, o) e in ap (λ (p : ℕ × Record). p.0) h
+  number_of (Some entry) o e = let h : numbered_record entry ≡ (n, o) = some_is (numbered_record entry) (n, o) e in ap (λ (p : ℕ × Record). p.0) h
 
-  has_of : (r : Option Entry) (o : Record) → option_map told r ≡ Some (n, o) → Has ps cpu n o → IfSome r (λ entry. Has ps cpu n (told entry).1)
+  has_of : (r : Option Entry) (o : Record) → option_map numbered_record r ≡ Some (n, o) → Has ps cpu n o → IfSome r (λ entry. Has ps cpu n (numbered_record entry).1)
   has_of None o e h = tt
-  has_of (Some entry) o e h = let same : told entry ≡ (n, o) = some_is (told entry) (n, o) e in
+  has_of (Some entry) o e h = let same : numbered_record entry ≡ (n, o) = some_is (numbered_record entry) (n, o) e in
       subst (Has ps cpu n) (ap (λ (p : ℕ × Record). p.1) (sym same)) h
 
-  none_of : (r : Option Entry) (o : Record) → option_map told r ≡ Some (n, o) → IfNone r ((z : Record) → Has ps cpu n z → ⊥)
+  none_of : (r : Option Entry) (o : Record) → option_map numbered_record r ≡ Some (n, o) → IfNone r ((z : Record) → Has ps cpu n z → ⊥)
   none_of None o e = absurd (none-some (n, o) e)
   none_of (Some entry) o e = tt
 
-  pub read_number : IfSome r (λ entry. (told entry).0 ≡ n)
+  pub read_number : IfSome r (λ entry. (numbered_record entry).0 ≡ n)
   read_number = number_of r found.0 (read_is found.0 found.1)
 
-  pub read_has : IfSome r (λ entry. Has ps cpu n (told entry).1)
+  pub read_has : IfSome r (λ entry. Has ps cpu n (numbered_record entry).1)
   read_has = has_of r found.0 (read_is found.0 found.1) record { index = i; parcel = q; at = at; pair = found.1 }
 
   pub read_none : IfNone r ((z : Record) → Has ps cpu n z → ⊥)

@@ -9,7 +9,7 @@ use Rattle.trace_model.specs.Record.{Record}
 use Rattle.trace_model.specs.Parcel.{Parcel}
 use Rattle.collector.specs.Entries.{record_of, numbered}
 use Rattle.page_borrow.specs.declared.entries.Entry.{Entry}
-use Rattle.page_borrow.specs.Entries.{told}
+use Rattle.page_borrow.specs.Entries.{numbered_record}
 use Rattle.page_borrow.specs.contracts.entries.EntryPartialEq.TheImpl.{eq-value}
 
 -- what is left after k records: none, or the next one and what is left after it
@@ -28,8 +28,8 @@ both : (p q : Bool) → (p && q) ≡ true → (p ≡ true) × (q ≡ true)
 both true q e = (refl, e)
 both false q e = cc
 
-same_told : (a b : Entry) → eq-value.it a b ≡ true → told a ≡ told b
-same_told a b e =
+same_reported : (a b : Entry) → eq-value.it a b ≡ true → numbered_record a ≡ numbered_record b
+same_reported a b e =
     let first = both (eqb a.number.0 b.number.0) (eqb a.moment.0 b.moment.0 && bytes_eq a.bytes.now b.bytes.now) (sym (entry_test a b) ∙ e) in
     let second = both (eqb a.moment.0 b.moment.0) (bytes_eq a.bytes.now b.bytes.now) first.1 in
     let number = eqb-true a.number.0 b.number.0 first.0 in
@@ -37,31 +37,31 @@ same_told a b e =
     let bytes = (bytes_eq-Decides a.bytes.now b.bytes.now).0 second.1 in
     λ i. (number i, record { moment = moment i; bytes = bytes i })
 
-told_same : (a b : Entry) → told a ≡ told b → eq-value.it a b ≡ true
-told_same a b e =
+reported_same : (a b : Entry) → numbered_record a ≡ numbered_record b → eq-value.it a b ≡ true
+reported_same a b e =
     let number = eq-eqb a.number.0 b.number.0 (ap (λ (p : ℕ × Record). p.0) e) in
     let moment = eq-eqb a.moment.0 b.moment.0 (ap (λ (p : ℕ × Record). p.1.moment) e) in
     let bytes = (bytes_eq-Decides a.bytes.now b.bytes.now).1 (ap (λ (p : ℕ × Record). p.1.bytes) e) in
     entry_test a b ∙ rw (number, moment, bytes) refl
 
 -- what `==` of what two calls of `next` gave says
-pub entries_same : (r s : Option Entry) → option_eq eq-value.it r s ≡ true → option_map told r ≡ option_map told s
+pub entries_same : (r s : Option Entry) → option_eq eq-value.it r s ≡ true → option_map numbered_record r ≡ option_map numbered_record s
 entries_same None None e = refl
 entries_same None (Some b) e = cc
 entries_same (Some a) None e = cc
-entries_same (Some a) (Some b) e = ap Some (same_told a b e)
+entries_same (Some a) (Some b) e = ap Some (same_reported a b e)
 
-pub entries_differ : (r s : Option Entry) → option_eq eq-value.it r s ≡ false → option_map told r ≡ option_map told s → ⊥
+pub entries_differ : (r s : Option Entry) → option_eq eq-value.it r s ≡ false → option_map numbered_record r ≡ option_map numbered_record s → ⊥
 entries_differ None None e same = cc
 entries_differ None (Some b) e same = cc
 entries_differ (Some a) None e same = cc
 entries_differ (Some a) (Some b) e same =
-    let h = told_same a b (let t : told a ≡ told b = cc in t) in cc
+    let h = reported_same a b (let t : numbered_record a ≡ numbered_record b = cc in t) in cc
 
 -- one call of `next`
 pub next_is : (n k : ℕ) (rs : List Record) (s t : List (ℕ × Record)) (r : Option Entry)
-    → s ≡ enumerate_from n (drop k rs) → YieldsFirstBy told (λ (left : List (ℕ × Record)). left) s r t
-    → (option_map told r ≡ option_map (numbered n) (slice_get rs k)) × (t ≡ enumerate_from (n + 1) (drop (suc k) rs))
+    → s ≡ enumerate_from n (drop k rs) → YieldsFirstBy numbered_record (λ (left : List (ℕ × Record)). left) s r t
+    → (option_map numbered_record r ≡ option_map (numbered n) (slice_get rs k)) × (t ≡ enumerate_from (n + 1) (drop (suc k) rs))
 next_is n k rs s t None left step = ⊎_elim
     (λ none. (sym (ap (option_map (numbered n)) none.1), step.1 ∙ sym (ap (enumerate_from (n + 1)) none.2)))
     (λ some. absurd (cons_not_none (n, some.0) (enumerate_from (n + 1) (drop (suc k) rs)) (sym (ap (enumerate_from n) some.1) ∙ sym left ∙ step.0)))
@@ -70,10 +70,10 @@ next_is n k rs s t None left step = ⊎_elim
     cons_not_none : {A : Type 0} (x : A) (xs : List A) → x ∷ xs ≡ [] → ⊥
     cons_not_none x xs e = cc
 next_is n k rs s t (Some entry) left step = ⊎_elim
-    (λ none. absurd (cons_not_none (told entry) t (sym step ∙ left ∙ ap (enumerate_from n) none.0)))
+    (λ none. absurd (cons_not_none (numbered_record entry) t (sym step ∙ left ∙ ap (enumerate_from n) none.0)))
     (λ some.
-    let e : told entry ∷ t ≡ (n, some.0) ∷ enumerate_from (n + 1) (drop (suc k) rs) = sym step ∙ left ∙ ap (enumerate_from n) some.1 in
-    (ap Some (let h : told entry ≡ (n, some.0) = cc in h) ∙ sym (ap (option_map (numbered n)) some.2), cc))
+    let e : numbered_record entry ∷ t ≡ (n, some.0) ∷ enumerate_from (n + 1) (drop (suc k) rs) = sym step ∙ left ∙ ap (enumerate_from n) some.1 in
+    (ap Some (let h : numbered_record entry ≡ (n, some.0) = cc in h) ∙ sym (ap (option_map (numbered n)) some.2), cc))
     (drop_at rs k)
   where
     cons_not_none : {A : Type 0} (x : A) (xs : List A) → x ∷ xs ≡ [] → ⊥
@@ -87,12 +87,12 @@ numbered_same n (Some a) (Some b) e = ap Some (let h : numbered n a ≡ numbered
 
 -- two parcels' records under one number, by what two calls of `next` gave
 module _ (p q : Parcel) (n : ℕ) (s t u v : List (ℕ × Record)) (r o : Option Entry)
-    (left : s ≡ enumerate_from n (drop (n - p.first) p.records)) (step : YieldsFirstBy told (λ (left : List (ℕ × Record)). left) s r t)
-    (left' : u ≡ enumerate_from n (drop (n - q.first) q.records)) (step' : YieldsFirstBy told (λ (left : List (ℕ × Record)). left) u o v) where
-  own : option_map told r ≡ option_map (numbered n) (record_of p n)
+    (left : s ≡ enumerate_from n (drop (n - p.first) p.records)) (step : YieldsFirstBy numbered_record (λ (left : List (ℕ × Record)). left) s r t)
+    (left' : u ≡ enumerate_from n (drop (n - q.first) q.records)) (step' : YieldsFirstBy numbered_record (λ (left : List (ℕ × Record)). left) u o v) where
+  own : option_map numbered_record r ≡ option_map (numbered n) (record_of p n)
   own = (next_is n (n - p.first) p.records s t r left step).0
 
-  others : option_map told o ≡ option_map (numbered n) (record_of q n)
+  others : option_map numbered_record o ≡ option_map (numbered n) (record_of q n)
   others = (next_is n (n - q.first) q.records u v o left' step').0
 
   pub same_here : option_eq eq-value.it r o ≡ true → record_of p n ≡ record_of q n
@@ -103,7 +103,7 @@ module _ (p q : Parcel) (n : ℕ) (s t u v : List (ℕ × Record)) (r o : Option
 
 -- what is left after one call of `next`
 pub left_behind : (p : Parcel) (n : ℕ) (s t : List (ℕ × Record)) (r : Option Entry) → p.first ≤ n
-    → s ≡ enumerate_from n (drop (n - p.first) p.records) → YieldsFirstBy told (λ (left : List (ℕ × Record)). left) s r t
+    → s ≡ enumerate_from n (drop (n - p.first) p.records) → YieldsFirstBy numbered_record (λ (left : List (ℕ × Record)). left) s r t
     → t ≡ enumerate_from (n + 1) (drop (n + 1 - p.first) p.records)
 left_behind p n s t r from left step =
     let e : suc (n - p.first) ≡ n + 1 - p.first = omega arith in

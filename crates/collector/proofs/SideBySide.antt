@@ -19,7 +19,7 @@ use Rattle.collector.specs.Index.{IsIn}
 use Rattle.collector.specs.Entries.{record_of}
 use Rattle.collector.specs.Shown.{IsUnknown, IsContentAt}
 use Rattle.collector.specs.Beside.{pair_of, IsTaken, IsBeside, IsSeen, IsSameAt, FitTogether}
-use Rattle.collector.specs.Faults.{IsClashAt, IsTakenAndMissingAt, IsInFront, AgreeInFront}
+use Rattle.collector.specs.Faults.{IsClashAt, IsTakenAndMissingAt, IsBeforeNumber, AgreeBefore}
 use Rattle.collector.proofs.Indexing.{record_at}
 use Rattle.collector.proofs.Looking.{in_within}
 
@@ -314,13 +314,13 @@ fit_agree ps qs sound agree others_agree fits = record {
 
 pub front_fits : (ps qs : List Parcel) (cpu n : ℕ) → AreSound ps → Agree ps → Agree qs
     → ((c m : ℕ) → c < cpu → m < 2 ^ 64 - 1 → FitTogether ps qs c m) → ((m : ℕ) → m < n → FitTogether ps qs cpu m)
-    → AgreeInFront (ps ++ qs) cpu n
+    → AgreeBefore (ps ++ qs) cpu n
 front_fits ps qs cpu n sound agree others_agree before here = record {
   no_clash = λ c m front clash. clash.differ (fit_one ps qs c m agree others_agree (fit c m front) clash.one clash.other clash.has clash.has_other);
   none_taken_and_missing = λ c m front both. fit_not_both ps qs c m agree others_agree (fit c m front) both.one both.has both.misses;
 }
   where
-    fit : (c m : ℕ) → IsInFront c m cpu n → FitTogether ps qs c m
+    fit : (c m : ℕ) → IsBeforeNumber c m cpu n → FitTogether ps qs c m
     fit c m front = ⊎_elim
         (λ (lt : c < cpu). ⊎_elim
         (λ (small : m < 2 ^ 64 - 1). before c m lt small)

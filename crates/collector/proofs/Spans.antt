@@ -13,7 +13,7 @@ use Rattle.collector.specs.declared.ranges.Content.{Content}
 use Rattle.collector.specs.declared.ranges.Span.{Span}
 use Rattle.collector.specs.declared.ranges.Ranges.{Ranges}
 use Rattle.collector.specs.declared.ranges.Content.TheVariants.{Kept, Missing}
-use Rattle.collector.specs.Ranges.{HasContent, TellSame, IsFree, KeepsEdges, IsLaid}
+use Rattle.collector.specs.Ranges.{HasContent, ReportSame, IsFree, KeepsEdges, IsLaid}
 
 -- ---- one key
 
@@ -54,8 +54,8 @@ module _ (old mid new : BTreeMap ℕ Span) (first place : ℕ) (span front : Spa
   others_are q not_first not_place = others_stay mid new first (Some front) front_set q not_first
       ∙ others_stay old mid place (Some span) behind_set q not_place
 
-  old_told : (number : ℕ) (content : Content) → HasContent record { spans = old } number content → HasContent record { spans = new } number content
-  old_told number content t = ⊎_elim
+  old_reported : (number : ℕ) (content : Content) → HasContent record { spans = old } number content → HasContent record { spans = new } number content
+  old_reported number content t = ⊎_elim
       (λ (e : t.first ≡ first).
       let same : t.span ≡ span = let a = t.at in let b = subst (λ (q : ℕ). get nat_cmp old q ≡ Some t.span) e t.at in cc in
       let below : number < span.end = subst (λ (s : Span). number < s.end) same t.below in
@@ -70,8 +70,8 @@ module _ (old mid new : BTreeMap ℕ Span) (first place : ℕ) (span front : Spa
       record { first = t.first; span = t.span; at = others_are t.first apart not_place ∙ t.at; from = t.from; below = t.below; content_is = t.content_is })
       (cases_eq t.first first)
 
-  new_told : (number : ℕ) (content : Content) → HasContent record { spans = new } number content → HasContent record { spans = old } number content
-  new_told number content t = ⊎_elim
+  new_reported : (number : ℕ) (content : Content) → HasContent record { spans = new } number content → HasContent record { spans = old } number content
+  new_reported number content t = ⊎_elim
       (λ (e : t.first ≡ first).
       let same : t.span ≡ front = let b = subst (λ (q : ℕ). get nat_cmp new q ≡ Some t.span) e t.at in let h = front_set.1 in cc in
       let below : number < front.end = subst (λ (s : Span). number < s.end) same t.below in
@@ -87,8 +87,8 @@ module _ (old mid new : BTreeMap ℕ Span) (first place : ℕ) (span front : Spa
       (cases_eq t.first place))
       (cases_eq t.first first)
 
-  pub cut_tells_same : TellSame record { spans = old } record { spans = new }
-  cut_tells_same number content = (old_told number content, new_told number content)
+  pub cut_reports_same : ReportSame record { spans = old } record { spans = new }
+  cut_reports_same number content = (old_reported number content, new_reported number content)
 
 -- ---- a mark
 
@@ -120,8 +120,8 @@ edges_marked ranges mid new place empty end_is set keeps = record {
 
 -- ---- a parcel laid
 
-pub tell_same : (old mid new : Ranges) → TellSame old mid → TellSame mid new → TellSame old new
-tell_same old mid new a b number content =
+pub report_same : (old mid new : Ranges) → ReportSame old mid → ReportSame mid new → ReportSame old new
+report_same old mid new a b number content =
     ((λ t. (b number content).0 ((a number content).0 t)), (λ t. (a number content).1 ((b number content).1 t)))
 
 -- what a set has set
@@ -131,28 +131,28 @@ pub record IsSet (old new : Ranges) (first end : ℕ) (content : Content) : Type
   pub in_front : (n : ℕ) (other : Content) → n < first → (HasContent old n other ↔ HasContent new n other)
   pub behind : (n : ℕ) (other : Content) → end ≤ n → (HasContent old n other ↔ HasContent new n other)
 
-pub both_laid : (old ready mid new : Ranges) (low first end parcel : ℕ) → low ≤ first → first ≤ end → TellSame old ready
+pub both_laid : (old ready mid new : Ranges) (low first end parcel : ℕ) → low ≤ first → first ≤ end → ReportSame old ready
     → IsSet ready mid low first Missing → IsSet mid new first end (Kept parcel) → IsLaid (HasContent old) (HasContent new) low first end parcel
 both_laid old ready mid new low first end parcel up on same a b = record {
   missing = λ n from below. (b.in_front n Missing below).0 (a.inside n from below);
   missing_alone = λ n content from below t. a.alone n content from below ((b.in_front n content below).1 t);
   kept = b.inside;
   kept_alone = b.alone;
-  in_front = λ n content lt. tell_same_at n content
-      (tell_same_at n content (same n content) (a.in_front n content lt)) (b.in_front n content (omega arith));
-  behind = λ n content ge. tell_same_at n content
-      (tell_same_at n content (same n content) (a.behind n content (omega arith))) (b.behind n content ge);
+  in_front = λ n content lt. report_same_at n content
+      (report_same_at n content (same n content) (a.in_front n content lt)) (b.in_front n content (omega arith));
+  behind = λ n content ge. report_same_at n content
+      (report_same_at n content (same n content) (a.behind n content (omega arith))) (b.behind n content ge);
 }
   where
-    tell_same_at : (n : ℕ) (content : Content) {x y z : Ranges} → (HasContent x n content ↔ HasContent y n content)
+    report_same_at : (n : ℕ) (content : Content) {x y z : Ranges} → (HasContent x n content ↔ HasContent y n content)
         → (HasContent y n content ↔ HasContent z n content) → (HasContent x n content ↔ HasContent z n content)
-    tell_same_at n content f g = ((λ t. g.0 (f.0 t)), (λ t. f.1 (g.1 t)))
+    report_same_at n content f g = ((λ t. g.0 (f.0 t)), (λ t. f.1 (g.1 t)))
 
 -- ---- a parcel laid where nothing is stated
 
 -- the same ranges state the same
-pub keys_tell_same : (old new : Ranges) → ((q : ℕ) → get nat_cmp new.spans q ≡ get nat_cmp old.spans q) → TellSame old new
-keys_tell_same old new same number content = (
+pub keys_report_same : (old new : Ranges) → ((q : ℕ) → get nat_cmp new.spans q ≡ get nat_cmp old.spans q) → ReportSame old new
+keys_report_same old new same number content = (
   (λ t. record { first = t.first; span = t.span; at = same t.first ∙ t.at; from = t.from; below = t.below; content_is = t.content_is }),
   (λ t. record { first = t.first; span = t.span; at = sym (same t.first) ∙ t.at; from = t.from; below = t.below; content_is = t.content_is }),
 )
@@ -176,8 +176,8 @@ module _ (old mid : Ranges) (low first end : ℕ) (up : low ≤ first) (on : fir
 
   -- without the missing numbers all is as it was
   pub undone : (refused new : Ranges) → first < end → ((q : ℕ) → get nat_cmp refused.spans q ≡ get nat_cmp mid.spans q)
-      → Updates nat_cmp refused.spans new.spans low None → TellSame old new
-  undone refused new some same removed = keys_tell_same old new (λ q. ⊎_elim
+      → Updates nat_cmp refused.spans new.spans low None → ReportSame old new
+  undone refused new some same removed = keys_report_same old new (λ q. ⊎_elim
       (λ (e : q ≡ low). ap (λ (k : ℕ). get nat_cmp new.spans k) e ∙ removed.1
       ∙ sym (ap (λ (k : ℕ). get nat_cmp old.spans k) e ∙ free.none low (omega arith) (omega arith)))
       (λ (apart : q ≡ low → ⊥). others_stay refused.spans new.spans low None removed q apart ∙ same q ∙ others q (λ _. apart))

@@ -21,18 +21,18 @@ pub record IsTakenAndMissingAt (parcels : List Parcel) (cpu number : ℕ) : Type
   pub misses : Misses parcels cpu number
 
 -- of a smaller CPU, or of the same CPU and smaller
-abbrev pub IsInFront : (cpu number other_cpu other : ℕ) → Type 0
-IsInFront cpu number other_cpu other = (cpu < other_cpu) ⊎ ((cpu ≡ other_cpu) × (number < other))
+abbrev pub IsBeforeNumber : (cpu number other_cpu other : ℕ) → Type 0
+IsBeforeNumber cpu number other_cpu other = (cpu < other_cpu) ⊎ ((cpu ≡ other_cpu) × (number < other))
 
 -- the parcels aren't at odds under any number before this one
-pub record AgreeInFront (parcels : List Parcel) (cpu number : ℕ) : Type 0 where
-  pub no_clash : (c n : ℕ) → IsInFront c n cpu number → IsClashAt parcels c n → ⊥
-  pub none_taken_and_missing : (c n : ℕ) → IsInFront c n cpu number → IsTakenAndMissingAt parcels c n → ⊥
+pub record AgreeBefore (parcels : List Parcel) (cpu number : ℕ) : Type 0 where
+  pub no_clash : (c n : ℕ) → IsBeforeNumber c n cpu number → IsClashAt parcels c n → ⊥
+  pub none_taken_and_missing : (c n : ℕ) → IsBeforeNumber c n cpu number → IsTakenAndMissingAt parcels c n → ⊥
 
 -- What a fault says of the parcels that were to be put together: this is the least number under which they are at
 -- odds, or they agree, and memory was refused.
 abbrev pub IsAddFault : List Parcel → AddFault → Type 0
-IsAddFault parcels (Clash cpu number) = IsClashAt parcels cpu.0 number.0 × AgreeInFront parcels cpu.0 number.0
+IsAddFault parcels (Clash cpu number) = IsClashAt parcels cpu.0 number.0 × AgreeBefore parcels cpu.0 number.0
 IsAddFault parcels (TakenAndMissing cpu number) =
-    IsTakenAndMissingAt parcels cpu.0 number.0 × AgreeInFront parcels cpu.0 number.0
+    IsTakenAndMissingAt parcels cpu.0 number.0 × AgreeBefore parcels cpu.0 number.0
 IsAddFault parcels NoMemory = Agree parcels

@@ -12,19 +12,19 @@ use Rattle.collector.specs.Ranges.{HasContent, AreApart}
 use Rattle.collector.specs.Sound.{AreSound}
 
 -- the ranges of the CPU state this of the number
-pub record TellsOf (index : Index) (cpu number : ℕ) (content : Content) : Type 0 where
+pub record ReportsOf (index : Index) (cpu number : ℕ) (content : Content) : Type 0 where
   pub ranges : Ranges
   pub at : slice_get index.cpus.items cpu ≡ Some ranges
-  pub tells : HasContent ranges number content
+  pub reports : HasContent ranges number content
 
 -- no range of a CPU reaches into a later one
 abbrev pub AreAllApart : Index → Type 0
 AreAllApart index = (cpu : ℕ) (ranges : Ranges) → slice_get index.cpus.items cpu ≡ Some ranges → AreApart ranges
 
 -- both state the same of each number of this CPU
-abbrev pub TellSameOf : Index → Index → ℕ → Type 0
-TellSameOf old new cpu = (number : ℕ) (content : Content)
-    → (TellsOf old cpu number content ↔ TellsOf new cpu number content)
+abbrev pub ReportSameOf : Index → Index → ℕ → Type 0
+ReportSameOf old new cpu = (number : ℕ) (content : Content)
+    → (ReportsOf old cpu number content ↔ ReportsOf new cpu number content)
 
 -- the kept parcel at this index has a record under the number
 pub record IsIn (parcels : List Parcel) (index cpu number : ℕ) : Type 0 where
@@ -35,10 +35,10 @@ pub record IsIn (parcels : List Parcel) (index cpu number : ℕ) : Type 0 where
   pub below : number < parcel.first + length parcel.records
 
 -- some kept parcel has this record under the number, and the index states which
-pub record IsTold (parcels : List Parcel) (index : Index) (cpu number : ℕ) (r : Record) : Type 0 where
+pub record IsReported (parcels : List Parcel) (index : Index) (cpu number : ℕ) (r : Record) : Type 0 where
   pub kept : ℕ
   pub parcel : Parcel
-  pub tells : TellsOf index cpu number (Kept kept)
+  pub reports : ReportsOf index cpu number (Kept kept)
   pub at : slice_get parcels kept ≡ Some parcel
   pub pair : IsPairOf parcel cpu number r
 
@@ -47,8 +47,8 @@ pub record IsIndexed (parcels : List Parcel) (index : Index) : Type 0 where
   pub sound : AreSound parcels
   pub apart : AreAllApart index
   pub one : (cpu number : ℕ) (content other : Content)
-      → TellsOf index cpu number content → TellsOf index cpu number other → content ≡ other
-  pub kept : (cpu number i : ℕ) → TellsOf index cpu number (Kept i) → IsIn parcels i cpu number
-  pub missing : (cpu number : ℕ) → TellsOf index cpu number Missing → Misses parcels cpu number
-  pub has : (cpu number : ℕ) (r : Record) → Has parcels cpu number r → IsTold parcels index cpu number r
-  pub misses : (cpu number : ℕ) → Misses parcels cpu number → TellsOf index cpu number Missing
+      → ReportsOf index cpu number content → ReportsOf index cpu number other → content ≡ other
+  pub kept : (cpu number i : ℕ) → ReportsOf index cpu number (Kept i) → IsIn parcels i cpu number
+  pub missing : (cpu number : ℕ) → ReportsOf index cpu number Missing → Misses parcels cpu number
+  pub has : (cpu number : ℕ) (r : Record) → Has parcels cpu number r → IsReported parcels index cpu number r
+  pub misses : (cpu number : ℕ) → Misses parcels cpu number → ReportsOf index cpu number Missing

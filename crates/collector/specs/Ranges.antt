@@ -40,8 +40,8 @@ pub record IsFree (ranges : Ranges) (low end : ℕ) : Type 0 where
   pub none : (q : ℕ) → low ≤ q → q < end → get nat_cmp ranges.spans q ≡ None
 
 -- both state the same of each number
-abbrev pub TellSame : Ranges → Ranges → Type 0
-TellSame old new = (number : ℕ) (content : Content) → (HasContent old number content ↔ HasContent new number content)
+abbrev pub ReportSame : Ranges → Ranges → Type 0
+ReportSame old new = (number : ℕ) (content : Content) → (HasContent old number content ↔ HasContent new number content)
 
 -- both have the same ranges
 abbrev pub IsCopy : Ranges → Ranges → Type 0

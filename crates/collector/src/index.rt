@@ -2,7 +2,7 @@
 ghost use Rattle.std.specs.Prelude.{◌≡◌, ◌≢◌, ℕ, ◌<◌, ◌≤◌, ◌↔◌, length, IfSome, IfNone, IfOk, OnOk, OnErr};
 ghost use Rattle.std.specs.List.{AllZip};
 ghost use Rattle.collector.specs.Ranges.{IsLaid, IsCopy};
-ghost use Rattle.collector.specs.Index.{TellsOf, AreAllApart, TellSameOf};
+ghost use Rattle.collector.specs.Index.{ReportsOf, AreAllApart, ReportSameOf};
 ghost use Rattle.collector.specs.declared.ranges.Content.{Content};
 
 use crate::ranges::{Content, Ranges, Stretch};
@@ -20,7 +20,7 @@ impl Index {
     /// Nothing is known of any number.
     pub(crate) fn new(alloc: Global) -> Index
         ensures apart { AreAllApart result }
-        ensures untold { (cpu number : ℕ) (content : Content) → TellsOf result cpu number content → ⊥ }
+        ensures unreported { (cpu number : ℕ) (content : Content) → ReportsOf result cpu number content → ⊥ }
     {
         Index {
             cpus: Vec::new(alloc),
@@ -45,12 +45,12 @@ impl Index {
     /// What is known of a number of a CPU, and of those after it.
     pub(crate) fn stretch(&self, cpu: CpuId, number: u64) -> Stretch
         requires { AreAllApart self.now }
-        ensures told { IfSome result.content (λ content. (n : ℕ) → number ≤ n → n < result.end
-            → TellsOf self.now cpu.0 n content) }
-        ensures untold { IfNone result.content ((n : ℕ) (content : Content) → number ≤ n → n < result.end
-            → TellsOf self.now cpu.0 n content → ⊥) }
-        ensures here { IfSome result.content (λ content. TellsOf self.now cpu.0 number content) }
-        ensures untold_here { IfNone result.content ((content : Content) → TellsOf self.now cpu.0 number content → ⊥) }
+        ensures reported { IfSome result.content (λ content. (n : ℕ) → number ≤ n → n < result.end
+            → ReportsOf self.now cpu.0 n content) }
+        ensures unreported { IfNone result.content ((n : ℕ) (content : Content) → number ≤ n → n < result.end
+            → ReportsOf self.now cpu.0 n content → ⊥) }
+        ensures here { IfSome result.content (λ content. ReportsOf self.now cpu.0 number content) }
+        ensures unreported_here { IfNone result.content ((content : Content) → ReportsOf self.now cpu.0 number content → ⊥) }
         ensures goes_on { number < u64.MAX → number < result.end }
     {
         match self.cpus.get(cpu.0 as usize) {
@@ -66,7 +66,7 @@ impl Index {
     fn grow(&mut self, cpu: usize) -> Result<(), NoMemory>
         requires { AreAllApart self.old }
         ensures apart { AreAllApart self.new }
-        ensures same { (cpu : ℕ) → TellSameOf self.old self.new cpu }
+        ensures same { (cpu : ℕ) → ReportSameOf self.old self.new cpu }
         ensures grown { OnOk result (cpu < length self.new.cpus.items) }
     {
         while self.cpus.len() <= cpu {
@@ -89,9 +89,9 @@ impl Index {
         requires low { low ≤ first }
         requires forward { first ≤ end }
         ensures apart { AreAllApart self.new }
-        ensures laid { OnOk result (IsLaid (TellsOf self.old cpu.0) (TellsOf self.new cpu.0) low first end parcel) }
-        ensures others { (other : ℕ) → other ≢ cpu.0 → TellSameOf self.old self.new other }
-        ensures refused { OnErr result ((cpu : ℕ) → TellSameOf self.old self.new cpu) }
+        ensures laid { OnOk result (IsLaid (ReportsOf self.old cpu.0) (ReportsOf self.new cpu.0) low first end parcel) }
+        ensures others { (other : ℕ) → other ≢ cpu.0 → ReportSameOf self.old self.new other }
+        ensures refused { OnErr result ((cpu : ℕ) → ReportSameOf self.old self.new cpu) }
     {
         self.grow(cpu.0 as usize)?;
         self.cpus[cpu.0 as usize].lay(low, first, end, parcel)

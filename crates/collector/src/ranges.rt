@@ -2,7 +2,7 @@
 ghost use Rattle.std.specs.Prelude.{◌≡◌, ◌≢◌, ℕ, ◌+◌, ◌^◌, ◌<◌, ◌≤◌, ◌↔◌, Some, None, IsSome, IsTrue, IfSome, IfNone, IfOk, OnOk, OnErr};
 ghost use Rattle.std.specs.Ordering.{nat_cmp};
 ghost use Rattle.std.specs.BTreeMap.{get};
-ghost use Rattle.collector.specs.Ranges.{HasSpan, AreApart, MayLay, HasContent, TellSame, IsMarked, IsCut, IsFree, KeepsEdges, IsLaid, IsCopy};
+ghost use Rattle.collector.specs.Ranges.{HasSpan, AreApart, MayLay, HasContent, ReportSame, IsMarked, IsCut, IsFree, KeepsEdges, IsLaid, IsCopy};
 ghost use Rattle.collector.specs.declared.ranges.Content.{Content};
 ghost use Rattle.collector.specs.declared.ranges.Span.{Span};
 
@@ -82,7 +82,7 @@ fn clear_between(spans: &mut BTreeMap<u64, Span>, front: u64, end: u64)
 impl Ranges {
     /// Nothing is known of any number.
     pub(crate) fn new(alloc: Global) -> Ranges
-        ensures untold { (number : ℕ) (content : Content) → HasContent result number content → ⊥ }
+        ensures unreported { (number : ℕ) (content : Content) → HasContent result number content → ⊥ }
         ensures apart { AreApart result }
     {
         Ranges {
@@ -102,12 +102,12 @@ impl Ranges {
     /// What is known of a number and of those after it.
     pub(crate) fn stretch(&self, number: u64) -> Stretch
         requires { AreApart self.now }
-        ensures told { IfSome result.content (λ content. (n : ℕ) → number ≤ n → n < result.end
+        ensures reported { IfSome result.content (λ content. (n : ℕ) → number ≤ n → n < result.end
             → HasContent self.now n content) }
-        ensures untold { IfNone result.content ((n : ℕ) (content : Content) → number ≤ n → n < result.end
+        ensures unreported { IfNone result.content ((n : ℕ) (content : Content) → number ≤ n → n < result.end
             → HasContent self.now n content → ⊥) }
         ensures here { IfSome result.content (λ content. HasContent self.now number content) }
-        ensures untold_here { IfNone result.content ((content : Content) → HasContent self.now number content → ⊥) }
+        ensures unreported_here { IfNone result.content ((content : Content) → HasContent self.now number content → ⊥) }
         ensures goes_on { number < u64.MAX → number < result.end }
     {
         match last_up_to(&self.spans, number) {
@@ -126,7 +126,7 @@ impl Ranges {
     fn cut(&mut self, place: u64) -> Result<(), NoMemory>
         requires { AreApart self.old }
         ensures apart { AreApart self.new }
-        ensures same { TellSame self.old self.new }
+        ensures same { ReportSame self.old self.new }
         ensures cut { OnOk result (IsCut self.new place) }
         ensures edges { KeepsEdges self.old self.new }
     {
@@ -145,7 +145,7 @@ impl Ranges {
     fn mark(&mut self, place: u64) -> Result<(), NoMemory>
         requires { AreApart self.old }
         ensures apart { AreApart self.new }
-        ensures same { TellSame self.old self.new }
+        ensures same { ReportSame self.old self.new }
         ensures cut { OnOk result (IsCut self.new place) }
         ensures marked { OnOk result (IsMarked self.new place) }
         ensures edges { KeepsEdges self.old self.new }
@@ -230,7 +230,7 @@ impl Ranges {
         requires free { IsFree self.old low end }
         ensures apart { AreApart self.new }
         ensures laid { OnOk result (IsLaid (HasContent self.old) (HasContent self.new) low first end parcel) }
-        ensures refused { OnErr result (TellSame self.old self.new) }
+        ensures refused { OnErr result (ReportSame self.old self.new) }
     {
         self.put(low, first, Content::Missing)?;
         match self.put(first, end, Content::Kept(parcel)) {
@@ -254,7 +254,7 @@ impl Ranges {
         requires { MayLay self.old low first end }
         ensures apart { AreApart self.new }
         ensures laid { OnOk result (IsLaid (HasContent self.old) (HasContent self.new) low first end parcel) }
-        ensures refused { OnErr result (TellSame self.old self.new) }
+        ensures refused { OnErr result (ReportSame self.old self.new) }
     {
         if self.is_free(low, end) {
             return self.lay_free(low, first, end, parcel);

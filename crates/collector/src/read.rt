@@ -9,12 +9,12 @@ impl Collector {
     ghost use Rattle.std.specs.Prelude.{◌≡◌, ℕ, ◌↔◌, IfSome, IfNone, IsTrue};
     ghost use Rattle.trace_model.specs.Record.{Record};
     ghost use Rattle.trace_model.specs.Collection.{Has, Misses};
-    ghost use Rattle.page_borrow.specs.Entries.{told};
+    ghost use Rattle.page_borrow.specs.Entries.{numbered_record};
 
     /// The record of a CPU under a number, if there is one.
     pub fn get(&self, cpu: CpuId, number: RecordNo) -> Option<Entry<'_>>
-        ensures number { IfSome result (λ entry. (told entry).0 ≡ number.0) }
-        ensures has { IfSome result (λ entry. Has self.now cpu.0 number.0 (told entry).1) }
+        ensures number { IfSome result (λ entry. (numbered_record entry).0 ≡ number.0) }
+        ensures has { IfSome result (λ entry. Has self.now cpu.0 number.0 (numbered_record entry).1) }
         ensures none { IfNone result ((r : Record) → Has self.now cpu.0 number.0 r → ⊥) }
     {
         match self.stretch(cpu, number.0).content {

@@ -38,7 +38,7 @@ impl<'a> fmt::Debug for MissingRuns<'a> {
 }
 
 /// Whether this states that numbers are missing.
-fn tells_missing(content: Option<Content>) -> bool
+fn reports_missing(content: Option<Content>) -> bool
     ensures yes { IsTrue result → content ≡ Some Content.Missing }
     ensures no { IsFalse result → content ≡ Some Content.Missing → ⊥ }
 {
@@ -59,7 +59,7 @@ fn next_missing(collector: &Collector, cpu: CpuId, number: u64) -> Option<u64>
     let mut at = number;
     while at < u64::MAX {
         let stretch = collector.stretch(cpu, at);
-        if tells_missing(stretch.content) {
+        if reports_missing(stretch.content) {
             return Some(at);
         }
         at = stretch.end;
@@ -76,7 +76,7 @@ fn end_of_run(collector: &Collector, cpu: CpuId, first: u64) -> u64
     let mut end = first;
     while end < u64::MAX {
         let stretch = collector.stretch(cpu, end);
-        if !tells_missing(stretch.content) {
+        if !reports_missing(stretch.content) {
             return end;
         }
         end = stretch.end;
@@ -86,12 +86,12 @@ fn end_of_run(collector: &Collector, cpu: CpuId, first: u64) -> u64
 
 impl<'a> Iterator for MissingRuns<'a> {
     ghost use Rattle.std.specs.Iterator.{YieldsFirstBy, item_count};
-    ghost use Rattle.collector.specs.Runs.{run_told};
+    ghost use Rattle.collector.specs.Runs.{run_reported};
 
     type Item = (RecordNo, RecordNo);
 
     // Each call gives the first of the runs that are left.
-    ghost next_gives = { YieldsFirstBy run_told (λ left. left) };
+    ghost next_gives = { YieldsFirstBy run_reported (λ left. left) };
 
     ghost remaining = { item_count (λ left. left) };
 

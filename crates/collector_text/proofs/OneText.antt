@@ -153,29 +153,29 @@ one_runs_text cpu (a ∷ xs) (b ∷ ys) same =
     ∙ ap (λ (text : List ℕ). flat_map (printed_missing cpu) b ++ text) rest
 
 -- what shows a collector shows each that is the same
-pub same_are_told : (parcels others : List Parcel) (shown : Shown) → IsSame parcels others → IsPrintOf parcels shown
+pub same_are_reported : (parcels others : List Parcel) (shown : Shown) → IsSame parcels others → IsPrintOf parcels shown
     → IsPrintOf others shown
-same_are_told parcels others shown same told = record {
+same_are_reported parcels others shown same reported = record {
   lines = record {
-    ordered = told.lines.ordered;
-    of_them = λ k line at. same.below.has _ _ _ (told.lines.of_them k line at);
-    whole = λ cpu number r has. told.lines.whole cpu number r (same.above.has cpu number r has);
+    ordered = reported.lines.ordered;
+    of_them = λ k line at. same.below.has _ _ _ (reported.lines.of_them k line at);
+    whole = λ cpu number r has. reported.lines.whole cpu number r (same.above.has cpu number r has);
   };
   runs = λ cpu. record {
-    forward = (told.runs cpu).forward;
-    apart = (told.runs cpu).apart;
-    of_them = λ n h. same.below.misses cpu n ((told.runs cpu).of_them n h);
-    whole = λ n h. (told.runs cpu).whole n (same.above.misses cpu n h);
+    forward = (reported.runs cpu).forward;
+    apart = (reported.runs cpu).apart;
+    of_them = λ n h. same.below.misses cpu n ((reported.runs cpu).of_them n h);
+    whole = λ n h. (reported.runs cpu).whole n (same.above.misses cpu n h);
   };
 }
 
 -- a collector has one text
 pub one_text : (parcels : List Parcel) (shown other : Shown) (number : ℕ) → IsPrintOf parcels shown → IsPrintOf parcels other
     → printed_collector number shown ≡ printed_collector number other
-one_text parcels shown other number told also =
-    let lines = one_listing parcels parcels shown.lines other.lines (same_itself parcels) told.lines also.lines in
+one_text parcels shown other number reported also =
+    let lines = one_listing parcels parcels shown.lines other.lines (same_itself parcels) reported.lines also.lines in
     let runs : (k : ℕ) → runs_of shown.runs k ≡ runs_of other.runs k = λ k.
-    one_runs (Misses parcels k) (runs_of shown.runs k) (runs_of other.runs k) (told.runs k) (also.runs k) in
+    one_runs (Misses parcels k) (runs_of shown.runs k) (runs_of other.runs k) (reported.runs k) (also.runs k) in
     let text = one_runs_text 0 shown.runs other.runs runs in
     rw (lines, text) refl
 
@@ -188,14 +188,14 @@ text_of_all number shown =
 one_text_of_all : (number : ℕ) (collectors : List (List Parcel)) (shown other : List Shown)
     → AllZip IsPrintOf collectors shown → AllZip IsPrintOf collectors other
     → text_of_all number shown ≡ text_of_all number other
-one_text_of_all number [] [] [] told also = refl
-one_text_of_all number [] [] (o ∷ os) told also = absurd also
-one_text_of_all number [] (s ∷ ss) other told also = absurd told
-one_text_of_all number (c ∷ cs) [] other told also = absurd told
-one_text_of_all number (c ∷ cs) (s ∷ ss) [] told also = absurd also
-one_text_of_all number (c ∷ cs) (s ∷ ss) (o ∷ os) told also =
-    let first = one_text c s o number told.0 also.0 in
-    let rest = one_text_of_all (number + 1) cs ss os told.1 also.1 in
+one_text_of_all number [] [] [] reported also = refl
+one_text_of_all number [] [] (o ∷ os) reported also = absurd also
+one_text_of_all number [] (s ∷ ss) other reported also = absurd reported
+one_text_of_all number (c ∷ cs) [] other reported also = absurd reported
+one_text_of_all number (c ∷ cs) (s ∷ ss) [] reported also = absurd also
+one_text_of_all number (c ∷ cs) (s ∷ ss) (o ∷ os) reported also =
+    let first = one_text c s o number reported.0 also.0 in
+    let rest = one_text_of_all (number + 1) cs ss os reported.1 also.1 in
     ap (λ (text : List ℕ). text ++ text_of_all (number + 1) ss) first
     ∙ ap (λ (text : List ℕ). printed_collector number o ++ text) rest
 
@@ -203,6 +203,6 @@ one_text_of_all number (c ∷ cs) (s ∷ ss) (o ∷ os) told also =
 pub one_world_text : (collectors : List (List Parcel)) (shown other : List Shown) (asked : Bool) (log : List LogLine)
     → AllZip IsPrintOf collectors shown → AllZip IsPrintOf collectors other
     → printed_world asked log shown ≡ printed_world asked log other
-one_world_text collectors shown other asked log told also =
+one_world_text collectors shown other asked log reported also =
     ap (λ (text : List ℕ). (if asked then flat_map printed_log_line log else []) ++ text)
-    (one_text_of_all 0 collectors shown other told also)
+    (one_text_of_all 0 collectors shown other reported also)

@@ -12,15 +12,15 @@ use Rattle.collector.specs.Runs.{AreMissingRuns}
 use Rattle.text_model.specs.Text.{line_feed}
 use Rattle.world_model.specs.Printing.{Shown, printed_collector, printed_line, printed_runs}
 use Rattle.collector_text.specs.Prints.{IsPrintOf, StandsBetween, runs_of, text_below}
-use Rattle.collector_text.proofs.OneText.{same_are_told}
+use Rattle.collector_text.proofs.OneText.{same_are_reported}
 
 -- the lines and the runs are what is below a collector's head line
-pub told_below : (parcels : List Parcel) (before middle out : List ℕ) (lines : List Line) → IsListing parcels lines
+pub reported_below : (parcels : List Parcel) (before middle out : List ℕ) (lines : List Line) → IsListing parcels lines
     → middle ≡ before ++ flat_map printed_line lines
     → (runs : List (List (ℕ × ℕ))) × ((cpu : ℕ) → AreMissingRuns parcels cpu (runs_of runs cpu))
     × (out ≡ middle ++ printed_runs runs)
     → (shown : Shown) × IsPrintOf parcels shown × (out ≡ before ++ text_below shown)
-told_below parcels before middle out lines is text put = (
+reported_below parcels before middle out lines is text put = (
   record { lines = lines; runs = put.0 },
   record { lines = is; runs = put.1 },
   put.2
@@ -29,12 +29,12 @@ told_below parcels before middle out lines is text put = (
 )
 
 -- a collector that is the same is shown by what is put once more
-pub told_again : (others parcels : List Parcel) (before out : List ℕ) (start end : ℕ) → IsSame others parcels
+pub reported_again : (others parcels : List Parcel) (before out : List ℕ) (start end : ℕ) → IsSame others parcels
     → StandsBetween others before start end → out ≡ before ++ slice_range before start end
     → (shown : Shown) × IsPrintOf parcels shown × (out ≡ before ++ text_below shown)
-told_again others parcels before out start end same stands text = (
+reported_again others parcels before out start end same stands text = (
   stands.shown,
-  same_are_told others parcels stands.shown same stands.tells,
+  same_are_reported others parcels stands.shown same stands.reports,
   text ∙ ap (λ (t : List ℕ). before ++ t) stands.is,
 )
 
@@ -54,7 +54,7 @@ stands_kept parcels text more out start end is stands =
     let inside = stands.inside in
     subst (λ (t : List ℕ). StandsBetween parcels t start end) (sym is) record {
       shown = stands.shown;
-      tells = stands.tells;
+      reports = stands.reports;
       forward = stands.forward;
       inside = omega arith;
       is = range_kept text more start end stands.forward stands.inside ∙ stands.is;
@@ -64,13 +64,13 @@ stands_kept parcels text more out start end is stands =
 pub stands_last : (parcels : List Parcel) (text out : List ℕ) (start end : ℕ) → start ≡ length text → end ≡ length out
     → (shown : Shown) × IsPrintOf parcels shown × (out ≡ text ++ text_below shown)
     → StandsBetween parcels out start end
-stands_last parcels text out start end begin last (shown, tells, is) =
+stands_last parcels text out start end begin last (shown, reports, is) =
     let longer = length-append text (text_below shown) in
     let all : length out ≡ length text + length (text_below shown) = ap length is ∙ longer in
     let so_many : end - start ≡ length (text_below shown) = omega arith in
     record {
       shown = shown;
-      tells = tells;
+      reports = reports;
       forward = omega arith;
       inside = omega arith;
       is = rw (so_many, is, begin, drop-append_seam text (text_below shown)) (take_all _ _ (omega arith));
@@ -104,9 +104,9 @@ again_more text so_far part out start at behind low high inside before of put =
     ∙ ap (λ (t : List ℕ). text ++ t) (sym (range_more text start at behind low high))
 
 -- a head line and what is below it are a collector's text
-pub told_whole : (parcels : List Parcel) (number : ℕ) (before middle out : List ℕ)
+pub reported_whole : (parcels : List Parcel) (number : ℕ) (before middle out : List ℕ)
     → middle ≡ before ++ (codes "collector " ++ decimal number ++ line_feed ∷ [])
     → (shown : Shown) × IsPrintOf parcels shown × (out ≡ middle ++ text_below shown)
     → (shown : Shown) × IsPrintOf parcels shown × (out ≡ before ++ printed_collector number shown)
-told_whole parcels number before middle out head (shown, tells, is) =
-    (shown, tells, rw (is, head) (simp append_assoc))
+reported_whole parcels number before middle out head (shown, reports, is) =
+    (shown, reports, rw (is, head) (simp append_assoc))

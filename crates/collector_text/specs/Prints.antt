@@ -28,7 +28,7 @@ text_below shown = flat_map printed_line shown.lines ++ printed_runs shown.runs
 -- The text between these places states what the collector has and misses.
 pub record StandsBetween (collector : List Parcel) (text : List ℕ) (start end : ℕ) : Type 0 where
   pub shown : Shown
-  pub tells : IsPrintOf collector shown
+  pub reports : IsPrintOf collector shown
   pub forward : start ≤ end
   pub inside : end ≤ length text
   pub is : slice_range text start end ≡ text_below shown

@@ -89,7 +89,7 @@ fn put_whole(
     span: Span,
 ) -> Result<Span, NoMemory>
     requires { IfSome before (λ b. StandsBetween b.now out.old.items span.start span.end) }
-    ensures told { OnOk result ((shown : Shown) × IsPrintOf collector.now shown
+    ensures reported { OnOk result ((shown : Shown) × IsPrintOf collector.now shown
         × (out.new.items ≡ out.old.items ++ printed_collector number shown)) }
     ensures below { IfOk result (λ own. StandsBetween collector.now out.new.items own.start own.end) }
     ensures behind { IsPrefix out.old.items out.new.items }
@@ -114,7 +114,7 @@ pub fn put_collector(
     span: Span,
 ) -> Result<Span, NoMemory>
     requires { IfSome before (λ b. StandsBetween b.now out.old.items span.start span.end) }
-    ensures told { OnOk result ((shown : Shown) × IsPrintOf collector.now shown
+    ensures reported { OnOk result ((shown : Shown) × IsPrintOf collector.now shown
         × (out.new.items ≡ out.old.items ++ printed_collector number shown)) }
     ensures below { IfOk result (λ own. StandsBetween collector.now out.new.items own.start own.end) }
     ensures kept { OnErr result (out.new.items ≡ out.old.items) }

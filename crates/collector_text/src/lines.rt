@@ -3,8 +3,8 @@ ghost use Rattle.std.specs.Prelude.{◌≡◌, ◌+◌, ◌≤◌, [], ◌∷◌
 ghost use Rattle.std.specs.Fmt.{decimal};
 ghost use Rattle.text_model.specs.Text.{space};
 ghost use Rattle.trace_model.specs.Sublist.{IsPrefix};
-ghost use Rattle.trace_model.specs.Listing.{Line as LineTold, IsListing};
-ghost use Rattle.time_merge.specs.Lines.{line_told};
+ghost use Rattle.trace_model.specs.Listing.{Line as ModelLine, IsListing};
+ghost use Rattle.time_merge.specs.Lines.{line_seen};
 ghost use Rattle.world_model.specs.Printing.{printed_line};
 
 use collector::Collector;
@@ -47,7 +47,7 @@ fn put_front(out: &mut Vec<u8>, line: &Line<'_>) -> Result<(), NoMemory>
 
 /// A record's line: its CPU, its number, its moment and its payload. On an error a part of that may be put.
 fn put_line(out: &mut Vec<u8>, line: &Line<'_>) -> Result<(), NoMemory>
-    ensures text { OnOk result (out.new.items ≡ out.old.items ++ printed_line (line_told line.now)) }
+    ensures text { OnOk result (out.new.items ≡ out.old.items ++ printed_line (line_seen line.now)) }
     ensures behind { IsPrefix out.old.items out.new.items }
 {
     put_front(out, line)?;
@@ -58,7 +58,7 @@ fn put_line(out: &mut Vec<u8>, line: &Line<'_>) -> Result<(), NoMemory>
 
 /// These lines, in their order. On an error a part of that may be put.
 fn put_each(out: &mut Vec<u8>, lines: &[Line<'_>]) -> Result<(), NoMemory>
-    ensures text { OnOk result (out.new.items ≡ out.old.items ++ flat_map printed_line (map line_told lines.now)) }
+    ensures text { OnOk result (out.new.items ≡ out.old.items ++ flat_map printed_line (map line_seen lines.now)) }
     ensures behind { IsPrefix out.old.items out.new.items }
 {
     for line in lines {
@@ -73,7 +73,7 @@ pub(crate) fn put_lines(
     out: &mut Vec<u8>,
     collector: &Collector,
 ) -> Result<(), NoMemory>
-    ensures text { OnOk result ((lines : List LineTold) × IsListing collector.now lines
+    ensures text { OnOk result ((lines : List ModelLine) × IsListing collector.now lines
         × (out.new.items ≡ out.old.items ++ flat_map printed_line lines)) }
     ensures behind { IsPrefix out.old.items out.new.items }
 {

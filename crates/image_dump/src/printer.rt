@@ -4,7 +4,7 @@ ghost use Rattle.std.specs.Fmt.{decimal};
 ghost use Rattle.text_model.specs.Printing.{missed_text, printed_image, printed_image_record};
 ghost use Rattle.page_image.specs.Contents.{IsPage, records_of_page};
 ghost use Rattle.page_image.specs.Images.{missed_of};
-ghost use Rattle.page_borrow.specs.Entries.{told};
+ghost use Rattle.page_borrow.specs.Entries.{numbered_record};
 ghost use Rattle.image_dump.specs.ImageFaults.{reader_fault_text, word_fault_text};
 
 use page_borrow::{Entry, records};
@@ -29,7 +29,7 @@ fn put_missed(out: &mut Vec<u8>, missed: Missed) -> Result<(), NoMemory>
 
 /// The line of a record as it is in its page.
 fn put_entry(out: &mut Vec<u8>, entry: Entry) -> Result<(), NoMemory>
-    ensures { OnOk result (out.new.items ≡ out.old.items ++ printed_image_record (told entry.entry).1) }
+    ensures { OnOk result (out.new.items ≡ out.old.items ++ printed_image_record (numbered_record entry.entry).1) }
 {
     put_number(out, entry.moment.0)?;
     out.push(b' ')?;

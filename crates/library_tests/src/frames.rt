@@ -1,7 +1,7 @@
 //! What a stack does by itself, which no exchange with a ring can show: the rows of a ring are in the text that
 //! `ring_rows` reads.
 ghost use Rattle.std.specs.Prelude.{IfOk};
-ghost use Rattle.nested_writer.specs.IsStack.{Stands};
+ghost use Rattle.nested_writer.specs.IsStack.{IsReachedStack};
 
 use nested_writer::Wrote::{Nothing, Record};
 use nested_writer::{Allot, Ended, WriteFault, WriterStack};
@@ -47,7 +47,7 @@ fn a_record_written_alone_leaves_no_frame(rt: HostRuntime) -> Result<(), Fail> {
 
 /// A stack of 4 pages whose one frame, a close frame, needed no page until a record came.
 fn late_to_close(rt: &(impl Abort + AllocGlobal)) -> Result<WriterStack, NoMemory>
-    ensures { IfOk result (λ stack. Stands stack) }
+    ensures { IfOk result (λ stack. IsReachedStack stack) }
 {
     let mut stack = WriterStack::new(rt.alloc(), 4, 32)?;
     assert!(rt; stack.begin_close() == Ok(()));
@@ -62,8 +62,8 @@ fn late_to_close(rt: &(impl Abort + AllocGlobal)) -> Result<WriterStack, NoMemor
 
 /// The page is added, and the frame on top, which needed it, is ended.
 fn end_with_page(rt: &impl Abort, stack: &mut WriterStack, body: Body)
-    requires { Stands stack.old }
-    ensures { Stands stack.new }
+    requires { IsReachedStack stack.old }
+    ensures { IsReachedStack stack.new }
 {
     assert!(rt; stack.awaits_page());
     assert!(rt; stack.size() == body.size());

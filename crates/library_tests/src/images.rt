@@ -64,21 +64,21 @@ fn compare(
     rt: &(impl Abort + AllocGlobal),
     bytes: &[u8],
     page: &Page,
-    told: Missed,
+    reported: Missed,
 ) -> Result<(), ImageFault> {
     let image = read_image(rt.alloc(), bytes)?;
-    assert!(rt; image.time == page.time() && image.size == page.end() && image.missed == told);
+    assert!(rt; image.time == page.time() && image.size == page.end() && image.missed == reported);
     assert!(rt; image.page.has_data_of(page));
     Ok(())
 }
 
 #[test]
 fn an_image_has_its_page_and_what_was_missed(rt: HostRuntime) -> Result<(), Fail> {
-    for (size, moment, payload, missed, told, bytes) in IMAGES {
+    for (size, moment, payload, missed, reported, bytes) in IMAGES {
         let page = page_of(&rt, *size, *moment, payload)?;
         assert!(rt; page.time() == *moment);
         assert!(rt; page.write_image(rt.alloc(), *missed)?.as_slice() == *bytes);
-        compare(&rt, bytes, &page, *told)?;
+        compare(&rt, bytes, &page, *reported)?;
     }
     Ok(())
 }

@@ -96,7 +96,7 @@ const PLACES: &[(usize, usize, bool)] = &[
 ];
 
 #[test]
-fn a_page_tells_what_was_put_into_it(rt: HostRuntime) -> Result<(), Fail> {
+fn a_page_reports_what_was_put_into_it(rt: HostRuntime) -> Result<(), Fail> {
     let page = page_of(&rt, rt.alloc(), ROOM, FAR_APART)?;
     compare(&rt, &page, ROOM);
     for (start, len, is_place) in PLACES {

@@ -12,7 +12,7 @@ use Rattle.trace_model.specs.Steps.{frames_after_leave, with_new_tail}
 use Rattle.world_model.specs.Lanes.{payloads_left}
 use Rattle.line_model.specs.Lines.{LineState, OpenFrame, frame_count, with_top_stepped, TopRun, state_after, finishing_after, MayLeaveTop, MayGo, stays_on, goes}
 use Rattle.line_model.specs.WriterCalls.{Writer, writer_of}
-use Rattle.line_model.specs.CallEvents.{DoesntFit, Makes, goes_on, begins, has_reserved, leaves, leaves_fill, closes_one, finds_wish, is_gone, AreOpenFrames, Agrees}
+use Rattle.line_model.specs.CallEvents.{DoesntFit, CallMakes, goes_on, begins, has_reserved, leaves, leaves_fill, closes_one, finds_wish, is_gone, AreOpenFrames, Agrees}
 
 -- ---- frames and payloads
 
@@ -156,7 +156,7 @@ module _ (n size depth : ℕ) (c : Core) (frame : Frame) (below : List Frame) (d
 
     pub last_makes : (after : Core)
         → IsTrue (is_settled c.history)
-        → Makes n size c frame below after
+        → CallMakes n size c frame below after
         → (c.opened < after.opened → c.opened < c.done + n)
         → To payloads (line_state c.history (counts head c.done c.opened) [] true) (writer_of after)
     last_makes after settled (goes_on phase held fit e) room =
@@ -393,7 +393,7 @@ module _ (n size depth : ℕ) (c : Core) (frame : Frame) (below : List Frame) (d
     }
 
     pub top_makes : (after : Core)
-        → Makes n size c frame below after
+        → CallMakes n size c frame below after
         → (c.opened < after.opened → c.opened < c.done + n)
         → To (top.payload ∷ others) from (writer_of after)
     top_makes after (goes_on phase st fit e) room = subst (To (top.payload ∷ others) from) (sym e) record {

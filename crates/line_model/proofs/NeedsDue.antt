@@ -1,8 +1,8 @@
 -- A frame that is refused a page was about to reserve, and needed one.
 use Rattle.std.proofs.Common.{◌≡◌, ℕ, List, [], ◌∷◌, refl, sym, subst}
 use Rattle.trace_model.specs.Frames.{Kind, for_record, for_close, FrameState, waiting, reserved, left, Phase, idle, looking, claiming, looking_next, marking, clearing, opening, releasing, wishing, Frame, Refusal, too_deep, too_long, late_moment, crowded, worn, no_frame, not_reserved}
-use Rattle.trace_model.specs.Ring.{ReaderPhase, loading_link, loading_done, storing_link, swapping, Core}
-use Rattle.trace_model.specs.Steps.{Event, Answer, pushed, going, reserved_as, pending, full, gone, refused, reading, empty, moving, swapped, wished_for, leave_answer, begin_answer, end_answer, Step}
+use Rattle.trace_model.specs.Ring.{ReaderPhase, loading_head, loading_done, storing_spare_link, swapping, Core}
+use Rattle.trace_model.specs.Steps.{Event, Answer, pushed, going, reserved_as, pending, full, gone, refused, reading, empty, moving, page_taken, wished_for, leave_answer, begin_answer, end_answer, Step}
 use Rattle.trace_model.proofs.steps.StepCases.{StepCases, PushRefused, all_stand, has_no_room, comes_late, BeginsAgain, IdleStep, reserves, finds_nothing, is_crowded, is_worn, notes, load_link_late, sees_free, sees_header, sees_update, claim_late, claims, claim_fails, load_next_late, sees_normal, sees_other, mark_late, marks, mark_fails, clears, open_late, opens, releases, releases_last, grants, closes_more, goes_away, FrameStep, loads_header, loads_update, loads_owed, loads_passed, finds_none, finds_closed, swaps, swap_fails, ReadStep, push_step, push_refused, close_step, close_refused, frame_step, frame_lacks, end_step, end_lacks, end_early, read_step, store_wish_step}
 use Rattle.trace_model.proofs.steps.StepSound.{cases_of}
 use Rattle.link_marks.specs.AnswerLaws.{IsInNeed}
@@ -29,7 +29,7 @@ module _ (n size : ℕ) (c : Core) where
   Due reading = Unit {0}
   Due (empty done) = Unit {0}
   Due (moving fill) = Unit {0}
-  Due (swapped t) = Unit {0}
+  Due (page_taken t) = Unit {0}
   Due (wished_for fill) = Unit {0}
 
   due : (answer a : Answer) → answer ≡ a → Due a → Due answer
@@ -98,13 +98,13 @@ module _ (n size : ℕ) (c : Core) where
   push_due moment len why (comes_late few fits tardy) = tt
 
   read_due : (phase : ReaderPhase) (answer : Answer) (after : Core) → ReadStep n c phase answer after → Due answer
-  read_due loading_link answer after (loads_header page fill at a is) = due answer _ a tt
-  read_due loading_link answer after (loads_update page lost at a is) = due answer _ a tt
-  read_due loading_link answer after (loads_owed page at a is) = due answer _ a tt
-  read_due loading_link answer after (loads_passed page fill least at more sum a is) = due answer _ a tt
+  read_due loading_head answer after (loads_header page fill at a is) = due answer _ a tt
+  read_due loading_head answer after (loads_update page lost at a is) = due answer _ a tt
+  read_due loading_head answer after (loads_owed page at a is) = due answer _ a tt
+  read_due loading_head answer after (loads_passed page fill least at more sum a is) = due answer _ a tt
   read_due (loading_done page fill) answer after (finds_none le a is) = due answer _ a tt
   read_due (loading_done page fill) answer after (finds_closed below a is) = due answer _ a tt
-  read_due (storing_link page fill) answer after step = due answer _ step.answer_is tt
+  read_due (storing_spare_link page fill) answer after step = due answer _ step.answer_is tt
   read_due (swapping page fill) answer after (swaps at a is) = due answer _ a tt
   read_due (swapping page fill) answer after (swap_fails at a is) = due answer _ a tt
 

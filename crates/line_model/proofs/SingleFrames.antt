@@ -15,10 +15,10 @@ use Rattle.link_marks.proofs.seats.FrameEnds.{opened_tail, needs_tail}
 use Rattle.link_marks.proofs.contents.PackedRuns.{runs_packed}
 use Rattle.link_marks.proofs.partition.RingsKept.{reached_kept}
 use Rattle.link_marks.proofs.frames.StackSteps.{closed_at_rest}
-use Rattle.link_marks.proofs.histories.ToldSteps.{run_told}
+use Rattle.link_marks.proofs.histories.StepsAsEvents.{run_reported}
 use Rattle.world_model.specs.Lanes.{event_in, event_on_top, payloads_left}
 use Rattle.line_model.specs.WriterCalls.{Writer, writer_of, IsWriterCall, TopCalls}
-use Rattle.line_model.specs.CallEvents.{Makes, goes_on, begins, has_reserved, leaves, leaves_fill, closes_one, finds_wish, is_gone}
+use Rattle.line_model.specs.CallEvents.{CallMakes, goes_on, begins, has_reserved, leaves, leaves_fill, closes_one, finds_wish, is_gone}
 use Rattle.line_model.specs.SingleFrames.{push_of, IsServed, AreServed, SingleFramesAreServed}
 use Rattle.line_model.proofs.FewFills.{fills_are_few}
 use Rattle.line_model.proofs.StepsMake.{steps_make}
@@ -62,7 +62,7 @@ module _ (n size start records : ℕ) (c : Core) (x : Exchange) (after : Core) (
 
   few : tail_of c.history ≢ [] → c.opened ≤ start + length (reserved_records c.history)
   few some =
-      let (events, run) = run_told n size start c reached in
+      let (events, run) = run_reported n size start c reached in
       let packed = subst (λ (l : List HistoryEvent). IsPacked l size) (sym run.history_events) (runs_packed n size start c kept) in
       let (all, held) = fills_are_few n size start events _ run.window packed in
       subst (λ (l : List HistoryEvent). c.opened ≤ start + length (reserved_records l)) run.history_events
@@ -114,7 +114,7 @@ module _ (n size start records : ℕ) (c : Core) (x : Exchange) (after : Core) (
       → frame.state ≡ waiting
       → (c.opened ≡ c.done + 1) ⊎ (tail_of c.history ≡ [])
       → length (reserved_records c.history) ≡ records
-      → Makes n size c frame [] after
+      → CallMakes n size c frame [] after
       → IsAlone records (writer_of after)
   waits_on frame at tall count (goes_on phase st fit e) =
       subst (IsAlone records) (sym e) (still_waits (record frame { phase = phase }) refl tall count)
@@ -133,7 +133,7 @@ module _ (n size start records : ℕ) (c : Core) (x : Exchange) (after : Core) (
   waits_on frame at tall count (is_gone has under last e) = absurd (let both : waiting ≡ left = sym at ∙ has in cc)
 
   -- one that has left
-  left_on : (frame : Frame) → frame.state ≡ left → Makes n size c frame [] after → IsAlone records (writer_of after)
+  left_on : (frame : Frame) → frame.state ≡ left → CallMakes n size c frame [] after → IsAlone records (writer_of after)
   left_on frame at (goes_on phase st fit e) =
       subst (IsAlone records) (sym e) (waits_no_more (record frame { phase = phase }) refl (left_not frame at))
   left_on frame at (begins phase st fit e) =

@@ -13,7 +13,7 @@ use Rattle.link_marks.specs.RingKept.{IsRingKept}
 use Rattle.link_marks.proofs.frames.StackSteps.{top_agrees, releasing_left, wishing_left}
 use Rattle.link_marks.proofs.frames.TopSteps.{top_stepped}
 use Rattle.line_model.specs.WriterCalls.{writer_of}
-use Rattle.line_model.specs.CallEvents.{LeavesNone, DoesntFit, Makes, goes_on, begins, has_reserved, leaves, leaves_fill, closes_one, finds_wish, is_gone}
+use Rattle.line_model.specs.CallEvents.{LeavesNone, DoesntFit, CallMakes, goes_on, begins, has_reserved, leaves, leaves_fill, closes_one, finds_wish, is_gone}
 
 abbrev framed : Kind → FrameState → Phase → Frame
 framed kind state phase = record { kind = kind; state = state; phase = phase }
@@ -21,7 +21,7 @@ framed kind state phase = record { kind = kind; state = state; phase = phase }
 module _ (n size start : ℕ) (c : Core) (below : List Frame) (answer : Answer) (after : Core)
     (r : IsRingKept n size start c) where
   abbrev Made : Kind → FrameState → Phase → Type 0
-  Made kind state phase = Makes n size c (framed kind state phase) below after
+  Made kind state phase = CallMakes n size c (framed kind state phase) below after
 
   -- the stack of the history if this frame is the top one and waits
   waits_record : (moment len : ℕ) (phase : Phase)
@@ -204,7 +204,7 @@ pub steps_make : (n size start : ℕ) (c : Core) (frame : Frame) (below : List F
     → c.frames ≡ frame ∷ below
     → (frame.state ≡ waiting) ⊎ (frame.state ≡ left)
     → Step n size c steps answer after
-    → Makes n size c frame below after
+    → CallMakes n size c frame below after
 steps_make n size start c frame below answer after r top active step =
     let agree = top_agrees c frame below top r.stack in
     made_in n size start c below answer after r frame.kind frame.state frame.phase active top

@@ -1,5 +1,6 @@
 -- What is printed of a script, by the histories of its CPUs alone: which records, under which numbers, and which
--- numbers are missing. Neither links nor pages nor steps of a ring are spoken of. docs/MODEL.md, "The first storey".
+-- numbers are missing. Neither links nor pages nor steps of a ring are spoken of.
+-- docs/MODEL.md, "What is printed, by histories alone".
 use Rattle.std.specs.Prelude.{◌≡◌, ℕ, suc, ◌-◌, ◌<◌, ◌≤◌, ◌⊎◌, ◌↔◌, Bool, true, false, List, [], ◌∷◌, ◌++◌, length, map, filter, flat_map, Option, Some, None, Contains, slice_index_or}
 use Rattle.std.specs.List.{slice_get, enumerate_from, AllZip}
 use Rattle.trace_model.specs.declared.limits.TheConstants.{MAX_FRAMES, MOMENT_LIMIT}
@@ -7,7 +8,7 @@ use Rattle.trace_model.specs.Words.{padded, encoded_len}
 use Rattle.trace_model.specs.History.{HistoryEvent, push, push_close, open_fill, reserve, leave, wished, writer_after, MayLeave, committed_records}
 use Rattle.trace_model.specs.Window.{Window, RingEvent, history_events_of, WindowRun}
 use Rattle.trace_model.specs.Listing.{Line, IsTimeOrdered}
-use Rattle.link_marks.specs.ToldRuns.{fills_taken}
+use Rattle.link_marks.specs.RunsAsEvents.{fills_taken}
 use Rattle.text_model.specs.Script.{Command, begin_frame, step_frame, finish_frame, write, close, deliver, Script}
 use Rattle.world_model.specs.Headline.{StandsIn, IsOverwrittenBefore}
 use Rattle.world_model.specs.Printing.{Shown, printed_collector}

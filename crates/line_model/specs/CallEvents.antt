@@ -31,12 +31,12 @@ DoesntFit size c frame = frame.state ≡ waiting
 
 -- The frame goes on; or begins a fill; or reserves; or leaves, a close frame perhaps with a fill begun; or closes a
 -- fill; or finds the wish; or is popped.
-pub data Makes (n size : ℕ) (c : Core) (frame : Frame) (below : List Frame) (after : Core) : Type 0 where
+pub data CallMakes (n size : ℕ) (c : Core) (frame : Frame) (below : List Frame) (after : Core) : Type 0 where
   goes_on : (phase : Phase)
       → frame.state ≡ waiting ⊎ frame.state ≡ left
       → DoesntFit size c frame
       → writer_of after ≡ record (writer_of c) { frames = record frame { phase = phase } ∷ below }
-      → Makes n size c frame below after
+      → CallMakes n size c frame below after
   begins : (phase : Phase)
       → frame.state ≡ waiting ⊎ frame.state ≡ left
       → DoesntFit size c frame
@@ -45,14 +45,14 @@ pub data Makes (n size : ℕ) (c : Core) (frame : Frame) (below : List Frame) (a
         history = c.history ++ open_fill ∷ [];
         opened = c.opened + 1;
       }
-      → Makes n size c frame below after
+      → CallMakes n size c frame below after
   has_reserved : (number : ℕ)
       → frame.state ≡ waiting
       → writer_of after ≡ record (writer_of c) {
         frames = record frame { state = reserved number; phase = idle } ∷ below;
         history = c.history ++ reserve ∷ [];
       }
-      → Makes n size c frame below after
+      → CallMakes n size c frame below after
   leaves :
       frame.state ≡ waiting
       → LeavesNone n size c
@@ -61,7 +61,7 @@ pub data Makes (n size : ℕ) (c : Core) (frame : Frame) (below : List Frame) (a
         frames = frames_after_leave c frame below;
         history = c.history ++ leave None ∷ [];
       }
-      → Makes n size c frame below after
+      → CallMakes n size c frame below after
   leaves_fill : (page : ℕ)
       → frame.kind ≡ for_close
       → frame.state ≡ waiting
@@ -72,13 +72,13 @@ pub data Makes (n size : ℕ) (c : Core) (frame : Frame) (below : List Frame) (a
         history = (c.history ++ open_fill ∷ []) ++ leave None ∷ [];
         opened = c.opened + 1;
       }
-      → Makes n size c frame below after
+      → CallMakes n size c frame below after
   closes_one : (phase : Phase)
       → frame.state ≡ left
       → below ≡ []
       → c.done + 1 < c.opened
       → writer_of after ≡ record (writer_of c) { frames = record frame { phase = phase } ∷ below; done = c.done + 1 }
-      → Makes n size c frame below after
+      → CallMakes n size c frame below after
   finds_wish : (phase : Phase)
       → frame.state ≡ left
       → below ≡ []
@@ -86,13 +86,13 @@ pub data Makes (n size : ℕ) (c : Core) (frame : Frame) (below : List Frame) (a
         frames = record frame { phase = phase } ∷ below;
         history = c.history ++ wished ∷ [];
       }
-      → Makes n size c frame below after
+      → CallMakes n size c frame below after
   is_gone :
       frame.state ≡ left
       → below ≡ []
       → c.done + 1 ≡ c.opened
       → writer_of after ≡ record (writer_of c) { frames = [] }
-      → Makes n size c frame below after
+      → CallMakes n size c frame below after
 
 -- ---- a state between calls, and a ring
 

@@ -8,8 +8,8 @@ use Rattle.line_model.proofs.CallParts.{call_moves}
 use Rattle.ring_steps.specs.declared.rule.Shape.{Shape}
 use Rattle.ring_shared.specs.Value.{WriterValue, SameWriter}
 use Rattle.line_writer.specs.declared.frames.LineWriter.{LineWriter}
-use Rattle.line_writer.specs.LineWriters.{writer_in, payloads_of, IsLineWriter, Pushes, CallsTop, Makes, MakesLine}
-use Rattle.line_writer.specs.Runs.{IsAmid}
+use Rattle.line_writer.specs.LineWriters.{writer_in, payloads_of, IsLineWriter, Pushes, CallsTop, MakesCalls, MakesLine}
+use Rattle.line_writer.specs.Runs.{HasMadeCalls}
 use Rattle.line_writer.proofs.TopCalls.{moved_few}
 
 -- ---- calls for the frame on top
@@ -17,11 +17,11 @@ use Rattle.line_writer.proofs.TopCalls.{moved_few}
 pub same_then : (a b c : WriterValue) → SameWriter a b → SameWriter b c → SameWriter a c
 same_then a b c first then = (then.0 ∙ first.0, then.1 ∙ first.1)
 
-pub amid_none : (depth : ℕ) (old : LineWriter)
+pub part_way_none : (depth : ℕ) (old : LineWriter)
     → IsLineWriter old
     → depth ≡ length old.writer.part.frames
-    → IsAmid depth 0 old old
-amid_none depth old is deep = record {
+    → HasMadeCalls depth 0 old old
+part_way_none depth old is deep = record {
   is = is;
   same = (refl, refl);
   calls = [];
@@ -31,30 +31,30 @@ amid_none depth old is deep = record {
 }
 
 -- one more
-pub amid_more : (depth count : ℕ) (old now next : LineWriter)
-    → IsAmid depth count old now
+pub part_way_more : (depth count : ℕ) (old now next : LineWriter)
+    → HasMadeCalls depth count old now
     → 0 < depth
     → length now.writer.part.frames ≡ depth
     → CallsTop now next
-    → IsAmid depth (count + 1) old next
-amid_more depth count old now next amid some deep top =
+    → HasMadeCalls depth (count + 1) old next
+part_way_more depth count old now next part_way some deep top =
     let s : Shape = old.writer.shape in
     let top_here : length now.writer.part.frames ≡ suc (depth - 1) = omega arith in
     let call = subst (λ (shape : Shape). IsWriterCall shape.pages shape.size
-    shape.start (writer_in now.writer.part) top.x (writer_in next.writer.part)) amid.same.0 top.call in
+    shape.start (writer_in now.writer.part) top.x (writer_in next.writer.part)) part_way.same.0 top.call in
     let low = moved_few now.writer.part.frames next.writer.part.frames
     (call_moves s.pages s.size s.start (writer_in now.writer.part) top.x (writer_in next.writer.part)
     (payloads_of now) top.event_is call) in
-    let made = amid.made in
+    let made = part_way.made in
     record {
       is = top.is;
-      same = same_then old.writer now.writer next.writer amid.same top.same;
-      calls = amid.calls ++ top.x ∷ [];
-      made = omega (arith, length-append amid.calls (top.x ∷ []));
+      same = same_then old.writer now.writer next.writer part_way.same top.same;
+      calls = part_way.calls ++ top.x ∷ [];
+      made = omega (arith, length-append part_way.calls (top.x ∷ []));
       run = subst (λ (l : List (List ℕ)). TopCalls s.pages s.size s.start (depth - 1) (writer_in old.writer.part)
-          (payloads_of old) (amid.calls ++ top.x ∷ []) (writer_in next.writer.part) l) (sym top.lefts_are)
-          (top_calls_go_on s.pages s.size s.start (depth - 1) (writer_in old.writer.part) (payloads_of old) amid.calls
-          (writer_in now.writer.part) (payloads_of now) top.x (writer_in next.writer.part) amid.run top_here
+          (payloads_of old) (part_way.calls ++ top.x ∷ []) (writer_in next.writer.part) l) (sym top.lefts_are)
+          (top_calls_go_on s.pages s.size s.start (depth - 1) (writer_in old.writer.part) (payloads_of old) part_way.calls
+          (writer_in now.writer.part) (payloads_of now) top.x (writer_in next.writer.part) part_way.run top_here
           top.event_is call);
       few = omega arith;
     }
@@ -62,7 +62,7 @@ amid_more depth count old now next amid some deep top =
 -- ---- `s` and `f`
 
 module _ (depth made : ℕ) (old new : LineWriter) (deep : depth ≡ length old.writer.part.frames) (some : 0 < depth)
-    (amid : IsAmid depth made old new) where
+    (part_way : HasMadeCalls depth made old new) where
   abbrev pages : ℕ
   pages = old.writer.shape.pages
 
@@ -94,13 +94,13 @@ module _ (depth made : ℕ) (old new : LineWriter) (deep : depth ≡ length old.
     by_calls (x ∷ calls) many run = steps_top (depth - 1) x calls deep_is run (omega (arith, many))
 
     pub stepped : (cpu : ℕ) → MakesLine (step_frame cpu count) old new
-    stepped cpu = record { is = amid.is; same = amid.same; made = by_calls amid.calls amid.made amid.run }
+    stepped cpu = record { is = part_way.is; same = part_way.same; made = by_calls part_way.calls part_way.made part_way.run }
 
   -- the frame is finished
   pub finished : (cpu : ℕ) → length new.writer.part.frames ≢ depth → MakesLine (finish_frame cpu) old new
   finished cpu other =
-      let low : length new.writer.part.frames ≤ depth - 1 = let few = amid.few in omega arith in
-      record { is = amid.is; same = amid.same; made = finishes_top (depth - 1) amid.calls deep_is amid.run low }
+      let low : length new.writer.part.frames ≤ depth - 1 = let few = part_way.few in omega arith in
+      record { is = part_way.is; same = part_way.same; made = finishes_top (depth - 1) part_way.calls deep_is part_way.run low }
 
 -- ---- `b`, `w` and `c`
 
@@ -118,7 +118,7 @@ module _ (event : Event) (payload : List ℕ) (old between new : LineWriter) (st
     (p : Pushes event payload old stands between) where
   abbrev pub MakesWhole : LineWriter → Type 0
   MakesWhole last =
-      Makes (λ n size start before payloads after lefts.
+      MakesCalls (λ n size start before payloads after lefts.
       WholeCalls n size start event payload before payloads after lefts) old last
 
   pub not_written : stands ≡ false → MakesWhole between

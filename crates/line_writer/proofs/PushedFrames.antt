@@ -13,7 +13,7 @@ use Rattle.line_model.proofs.CloseParts.{Closing, closing_of}
 use Rattle.ring_frames.specs.declared.answer.Answer.{Answer}
 use Rattle.ring_frames.specs.declared.answer.Answer.TheVariants as answer
 use Rattle.ring_frames.specs.Answers.{IsAnswerOf}
-use Rattle.ring_frames.proofs.Told.{told_pushed}
+use Rattle.ring_frames.proofs.Reported.{reported_pushed}
 use Rattle.ring_steps.specs.declared.rule.Shape.{Shape}
 use Rattle.ring_steps.specs.Views.{Writing}
 use Rattle.ring_shared.specs.Value.{WriterValue}
@@ -38,40 +38,40 @@ call_of shape before event result after c = record {
 
 -- ---- what a push makes of the frames
 
-pub data IsAnswered (payload : List ℕ) (before : Writer) (told : model.Answer) (after : Writer) : Type 0 where
+pub data IsPushOutcome (payload : List ℕ) (before : Writer) (reported : model.Answer) (after : Writer) : Type 0 where
   stands : (frame : Frame)
-      → told ≡ pushed
+      → reported ≡ pushed
       → after.frames ≡ frame ∷ before.frames
       → FitsKind frame.kind payload
       → length before.frames < MAX_FRAMES
-      → IsAnswered payload before told after
-  fails : (why : Refusal) → told ≡ refused why → after ≡ before → IsAnswered payload before told after
+      → IsPushOutcome payload before reported after
+  fails : (why : Refusal) → reported ≡ refused why → after ≡ before → IsPushOutcome payload before reported after
 
-of_record : (size moment : ℕ) (payload : List ℕ) (before : Writer) (told : model.Answer) (after : Writer)
-    → Pushing size before moment (length payload) told after
-    → IsAnswered payload before told after
-of_record size moment payload before told after (inl (e, may, is)) =
+of_record : (size moment : ℕ) (payload : List ℕ) (before : Writer) (reported : model.Answer) (after : Writer)
+    → Pushing size before moment (length payload) reported after
+    → IsPushOutcome payload before reported after
+of_record size moment payload before reported after (inl (e, may, is)) =
     stands _ e (ap (λ (w : Writer). w.frames) is) refl
     (let few : MAX_FRAMES ≤ length before.frames → ⊥ = λ many. may (inl many) in omega arith)
-of_record size moment payload before told after (inr (why, e, because, is)) = fails why e is
+of_record size moment payload before reported after (inr (why, e, because, is)) = fails why e is
 
-of_close : (before : Writer) (told : model.Answer) (after : Writer)
-    → Closing before told after
-    → IsAnswered [] before told after
-of_close before told after (inl (e, few, is)) = stands _ e (ap (λ (w : Writer). w.frames) is) refl few
-of_close before told after (inr (why, e, many, is)) = fails why e is
+of_close : (before : Writer) (reported : model.Answer) (after : Writer)
+    → Closing before reported after
+    → IsPushOutcome [] before reported after
+of_close before reported after (inl (e, few, is)) = stands _ e (ap (λ (w : Writer). w.frames) is) refl few
+of_close before reported after (inr (why, e, many, is)) = fails why e is
 
 module _ (shape : Shape) (before : Writing) (result : Answer) (after : Writing) where
   pub record_answered : (moment : ℕ) (payload : List ℕ)
       → (c : IsCall shape before (pushes moment (length payload)) result after)
-      → IsAnswered payload (writer_in before) c.answer (writer_in after)
+      → IsPushOutcome payload (writer_in before) c.answer (writer_in after)
   record_answered moment payload c =
       of_record shape.size moment payload (writer_in before) c.answer (writer_in after)
       (pushing_of shape.pages shape.size shape.start moment (length payload) c.answer (writer_in before)
       (writer_in after) (call_of shape before (pushes moment (length payload)) result after c))
 
   pub close_answered : (c : IsCall shape before pushes_close result after)
-      → IsAnswered [] (writer_in before) c.answer (writer_in after)
+      → IsPushOutcome [] (writer_in before) c.answer (writer_in after)
   close_answered c =
       of_close (writer_in before) c.answer (writer_in after)
       (closing_of shape.pages shape.size shape.start c.answer (writer_in before) (writer_in after)
@@ -79,29 +79,29 @@ module _ (shape : Shape) (before : Writing) (result : Answer) (after : Writing) 
 
 -- ---- what the answer means
 
-pushed_told : (size : ℕ) (a : Answer) (told : model.Answer) → IsAnswerOf size a told → a ≡ answer.Pushed → told ≡ pushed
-pushed_told size a told t is = subst (λ (x : Answer). IsAnswerOf size x told) is t
+pushed_reported : (size : ℕ) (a : Answer) (reported : model.Answer) → IsAnswerOf size a reported → a ≡ answer.Pushed → reported ≡ pushed
+pushed_reported size a reported t is = subst (λ (x : Answer). IsAnswerOf size x reported) is t
 
 -- ---- the writer after it
 
 module _ (old : LineWriter) (is : IsLineWriter old) (v : WriterValue) (event : Event) (payload : List ℕ)
     (result : Answer) (makes : MakesSome old.writer event result v)
-    (answered : IsAnswered payload (writer_in old.writer.part) makes.call.answer (writer_in v.part)) where
-  call : (told : model.Answer)
-      → makes.call.answer ≡ told
+    (answered : IsPushOutcome payload (writer_in old.writer.part) makes.call.answer (writer_in v.part)) where
+  call : (reported : model.Answer)
+      → makes.call.answer ≡ reported
       → IsWriterCall old.writer.shape.pages old.writer.shape.size old.writer.shape.start (writer_in old.writer.part)
-      record { event = event; answer = told } (writer_in v.part)
-  call told e =
+      record { event = event; answer = reported } (writer_in v.part)
+  call reported e =
       subst (λ (a : model.Answer). IsWriterCall old.writer.shape.pages old.writer.shape.size old.writer.shape.start
       (writer_in old.writer.part) record { event = event; answer = a } (writer_in v.part)) e
       (call_of old.writer.shape old.writer.part event result v.part makes.call)
 
   -- it is refused
-  behind_refused : IsAnswered payload (writer_in old.writer.part) makes.call.answer (writer_in v.part)
+  behind_refused : IsPushOutcome payload (writer_in old.writer.part) makes.call.answer (writer_in v.part)
       → result ≢ answer.Pushed
       → Pushes event payload old false record { writer = v; payloads = old.payloads }
   behind_refused (stands frame e top fits few) not =
-      absurd (told_pushed old.writer.shape.size result makes.call.answer makes.call.tells e not)
+      absurd (reported_pushed old.writer.shape.size result makes.call.answer makes.call.reports e not)
   behind_refused (fails why e same) not =
       let new : LineWriter = record { writer = v; payloads = old.payloads } in
       let frames : v.part.frames ≡ old.writer.part.frames = ap (λ (w : Writer). w.frames) same in
@@ -124,25 +124,25 @@ module _ (old : LineWriter) (is : IsLineWriter old) (v : WriterValue) (event : E
   refused_push not = behind_refused answered not
 
   -- it is pushed
-  room_behind : IsAnswered payload (writer_in old.writer.part) makes.call.answer (writer_in v.part)
+  room_behind : IsPushOutcome payload (writer_in old.writer.part) makes.call.answer (writer_in v.part)
       → result ≡ answer.Pushed
       → length old.writer.part.frames < length old.payloads
   room_behind (stands frame e top fits few) pushed_is = let room = is.room in omega arith
   room_behind (fails why e same) pushed_is =
-      let told = pushed_told old.writer.shape.size result makes.call.answer makes.call.tells pushed_is in
-      absurd (let both : pushed ≡ refused why = sym told ∙ e in cc)
+      let reported = pushed_reported old.writer.shape.size result makes.call.answer makes.call.reports pushed_is in
+      absurd (let both : pushed ≡ refused why = sym reported ∙ e in cc)
 
   pub has_room : result ≡ answer.Pushed → length old.writer.part.frames < length old.payloads
   has_room pushed_is = room_behind answered pushed_is
 
   module _ (item : Bor (List ℕ)) (item_is : item.now ≡ payload) where
-    behind_pushed : IsAnswered payload (writer_in old.writer.part) makes.call.answer (writer_in v.part)
+    behind_pushed : IsPushOutcome payload (writer_in old.writer.part) makes.call.answer (writer_in v.part)
         → result ≡ answer.Pushed
         → Pushes event payload old true
         record { writer = v; payloads = slice_set old.payloads (length old.writer.part.frames) item }
     behind_pushed (fails why e same) pushed_is =
-        let told = pushed_told old.writer.shape.size result makes.call.answer makes.call.tells pushed_is in
-        absurd (let both : pushed ≡ refused why = sym told ∙ e in cc)
+        let reported = pushed_reported old.writer.shape.size result makes.call.answer makes.call.reports pushed_is in
+        absurd (let both : pushed ≡ refused why = sym reported ∙ e in cc)
     behind_pushed (stands frame e top fits few) pushed_is =
         let depth : ℕ = length old.writer.part.frames in
         let items : List (Bor (List ℕ)) = slice_set old.payloads depth item in

@@ -3,7 +3,7 @@ use Rattle.std.specs.Prelude.{Result, Ok, Err, None}
 use Rattle.std.proofs.Common.{◌≡◌, ℕ, ◌-◌, ◌⊎◌, inl, inr, false, List, [], ◌∷◌, ◌++◌, length, map, reverse, take, drop, refl, sym, ap, ◌∙◌, subst, arith, Bor}
 use Rattle.trace_model.specs.Words.{padded}
 use Rattle.trace_model.specs.Frames.{Kind, for_record, FrameState, waiting, reserved, left, Frame}
-use Rattle.trace_model.specs.Steps.{Event, pushes, steps, ends, pushed as is_pushed_told, Exchange}
+use Rattle.trace_model.specs.Steps.{Event, pushes, steps, ends, pushed as is_pushed_reported, Exchange}
 use Rattle.trace_model.specs.Steps as model
 use Rattle.link_marks.specs.FrameOutcomes.{IsReserving, IsLeaving}
 use Rattle.world_model.specs.Lanes.{FitFrames, event_in, event_on_top, payloads_left}
@@ -20,8 +20,8 @@ use Rattle.ring_steps.specs.Views.{Writing}
 use Rattle.ring_shared.specs.Value.{WriterValue, SameWriter}
 use Rattle.ring_shared.specs.Calls.{IsWriter, IsCall}
 use Rattle.ring_shared.specs.Finishing.{MakesSteps, at_once, one_more, Leaves, is_gone, was_refused}
-use Rattle.ring_shared.specs.WholeWrites.{GoesAway, IsWritten, IsRefusedAmid, IsRefusedWrite}
-use Rattle.ring_shared.proofs.Finishes.{IsAmidReserving, reserving_first, reserving_on, IsAmidLeaving, leaving_first, leaving_going}
+use Rattle.ring_shared.specs.WholeWrites.{GoesAway, IsWritten, IsRefusedPartWay, IsRefusedWrite}
+use Rattle.ring_shared.proofs.Finishes.{IsStillReserving, reserving_first, reserving_on, IsStillLeaving, leaving_first, leaving_going}
 use Rattle.ring_shared.proofs.WholeWrites.{HasBegun, has_begun, HasTopRecord, reserved_so, left_full, leaves_below}
 use Rattle.ring_shared.proofs.WholeAppends.{refused_writes_leave_no_frame}
 use Rattle.line_writer.specs.declared.frames.LineWriter.{LineWriter}
@@ -62,7 +62,7 @@ module _ (shape : Shape) (below : List Frame) (payload : List ℕ) (payloads : L
       (writer_in now) lefts
 
   -- it is on the stack
-  record Stands (from now : Writing) : Type 0 where
+  record IsOnStack (from now : Writing) : Type 0 where
     calls : List Exchange
     run : Calls from calls now (payload ∷ payloads)
 
@@ -71,11 +71,11 @@ module _ (shape : Shape) (below : List Frame) (payload : List ℕ) (payloads : L
     pub calls : List Exchange
     pub run : Calls from calls now payloads
 
-  stands_first : (from : Writing) → Stands from from
+  stands_first : (from : Writing) → IsOnStack from from
   stands_first from = record { calls = []; run = (refl, refl) }
 
   -- one call more
-  module _ (from now next : Writing) (event : Event) (result : Answer) (frame : Frame) (s : Stands from now)
+  module _ (from now next : Writing) (event : Event) (result : Answer) (frame : Frame) (s : IsOnStack from now)
       (top : now.frames ≡ frame ∷ below) (event_is : event ≡ event_in frame.state (payload ∷ payloads))
       (call : IsCall shape now event result next) where
     abbrev more : List Exchange
@@ -97,7 +97,7 @@ module _ (shape : Shape) (below : List Frame) (payload : List ℕ) (payloads : L
         subst (λ (l : List (List ℕ)). Calls from more next l)
         (ap (λ (k : ℕ). drop k (payload ∷ payloads)) e ∙ is) goes_on
 
-    stands_then : (other : Frame) → next.frames ≡ other ∷ below → Stands from next
+    stands_then : (other : Frame) → next.frames ≡ other ∷ below → IsOnStack from next
     stands_then other there =
         let long = ap (λ (l : List Frame). length l) there in
         record { calls = more; run = lefts_are 0 (payload ∷ payloads) (omega (arith, long, many)) refl }
@@ -113,7 +113,7 @@ module _ (shape : Shape) (below : List Frame) (payload : List ℕ) (payloads : L
       → from.frames ≡ frame ∷ below
       → IsReserving frame.kind frame.state
       → MakesSteps shape from now
-      → IsAmidReserving shape frame.kind below from now × Stands from now
+      → IsStillReserving shape frame.kind below from now × IsOnStack from now
   reserving frame from _ top is at_once = (reserving_first shape frame below from top is, stands_first from)
   reserving frame from _ top is (one_more between after goes call) =
       let (a, s) = reserving frame from between top is goes in
@@ -126,11 +126,11 @@ module _ (shape : Shape) (below : List Frame) (payload : List ℕ) (payloads : L
   -- ---- until it is popped
 
   leaving : (frame : Frame) (from start now : Writing)
-      → Stands from start
+      → IsOnStack from start
       → start.frames ≡ frame ∷ below
       → IsLeaving frame.kind frame.state
       → MakesSteps shape start now
-      → IsAmidLeaving shape below start None now × Stands from now
+      → IsStillLeaving shape below start None now × IsOnStack from now
   leaving frame from start _ s top is at_once = (leaving_first shape frame below start top is, s)
   leaving frame from start _ s top is (one_more between after goes call) =
       let (a, t) = leaving frame from start between s top is goes in
@@ -141,7 +141,7 @@ module _ (shape : Shape) (below : List Frame) (payload : List ℕ) (payloads : L
       )
 
   leaves : (from start : Writing) (answer : Answer) (after : Writing) (frame : Frame)
-      → Stands from start
+      → IsOnStack from start
       → start.frames ≡ frame ∷ below
       → IsLeaving frame.kind frame.state
       → Leaves shape below start answer after
@@ -172,7 +172,7 @@ module _ (shape : Shape) (before : Writing) (moment : ℕ) (payload : List ℕ) 
 
   -- its record is ended
   ended_then : (from reserved_as ended : Writing) (how : How)
-      → Stands shape before.frames payload payloads many from reserved_as
+      → IsOnStack shape before.frames payload payloads many from reserved_as
       → HasTopRecord (for_record moment (length payload)) before.frames reserved_as.frames
       → IsCall shape reserved_as (ends (padded payload)) (Ended how) ended
       → GoesAway shape ended how after
@@ -210,7 +210,7 @@ module _ (shape : Shape) (before : Writing) (moment : ℕ) (payload : List ℕ) 
       (reserving_steps a.frame.kind a.frame.state (payload ∷ payloads) a.reserves) w.reserve.last t.next t.top)
       t w.end w.goes w.frames
 
-  refused_calls : (fault : WriteFault) (r : IsRefusedAmid shape before moment (length payload) fault after)
+  refused_calls : (fault : WriteFault) (r : IsRefusedPartWay shape before moment (length payload) fault after)
       → Popped r.pushed after
   refused_calls fault r =
       let b = begun r.pushed r.push in
@@ -218,8 +218,8 @@ module _ (shape : Shape) (before : Writing) (moment : ℕ) (payload : List ℕ) 
       b.reserves r.reserve.goes in
       rest a s r.goes
     where
-      rest : IsAmidReserving shape (begun r.pushed r.push).frame.kind before.frames r.pushed r.reserve.between
-          → Stands shape before.frames payload payloads many r.pushed r.reserve.between
+      rest : IsStillReserving shape (begun r.pushed r.push).frame.kind before.frames r.pushed r.reserve.between
+          → IsOnStack shape before.frames payload payloads many r.pushed r.reserve.between
           → (after ≡ r.refused)
           ⊎ ((frame : Frame)
           × (answer : Answer)
@@ -276,7 +276,7 @@ module _ (old : LineWriter) (is : IsLineWriter old) (v : WriterValue) (moment : 
         same = same;
         made = writes_frame (writer_in pushed)
             (subst (λ (a : model.Answer). IsWriterCall s.pages s.size s.start (writer_in before)
-            record { event = pushes moment (length payload); answer = a } (writer_in pushed)) push.tells
+            record { event = pushes moment (length payload); answer = a } (writer_in pushed)) push.reports
             (call_of s before (pushes moment (length payload)) Pushed pushed push))
             (finishes_top (length before.frames) popped.calls (ap (λ (l : List Frame). length l) b.top)
             (subst (λ (l : List (List ℕ)). TopCalls s.pages s.size s.start (length before.frames) (writer_in pushed)

@@ -62,7 +62,7 @@ pub record CallsTop (old new : LineWriter) : Type 0 where
 -- ---- lines
 
 -- calls of this kind, some or none, lead from one to the other
-pub record Makes
+pub record MakesCalls
     (calls : (n size start : ℕ) → Writer → List (List ℕ) → Writer → List (List ℕ) → Type 0) (old new : LineWriter)
     : Type 0 where
   pub is : IsLineWriter new
@@ -73,25 +73,25 @@ pub record Makes
 -- the calls of a line
 abbrev pub MakesLine : Command → LineWriter → LineWriter → Type 0
 MakesLine command old new =
-    Makes (λ n size start before payloads after lefts. LineCalls n size start command before payloads after lefts) old
+    MakesCalls (λ n size start before payloads after lefts. LineCalls n size start command before payloads after lefts) old
     new
 
 -- a record frame of this moment and payload is pushed and finished, or its push is refused
 abbrev pub WritesWhole : (moment : ℕ) → (payload : List ℕ) → LineWriter → LineWriter → Type 0
 WritesWhole moment payload old new =
-    Makes (λ n size start before payloads after lefts.
+    MakesCalls (λ n size start before payloads after lefts.
     WholeCalls n size start (pushes moment (length payload)) payload before payloads after lefts) old new
 
 -- the calls of lines, one line after the other
 abbrev pub MakesLines : List Command → LineWriter → LineWriter → Type 0
 MakesLines lines old new =
-    Makes (λ n size start before payloads after lefts. LinesCalls n size start lines before payloads after lefts) old
+    MakesCalls (λ n size start before payloads after lefts. LinesCalls n size start lines before payloads after lefts) old
     new
 
 -- the frames are finished, the top one first, this number of them
 abbrev pub MakesRest : ℕ → LineWriter → LineWriter → Type 0
 MakesRest count old new =
-    Makes (λ n size start before payloads after lefts. RestCalls n size start count before payloads after lefts) old new
+    MakesCalls (λ n size start before payloads after lefts. RestCalls n size start count before payloads after lefts) old new
 
 -- all frames are finished
 pub record FinishesRest (old new : LineWriter) : Type 0 where

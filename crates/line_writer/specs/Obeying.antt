@@ -34,7 +34,7 @@ pub record HasObeyed (cpu : ℕ) (commands : List (ℕ × Command)) (before afte
       ≡ records_of_lines before.shape.size 0 (writer_lines cpu (commands_of commands))
 
 -- The lines are obeyed; or the gate didn't let the writer pass after this fill.
-abbrev pub Obeys : {Gate : Type 0} (answers : Gate → Who → (cpu fill : ℕ) → Bool → Type 0) → Gate
+abbrev pub ObeysLines : {Gate : Type 0} (answers : Gate → Who → (cpu fill : ℕ) → Bool → Type 0) → Gate
     → (cpu : ℕ) → List (ℕ × Command) → WriterValue → Result WriterValue FillNo → Type 0
-Obeys answers gate cpu commands before (Ok after) = HasObeyed cpu commands before after
-Obeys answers gate cpu commands before (Err fill) = answers gate who.Writer cpu fill.0 false
+ObeysLines answers gate cpu commands before (Ok after) = HasObeyed cpu commands before after
+ObeysLines answers gate cpu commands before (Err fill) = answers gate who.Writer cpu fill.0 false

@@ -7,7 +7,7 @@ use Rattle.line_writer.specs.declared.frames.LineWriter.{LineWriter}
 use Rattle.line_writer.specs.LineWriters.{writer_in, payloads_of, IsLineWriter}
 
 -- `count` calls were made for the frame that was on top of a stack of `depth` frames
-pub record IsAmid (depth count : ℕ) (old new : LineWriter) : Type 0 where
+pub record HasMadeCalls (depth count : ℕ) (old new : LineWriter) : Type 0 where
   pub is : IsLineWriter new
   pub same : SameWriter old.writer new.writer
   pub calls : List Exchange

@@ -7,7 +7,7 @@ ghost use Rattle.trace_script.specs.ScriptTypes.{shown_command};
 ghost use Rattle.ring_steps.specs.NewRings.{first_writing};
 ghost use Rattle.line_writer.specs.declared.gate.Who.TheVariants as who;
 ghost use Rattle.line_writer.specs.LineWriters.{IsLineWriter, MakesLine, MakesLines};
-ghost use Rattle.line_writer.specs.Obeying.{AreLinesOf, Obeys};
+ghost use Rattle.line_writer.specs.Obeying.{AreLinesOf, ObeysLines};
 
 use crate::end::WriterEnd;
 use crate::frames::LineWriter;
@@ -85,7 +85,7 @@ pub fn obey_lines<G: Gate>(
 ) -> Result<WriterEnd, FillNo>
     requires first { end.part ≡ first_writing end.shape }
     requires places { AreLinesOf cpu.0 script.now.commands places.now }
-    ensures { Obeys G.answers gate.now cpu.0 script.now.commands end result }
+    ensures { ObeysLines G.answers gate.now cpu.0 script.now.commands end result }
 {
     let WriterEnd { writer } = end;
     let mut lane = LineWriter::new(writer);

@@ -4,4 +4,4 @@ pub mod HistorySteps
 pub mod WindowEvents
 pub mod StepsAppend
 pub mod WindowRuns
-pub mod ToldSteps
+pub mod StepsAsEvents

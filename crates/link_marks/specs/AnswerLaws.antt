@@ -3,9 +3,9 @@ use Rattle.std.specs.Prelude.{◌≡◌, ℕ, ◌+◌, ◌<◌, ◌≤◌, ◌�
 use Rattle.trace_model.specs.declared.limits.TheConstants.{LINK_FILLS}
 use Rattle.trace_model.specs.Frames.{waiting, idle, Frame, crowded, worn}
 use Rattle.trace_model.specs.Links.{update_link}
-use Rattle.trace_model.specs.Ring.{link_into, page_at, Taken, Core, window_of, IsMoved, IsTaken}
+use Rattle.trace_model.specs.Ring.{link_into, page_at, TakenFill, Core, window_of, IsMoved, IsTaken}
 use Rattle.trace_model.specs.Window.{IsCrowded}
-use Rattle.trace_model.specs.Steps.{Event, steps, Answer, NeedsPage, refused, empty, moving, swapped, Step}
+use Rattle.trace_model.specs.Steps.{Event, steps, Answer, NeedsPage, refused, empty, moving, page_taken, Step}
 use Rattle.link_marks.specs.RingKept.{IsRingKept}
 
 -- each fill from the first to this one was taken, or lost with a whole round of fills begun after it
@@ -75,10 +75,10 @@ MovingIsRight = (n size start : ℕ) (c : Core) (event : Event) (fill : ℕ) (af
     → IsInTheWay n start c fill × (after.reader.taken ≡ c.reader.taken)
 
 -- what is taken is the head, and that is closed; and it is what is then held as taken last
-abbrev pub SwappedIsRight : Type 0
-SwappedIsRight = (n size start : ℕ) (c : Core) (event : Event) (t : Taken) (after : Core)
+abbrev pub PageTakenIsRight : Type 0
+PageTakenIsRight = (n size start : ℕ) (c : Core) (event : Event) (t : TakenFill) (after : Core)
     → IsRingKept n size start c
-    → Step n size c event (swapped t) after
+    → Step n size c event (page_taken t) after
     → (t.fill ≡ c.head)
     × (c.head < c.done)
     × (after.head ≡ c.head + 1)

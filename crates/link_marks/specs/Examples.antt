@@ -4,7 +4,7 @@ use Rattle.std.specs.Prelude.{◌≡◌, ℕ, List, [], ◌∷◌, ◌++◌, len
 use Rattle.trace_model.specs.Record.{Record}
 use Rattle.trace_model.specs.History.{Reservation, committed_records}
 use Rattle.trace_model.specs.Ring.{Core, IsStart}
-use Rattle.trace_model.specs.Steps.{pushes, pushes_close, steps, ends, reads, wishes, Answer, pushed, going, reserved_as, pending, full, gone, reading, empty, moving, swapped, wished_for, Exchange, Run}
+use Rattle.trace_model.specs.Steps.{pushes, pushes_close, steps, ends, reads, wishes, Answer, pushed, going, reserved_as, pending, full, gone, reading, empty, moving, page_taken, wished_for, Exchange, Run}
 
 -- ---- what is asked and answered
 
@@ -56,7 +56,7 @@ held_records records = map (λ r. record { moment = r.moment; len = length r.byt
 -- a take's answer: the fill, the number of its first record, how many were missed before it, and its
 -- records
 abbrev pub taken_as : (fill first missed : ℕ) → List Record → Answer
-taken_as fill first missed records = swapped record {
+taken_as fill first missed records = page_taken record {
   fill = fill;
   skipped = missed;
   held = record { first = first; records = held_records records };

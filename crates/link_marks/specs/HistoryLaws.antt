@@ -6,7 +6,7 @@ use Rattle.trace_model.specs.Record.{Record}
 use Rattle.trace_model.specs.History.{HistoryEvent, IsHistory, Reservation, reserved_records, as_record, committed_records}
 use Rattle.trace_model.specs.Packing.{fills_of, tail_of, IsPacked, first_of_fill}
 use Rattle.trace_model.specs.Partition.{IsPartition}
-use Rattle.trace_model.specs.Ring.{Taken, Core, AreFillsOf}
+use Rattle.trace_model.specs.Ring.{TakenFill, Core, AreFillsOf}
 use Rattle.trace_model.specs.Steps.{Event, Answer, Step}
 use Rattle.link_marks.specs.KeptPartition.{pieces_of, HaveFirsts}
 use Rattle.link_marks.specs.RingKept.{IsRingKept}
@@ -51,8 +51,8 @@ RecordNumbersFit = (n size start : ℕ) (c : Core)
     → length (reserved_records c.history) < 2 ^ 61
 
 -- each of these fills holds a record
-abbrev pub HoldRecords : List Taken → Type 0
-HoldRecords taken = (k : ℕ) (t : Taken) → slice_get taken k ≡ Some t → t.held.records ≢ []
+abbrev pub HoldRecords : List TakenFill → Type 0
+HoldRecords taken = (k : ℕ) (t : TakenFill) → slice_get taken k ≡ Some t → t.held.records ≢ []
 
 -- so no page that the reader takes is empty
 abbrev pub TakenHoldRecords : Type 0

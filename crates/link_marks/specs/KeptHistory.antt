@@ -3,7 +3,7 @@ use Rattle.std.specs.Prelude.{◌≡◌, ℕ, ◌+◌, ◌<◌, ◌≤◌, ◌�
 use Rattle.std.specs.List.{slice_get}
 use Rattle.trace_model.specs.History.{writer_after, IsHistory}
 use Rattle.trace_model.specs.Frames.{Frame, pushed_frames}
-use Rattle.trace_model.specs.Ring.{Core, Taken}
+use Rattle.trace_model.specs.Ring.{Core, TakenFill}
 use Rattle.link_marks.specs.KeptLinks.{spot, passed_spot}
 
 -- a frame of these is about to open this fill, and has found the head moved on from its position
@@ -12,16 +12,16 @@ Passing [] f = ⊥
 Passing (frame ∷ below) f = ((page : ℕ) × (passed_spot frame.phase ≡ Some (spot f page))) ⊎ Passing below f
 
 -- the reader took the fill
-abbrev pub TakenIn : List Taken → ℕ → Type 0
-TakenIn taken f = (k : ℕ) × (t : Taken) × (slice_get taken k ≡ Some t) × (t.fill ≡ f)
+abbrev pub TakenIn : List TakenFill → ℕ → Type 0
+TakenIn taken f = (k : ℕ) × (t : TakenFill) × (slice_get taken k ≡ Some t) × (t.fill ≡ f)
 
 -- A fill that is passed was taken; or it was lost, and a whole round of fills is begun after it, or all but
 -- the last of it, which a frame is about to open.
-abbrev pub WhyPassed : ℕ → List Taken → ℕ → List Frame → ℕ → Type 0
+abbrev pub WhyPassed : ℕ → List TakenFill → ℕ → List Frame → ℕ → Type 0
 WhyPassed n taken opened frames f =
     TakenIn taken f ⊎ ((f + n < opened) ⊎ ((f + n ≡ opened) × Passing frames opened))
 
-abbrev pub LostKept : ℕ → ℕ → List Taken → ℕ → ℕ → List Frame → Type 0
+abbrev pub LostKept : ℕ → ℕ → List TakenFill → ℕ → ℕ → List Frame → Type 0
 LostKept n start taken head opened frames = (f : ℕ)
     → start ≤ f
     → f < head

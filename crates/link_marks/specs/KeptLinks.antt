@@ -4,17 +4,17 @@ use Rattle.std.specs.Prelude.{◌≡◌, ◌≢◌, ℕ, suc, ◌+◌, ◌<◌, 
 use Rattle.trace_model.specs.declared.limits.TheConstants.{MIN_PAGES, LINK_FILLS}
 use Rattle.trace_model.specs.Links.{Link, normal_link, header_link, update_link}
 use Rattle.trace_model.specs.Frames.{Phase, idle, looking, claiming, looking_next, marking, clearing, opening, releasing, wishing, Frame, noted_fill, owned_update}
-use Rattle.trace_model.specs.Ring.{link_into, page_at, ReaderPhase, loading_link, loading_done, storing_link, swapping, Core, AreApart}
+use Rattle.trace_model.specs.Ring.{link_into, page_at, ReaderPhase, loading_head, loading_done, storing_spare_link, swapping, Core, AreApart}
 
 -- a frame of these has set the UPDATE at the position of fill f and not yet cleared it
-abbrev pub Stands : List Frame → ℕ → Type 0
-Stands [] f = ⊥
-Stands (frame ∷ below) f = (owned_update frame.phase ≡ Some f) ⊎ Stands below f
+abbrev pub HasMover : List Frame → ℕ → Type 0
+HasMover [] f = ⊥
+HasMover (frame ∷ below) f = (owned_update frame.phase ≡ Some f) ⊎ HasMover below f
 
 -- no two of these frames have set one UPDATE
 abbrev pub MoversDiffer : List Frame → Type 0
 MoversDiffer [] = Unit {0}
-MoversDiffer (frame ∷ below) = ((f : ℕ) → owned_update frame.phase ≡ Some f → Stands below f → ⊥) × MoversDiffer below
+MoversDiffer (frame ∷ below) = ((f : ℕ) → owned_update frame.phase ≡ Some f → HasMover below f → ⊥) × MoversDiffer below
 
 -- a fill and a page
 pub record Spot : Type 0 where
@@ -100,7 +100,7 @@ pub data LinkKept (n : ℕ) (links : List Link) (order : List ℕ) (head : ℕ) 
     : Type 0 where
   is_normal :
       link_into n links f ≡ normal_link (page_at n order f) f
-      → (f ≡ head → (lost : ℕ) × (suc lost ≡ head) × Stands frames (lost + n))
+      → (f ≡ head → (lost : ℕ) × (suc lost ≡ head) × HasMover frames (lost + n))
       → LinkKept n links order head frames f
   is_header :
       link_into n links f ≡ header_link (page_at n order f) f
@@ -109,7 +109,7 @@ pub data LinkKept (n : ℕ) (links : List Link) (order : List ℕ) (head : ℕ) 
   is_update : (lost : ℕ)
       → lost + n ≡ f
       → link_into n links f ≡ update_link (page_at n order f) lost
-      → Stands frames f
+      → HasMover frames f
       → LinkKept n links order head frames f
 
 -- What the reader has seen: the fill is its hint, and while that is the head its HEADER is still there.
@@ -120,10 +120,10 @@ pub record HasSeen (n : ℕ) (links : List Link) (head hint page fill : ℕ) : T
 -- What the reader knows in its phase: what it has seen, that the fill is closed, and that the spare's link
 -- leads to the next fill.
 abbrev pub ReaderKept : ℕ → List Link → List ℕ → Link → ℕ → ℕ → ℕ → ReaderPhase → Type 0
-ReaderKept n links order spare_link head done hint loading_link = Unit {0}
+ReaderKept n links order spare_link head done hint loading_head = Unit {0}
 ReaderKept n links order spare_link head done hint (loading_done page fill) =
     HasSeen n links head hint page fill
-ReaderKept n links order spare_link head done hint (storing_link page fill) =
+ReaderKept n links order spare_link head done hint (storing_spare_link page fill) =
     HasSeen n links head hint page fill × (fill < done)
 ReaderKept n links order spare_link head done hint (swapping page fill) =
     HasSeen n links head hint page fill

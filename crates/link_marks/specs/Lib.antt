@@ -12,7 +12,7 @@ pub mod KeptPartition
 pub mod RingKept
 -- the states that steps reach, a run described as events of the window, and the writer's private steps
 pub mod Reached
-pub mod ToldRuns
+pub mod RunsAsEvents
 pub mod Seats
 -- what each event appends to the history
 pub mod Appended

@@ -5,7 +5,7 @@ use Rattle.trace_model.specs.History.{Reservation}
 use Rattle.trace_model.specs.Packing.{tail_of}
 use Rattle.trace_model.specs.Links.{Mark, normal, header, update}
 use Rattle.trace_model.specs.Frames.{FrameState, waiting, reserved, left, number_of, Phase, idle, looking, claiming, looking_next, marking, clearing, opening, releasing, wishing, Frame}
-use Rattle.trace_model.specs.Ring.{link_into, ReaderPhase, loading_link, loading_done, storing_link, swapping, Core}
+use Rattle.trace_model.specs.Ring.{link_into, ReaderPhase, loading_head, loading_done, storing_spare_link, swapping, Core}
 use Rattle.trace_model.specs.Steps.{steps, ends, reads, Answer, reading, Step}
 use Rattle.link_marks.specs.RingKept.{IsRingKept}
 
@@ -99,9 +99,9 @@ abbrev pub distance : ℕ → Core → ℕ
 distance most c = min (c.head + 1 - c.reader.hint) most
 
 abbrev pub reader_phase_rank : ℕ → Core → ReaderPhase → ℕ
-reader_phase_rank n c loading_link = 4 * distance (n + 2) c + 3
+reader_phase_rank n c loading_head = 4 * distance (n + 2) c + 3
 reader_phase_rank n c (loading_done page fill) = 4 * distance (n + 3) c + 2
-reader_phase_rank n c (storing_link page fill) = 4 * distance (n + 3) c + 1
+reader_phase_rank n c (storing_spare_link page fill) = 4 * distance (n + 3) c + 1
 reader_phase_rank n c (swapping page fill) = 4 * distance (n + 3) c
 
 -- of the ring, for its reader

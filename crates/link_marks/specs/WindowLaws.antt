@@ -2,12 +2,12 @@
 use Rattle.std.specs.Prelude.{◌≡◌, ℕ, ◌+◌, ◌<◌, ◌≤◌, ◌⊎◌, List, [], ◌∷◌, ◌++◌, IsTrue, Contains}
 use Rattle.trace_model.specs.History.{is_settled, open_fill}
 use Rattle.trace_model.specs.Window.{RingEvent, WindowEvent, WindowStep, opened_one, released_one, took_one, lost_one}
-use Rattle.trace_model.specs.Ring.{Taken, Core, window_of}
-use Rattle.trace_model.specs.Steps.{Event, Answer, swapped, Step, Exchange, Run}
+use Rattle.trace_model.specs.Ring.{TakenFill, Core, window_of}
+use Rattle.trace_model.specs.Steps.{Event, Answer, page_taken, Step, Exchange, Run}
 use Rattle.trace_model.specs.Sublist.{IsPrefix}
 use Rattle.link_marks.specs.Reached.{IsReached}
 use Rattle.link_marks.specs.RingKept.{IsRingKept}
-use Rattle.link_marks.specs.ToldRuns.{fills_taken, fills_lost, IsToldBy}
+use Rattle.link_marks.specs.RunsAsEvents.{fills_taken, fills_lost, AreEventsOfRun}
 
 -- ---- steps
 
@@ -18,7 +18,7 @@ IsEventShown c after opened_one = IsPrefix (c.history ++ open_fill ∷ []) after
 IsEventShown c after released_one = (after.history ≡ c.history) × (after.reader ≡ c.reader)
 IsEventShown c after took_one =
     (after.history ≡ c.history)
-    × (t : Taken)
+    × (t : TakenFill)
     × (t.fill ≡ c.head)
     × (after.reader.taken ≡ c.reader.taken ++ t ∷ [])
 IsEventShown c after lost_one = (after.history ≡ c.history) × (after.reader ≡ c.reader)
@@ -57,7 +57,7 @@ NothingHappens = (n : ℕ) (c after : Core) (what : WindowEvent)
 
 -- the head is taken, as the answer says
 abbrev pub HeadIsTaken : Core → Answer → Core → Type 0
-HeadIsTaken c answer after = (t : Taken) × (answer ≡ swapped t) × (t.fill ≡ c.head) × (after.head ≡ c.head + 1)
+HeadIsTaken c answer after = (t : TakenFill) × (answer ≡ page_taken t) × (t.fill ≡ c.head) × (after.head ≡ c.head + 1)
 
 -- the head is lost, in a full ring, and the reader knows nothing of it
 abbrev pub HeadIsLost : ℕ → Core → Core → Type 0
@@ -84,15 +84,15 @@ ClosesNeedNoFrame = (n size start : ℕ) (c : Core) (event : Event) (answer : An
 abbrev pub RunsMoveWindow : Type 0
 RunsMoveWindow = (n size start : ℕ) (c : Core)
     → IsReached n size start c
-    → (events : List RingEvent) × IsToldBy n start c events
+    → (events : List RingEvent) × AreEventsOfRun n start c events
 
 -- and the events of a longer run go on from those of a shorter one
 abbrev pub RunsExtendEvents : Type 0
 RunsExtendEvents = (n size start : ℕ) (c after : Core) (exchanges : List Exchange) (events : List RingEvent)
     → IsRingKept n size start c
-    → IsToldBy n start c events
+    → AreEventsOfRun n start c events
     → Run n size c exchanges after
-    → (more : List RingEvent) × IsToldBy n start after (events ++ more)
+    → (more : List RingEvent) × AreEventsOfRun n start after (events ++ more)
 
 -- over a run the counts only rise: so what was once passed, closed or begun stays so
 abbrev pub CountsRise : Type 0
@@ -104,7 +104,7 @@ CountsRise = (n size start : ℕ) (c after : Core) (exchanges : List Exchange)
 -- each fill from the start to the head was taken or lost
 abbrev pub PassedAreTakenOrLost : Type 0
 PassedAreTakenOrLost = (n start : ℕ) (c : Core) (events : List RingEvent) (f : ℕ)
-    → IsToldBy n start c events
+    → AreEventsOfRun n start c events
     → start ≤ f
     → f < c.head
     → Contains (fills_taken start events) f ⊎ Contains (fills_lost start events) f
@@ -112,7 +112,7 @@ PassedAreTakenOrLost = (n start : ℕ) (c : Core) (events : List RingEvent) (f :
 -- no fill is both taken and lost
 abbrev pub NoneIsTakenAndLost : Type 0
 NoneIsTakenAndLost = (n start : ℕ) (c : Core) (events : List RingEvent) (f : ℕ)
-    → IsToldBy n start c events
+    → AreEventsOfRun n start c events
     → Contains (fills_taken start events) f
     → Contains (fills_lost start events) f
     → ⊥
@@ -120,13 +120,13 @@ NoneIsTakenAndLost = (n start : ℕ) (c : Core) (events : List RingEvent) (f : �
 -- a fill that was taken had been closed
 abbrev pub TakenAreClosed : Type 0
 TakenAreClosed = (n start : ℕ) (c : Core) (events : List RingEvent) (f : ℕ)
-    → IsToldBy n start c events
+    → AreEventsOfRun n start c events
     → Contains (fills_taken start events) f
     → (start ≤ f) × (f < c.head) × (f < c.done)
 
 -- so had one that was lost; and a whole round of fills is begun after it
 abbrev pub LostAreClosed : Type 0
 LostAreClosed = (n start : ℕ) (c : Core) (events : List RingEvent) (f : ℕ)
-    → IsToldBy n start c events
+    → AreEventsOfRun n start c events
     → Contains (fills_lost start events) f
     → (start ≤ f) × (f < c.head) × (f < c.done) × (f + n ≤ c.opened)

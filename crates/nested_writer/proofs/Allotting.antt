@@ -15,7 +15,7 @@ use Rattle.nested_writer.specs.declared.frame.Frame.{Frame}
 use Rattle.nested_writer.specs.declared.frame.Pushed.{Pushed}
 use Rattle.nested_writer.specs.Stack.{Stack, opened, kind_of, state_of}
 use Rattle.nested_writer.specs.Calls.{with_progress, after_leave, IsTop, ReservesRecord, WantsPage}
-use Rattle.nested_writer.specs.Allotted.{HasActed, HasFit, first_try, IsAllotted}
+use Rattle.nested_writer.specs.Allotted.{HasEvents, HasFit, first_try, IsAllotted}
 use Rattle.nested_writer.specs.PlainTop.{IsPlainTop}
 use Rattle.nested_writer.specs.IsStack.{IsNoted, StandsAt, FramesStand, IsStack}
 use Rattle.nested_writer.proofs.Leaving.{left_none, noted_record, noted_close, gone_through}
@@ -32,7 +32,7 @@ wants_waiting s (Record moment len) (Left noted) w = absurd w
 wants_waiting s Close (Left noted) w = absurd w
 
 module _ (s after : Stack) (top : Frame) (below : List Frame) (top_is : s.frames ≡ top ∷ below) where
-  leaves : state_of top.progress ≡ waiting → after ≡ after_leave s top below → HasActed s (leave None ∷ []) after
+  leaves : state_of top.progress ≡ waiting → after ≡ after_leave s top below → HasEvents s (leave None ∷ []) after
   leaves waits is start h k = subst (IsStack start (h ++ leave None ∷ [])) (sym is) (left_none start h s top below top_is waits k)
 
   pub crowded_after : WantsPage s top.purpose top.progress → after ≡ after_leave s top below → IsAllotted s s.frames (Err Crowded) after
@@ -55,7 +55,7 @@ module _ (s after : Stack) (top : Frame) (below : List Frame) (top_is : s.frames
   noted_after w is = subst (λ (fs : List Frame). IsAllotted s fs (Ok NeedsPage) after) (sym top_is)
       (is, λ start h k. subst (λ (g : List HistoryEvent). IsStack start g after) (sym (append-nil h)) (subst (IsStack start h) (sym is) (notes top.purpose top.progress refl refl w start h k)))
 
-  passes : (noted : ℕ) → top.purpose ≡ Close → state_of top.progress ≡ waiting → ((start : ℕ) (h : List HistoryEvent) → IsStack start h s → noted ≤ opened s) → after ≡ with_progress s top below (Through noted) → HasActed s [] after
+  passes : (noted : ℕ) → top.purpose ≡ Close → state_of top.progress ≡ waiting → ((start : ℕ) (h : List HistoryEvent) → IsStack start h s → noted ≤ opened s) → after ≡ with_progress s top below (Through noted) → HasEvents s [] after
   passes noted p q le is start h k = subst (λ (g : List HistoryEvent). IsStack start g after) (sym (append-nil h)) (subst (IsStack start h) (sym is) (gone_through start h s top below noted p' p q (le start h k) k))
     where
       p' : s.frames ≡ top ∷ below
@@ -82,5 +82,5 @@ module _ (s after : Stack) (top : Frame) (below : List Frame) (top_is : s.frames
       (none, is, passes noted p (ap state_of q) (λ start h k. (stands (Through noted) q start h k).1) is)))
 
 -- a record as nearly all are is reserved
-pub plain_after : (s after : Stack) (pushed : Pushed) (place : Place) → IsPlainTop s pushed → ((top : Frame) (below : List Frame) → IsTop s top below → ReservesRecord s top below pushed.moment pushed.len place after) → HasActed s (reserve ∷ []) after → IsAllotted s s.frames (Ok (Fits place)) after
-plain_after s after pushed place p reserved acted = subst (λ (fs : List Frame). IsAllotted s fs (Ok (Fits place)) after) (sym p.on_top) (reserved record { purpose = Record pushed.moment pushed.len; progress = Waiting None } p.below p.on_top, acted)
+pub plain_after : (s after : Stack) (pushed : Pushed) (place : Place) → IsPlainTop s pushed → ((top : Frame) (below : List Frame) → IsTop s top below → ReservesRecord s top below pushed.moment pushed.len place after) → HasEvents s (reserve ∷ []) after → IsAllotted s s.frames (Ok (Fits place)) after
+plain_after s after pushed place p reserved has_events = subst (λ (fs : List Frame). IsAllotted s fs (Ok (Fits place)) after) (sym p.on_top) (reserved record { purpose = Record pushed.moment pushed.len; progress = Waiting None } p.below p.on_top, has_events)

@@ -17,7 +17,7 @@ use Rattle.nested_writer.specs.declared.frame.Frame.{Frame}
 use Rattle.nested_writer.specs.declared.frame.Pushed.{Pushed}
 use Rattle.nested_writer.specs.Stack.{Stack, opened, next_number, kind_of}
 use Rattle.nested_writer.specs.Calls.{end_with, IsUnchanged, WantsPage, IsCrowded, IsWorn}
-use Rattle.nested_writer.specs.Answered.{FitsTail, IsBegunSince, WantsFill, HasItsFill, IsAnsweredTop, IsAnswered}
+use Rattle.nested_writer.specs.Answered.{FitsTail, IsBegunSince, WantsFill, HasItsFill, IsAllotAnswerTop, IsAllotAnswer}
 use Rattle.nested_writer.specs.PlainTop.{IsPlainTop}
 use Rattle.nested_writer.specs.IsStack.{StandsAt, FramesStand, IsStack}
 use Rattle.nested_writer.proofs.Reserving.{number_is, end_is}
@@ -66,22 +66,22 @@ module _ (start : ℕ) (h : List HistoryEvent) (s : Stack) (k : IsStack start h 
   -- ---- by the frames on the stack
 
   module _ (top : Frame) (below : List Frame) (top_is : s.frames ≡ top ∷ below) where
-    answered : (result : Result Allot WriteFault) → IsAnsweredTop s h top result → IsAnswered s h s.frames result
-    answered result is = subst (λ (fs : List Frame). IsAnswered s h fs result) (sym top_is) is
+    answered : (result : Result Allot WriteFault) → IsAllotAnswerTop s h top result → IsAllotAnswer s h s.frames result
+    answered result is = subst (λ (fs : List Frame). IsAllotAnswer s h fs result) (sym top_is) is
 
-    pub crowded_answer : WantsPage s top.purpose top.progress → IsCrowded s → IsAnswered s h s.frames (Err Crowded)
+    pub crowded_answer : WantsPage s top.purpose top.progress → IsCrowded s → IsAllotAnswer s h s.frames (Err Crowded)
     crowded_answer wants crowded = answered (Err Crowded) (wants_fill top.purpose top.progress wants, crowded)
 
-    pub worn_answer : WantsPage s top.purpose top.progress → (IsCrowded s → ⊥) → IsWorn s → IsAnswered s h s.frames (Err Worn)
+    pub worn_answer : WantsPage s top.purpose top.progress → (IsCrowded s → ⊥) → IsWorn s → IsAllotAnswer s h s.frames (Err Worn)
     worn_answer wants room worn = answered (Err Worn) (wants_fill top.purpose top.progress wants, room, worn)
 
-    pub page_answer : WantsPage s top.purpose top.progress → (IsCrowded s → ⊥) → opened s + s.pages < LINK_FILLS → IsAnswered s h s.frames (Ok NeedsPage)
+    pub page_answer : WantsPage s top.purpose top.progress → (IsCrowded s → ⊥) → opened s + s.pages < LINK_FILLS → IsAllotAnswer s h s.frames (Ok NeedsPage)
     page_answer wants room fills = answered (Ok NeedsPage) (wants_fill top.purpose top.progress wants, room, fills)
 
-    pub fits_answer : (noted : Option ℕ) (place : Place) → top.progress ≡ Waiting noted → (WantsPage s top.purpose top.progress → ⊥) → IsAnswered s h s.frames (Ok (Fits place))
+    pub fits_answer : (noted : Option ℕ) (place : Place) → top.progress ≡ Waiting noted → (WantsPage s top.purpose top.progress → ⊥) → IsAllotAnswer s h s.frames (Ok (Fits place))
     fits_answer noted place q not = answered (Ok (Fits place)) (subst (HasItsFill s h top.purpose) (sym q) (has_its_fill top.purpose noted (λ wants. not (subst (WantsPage s top.purpose) (sym q) wants))))
 
-    pub close_answer : (noted : ℕ) (place : Place) → top.purpose ≡ Close → top.progress ≡ Through noted → (WantsPage s top.purpose top.progress → ⊥) → IsAnswered s h s.frames (Ok (Fits place))
+    pub close_answer : (noted : ℕ) (place : Place) → top.purpose ≡ Close → top.progress ≡ Through noted → (WantsPage s top.purpose top.progress → ⊥) → IsAllotAnswer s h s.frames (Ok (Fits place))
     close_answer noted place p q not = answered (Ok (Fits place)) (subst (λ (x : Purpose). HasItsFill s h x top.progress) (sym p) (subst (HasItsFill s h Close) (sym q) (close_has_its_fill noted (λ wants. not (subst (λ (x : Purpose). WantsPage s x top.progress) (sym p) (subst (WantsPage s Close) (sym q) wants))))))
 
     -- only a close frame is through
@@ -92,5 +92,5 @@ module _ (start : ℕ) (h : List HistoryEvent) (s : Stack) (k : IsStack start h 
         let record_closes = sym (ap kind_of p) ∙ closes in cc
 
   -- a record as nearly all are
-  pub plain_answer : (pushed : Pushed) (place : Place) → IsPlainTop s pushed → IsAnswered s h s.frames (Ok (Fits place))
+  pub plain_answer : (pushed : Pushed) (place : Place) → IsPlainTop s pushed → IsAllotAnswer s h s.frames (Ok (Fits place))
   plain_answer pushed place p = fits_answer record { purpose = Record pushed.moment pushed.len; progress = Waiting None } p.below p.on_top None place refl (λ wants. let room = plain_room s pushed.moment pushed.len p.fits in omega arith)

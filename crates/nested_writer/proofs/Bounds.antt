@@ -14,7 +14,7 @@ use Rattle.trace_model.proofs.packing.FillSizes.{fills_hold}
 use Rattle.trace_model.proofs.packing.OpenPages.{AreOf-last}
 use Rattle.page_image.specs.Contents.{records_of_page}
 use Rattle.nested_writer.specs.Stack.{Stack, opened, next_number}
-use Rattle.nested_writer.specs.IsStack.{IsStackOf, Stands}
+use Rattle.nested_writer.specs.IsStack.{IsStackOf, IsReachedStack}
 use Rattle.nested_writer.proofs.Reserving.{number_is, tail_last}
 
 last_is : (rs : List Record) (fill : List Reservation) (prev : ℕ) → AreOf rs fill → ((t : Reservation) (ts : List Reservation) → fill ≡ t ∷ ts → last_moment (t ∷ ts) ≡ prev) → IfSome (moment_of_last rs) (λ last. last ≡ prev)
@@ -38,10 +38,10 @@ module _ (start : ℕ) (cuts : List ℕ) (records : List Reservation) (found : B
   number_fits le = let begun = k.begun in let low = few LINK_FILLS (omega arith) in let is = number_is start cuts records found s k in omega arith
 
 -- of a stack of some history
-pub stands_fits : (s : Stack) → Stands s → opened s ≤ LINK_FILLS → next_number s < 2 ^ 63
-unfolding Stands
+pub stands_fits : (s : Stack) → IsReachedStack s → opened s ≤ LINK_FILLS → next_number s < 2 ^ 63
+unfolding IsReachedStack
 stands_fits s (start, history, k) le = number_fits start (opens_of history) (reserved_records history) (is_wished history) s k.holds le
 
-pub stands_ends_at : (s : Stack) → Stands s → IfSome (moment_of_last (records_of_page s.tail)) (λ last. last ≡ s.last_moment)
-unfolding Stands
+pub stands_ends_at : (s : Stack) → IsReachedStack s → IfSome (moment_of_last (records_of_page s.tail)) (λ last. last ≡ s.last_moment)
+unfolding IsReachedStack
 stands_ends_at s (start, history, k) = tail_ends_at start (opens_of history) (reserved_records history) (is_wished history) s k.holds

@@ -25,7 +25,7 @@ use Rattle.nested_writer.specs.Calls.{HasNoSlot, LacksSlot, IsTopSlot, slot_of, 
 use Rattle.nested_writer.specs.Next.{len_of, pushed_len, place_of, top_place}
 use Rattle.nested_writer.specs.Lent.{Lent, lent_bytes, with_bytes}
 use Rattle.nested_writer.specs.Lending.{older_with, tail_with, with_top, IsLent}
-use Rattle.nested_writer.specs.IsStack.{IsOpenPage, is_tail, is_older, StandsAt, FramesStand, IsStack, Stands}
+use Rattle.nested_writer.specs.IsStack.{IsOpenPage, is_tail, is_older, StandsAt, FramesStand, IsStack, IsReachedStack}
 use Rattle.nested_writer.proofs.Ending.{open_page_is}
 use Rattle.nested_writer.proofs.Lending.{IsOlder, slot_lies, older_page, in_tail, in_older, lent_len}
 use Rattle.nested_writer.proofs.Written.{written}
@@ -198,6 +198,6 @@ lent_there payload part within long =
 pub lent_written : (start : ℕ) (h : List HistoryEvent) (s : Stack) (payload : Lent) (part : List ℕ) → IsLent s payload → length part ≡ length (lent_bytes payload) → IsStack start h s → IsStack start h (with_top s (with_bytes payload part))
 lent_written start h s payload part lent fills k = subst (IsStack start h) (sym (lent.in_slot part)) (written start h s lent.slot part lent.on_top (fills ∙ lent.long ∙ ap (λ (p : Place). p.len) lent.place_is) k)
 
-pub lent_stays : (s : Stack) (payload : Lent) (part : List ℕ) → IsLent s payload → length part ≡ length (lent_bytes payload) → Stands s → Stands (with_top s (with_bytes payload part))
-unfolding Stands
+pub lent_stays : (s : Stack) (payload : Lent) (part : List ℕ) → IsLent s payload → length part ≡ length (lent_bytes payload) → IsReachedStack s → IsReachedStack (with_top s (with_bytes payload part))
+unfolding IsReachedStack
 lent_stays s payload part lent fills (start, h, k) = (start, h, lent_written start h s payload part lent fills k)

@@ -13,7 +13,7 @@ use Rattle.nested_writer.specs.declared.frame.Pushed.{Pushed}
 use Rattle.nested_writer.specs.Stack.{Stack, tail_fill, next_number}
 use Rattle.nested_writer.specs.Calls.{IsTop, ReservesRecord, HasRecordRoom}
 use Rattle.nested_writer.specs.PlainTop.{FitsPlainly, IsPlainTop}
-use Rattle.nested_writer.specs.Allotted.{HasActed}
+use Rattle.nested_writer.specs.Allotted.{HasEvents}
 use Rattle.nested_writer.proofs.Tops.{first_is, rest_is}
 use Rattle.nested_writer.proofs.Reserving.{IsPut, reserved_with}
 
@@ -62,8 +62,8 @@ module _ (s : Stack) (pushed : Pushed) (p : IsPlainTop s pushed) (tail' : Conten
         };
       })
 
-  pub plain_acted : number ≡ next_number s → fill ≡ tail_fill s → IsPut s.tail tail' s.last_moment pushed.moment pushed.len place → HasActed s (reserve ∷ []) plain_put
-  plain_acted number_is fill_is put start h k =
+  pub plain_has_events : number ≡ next_number s → fill ≡ tail_fill s → IsPut s.tail tail' s.last_moment pushed.moment pushed.len place → HasEvents s (reserve ∷ []) plain_put
+  plain_has_events number_is fill_is put start h k =
       let raised = plain_raised s pushed.moment pushed.len p.fits in
       let room = plain_room s pushed.moment pushed.len p.fits in
       let room' : length s.tail.bytes + encoded_len pushed.len (pushed.moment - s.last_moment) (is_blank s.tail.bytes) ≤ s.size = subst (λ (m : ℕ). length s.tail.bytes + encoded_len pushed.len (m - s.last_moment) (is_blank s.tail.bytes) ≤ s.size) (sym raised) room in

@@ -14,17 +14,17 @@ use Rattle.nested_writer.specs.declared.frame.Progress.TheVariants.{Waiting}
 use Rattle.nested_writer.specs.Stack.{Stack}
 use Rattle.nested_writer.specs.Calls.{with_frame, after_leave, IsAtBottom, NeedsPage, HasTopLeft}
 use Rattle.nested_writer.specs.AtOnce.{MayStand, with_left}
-use Rattle.nested_writer.specs.Allotted.{HasActed, IsAllotted}
-use Rattle.nested_writer.specs.Answered.{IsAnswered}
+use Rattle.nested_writer.specs.Allotted.{HasEvents, IsAllotted}
+use Rattle.nested_writer.specs.Answered.{IsAllotAnswer}
 use Rattle.nested_writer.specs.Kept.{SameFills}
 use Rattle.nested_writer.specs.Ends.{MayEnd, MayEndTop, MayNotEndTop, HasEnded, IsEnd}
 use Rattle.nested_writer.specs.Next.{below_top, IsPlaced, IsSameFrame}
-use Rattle.nested_writer.specs.IsStack.{IsStack, Stands}
+use Rattle.nested_writer.specs.IsStack.{IsStack, IsReachedStack}
 use Rattle.nested_writer.specs.Promises.{Begins, Allots, EndsTop, StandsAgain}
 use Rattle.nested_writer.proofs.AtOnce.{fits_page, stands_again}
 use Rattle.nested_writer.proofs.Keeping.{left_bottom, left_below, ended_to}
 use Rattle.nested_writer.proofs.Pushing.{pushed_record}
-use Rattle.nested_writer.proofs.Staying.{acted_stays, allotted_stays, ended_stays}
+use Rattle.nested_writer.proofs.Staying.{has_events_stays, allotted_stays, ended_stays}
 
 -- the frame of a record is pushed
 pub begins : (moment len : ℕ) (s after : Stack) → length s.frames < MAX_FRAMES → (IsTooLong s.size len → ⊥) → moment < MOMENT_LIMIT → after ≡ with_frame s record { purpose = Record moment len; progress = Waiting None } → Begins moment len s (Ok (tt {0})) after
@@ -38,7 +38,7 @@ begins moment len s after room short early is =
       begun = search rules;
       ok = is;
       err = search rules;
-      stays = acted_stays s after (push moment len ∷ []) pushed;
+      stays = has_events_stays s after (push moment len ∷ []) pushed;
       pushed = pushed;
       kept = search rules;
       top = search rules;
@@ -47,17 +47,17 @@ begins moment len s after room short early is =
 -- the frame of a record that was written is put back
 pub stands_alone : (moment len : ℕ) (s after : Stack) → s.frames ≡ [] → MayStand s moment len → after ≡ with_left s moment len → StandsAgain moment len s after
 stands_alone moment len s after none may is =
-    let stack : HasActed s [] after = λ start history k. subst (IsStack start (history ++ [])) (sym is) (subst (λ (g : List HistoryEvent). IsStack start g (with_left s moment len)) (sym (append-nil history)) (stands_again start history s moment len none may k)) in
+    let stack : HasEvents s [] after = λ start history k. subst (IsStack start (history ++ [])) (sym is) (subst (λ (g : List HistoryEvent). IsStack start g (with_left s moment len)) (sym (append-nil history)) (stands_again start history s moment len none may k)) in
     record {
       left = is;
       stack = stack;
-      stays = acted_stays s after [] stack;
+      stays = has_events_stays s after [] stack;
       kept = search rules;
       bottom = search rules;
     }
 
 -- the frame on top ends
-pub ends_top : (s after : Stack) (top : Frame) (below : List Frame) (ended : Ended) → s.frames ≡ top ∷ below → MayEnd top.progress → HasEnded s top.progress after → after ≡ after_leave s top below → Stands s → (ended ≡ Pending → below ≡ [] → ⊥) → (ended ≡ Full → below ≡ []) → EndsTop s (Ok ended) after
+pub ends_top : (s after : Stack) (top : Frame) (below : List Frame) (ended : Ended) → s.frames ≡ top ∷ below → MayEnd top.progress → HasEnded s top.progress after → after ≡ after_leave s top below → IsReachedStack s → (ended ≡ Pending → below ≡ [] → ⊥) → (ended ≡ Full → below ≡ []) → EndsTop s (Ok ended) after
 ends_top s after top below ended frames may has is stands pending full =
     let end : IsEnd s s.frames after = subst (λ (fs : List Frame). IsEnd s fs after) (sym frames) (is, has) in
     let under : ended ≡ Pending → after.frames ≡ below_top s.frames =
@@ -105,7 +105,7 @@ ends_top s after top below ended frames may has is stands pending full =
 
 -- the frame on top gets its place
 pub allots_place : (s after : Stack) (place : Place) → (NeedsPage s s.frames → ⊥) → (s.frames ≡ [] → ⊥) → (HasTopLeft s.frames → ⊥) → IsAllotted s s.frames (Ok (Fits place)) after
-    → ((start : ℕ) (history : List HistoryEvent) → IsStack start history s → IsAnswered s history s.frames (Ok (Fits place))) → SameFills s after → IsPlaced s after place → IsSameFrame s after → Stands s → Allots s (Ok (Fits place)) after
+    → ((start : ℕ) (history : List HistoryEvent) → IsStack start history s → IsAllotAnswer s history s.frames (Ok (Fits place))) → SameFills s after → IsPlaced s after place → IsSameFrame s after → IsReachedStack s → Allots s (Ok (Fits place)) after
 allots_place s after place needs_none some stays is answered kept placed same stands = record {
   crowded = ((λ e. absurd (let no = e in cc)), (λ n. absurd (needs_none n.0)));
   worn = ((λ e. absurd (let no = e in cc)), (λ n. absurd (needs_none n.0)));

@@ -5,19 +5,19 @@ use Rattle.trace_model.proofs.packing.PackedHistories.{is_packed}
 use Rattle.nested_writer.specs.Stack.{Stack}
 use Rattle.nested_writer.specs.Runs.{IsStackCall, begins, begins_close, allots, writes, ends, adds_page, takes_off, asks, writes_at_once, is_refused, IsRun, HoldsLastFills}
 use Rattle.nested_writer.specs.IsStack.{IsStack}
-use Rattle.nested_writer.proofs.Staying.{StandsFrom, acted, unmoved, allotted_stands, end_stands}
+use Rattle.nested_writer.proofs.Staying.{StandsFrom, has_events, unmoved, allotted_stands, end_stands}
 use Rattle.nested_writer.proofs.Written.{written}
 
 call_stands : (start : ℕ) (s after : Stack) → IsStackCall s after → StandsFrom start s → StandsFrom start after
-call_stands start s after (begins moment len acts) st = acted start s after (push moment len ∷ []) acts st
-call_stands start s after (begins_close acts) st = acted start s after (push_close ∷ []) acts st
+call_stands start s after (begins moment len acts) st = has_events start s after (push moment len ∷ []) acts st
+call_stands start s after (begins_close acts) st = has_events start s after (push_close ∷ []) acts st
 call_stands start s after (allots result is) st = allotted_stands start s after s.frames result is st
 call_stands start s after (writes slot part top fills is) (h, k) = (h, subst (IsStack start h) (sym is) (written start h s slot part top fills k))
 call_stands start s after (ends is) st = end_stands start s after s.frames refl is st
-call_stands start s after (adds_page acts) st = acted start s after (open_fill ∷ []) acts st
-call_stands start s after (takes_off acts) st = acted start s after [] acts st
-call_stands start s after (asks acts) st = acted start s after (wished ∷ []) acts st
-call_stands start s after (writes_at_once moment payload acts) st = acted start s after (push moment (length payload) ∷ reserve ∷ leave (Some payload) ∷ []) acts st
+call_stands start s after (adds_page acts) st = has_events start s after (open_fill ∷ []) acts st
+call_stands start s after (takes_off acts) st = has_events start s after [] acts st
+call_stands start s after (asks acts) st = has_events start s after (wished ∷ []) acts st
+call_stands start s after (writes_at_once moment payload acts) st = has_events start s after (push moment (length payload) ∷ reserve ∷ leave (Some payload) ∷ []) acts st
 call_stands start s after (is_refused same) st = unmoved start s after same st
 
 run_stands : (start : ℕ) (s : Stack) (between : List Stack) (after : Stack) → IsRun s between after → StandsFrom start s → StandsFrom start after

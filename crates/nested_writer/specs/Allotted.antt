@@ -16,8 +16,8 @@ use Rattle.nested_writer.specs.Calls.{with_progress, after_leave, ReservesRecord
 use Rattle.nested_writer.specs.IsStack.{IsStack}
 
 -- if a history is that of the one stack, then with these events after it, it is that of the other
-abbrev pub HasActed : Stack → List HistoryEvent → Stack → Type 0
-HasActed s events after = (start : ℕ) (history : List HistoryEvent)
+abbrev pub HasEvents : Stack → List HistoryEvent → Stack → Type 0
+HasEvents s events after = (start : ℕ) (history : List HistoryEvent)
     → IsStack start history s
     → IsStack start (history ++ events) after
 
@@ -34,25 +34,25 @@ first_try s (Left noted) = opened s
 abbrev pub HasFit : Stack → Frame → List Frame → Purpose → Progress → Place → Stack → Type 0
 HasFit s top below purpose (Reserved slot) place after = (after ≡ s) × (place ≡ slot.place)
 HasFit s top below (Record moment len) (Waiting noted) place after =
-    ReservesRecord s top below moment len place after × HasActed s (reserve ∷ []) after
+    ReservesRecord s top below moment len place after × HasEvents s (reserve ∷ []) after
 HasFit s top below Close (Waiting noted) place after =
     (place.len ≡ 0)
     × (after ≡ with_progress s top below (Through (first_try s (Waiting noted))))
-    × HasActed s [] after
+    × HasEvents s [] after
 HasFit s top below (Record moment len) (Through noted) place after = ⊥
 HasFit s top below Close (Through noted) place after =
-    (place.len ≡ 0) × (after ≡ with_progress s top below (Through noted)) × HasActed s [] after
+    (place.len ≡ 0) × (after ≡ with_progress s top below (Through noted)) × HasEvents s [] after
 HasFit s top below purpose (Left noted) place after = ⊥
 
 -- One that is refused for want of a page leaves without a record; one that needs a page notes how many fills are begun.
 abbrev pub IsAllottedTop : Stack → Frame → List Frame → Result Allot WriteFault → Stack → Type 0
 IsAllottedTop s top below (Ok (Fits place)) after = HasFit s top below top.purpose top.progress place after
 IsAllottedTop s top below (Ok NeedsPage) after =
-    (after ≡ with_progress s top below (Waiting (Some (opened s)))) × HasActed s [] after
+    (after ≡ with_progress s top below (Waiting (Some (opened s)))) × HasEvents s [] after
 IsAllottedTop s top below (Err Crowded) after =
-    (after ≡ after_leave s top below) × HasActed s (leave None ∷ []) after
+    (after ≡ after_leave s top below) × HasEvents s (leave None ∷ []) after
 IsAllottedTop s top below (Err Worn) after =
-    (after ≡ after_leave s top below) × HasActed s (leave None ∷ []) after
+    (after ≡ after_leave s top below) × HasEvents s (leave None ∷ []) after
 IsAllottedTop s top below (Err NotReserved) after = after ≡ s
 IsAllottedTop s top below (Err NoFrame) after = ⊥
 IsAllottedTop s top below (Err TooDeep) after = ⊥

@@ -46,20 +46,20 @@ HasItsFill s history Close (Through noted) = (tail_of history ≡ []) ⊎ (noted
 HasItsFill s history purpose (Reserved slot) = Unit {0}
 HasItsFill s history purpose (Left noted) = ⊥
 
-abbrev pub IsAnsweredTop : Stack → List HistoryEvent → Frame → Result Allot WriteFault → Type 0
-IsAnsweredTop s history top (Ok (Fits place)) = HasItsFill s history top.purpose top.progress
-IsAnsweredTop s history top (Ok NeedsPage) =
+abbrev pub IsAllotAnswerTop : Stack → List HistoryEvent → Frame → Result Allot WriteFault → Type 0
+IsAllotAnswerTop s history top (Ok (Fits place)) = HasItsFill s history top.purpose top.progress
+IsAllotAnswerTop s history top (Ok NeedsPage) =
     WantsFill s history top.purpose top.progress × (IsCrowded s → ⊥) × (opened s + s.pages < LINK_FILLS)
-IsAnsweredTop s history top (Err Crowded) = WantsFill s history top.purpose top.progress × IsCrowded s
-IsAnsweredTop s history top (Err Worn) =
+IsAllotAnswerTop s history top (Err Crowded) = WantsFill s history top.purpose top.progress × IsCrowded s
+IsAllotAnswerTop s history top (Err Worn) =
     WantsFill s history top.purpose top.progress × (IsCrowded s → ⊥) × IsWorn s
-IsAnsweredTop s history top (Err NotReserved) = HasLeft top.progress
-IsAnsweredTop s history top (Err NoFrame) = ⊥
-IsAnsweredTop s history top (Err TooDeep) = ⊥
-IsAnsweredTop s history top (Err TooLong) = ⊥
-IsAnsweredTop s history top (Err LateMoment) = ⊥
+IsAllotAnswerTop s history top (Err NotReserved) = HasLeft top.progress
+IsAllotAnswerTop s history top (Err NoFrame) = ⊥
+IsAllotAnswerTop s history top (Err TooDeep) = ⊥
+IsAllotAnswerTop s history top (Err TooLong) = ⊥
+IsAllotAnswerTop s history top (Err LateMoment) = ⊥
 
 -- The answer for these frames: whether the one on top needs a fill, by the history, and whether it may have one.
-abbrev pub IsAnswered : Stack → List HistoryEvent → List Frame → Result Allot WriteFault → Type 0
-IsAnswered s history [] result = result ≡ Err NoFrame
-IsAnswered s history (top ∷ below) result = IsAnsweredTop s history top result
+abbrev pub IsAllotAnswer : Stack → List HistoryEvent → List Frame → Result Allot WriteFault → Type 0
+IsAllotAnswer s history [] result = result ≡ Err NoFrame
+IsAllotAnswer s history (top ∷ below) result = IsAllotAnswerTop s history top result

@@ -8,7 +8,7 @@ use Rattle.nested_writer.specs.declared.frame.Progress.TheVariants.{Waiting, Thr
 use Rattle.nested_writer.specs.declared.frame.Frame.{Frame}
 use Rattle.nested_writer.specs.Stack.{Stack}
 use Rattle.nested_writer.specs.Calls.{after_leave}
-use Rattle.nested_writer.specs.Allotted.{HasActed}
+use Rattle.nested_writer.specs.Allotted.{HasEvents}
 use Rattle.nested_writer.specs.IsStack.{IsOpenPage}
 
 -- The frame may be ended: its record is reserved, or it is a close frame that is through.
@@ -31,10 +31,10 @@ MayNotEndTop (top ∷ below) = MayEnd top.progress → ⊥
 -- A record frame leaves with the bytes in its slot, a close frame without a record.
 abbrev pub HasEnded : Stack → Progress → Stack → Type 0
 HasEnded s (Waiting noted) after = ⊥
-HasEnded s (Through noted) after = HasActed s (leave None ∷ []) after
+HasEnded s (Through noted) after = HasEvents s (leave None ∷ []) after
 HasEnded s (Reserved slot) after = (page : Contents)
     → IsOpenPage s.done s.older s.tail slot.fill page
-    → HasActed s (leave (Some (bytes_at slot.place.start slot.place.len page.bytes)) ∷ []) after
+    → HasEvents s (leave (Some (bytes_at slot.place.start slot.place.len page.bytes)) ∷ []) after
 HasEnded s (Left noted) after = ⊥
 
 -- the frame on top leaves, and the bottom one stays

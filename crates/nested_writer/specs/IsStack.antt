@@ -120,5 +120,5 @@ pub record IsStack (start : ℕ) (history : List HistoryEvent) (s : Stack) : Typ
   pub holds : IsStackOf start (opens_of history) (reserved_records history) (is_wished history) s
 
 -- The stack is what some history leaves, in a ring with some first fill.
-unfoldable pub Stands : Stack → Type 0
-Stands s = (start : ℕ) × (history : List HistoryEvent) × IsStack start history s
+unfoldable pub IsReachedStack : Stack → Type 0
+IsReachedStack s = (start : ℕ) × (history : List HistoryEvent) × IsStack start history s

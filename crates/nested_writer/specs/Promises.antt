@@ -22,10 +22,10 @@ use Rattle.nested_writer.specs.Calls.{with_frame, IsAtBottom, IsCrowded, IsWorn,
 use Rattle.nested_writer.specs.Kept.{SameFills, SamePages}
 use Rattle.nested_writer.specs.Ends.{MayEndTop, MayNotEndTop, IsEnd}
 use Rattle.nested_writer.specs.Next.{below_top, IsPushedOn, IsPlaced, IsReadyForPage, IsAllottedTo, IsSameFrame, IsRefusedTo, IsEndedTo}
-use Rattle.nested_writer.specs.Allotted.{HasActed, IsAllotted}
-use Rattle.nested_writer.specs.Answered.{IsAnswered}
+use Rattle.nested_writer.specs.Allotted.{HasEvents, IsAllotted}
+use Rattle.nested_writer.specs.Answered.{IsAllotAnswer}
 use Rattle.nested_writer.specs.AtOnce.{FitsAtOnce, with_left}
-use Rattle.nested_writer.specs.IsStack.{IsStack, Stands}
+use Rattle.nested_writer.specs.IsStack.{IsStack, IsReachedStack}
 
 -- `begin`: the frame for a record of this moment, of a payload of len bytes, is on top; or the first of the faults
 -- that holds is answered, and nothing changes.
@@ -39,7 +39,7 @@ pub record Begins (moment len : ℕ) (old : Stack) (result : Result Unit WriteFa
       ↔ ((length old.frames < MAX_FRAMES) × (IsTooLong old.size len → ⊥) × (moment < MOMENT_LIMIT))
   pub ok : OnOk result (new ≡ with_frame old (record { purpose = Record moment len; progress = Waiting None }))
   pub err : OnErr result (new ≡ old)
-  pub stays : Stands old → Stands new
+  pub stays : IsReachedStack old → IsReachedStack new
   pub pushed : OnOk result ((start : ℕ) (history : List HistoryEvent)
       → IsStack start history old
       → IsStack start (history ++ push moment len ∷ []) new)
@@ -57,10 +57,10 @@ pub record Allots (old : Stack) (result : Result Allot WriteFault) (new : Stack)
       ≡ Ok allot.NeedsPage
       ↔ (NeedsPage old old.frames × (IsCrowded old → ⊥) × (IsWorn old → ⊥))
   pub after : IsAllotted old old.frames result new
-  pub stays : Stands new
+  pub stays : IsReachedStack new
   pub answered : (start : ℕ) (history : List HistoryEvent)
       → IsStack start history old
-      → IsAnswered old history old.frames result
+      → IsAllotAnswer old history old.frames result
   pub kept : SameFills old new
   pub fits : (place : Place) → result ≡ Ok (allot.Fits place) → IsPlaced old new place
   pub page : result ≡ Ok allot.NeedsPage → IsReadyForPage old new
@@ -74,7 +74,7 @@ pub record EndsTop (old : Stack) (result : Result Ended WriteFault) (new : Stack
   pub not_reserved : result ≡ Err NotReserved ↔ MayNotEndTop old.frames
   pub pending : result ≡ Ok Pending ↔ (MayEndTop old.frames × (1 < length old.frames))
   pub full : result ≡ Ok Full ↔ (MayEndTop old.frames × (length old.frames ≤ 1))
-  pub stays : Stands new
+  pub stays : IsReachedStack new
   pub ok : OnOk result (IsEnd old old.frames new)
   pub err : OnErr result (new ≡ old)
   pub kept : SamePages old new
@@ -90,8 +90,8 @@ pub record WritesWhatFits (moment : ℕ) (payload : List ℕ) (old : Stack) (res
       → records_of_page new.tail
       ≡ records_of_page old.tail ++ record { moment = max moment old.last_moment; bytes = padded payload } ∷ []
   pub stack : result ≡ at_once.Record
-      → HasActed old (push moment (length payload) ∷ reserve ∷ leave (Some payload) ∷ []) new
-  pub stays : Stands new
+      → HasEvents old (push moment (length payload) ∷ reserve ∷ leave (Some payload) ∷ []) new
+  pub stays : IsReachedStack new
   pub nothing : result ≡ at_once.Nothing → new ≡ old
   pub kept : SameFills old new
 
@@ -99,7 +99,7 @@ pub record WritesWhatFits (moment : ℕ) (payload : List ℕ) (old : Stack) (res
 -- left.
 pub record StandsAgain (moment len : ℕ) (old new : Stack) : Type 0 where
   pub left : new ≡ with_left old moment len
-  pub stack : HasActed old [] new
-  pub stays : Stands old → Stands new
+  pub stack : HasEvents old [] new
+  pub stays : IsReachedStack old → IsReachedStack new
   pub kept : SamePages old new
   pub bottom : IsAtBottom new.frames

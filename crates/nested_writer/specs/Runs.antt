@@ -7,7 +7,7 @@ use Rattle.nested_writer.specs.declared.stack.allot.Allot.{Allot}
 use Rattle.nested_writer.specs.declared.frame.Slot.{Slot}
 use Rattle.nested_writer.specs.Stack.{Stack}
 use Rattle.nested_writer.specs.Calls.{IsTopSlot}
-use Rattle.nested_writer.specs.Allotted.{HasActed, IsAllotted}
+use Rattle.nested_writer.specs.Allotted.{HasEvents, IsAllotted}
 use Rattle.nested_writer.specs.Ends.{IsEnd}
 use Rattle.nested_writer.specs.Lending.{with_slot}
 use Rattle.nested_writer.specs.IsStack.{IsStack}
@@ -16,8 +16,8 @@ use Rattle.nested_writer.specs.IsStack.{IsStack}
 -- of the slot's length written into the slot that top_mut lends, end, add_page, drop_front, pop_bottom and
 -- stand_again, ask_close, write and write_alone; or a call that is refused.
 pub data IsStackCall (s after : Stack) : Type 0 where
-  begins : (moment len : ℕ) → HasActed s (push moment len ∷ []) after → IsStackCall s after
-  begins_close : HasActed s (push_close ∷ []) after → IsStackCall s after
+  begins : (moment len : ℕ) → HasEvents s (push moment len ∷ []) after → IsStackCall s after
+  begins_close : HasEvents s (push_close ∷ []) after → IsStackCall s after
   allots : (result : Result Allot WriteFault) → IsAllotted s s.frames result after → IsStackCall s after
   writes : (slot : Slot) (part : List ℕ)
       → IsTopSlot s.frames slot
@@ -25,11 +25,11 @@ pub data IsStackCall (s after : Stack) : Type 0 where
       → after ≡ with_slot s slot part
       → IsStackCall s after
   ends : IsEnd s s.frames after → IsStackCall s after
-  adds_page : HasActed s (open_fill ∷ []) after → IsStackCall s after
-  takes_off : HasActed s [] after → IsStackCall s after
-  asks : HasActed s (wished ∷ []) after → IsStackCall s after
+  adds_page : HasEvents s (open_fill ∷ []) after → IsStackCall s after
+  takes_off : HasEvents s [] after → IsStackCall s after
+  asks : HasEvents s (wished ∷ []) after → IsStackCall s after
   writes_at_once : (moment : ℕ) (payload : List ℕ)
-      → HasActed s (push moment (length payload) ∷ reserve ∷ leave (Some payload) ∷ []) after
+      → HasEvents s (push moment (length payload) ∷ reserve ∷ leave (Some payload) ∷ []) after
       → IsStackCall s after
   is_refused : after ≡ s → IsStackCall s after
 

@@ -5,15 +5,15 @@
 //! open pages hold its last fills (`docs/MODEL.md`).
 //!
 //! Code without loops names no fact of the stack: `new` gives what the calls ask for, and each call gives it again. A
-//! loop names what it keeps, which is `Stands`, and what its calls ask for beside it. So of records that are reserved,
-//! each amid the one before:
+//! loop names what it keeps, `IsReachedStack`, and what its calls ask for beside it. So of records that are reserved,
+//! each in the middle of the one before:
 //!
 //! ```text
-//! ghost use Rattle.nested_writer.specs.IsStack.{Stands};
+//! ghost use Rattle.nested_writer.specs.IsStack.{IsReachedStack};
 //!
 //! fn reserve_all(stack: &mut WriterStack, moments: &[u64]) -> Result<(), WriteFault>
-//!     requires stack { Stands stack.old }
-//!     ensures stack { Stands stack.new }
+//!     requires stack { IsReachedStack stack.old }
+//!     ensures stack { IsReachedStack stack.new }
 //! {
 //!     for moment in moments {
 //!         stack.begin(*moment, 4)?;
@@ -27,7 +27,7 @@
 //!
 //! ```text
 //! abbrev pub invariant-loop-moment : goal.invariant-loop-moment
-//! invariant-loop-moment l = Stands l.stack
+//! invariant-loop-moment l = IsReachedStack l.stack
 //! ```
 #![tactic(auto)]
 
@@ -36,7 +36,7 @@ pub mod frame;
 pub mod laws;
 mod older;
 pub mod payload;
-#[tactic(auto, unfolding(crate::specs::IsStack::Stands))]
+#[tactic(auto, unfolding(crate::specs::IsStack::IsReachedStack))]
 pub mod stack;
 
 pub use fault::WriteFault;

@@ -58,7 +58,7 @@ impl WriterStack {
     ghost use Rattle.trace_model.specs.declared.limits.TheConstants.{LINK_FILLS, START_FILL};
     ghost use Rattle.trace_model.specs.Ring.{HasRingLimits};
     ghost use Rattle.nested_writer.specs.Stack.{new_stack};
-    ghost use Rattle.nested_writer.specs.IsStack.{IsStack, Stands};
+    ghost use Rattle.nested_writer.specs.IsStack.{IsStack, IsReachedStack};
 
     /// A stack without a frame, over one empty page of `size` bytes of data, in a ring of `pages` pages whose first
     /// fill has the number `start`. All room is made here: no other call takes memory.
@@ -72,7 +72,7 @@ impl WriterStack {
         requires start { start + pages < LINK_FILLS }
         ensures blank { IfOk result (λ stack. stack ≡ new_stack pages size start) }
         ensures stack { IfOk result (λ stack. IsStack start [] stack) }
-        ensures stands { IfOk result (λ stack. Stands stack) }
+        ensures stands { IfOk result (λ stack. IsReachedStack stack) }
     {
         let older = Older::new(alloc, pages)?;
         let below = VecDeque::with_capacity(alloc, MAX_FRAMES)?;
@@ -96,7 +96,7 @@ impl WriterStack {
         requires limits { HasRingLimits pages size }
         ensures blank { IfOk result (λ stack. stack ≡ new_stack pages size START_FILL) }
         ensures stack { IfOk result (λ stack. IsStack START_FILL [] stack) }
-        ensures stands { IfOk result (λ stack. Stands stack) }
+        ensures stands { IfOk result (λ stack. IsReachedStack stack) }
     {
         WriterStack::new_at(alloc, pages, size, START_FILL)
     }

@@ -9,8 +9,8 @@ use Rattle.page_image.specs.Walk.{records_left}
 use Rattle.page_borrow.specs.declared.entries.Entry.{Entry}
 
 -- what an entry states: a record, and its number
-abbrev pub told : Entry → ℕ × Record
-told entry = (entry.number.0, record { moment = entry.moment.0; bytes = entry.bytes.now })
+abbrev pub numbered_record : Entry → ℕ × Record
+numbered_record entry = (entry.number.0, record { moment = entry.moment.0; bytes = entry.bytes.now })
 
 -- the records of a page in their order, numbered from the page's first number on
 abbrev pub entries_of : Contents → List (ℕ × Record)

@@ -60,12 +60,12 @@ impl<'a> Records<'a> {
 
 impl<'a> Iterator for Records<'a> {
     ghost use Rattle.std.specs.Iterator.{YieldsFirstBy, item_count};
-    ghost use Rattle.page_borrow.specs.Entries.{told};
+    ghost use Rattle.page_borrow.specs.Entries.{numbered_record};
 
     type Item = Entry<'a>;
 
     // Each call gives the first of the entries that are left.
-    ghost next_gives = { YieldsFirstBy told (λ left. left) };
+    ghost next_gives = { YieldsFirstBy numbered_record (λ left. left) };
 
     ghost remaining = { item_count (λ left. left) };
 

@@ -3,7 +3,7 @@ ghost use Rattle.std.specs.Prelude.{◌≡◌, ℕ, ◌+◌, ◌<◌, ◌^◌, L
 ghost use Rattle.std.specs.Borrow.{sem};
 ghost use Rattle.trace_model.specs.Reading.{IsPlaceIn};
 ghost use Rattle.page_image.specs.Contents.{IsPage};
-ghost use Rattle.page_image.specs.Lending.{LendsPayload, PayloadWritten, StaysWritten};
+ghost use Rattle.page_image.specs.Lending.{LendsPayload, PayloadWritten, StaysPage};
 ghost use Rattle.page_borrow.specs.Entries.{entries_of, AllStandInPage};
 
 use crate::entries::Records;
@@ -28,7 +28,7 @@ pub fn slot_mut(page: &mut Page, place: Place) -> &mut [u8]
     ensures payload { result.now ≡ slice_range page.old.bytes place.start (place.start + place.len) }
     ensures len { length result.now ≡ place.len }
     ensures written { (part : List ℕ) → length part ≡ place.len → PayloadWritten page.old place.start part }
-    ensures stays { StaysWritten page.old place.start (length result.now) }
+    ensures stays { StaysPage page.old place.start (length result.now) }
 {
     page.payload_mut(place)
 }

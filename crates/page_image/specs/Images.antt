@@ -8,19 +8,19 @@ use Rattle.trace_model.specs.declared.limits.TheConstants.{MAX_IMAGE}
 use Rattle.trace_model.specs.Image.{Commit, commit_word, HasParts, Missed, none, unknown, counted, DecodesImage, too_short, bad_size, bad_count, bad_word, FirstImageFault}
 use Rattle.record_words.specs.declared.next.WordFault.{WordFault}
 use Rattle.record_words.specs.declared.next.WordFault.TheVariants.{Cut, BadLength, TimeOverflow}
-use Rattle.page_image.specs.declared.image.Missed.{Missed as Told}
-use Rattle.page_image.specs.declared.image.Missed.TheVariants.{None as NoneTold, Unknown, Count}
+use Rattle.page_image.specs.declared.image.Missed.{Missed as MissedAnswer}
+use Rattle.page_image.specs.declared.image.Missed.TheVariants.{None as NoneReported, Unknown, Count}
 use Rattle.page_image.specs.declared.image.ImageFault.{ImageFault}
 use Rattle.page_image.specs.declared.image.ImageFault.TheVariants.{TooShort, BadSize, BadCount, Word, NoMemory}
 use Rattle.page_image.specs.declared.image.Outline.{Outline}
-use Rattle.page_image.specs.declared.image.header.Commit.{Commit as CommitTold}
+use Rattle.page_image.specs.declared.image.header.Commit.{Commit as CommitReported}
 use Rattle.page_image.specs.declared.image.header.Header.{Header}
 use Rattle.page_image.specs.declared.image.header.TheConstants.{HEADER, NUMBER, STORED}
 use Rattle.page_image.specs.Contents.{Contents}
 
 -- what the answer states of missed events
-abbrev pub missed_of : Told → Missed
-missed_of NoneTold = none
+abbrev pub missed_of : MissedAnswer → Missed
+missed_of NoneReported = none
 missed_of Unknown = unknown
 missed_of (Count events) = counted events
 
@@ -69,19 +69,19 @@ IsImageFault bytes (Word (TimeOverflow at)) = FirstImageFault bytes (bad_word ti
 IsImageFault bytes NoMemory = IsReadable bytes
 
 -- the commit word as it is read, with these bits above it
-abbrev pub commit_with : CommitTold → ℕ → Commit
-commit_with told ignored = record {
-  size = told.size;
-  is_stored = told.is_stored;
-  is_missed = told.is_missed;
+abbrev pub commit_with : CommitReported → ℕ → Commit
+commit_with reported ignored = record {
+  size = reported.size;
+  is_stored = reported.is_stored;
+  is_missed = reported.is_missed;
   ignored = ignored;
 }
 
 -- the number is this commit word, whatever its bits 32 to 63
-pub record IsCommitWord (word : ℕ) (told : CommitTold) : Type 0 where
+pub record IsCommitWord (word : ℕ) (reported : CommitReported) : Type 0 where
   pub ignored : ℕ
-  pub word_is : commit_word (commit_with told ignored) ≡ word
-  pub size_fits : told.size < STORED
+  pub word_is : commit_word (commit_with reported ignored) ≡ word
+  pub size_fits : reported.size < STORED
   pub ignored_fits : ignored < 2 ^ 32
 
 -- the image has the parts that this header states
@@ -93,9 +93,9 @@ pub record HasPartsOf (bytes : List ℕ) (header : Header) : Type 0 where
       (behind_data bytes header.commit.size)
 
 -- a count is stated, and there is no room for it
-pub record LacksCount (told : CommitTold) (behind : List ℕ) : Type 0 where
-  pub missed : told.is_missed ≡ true
-  pub stored : told.is_stored ≡ true
+pub record LacksCount (reported : CommitReported) (behind : List ℕ) : Type 0 where
+  pub missed : reported.is_missed ≡ true
+  pub stored : reported.is_stored ≡ true
   pub no_room : length behind < NUMBER
 
 -- the image reads, and this is stated of it

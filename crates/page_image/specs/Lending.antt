@@ -17,7 +17,7 @@ abbrev pub LendsPayload : MutBor Contents → ℕ → MutBor (List ℕ) → Fml
 LendsPayload page start result = Lends the_row (Array u8 0) page result (with_payload page.now start)
 
 -- Whatever is written over the len bytes from start on, the page can be read and put into as before.
-pub record StaysWritten (page : Contents) (start len : ℕ) : Type 0 where
+pub record StaysPage (page : Contents) (start len : ℕ) : Type 0 where
   pub length_stays :
       (part : List ℕ) → length part ≡ len → length (with_payload page start part).bytes ≡ length page.bytes
   pub blank_stays :

@@ -20,7 +20,7 @@ pub record CanPut (page : Contents) (prev moment len : ℕ) : Type 0 where
 
 -- A record with a payload of len bytes has room after the first `end` bytes of a body of this size; delta is the time
 -- since the record before it, unless it is the first one.
-pub record FitsBehind (size end delta : ℕ) (first : Bool) (len : ℕ) : Type 0 where
+pub record HasRoomAfter (size end delta : ℕ) (first : Bool) (len : ℕ) : Type 0 where
   pub short : len ≤ MAX_PAYLOAD
   pub in_time : (first ≡ true) ⊎ (delta < MOMENT_LIMIT)
   pub room : end + encoded_len len delta first ≤ size

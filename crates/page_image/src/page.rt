@@ -55,7 +55,7 @@ impl Page {
     ghost use Rattle.page_image.specs.declared.put.Records.TheVariants.{Plain};
     ghost use Rattle.page_image.specs.Plain.{IsPlainIn};
     ghost use Rattle.std.specs.Borrow.{sem};
-    ghost use Rattle.page_image.specs.Lending.{LendsPayload, PayloadWritten, StaysWritten};
+    ghost use Rattle.page_image.specs.Lending.{LendsPayload, PayloadWritten, StaysPage};
     ghost use Rattle.page_image.specs.Putting.{CanPut, HasPut};
     ghost use Rattle.trace_model.specs.Words.{padded, slot_len};
     ghost use Rattle.trace_model.specs.Reading.{EndsInRecord, IsPlaceIn};
@@ -170,7 +170,7 @@ impl Page {
         ensures payload { result.now ≡ slice_range self.old.bytes place.start (place.start + place.len) }
         ensures len { length result.now ≡ place.len }
         ensures written { (part : List ℕ) → length part ≡ place.len → PayloadWritten self.old place.start part }
-        ensures stays { StaysWritten self.old place.start (length result.now) }
+        ensures stays { StaysPage self.old place.start (length result.now) }
     {
         self.part_mut(place)
     }

@@ -2,7 +2,7 @@
 ghost use Rattle.std.specs.Prelude.{◌≡◌, ◌+◌, ◌≤◌, ◌<◌, false, length, replicate, if◌then◌else◌};
 ghost use Rattle.trace_model.specs.Words.{padded, slot_len};
 ghost use Rattle.record_words.specs.declared.format.TheConstants.{EXTEND_FROM, SHORT_LIMIT};
-ghost use Rattle.page_image.specs.Putting.{FitsBehind, PutsBehind};
+ghost use Rattle.page_image.specs.Putting.{HasRoomAfter, PutsBehind};
 ghost use Rattle.page_image.specs.declared.put.Records.TheVariants.{Plain};
 ghost use Rattle.page_image.specs.Plain.{IsPlainIn};
 
@@ -19,7 +19,7 @@ fn delta_in_words(delta: u64, first: bool) -> u64
 /// `put_behind`, whatever the record's form, and however little room is left after it.
 #[inline(never)]
 fn put_any(body: &mut [u8], end: usize, delta: u64, first: bool, len: usize) -> Place
-    requires { FitsBehind (length body.old) end delta first len }
+    requires { HasRoomAfter (length body.old) end delta first len }
     ensures { PutsBehind body.old body.new end delta first len (replicate (slot_len len) 0) result }
 {
     let place = put_record(&mut body[end..], delta, first, len);
@@ -33,7 +33,7 @@ fn put_any(body: &mut [u8], end: usize, delta: u64, first: bool, len: usize) -> 
 /// record ends where its payload does. What follows it may be lost.
 #[inline(always)]
 pub(crate) fn put_behind(body: &mut [u8], end: usize, delta: u64, first: bool, len: usize) -> Place
-    requires { FitsBehind (length body.old) end delta first len }
+    requires { HasRoomAfter (length body.old) end delta first len }
     ensures { PutsBehind body.old body.new end delta first len (replicate (slot_len len) 0) result }
 {
     let word_delta = delta_in_words(delta, first);
@@ -97,7 +97,7 @@ pub(crate) fn put_behind_as(
     len: usize,
 ) -> Place
     requires plain { records ≡ Plain → IsPlainIn (length body.old) end delta first len }
-    requires fits { FitsBehind (length body.old) end delta first len }
+    requires fits { HasRoomAfter (length body.old) end delta first len }
     ensures { PutsBehind body.old body.new end delta first len (replicate (slot_len len) 0) result }
 {
     match records {
@@ -116,7 +116,7 @@ pub(crate) fn put_payload_behind(
     first: bool,
     payload: &[u8],
 ) -> Place
-    requires { FitsBehind (length body.old) end delta first (length payload.now) }
+    requires { HasRoomAfter (length body.old) end delta first (length payload.now) }
     ensures { PutsBehind body.old body.new end delta first (length payload.now) (padded payload.now) result }
 {
     let size = put_payload(&mut body[end..], delta, first, payload);

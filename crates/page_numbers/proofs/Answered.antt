@@ -29,44 +29,44 @@ cause_is bytes number_overflow is = is
 cause_is bytes missed_too_many is = is
 cause_is bytes missed_differs is = is
 
-told_is : (bytes : List ℕ) (told : ParcelFault) (cause : ParcelCause) → IsParcelFault bytes told → FirstParcelFault bytes cause → told ≡ parcel_fault cause
-told_is bytes (Image TooShort) cause f g = ap parcel_fault (FirstParcelFault-unique bytes (bad_image too_short) cause f g)
-told_is bytes (Image BadSize) cause f g = ap parcel_fault (FirstParcelFault-unique bytes (bad_image bad_size) cause f g)
-told_is bytes (Image BadCount) cause f g = ap parcel_fault (FirstParcelFault-unique bytes (bad_image bad_count) cause f g)
-told_is bytes (Image (Word (Cut at))) cause f g = ap parcel_fault (FirstParcelFault-unique bytes (bad_image (bad_word cut at)) cause f g)
-told_is bytes (Image (Word (BadLength at))) cause f g = ap parcel_fault (FirstParcelFault-unique bytes (bad_image (bad_word bad_length at)) cause f g)
-told_is bytes (Image (Word (TimeOverflow at))) cause f g = ap parcel_fault (FirstParcelFault-unique bytes (bad_image (bad_word time_overflow at)) cause f g)
-told_is bytes (Image MemoryThere) cause f g = absurd f
-told_is bytes NumberOverflow cause f g = ap parcel_fault (FirstParcelFault-unique bytes number_overflow cause f g)
-told_is bytes MissedTooMany cause f g = ap parcel_fault (FirstParcelFault-unique bytes missed_too_many cause f g)
-told_is bytes MissedDiffers cause f g = ap parcel_fault (FirstParcelFault-unique bytes missed_differs cause f g)
-told_is bytes BadCpu cause f g = ap parcel_fault (FirstParcelFault-unique bytes bad_cpu cause f g)
-told_is bytes NoMemory cause f g = absurd (DecodesParcel-FirstParcelFault bytes f.0 cause f.1 g)
+reported_is : (bytes : List ℕ) (reported : ParcelFault) (cause : ParcelCause) → IsParcelFault bytes reported → FirstParcelFault bytes cause → reported ≡ parcel_fault cause
+reported_is bytes (Image TooShort) cause f g = ap parcel_fault (FirstParcelFault-unique bytes (bad_image too_short) cause f g)
+reported_is bytes (Image BadSize) cause f g = ap parcel_fault (FirstParcelFault-unique bytes (bad_image bad_size) cause f g)
+reported_is bytes (Image BadCount) cause f g = ap parcel_fault (FirstParcelFault-unique bytes (bad_image bad_count) cause f g)
+reported_is bytes (Image (Word (Cut at))) cause f g = ap parcel_fault (FirstParcelFault-unique bytes (bad_image (bad_word cut at)) cause f g)
+reported_is bytes (Image (Word (BadLength at))) cause f g = ap parcel_fault (FirstParcelFault-unique bytes (bad_image (bad_word bad_length at)) cause f g)
+reported_is bytes (Image (Word (TimeOverflow at))) cause f g = ap parcel_fault (FirstParcelFault-unique bytes (bad_image (bad_word time_overflow at)) cause f g)
+reported_is bytes (Image MemoryThere) cause f g = absurd f
+reported_is bytes NumberOverflow cause f g = ap parcel_fault (FirstParcelFault-unique bytes number_overflow cause f g)
+reported_is bytes MissedTooMany cause f g = ap parcel_fault (FirstParcelFault-unique bytes missed_too_many cause f g)
+reported_is bytes MissedDiffers cause f g = ap parcel_fault (FirstParcelFault-unique bytes missed_differs cause f g)
+reported_is bytes BadCpu cause f g = ap parcel_fault (FirstParcelFault-unique bytes bad_cpu cause f g)
+reported_is bytes NoMemory cause f g = absurd (DecodesParcel-FirstParcelFault bytes f.0 cause f.1 g)
 
 -- if there is a cause, it is reported
-tells_cause : (bytes : List ℕ) (r : Result ParcelValue ParcelFault) (cause : ParcelCause) → IfOk r (ReadAs bytes) → IfErr r (IsParcelFault bytes) → FirstParcelFault bytes cause → r ≡ Err (parcel_fault cause)
-tells_cause bytes (Ok parcel) cause reads fault is = absurd (DecodesParcel-FirstParcelFault bytes (as_parcel parcel) cause reads is)
-tells_cause bytes (Err told) cause reads fault is = ap (λ (f : ParcelFault). Err f) (told_is bytes told cause fault is)
+reports_cause : (bytes : List ℕ) (r : Result ParcelValue ParcelFault) (cause : ParcelCause) → IfOk r (ReadAs bytes) → IfErr r (IsParcelFault bytes) → FirstParcelFault bytes cause → r ≡ Err (parcel_fault cause)
+reports_cause bytes (Ok parcel) cause reads fault is = absurd (DecodesParcel-FirstParcelFault bytes (as_parcel parcel) cause reads is)
+reports_cause bytes (Err reported) cause reads fault is = ap (λ (f : ParcelFault). Err f) (reported_is bytes reported cause fault is)
 
 pub fault-iff : (bytes : List ℕ) (r : Result ParcelValue ParcelFault) (cause : ParcelCause) → IfOk r (ReadAs bytes) → IfErr r (IsParcelFault bytes) → (r ≡ Err (parcel_fault cause)) ↔ FirstParcelFault bytes cause
 fault-iff bytes r cause reads fault = (
   λ e. cause_is bytes cause (subst (λ (x : Result ParcelValue ParcelFault). IfErr x (IsParcelFault bytes)) e fault),
-  λ is. tells_cause bytes r cause reads fault is,
+  λ is. reports_cause bytes r cause reads fault is,
 )
 
 -- a parcel that the bytes read as is answered, unless memory is refused
-pub reading_told : (bytes : List ℕ) (r : Result ParcelValue ParcelFault) (parcel : Parcel) → IfOk r (ReadAs bytes) → IfErr r (IsParcelFault bytes) → DecodesParcel bytes parcel
+pub reading_reported : (bytes : List ℕ) (r : Result ParcelValue ParcelFault) (parcel : Parcel) → IfOk r (ReadAs bytes) → IfErr r (IsParcelFault bytes) → DecodesParcel bytes parcel
     → MatchResult r (λ read. as_parcel read ≡ parcel) (λ fault. fault ≡ NoMemory)
-reading_told bytes (Ok read) parcel reads fault is = DecodesParcel-unique bytes (as_parcel read) parcel reads is
-reading_told bytes (Err NoMemory) parcel reads fault is = refl
-reading_told bytes (Err (Image TooShort)) parcel reads fault is = absurd (DecodesParcel-FirstParcelFault bytes parcel (bad_image too_short) is fault)
-reading_told bytes (Err (Image BadSize)) parcel reads fault is = absurd (DecodesParcel-FirstParcelFault bytes parcel (bad_image bad_size) is fault)
-reading_told bytes (Err (Image BadCount)) parcel reads fault is = absurd (DecodesParcel-FirstParcelFault bytes parcel (bad_image bad_count) is fault)
-reading_told bytes (Err (Image (Word (Cut at)))) parcel reads fault is = absurd (DecodesParcel-FirstParcelFault bytes parcel (bad_image (bad_word cut at)) is fault)
-reading_told bytes (Err (Image (Word (BadLength at)))) parcel reads fault is = absurd (DecodesParcel-FirstParcelFault bytes parcel (bad_image (bad_word bad_length at)) is fault)
-reading_told bytes (Err (Image (Word (TimeOverflow at)))) parcel reads fault is = absurd (DecodesParcel-FirstParcelFault bytes parcel (bad_image (bad_word time_overflow at)) is fault)
-reading_told bytes (Err (Image MemoryThere)) parcel reads fault is = absurd fault
-reading_told bytes (Err NumberOverflow) parcel reads fault is = absurd (DecodesParcel-FirstParcelFault bytes parcel number_overflow is fault)
-reading_told bytes (Err MissedTooMany) parcel reads fault is = absurd (DecodesParcel-FirstParcelFault bytes parcel missed_too_many is fault)
-reading_told bytes (Err MissedDiffers) parcel reads fault is = absurd (DecodesParcel-FirstParcelFault bytes parcel missed_differs is fault)
-reading_told bytes (Err BadCpu) parcel reads fault is = absurd (DecodesParcel-FirstParcelFault bytes parcel bad_cpu is fault)
+reading_reported bytes (Ok read) parcel reads fault is = DecodesParcel-unique bytes (as_parcel read) parcel reads is
+reading_reported bytes (Err NoMemory) parcel reads fault is = refl
+reading_reported bytes (Err (Image TooShort)) parcel reads fault is = absurd (DecodesParcel-FirstParcelFault bytes parcel (bad_image too_short) is fault)
+reading_reported bytes (Err (Image BadSize)) parcel reads fault is = absurd (DecodesParcel-FirstParcelFault bytes parcel (bad_image bad_size) is fault)
+reading_reported bytes (Err (Image BadCount)) parcel reads fault is = absurd (DecodesParcel-FirstParcelFault bytes parcel (bad_image bad_count) is fault)
+reading_reported bytes (Err (Image (Word (Cut at)))) parcel reads fault is = absurd (DecodesParcel-FirstParcelFault bytes parcel (bad_image (bad_word cut at)) is fault)
+reading_reported bytes (Err (Image (Word (BadLength at)))) parcel reads fault is = absurd (DecodesParcel-FirstParcelFault bytes parcel (bad_image (bad_word bad_length at)) is fault)
+reading_reported bytes (Err (Image (Word (TimeOverflow at)))) parcel reads fault is = absurd (DecodesParcel-FirstParcelFault bytes parcel (bad_image (bad_word time_overflow at)) is fault)
+reading_reported bytes (Err (Image MemoryThere)) parcel reads fault is = absurd fault
+reading_reported bytes (Err NumberOverflow) parcel reads fault is = absurd (DecodesParcel-FirstParcelFault bytes parcel number_overflow is fault)
+reading_reported bytes (Err MissedTooMany) parcel reads fault is = absurd (DecodesParcel-FirstParcelFault bytes parcel missed_too_many is fault)
+reading_reported bytes (Err MissedDiffers) parcel reads fault is = absurd (DecodesParcel-FirstParcelFault bytes parcel missed_differs is fault)
+reading_reported bytes (Err BadCpu) parcel reads fault is = absurd (DecodesParcel-FirstParcelFault bytes parcel bad_cpu is fault)

@@ -54,16 +54,16 @@ IsPageRead-outlined bytes numbers image outline image_is is =
     let page : Contents = page_in image outline.time outline.size in record {
       time = outline.time;
       size = outline.size;
-      told = missed_of outline.missed;
+      reported = missed_of outline.missed;
       reads = subst (λ (b : List ℕ). DecodesImage b outline.time outline.size (missed_of outline.missed) (records_of_page page)) image_is is.reads;
       page_is = ap (λ (b : List ℕ). page_under (page_in b outline.time outline.size) numbers) image_is;
     }
 
 -- what is refused of the image is a fault of the bytes
-pub refused-fault : (bytes : List ℕ) (parcel : Parcel) (told : Missed) (fault : ParcelFault) → HasImage bytes parcel told → IsRefusedAs parcel told fault → IsParcelFault bytes fault
-refused-fault bytes parcel told (ImageIs image) h refused = absurd refused
-refused-fault bytes parcel told NumberOverflow h refused = record { parcel = parcel; told = told; image = h; past = refused.past }
-refused-fault bytes parcel told MissedTooMany h refused = record { parcel = parcel; told = told; image = h; numbers_fit = refused.numbers_fit; past = refused.past }
-refused-fault bytes parcel told MissedDiffers h refused = record { parcel = parcel; told = told; image = h; sound = refused.0; differs = refused.1 }
-refused-fault bytes parcel told BadCpu h refused = absurd refused
-refused-fault bytes parcel told MemoryIs h refused = (parcel, record { told = told; image = h; sound = refused.0; agrees = refused.1 })
+pub refused-fault : (bytes : List ℕ) (parcel : Parcel) (reported : Missed) (fault : ParcelFault) → HasImage bytes parcel reported → IsRefusedAs parcel reported fault → IsParcelFault bytes fault
+refused-fault bytes parcel reported (ImageIs image) h refused = absurd refused
+refused-fault bytes parcel reported NumberOverflow h refused = record { parcel = parcel; reported = reported; image = h; past = refused.past }
+refused-fault bytes parcel reported MissedTooMany h refused = record { parcel = parcel; reported = reported; image = h; numbers_fit = refused.numbers_fit; past = refused.past }
+refused-fault bytes parcel reported MissedDiffers h refused = record { parcel = parcel; reported = reported; image = h; sound = refused.0; differs = refused.1 }
+refused-fault bytes parcel reported BadCpu h refused = absurd refused
+refused-fault bytes parcel reported MemoryIs h refused = (parcel, record { reported = reported; image = h; sound = refused.0; agrees = refused.1 })

@@ -19,11 +19,11 @@ contents_fit time contents missed size whole =
     )
 
 -- what holds of an answer with bytes, put together
-pub each_told : {A E : Type 0} (r : Result A E) (P : A → Type 0) (Q R : Type 0) (S : A → Type 0) → IfOk r P → OnOk r Q → OnOk r R → ((x : A) → P x → Q → R → S x) → IfOk r S
-each_told (Ok x) P Q R S one two three then = then x one two three
-each_told (Err e) P Q R S one two three then = tt
+pub each_reported : {A E : Type 0} (r : Result A E) (P : A → Type 0) (Q R : Type 0) (S : A → Type 0) → IfOk r P → OnOk r Q → OnOk r R → ((x : A) → P x → Q → R → S x) → IfOk r S
+each_reported (Ok x) P Q R S one two three then = then x one two three
+each_reported (Err e) P Q R S one two three then = tt
 
 -- what holds of a fault, by what else does
-pub fault_told : {A E : Type 0} (r : Result A E) (P Q : E → Type 0) → IfErr r P → ((e : E) → P e → Q e) → IfErr r Q
-fault_told (Ok x) P Q one then = tt
-fault_told (Err e) P Q one then = then e one
+pub fault_reported : {A E : Type 0} (r : Result A E) (P Q : E → Type 0) → IfErr r P → ((e : E) → P e → Q e) → IfErr r Q
+fault_reported (Ok x) P Q one then = tt
+fault_reported (Err e) P Q one then = then e one

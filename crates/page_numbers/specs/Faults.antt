@@ -37,12 +37,12 @@ IsRefused parcel NoMemory = IsParcel parcel
 -- why what would be this parcel, read from an image that states this of missed events, is refused: the numbers before
 -- the image state otherwise, or one of those; memory is refused only if nothing else is wrong
 abbrev pub IsRefusedAs : Parcel → Missed → ParcelFault → Type 0
-IsRefusedAs parcel told (Image fault) = ⊥
-IsRefusedAs parcel told NumberOverflow = NumbersOverflow parcel
-IsRefusedAs parcel told MissedTooMany = MissesTooMany parcel
-IsRefusedAs parcel told MissedDiffers = IsParcel parcel × ¬ AgreesWith told parcel.missed
-IsRefusedAs parcel told BadCpu = ⊥
-IsRefusedAs parcel told NoMemory = IsParcel parcel × AgreesWith told parcel.missed
+IsRefusedAs parcel reported (Image fault) = ⊥
+IsRefusedAs parcel reported NumberOverflow = NumbersOverflow parcel
+IsRefusedAs parcel reported MissedTooMany = MissesTooMany parcel
+IsRefusedAs parcel reported MissedDiffers = IsParcel parcel × ¬ AgreesWith reported parcel.missed
+IsRefusedAs parcel reported BadCpu = ⊥
+IsRefusedAs parcel reported NoMemory = IsParcel parcel × AgreesWith reported parcel.missed
 
 -- ---- of bytes
 

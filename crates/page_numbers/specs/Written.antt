@@ -23,8 +23,8 @@ pub record IsWrittenAs (parcel : ParcelValue) (bytes : List ℕ) : Type 0 where
 pub record IsPageRead (bytes : List ℕ) (page : Contents) : Type 0 where
   pub time : ℕ
   pub size : ℕ
-  pub told : Missed
-  pub reads : DecodesImage (drop NUMBERS bytes) time size told (records_of_page page)
+  pub reported : Missed
+  pub reads : DecodesImage (drop NUMBERS bytes) time size reported (records_of_page page)
   pub page_is : page ≡ record (page_in (drop NUMBERS bytes) time size) { first = page.first; fill = page.fill }
 
 -- a page that was read under the numbers before it

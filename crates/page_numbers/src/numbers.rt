@@ -1,6 +1,6 @@
 //! The numbers before the image of a parcel.
 ghost use Rattle.std.specs.Prelude.{◌≡◌, ℕ, ◌+◌, ◌≤◌, ◌<◌, ◌^◌, ◌++◌, List, length, drop, IfOk, IfErr, IsTrue, OnOk, OnErr, ◌↔◌};
-ghost use Rattle.trace_model.specs.Image.{from_le64, le64, Missed as MissedTold};
+ghost use Rattle.trace_model.specs.Image.{from_le64, le64, Missed as MissedReported};
 ghost use Rattle.trace_model.specs.Parcel.{Parcel as ParcelSeen};
 ghost use Rattle.trace_model.specs.ParcelBytes.{HasNumbers, AgreesWith};
 ghost use Rattle.trace_model.specs.declared.limits.TheConstants.{MAX_CPUS};
@@ -40,9 +40,9 @@ fn number_at(bytes: &[u8], at: usize) -> u64
 pub(crate) fn check_numbers(first: RecordNo, count: u64, missed: u64) -> Result<(), ParcelFault>
     ensures numbers { OnOk result (first.0 + count < 2 ^ 64) }
     ensures missed { OnOk result (missed ≤ first.0) }
-    ensures refused { IfErr result (λ fault. (parcel : ParcelSeen) (told : MissedTold) → parcel.cpu < MAX_CPUS
+    ensures refused { IfErr result (λ fault. (parcel : ParcelSeen) (reported : MissedReported) → parcel.cpu < MAX_CPUS
         → parcel.first ≡ first.0 → length parcel.records ≡ count → parcel.missed ≡ missed
-        → IsRefused parcel fault × IsRefusedAs parcel told fault) }
+        → IsRefused parcel fault × IsRefusedAs parcel reported fault) }
 {
     if first.0.checked_add(count).is_none() {
         return Err(ParcelFault::NumberOverflow);
@@ -88,10 +88,10 @@ impl Numbers {
     }
 
     /// Whether the image states of missed events what the last number does.
-    pub(crate) fn agree_with(self, told: Missed) -> bool
-        ensures { IsTrue result ↔ AgreesWith (missed_of told) self.missed }
+    pub(crate) fn agree_with(self, reported: Missed) -> bool
+        ensures { IsTrue result ↔ AgreesWith (missed_of reported) self.missed }
     {
-        match told {
+        match reported {
             Missed::None => self.missed == 0,
             Missed::Unknown => self.missed > 0,
             Missed::Count(events) => self.missed > 0 && events == self.missed,

@@ -133,7 +133,7 @@ fn head_line(alloc: Global, made: &Made) -> Result<String, Fail> {
 }
 
 // The offset and the name's index of the word's fault that this text reports, of `size` bytes of data.
-fn told_fault(alloc: Global, text: &[u8], size: u64) -> Result<(u64, usize), Fail> {
+fn reported_fault(alloc: Global, text: &[u8], size: u64) -> Result<(u64, usize), Fail> {
     for word in 0..size.div_ceil(4) {
         let at = word.saturating_mul(4);
         for (index, name) in WORD_FAULTS.iter().enumerate() {
@@ -167,7 +167,7 @@ fn compare_image(rt: &(impl Abort + AllocGlobal), made: &Made) -> Result<usize, 
         return Ok(6);
     }
     assert!(rt; status == REFUSED);
-    let (at, index) = told_fault(alloc, &text, made.size)?;
+    let (at, index) = reported_fault(alloc, &text, made.size)?;
     let front = image_of(alloc, made, at, 0)?;
     assert!(rt; dumped(alloc, &front).0 == DONE);
     Ok(index.saturating_add(3))

@@ -100,7 +100,7 @@ fn first_lines(text: &[u8], count: u64) -> &[u8] {
 }
 
 // The line and the name's index of the fault that this text reports, of a script of `lines` lines.
-fn told_fault(alloc: Global, text: &[u8], lines: u64) -> Result<(u64, usize), Fail> {
+fn reported_fault(alloc: Global, text: &[u8], lines: u64) -> Result<(u64, usize), Fail> {
     for number in 1..=lines.saturating_add(1) {
         for (index, name) in FAULTS.iter().enumerate() {
             let line = format!(in alloc; "line {number}: {name}\n")?;
@@ -120,7 +120,7 @@ fn compare_refused(
     text: &[u8],
 ) -> Result<usize, Fail> {
     let alloc = rt.alloc();
-    let (number, index) = told_fault(alloc, text, count_lines(script))?;
+    let (number, index) = reported_fault(alloc, text, count_lines(script))?;
     let (status, same) = replayed(alloc, first_lines(script, number), false)?;
     assert!(rt; status == REFUSED);
     assert!(rt; same.as_slice() == text);

@@ -2,7 +2,7 @@
 use Rattle.std.proofs.Common.{◌≡◌, ℕ, List, [], ◌∷◌, ◌++◌, ap, ◌∙◌}
 use Rattle.std.proofs.lemmas.List.{map-append}
 use Rattle.trace_model.specs.Parcel.{Parcel}
-use Rattle.trace_model.specs.Ring.{Taken}
+use Rattle.trace_model.specs.Ring.{TakenFill}
 use Rattle.world_model.specs.World.{parcel_of}
 use Rattle.page_image.specs.Contents.{Contents}
 use Rattle.page_numbers.specs.Parcels.{ParcelValue, as_parcel, as_parcels, fitted_parcel}
@@ -12,7 +12,7 @@ use Rattle.reader_end.specs.Value.{ReaderEndValue}
 use Rattle.reader_end.specs.Takes.{IsPageFound}
 
 -- the page's parcel is that of what was taken
-parcel_is : (cpu size : ℕ) (page : Contents) (missed : ℕ) (t : Taken) → IsTakenPage size page missed t → as_parcel (fitted_parcel cpu page missed) ≡ parcel_of cpu t
+parcel_is : (cpu size : ℕ) (page : Contents) (missed : ℕ) (t : TakenFill) → IsTakenPage size page missed t → as_parcel (fitted_parcel cpu page missed) ≡ parcel_of cpu t
 parcel_is cpu size page missed t is =
     let fill = is.written.fill_is in
     let first = is.written.first_is in
@@ -21,7 +21,7 @@ parcel_is cpu size page missed t is =
     cc
 
 -- one parcel more is that of what was taken
-pub one_more : (cpu size : ℕ) (before after : List ParcelValue) (page : Contents) (missed : ℕ) (t : Taken) → IsTakenPage size page missed t → after ≡ before ++ fitted_parcel cpu page missed ∷ [] → as_parcels after ≡ as_parcels before ++ parcel_of cpu t ∷ []
+pub one_more : (cpu size : ℕ) (before after : List ParcelValue) (page : Contents) (missed : ℕ) (t : TakenFill) → IsTakenPage size page missed t → after ≡ before ++ fitted_parcel cpu page missed ∷ [] → as_parcels after ≡ as_parcels before ++ parcel_of cpu t ∷ []
 one_more cpu size before after page missed t is kept =
     ap as_parcels kept
     ∙ map-append as_parcel before (fitted_parcel cpu page missed ∷ [])

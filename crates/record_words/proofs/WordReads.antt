@@ -9,8 +9,8 @@ use Rattle.trace_model.specs.FirstFault.{AreBytes}
 use Rattle.trace_model.proofs.words.Lengths.{bytes_of_word_ge}
 use Rattle.trace_model.proofs.words.OneWord.{AreBytes-drop, from_le32-take, word_at_front-found}
 use Rattle.trace_model.proofs.words.WordFaults.{front-fault, head_whole, length_good, short_good, front-short, front-long, front-padding, front-extend, front-stamp, front-ending, HasEnding-from_head, HasWord-some, HasWord-HasFault, HasEnding-HasFault, IsWordFault-same}
-use Rattle.record_words.specs.Next.{StandsAt, DataAt, PaddingAt, EndingAt, FaultyAt, IsRead, IsFaultAt}
-use Rattle.record_words.specs.declared.next.Word.{Word as Told}
+use Rattle.record_words.specs.Next.{StandsAt, DataAt, PaddingAt, EndingAt, FaultyAt, IsWordRead, IsFaultAt}
+use Rattle.record_words.specs.declared.next.Word.{Word as WordAnswer}
 use Rattle.record_words.specs.declared.next.Word.TheVariants.{Data, Pad, End, Extend, Stamp}
 use Rattle.record_words.specs.declared.next.WordFault.{WordFault}
 use Rattle.record_words.specs.declared.next.WordFault.TheVariants.{Cut, BadLength, TimeOverflow}
@@ -135,7 +135,7 @@ ending_read bytes at head is none =
 
 -- ---- an answer and what is there decide each other
 
-front_of : (bytes : List ℕ) (at : ℕ) (told : Told) → IsRead bytes at told → HasWord (drop at bytes) ⊎ HasEnding (drop at bytes)
+front_of : (bytes : List ℕ) (at : ℕ) (reported : WordAnswer) → IsWordRead bytes at reported → HasWord (drop at bytes) ⊎ HasEnding (drop at bytes)
 front_of bytes at (Data delta place next) read = inl (HasWord-some (drop at bytes) read.word (drop next bytes) read.at_offset.found)
 front_of bytes at (Pad next) read = inl (HasWord-some (drop at bytes) (padding read.delta read.skipped) (drop next bytes) read.at_offset.found)
 front_of bytes at End read = inr read.ends
@@ -145,20 +145,20 @@ front_of bytes at (Stamp time next) read = inl (HasWord-some (drop at bytes) (ti
 no_front : (bytes : List ℕ) (cause : Cause) → IsWordFault bytes cause → HasWord bytes ⊎ HasEnding bytes → ⊥
 no_front bytes cause fault = ⊎_elim (λ word. HasWord-HasFault bytes cause word fault) (λ ends. HasEnding-HasFault bytes cause ends fault)
 
-pub IsOk-iff : (bytes : List ℕ) (at : ℕ) (r : Result Told WordFault) → IfOk r (λ told. IsRead bytes at told) → IfErr r (λ f. IsFaultAt bytes at f) → IsOk r ↔ (HasWord (drop at bytes) ⊎ HasEnding (drop at bytes))
-IsOk-iff bytes at (Ok told) read fault = (λ ok. front_of bytes at told read, λ front. refl)
+pub IsOk-iff : (bytes : List ℕ) (at : ℕ) (r : Result WordAnswer WordFault) → IfOk r (λ reported. IsWordRead bytes at reported) → IfErr r (λ f. IsFaultAt bytes at f) → IsOk r ↔ (HasWord (drop at bytes) ⊎ HasEnding (drop at bytes))
+IsOk-iff bytes at (Ok reported) read fault = (λ ok. front_of bytes at reported read, λ front. refl)
 IsOk-iff bytes at (Err (Cut named)) read fault = (λ ok. absurd (false≢true ok), λ front. absurd (no_front (drop at bytes) cut fault.fault front))
 IsOk-iff bytes at (Err (BadLength named)) read fault = (λ ok. absurd (false≢true ok), λ front. absurd (no_front (drop at bytes) bad_length fault.fault front))
 IsOk-iff bytes at (Err (TimeOverflow named)) read fault = absurd fault
 
-pub Cut-iff : (bytes : List ℕ) (at : ℕ) (r : Result Told WordFault) → IfOk r (λ told. IsRead bytes at told) → IfErr r (λ f. IsFaultAt bytes at f) → (r ≡ Err (Cut at)) ↔ IsWordFault (drop at bytes) cut
-Cut-iff bytes at (Ok told) read fault = (λ e. cc, λ is. absurd (no_front (drop at bytes) cut is (front_of bytes at told read)))
+pub Cut-iff : (bytes : List ℕ) (at : ℕ) (r : Result WordAnswer WordFault) → IfOk r (λ reported. IsWordRead bytes at reported) → IfErr r (λ f. IsFaultAt bytes at f) → (r ≡ Err (Cut at)) ↔ IsWordFault (drop at bytes) cut
+Cut-iff bytes at (Ok reported) read fault = (λ e. cc, λ is. absurd (no_front (drop at bytes) cut is (front_of bytes at reported read)))
 Cut-iff bytes at (Err (Cut named)) read fault = (λ e. fault.fault, λ is. ap (λ (n : ℕ). Err (Cut n)) fault.offset)
 Cut-iff bytes at (Err (BadLength named)) read fault = (λ e. cc, λ is. let same = IsWordFault-same (drop at bytes) bad_length cut fault.fault is in cc)
 Cut-iff bytes at (Err (TimeOverflow named)) read fault = absurd fault
 
-pub BadLength-iff : (bytes : List ℕ) (at : ℕ) (r : Result Told WordFault) → IfOk r (λ told. IsRead bytes at told) → IfErr r (λ f. IsFaultAt bytes at f) → (r ≡ Err (BadLength at)) ↔ IsWordFault (drop at bytes) bad_length
-BadLength-iff bytes at (Ok told) read fault = (λ e. cc, λ is. absurd (no_front (drop at bytes) bad_length is (front_of bytes at told read)))
+pub BadLength-iff : (bytes : List ℕ) (at : ℕ) (r : Result WordAnswer WordFault) → IfOk r (λ reported. IsWordRead bytes at reported) → IfErr r (λ f. IsFaultAt bytes at f) → (r ≡ Err (BadLength at)) ↔ IsWordFault (drop at bytes) bad_length
+BadLength-iff bytes at (Ok reported) read fault = (λ e. cc, λ is. absurd (no_front (drop at bytes) bad_length is (front_of bytes at reported read)))
 BadLength-iff bytes at (Err (Cut named)) read fault = (λ e. cc, λ is. let same = IsWordFault-same (drop at bytes) cut bad_length fault.fault is in cc)
 BadLength-iff bytes at (Err (BadLength named)) read fault = (λ e. fault.fault, λ is. ap (λ (n : ℕ). Err (BadLength n)) fault.offset)
 BadLength-iff bytes at (Err (TimeOverflow named)) read fault = absurd fault

@@ -4,7 +4,7 @@ use Rattle.trace_model.specs.Words.{Word, padding, time_extend, time_stamp, byte
 use Rattle.trace_model.specs.Reading.{word_at_front, IsData, payload_of}
 use Rattle.trace_model.specs.Faults.{Cause, cut, bad_length, IsWordFault, HasEnding}
 use Rattle.record_words.specs.declared.put.Place.{Place}
-use Rattle.record_words.specs.declared.next.Word.{Word as Told}
+use Rattle.record_words.specs.declared.next.Word.{Word as WordAnswer}
 use Rattle.record_words.specs.declared.next.Word.TheVariants.{Data, Pad, End, Extend, Stamp}
 use Rattle.record_words.specs.declared.next.WordFault.{WordFault}
 use Rattle.record_words.specs.declared.next.WordFault.TheVariants.{Cut, BadLength, TimeOverflow}
@@ -40,12 +40,12 @@ pub record EndingAt (bytes : List ℕ) (at : ℕ) : Type 0 where
   pub none_found : word_at_front (drop at bytes) ≡ None
 
 -- what is at this offset is what the answer states
-abbrev pub IsRead : List ℕ → ℕ → Told → Type 0
-IsRead bytes at (Data delta place next) = DataAt bytes at delta place next
-IsRead bytes at (Pad next) = PaddingAt bytes at next
-IsRead bytes at End = EndingAt bytes at
-IsRead bytes at (Extend delta next) = StandsAt bytes at next (time_extend delta)
-IsRead bytes at (Stamp time next) = StandsAt bytes at next (time_stamp time)
+abbrev pub IsWordRead : List ℕ → ℕ → WordAnswer → Type 0
+IsWordRead bytes at (Data delta place next) = DataAt bytes at delta place next
+IsWordRead bytes at (Pad next) = PaddingAt bytes at next
+IsWordRead bytes at End = EndingAt bytes at
+IsWordRead bytes at (Extend delta next) = StandsAt bytes at next (time_extend delta)
+IsWordRead bytes at (Stamp time next) = StandsAt bytes at next (time_stamp time)
 
 -- the word at this offset has this fault, and the fault names the offset
 pub record FaultyAt (bytes : List ℕ) (at named : ℕ) (cause : Cause) : Type 0 where

@@ -2,7 +2,7 @@
 ghost use Rattle.std.specs.Prelude.{◌≡◌, ◌+◌, ◌-◌, ◌*◌, ◌≤◌, ◌<◌, ◌⊎◌, ◌↔◌, length, drop, IsOk, IfOk, IfErr};
 ghost use Rattle.trace_model.specs.Reading.{from_le32};
 ghost use Rattle.trace_model.specs.Faults.{cut, bad_length, IsWordFault, HasWord, HasEnding, HasGoodLength, StatesLength, CountsWords, HasHighBits, number_behind, type_at_front, delta_at_front};
-ghost use Rattle.record_words.specs.Next.{IsRead, IsFaultAt};
+ghost use Rattle.record_words.specs.Next.{IsWordRead, IsFaultAt};
 
 use crate::format::{EXTEND_FROM, LEAST_LENGTH, PADDING, TIME_EXTEND, TIME_STAMP};
 use crate::put::Place;
@@ -106,7 +106,7 @@ fn long_record(data: &[u8], at: usize, delta: u32) -> Result<Word, WordFault>
     requires head { at + 4 ≤ length «data».now }
     requires type_is { type_at_front (drop at «data».now) ≡ 0 }
     requires delta_is { delta ≡ delta_at_front (drop at «data».now) }
-    ensures read { IfOk result (λ w. IsRead «data».now at w) }
+    ensures read { IfOk result (λ w. IsWordRead «data».now at w) }
     ensures fault { IfErr result (λ f. IsFaultAt «data».now at f) }
 {
     let next = end_of_stated(data, at)?;
@@ -119,7 +119,7 @@ fn short_record(data: &[u8], at: usize, words: u32, delta: u32) -> Result<Word, 
     requires counts { CountsWords (drop at «data».now) }
     requires type_is { words ≡ type_at_front (drop at «data».now) }
     requires delta_is { delta ≡ delta_at_front (drop at «data».now) }
-    ensures read { IfOk result (λ w. IsRead «data».now at w) }
+    ensures read { IfOk result (λ w. IsWordRead «data».now at w) }
     ensures fault { IfErr result (λ f. IsFaultAt «data».now at f) }
 {
     let len = 4 * words as usize;
@@ -135,7 +135,7 @@ fn padding(data: &[u8], at: usize) -> Result<Word, WordFault>
     requires head { at + 4 ≤ length «data».now }
     requires type_is { type_at_front (drop at «data».now) ≡ PADDING }
     requires delta_is { 1 ≤ delta_at_front (drop at «data».now) }
-    ensures read { IfOk result (λ w. IsRead «data».now at w) }
+    ensures read { IfOk result (λ w. IsWordRead «data».now at w) }
     ensures fault { IfErr result (λ f. IsFaultAt «data».now at f) }
 {
     let next = end_of_stated(data, at)?;
@@ -159,7 +159,7 @@ fn extend(data: &[u8], at: usize, low: u32) -> Result<Word, WordFault>
     requires head { at + 4 ≤ length «data».now }
     requires type_is { type_at_front (drop at «data».now) ≡ TIME_EXTEND }
     requires low_is { low ≡ delta_at_front (drop at «data».now) }
-    ensures read { IfOk result (λ w. IsRead «data».now at w) }
+    ensures read { IfOk result (λ w. IsWordRead «data».now at w) }
     ensures fault { IfErr result (λ f. IsFaultAt «data».now at f) }
 {
     let delta = time_at(data, at, low)?;
@@ -174,7 +174,7 @@ fn stamp(data: &[u8], at: usize, low: u32) -> Result<Word, WordFault>
     requires head { at + 4 ≤ length «data».now }
     requires type_is { type_at_front (drop at «data».now) ≡ TIME_STAMP }
     requires low_is { low ≡ delta_at_front (drop at «data».now) }
-    ensures read { IfOk result (λ w. IsRead «data».now at w) }
+    ensures read { IfOk result (λ w. IsWordRead «data».now at w) }
     ensures fault { IfErr result (λ f. IsFaultAt «data».now at f) }
 {
     let time = time_at(data, at, low)?;
@@ -186,7 +186,7 @@ fn stamp(data: &[u8], at: usize, low: u32) -> Result<Word, WordFault>
 fn word_at(data: &[u8], at: usize, first: u32) -> Result<Word, WordFault>
     requires head { at + 4 ≤ length «data».now }
     requires first_is { first ≡ from_le32 (drop at «data».now) }
-    ensures read { IfOk result (λ w. IsRead «data».now at w) }
+    ensures read { IfOk result (λ w. IsWordRead «data».now at w) }
     ensures fault { IfErr result (λ f. IsFaultAt «data».now at f) }
 {
     let delta = first / 32;
@@ -210,7 +210,7 @@ fn word_at(data: &[u8], at: usize, first: u32) -> Result<Word, WordFault>
 pub fn next_word(data: &[u8], at: usize) -> Result<Word, WordFault>
     requires { at < length «data».now }
     ensures ok { IsOk result ↔ (HasWord (drop at «data».now) ⊎ HasEnding (drop at «data».now)) }
-    ensures word { IfOk result (λ w. IsRead «data».now at w) }
+    ensures word { IfOk result (λ w. IsWordRead «data».now at w) }
     ensures is_cut { (result ≡ Err (WordFault.Cut at)) ↔ IsWordFault (drop at «data».now) cut }
     ensures has_bad_length { (result ≡ Err (WordFault.BadLength at))
         ↔ IsWordFault (drop at «data».now) bad_length }

@@ -12,7 +12,7 @@ use Rattle.trace_model.specs.Ring.{window_of}
 use Rattle.trace_model.specs.Parcel.{Parcel}
 use Rattle.trace_model.specs.Collection.{Has, Misses}
 use Rattle.trace_model.specs.Listing.{Line, line_for}
-use Rattle.link_marks.specs.ToldRuns.{fills_taken}
+use Rattle.link_marks.specs.RunsAsEvents.{fills_taken}
 use Rattle.text_model.specs.Script.{Command, deliver, Script}
 use Rattle.text_model.specs.ScriptLimits.{IsWithinLimits}
 use Rattle.text_model.specs.Printing.{printed_log_line}
@@ -76,10 +76,10 @@ module _ (script : Script) (w : World) (limits : IsWithinLimits script) (of : Wo
       let (stack, written) = lines_add script.pages script.size script.start lines lane.core.history begun in
       record {
         stack = stack;
-        written = subst (λ (l : List HistoryEvent). AddAll script.size lines [] l stack) (sym cut.told.history_events) written;
-        leaves = λ front behind payload split. cut.is_history front behind (leave payload) (sym cut.told.history_events ∙ split);
+        written = subst (λ (l : List HistoryEvent). AddAll script.size lines [] l stack) (sym cut.reported.history_events) written;
+        leaves = λ front behind payload split. cut.is_history front behind (leave payload) (sym cut.reported.history_events ∙ split);
         window = window_of lane.core;
-        run = cut.told.window;
+        run = cut.reported.window;
       }
   account cpu (unknown past) low = absurd (let no : ⊥ = omega (arith, past, low) in no)
 
@@ -141,7 +141,7 @@ module _ (script : Script) (w : World) (limits : IsWithinLimits script) (of : Wo
     is_of cpu (known lane at) =
         let cut = genuine.cut cpu lane at in
         let e : IsExact (history_events_of cut.events) script.start cut.events cpu parcels parcels =
-        subst (λ (l : List HistoryEvent). IsExact l script.start cut.events cpu parcels parcels) (sym cut.told.history_events) (genuine.exact collector cpu parcels lane at_parcels at) in
+        subst (λ (l : List HistoryEvent). IsExact l script.start cut.events cpu parcels parcels) (sym cut.reported.history_events) (genuine.exact collector cpu parcels lane at_parcels at) in
         record {
           has = λ number r. (
             λ there. let (committed, parcel, one, stands) = (e.has number r).0 there in (committed, parcel.fill, key_in cpu parcel one, stands),
@@ -205,7 +205,7 @@ accounted script asked bytes limits p =
       collectors = length-map w.delivered keys_of ∙ p.genuine.collectors;
       delivered = λ collector cpu fill own at has. is_delivered script w limits p.of_script p.genuine collector own (cpu, fill) at has;
       shown = p.shown;
-      each = all_shown script w limits p.of_script p.genuine w.delivered p.shown (λ k parcels at. (k, at)) p.told;
+      each = all_shown script w limits p.of_script p.genuine w.delivered p.shown (λ k parcels at. (k, at)) p.reported;
       log = if asked then flat_map printed_log_line w.log else [];
       log_asked = λ not. ap (λ (b : Bool). if b then flat_map printed_log_line w.log else []) not;
       printed = p.printed;

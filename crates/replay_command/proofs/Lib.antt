@@ -1,3 +1,3 @@
-pub mod Told
+pub mod Printed
 pub mod OneOutput
 pub mod Accounts

@@ -22,9 +22,9 @@ one_printing script asked bytes others limits a b =
     let same : a.world ≡ b.world =
     one_world script script.commands a.world b.world limits a.of_script b.of_script in
     let also : AllZip IsPrintOf a.world.delivered b.shown =
-    subst (λ (w : World). AllZip IsPrintOf w.delivered b.shown) (sym same) b.told in
+    subst (λ (w : World). AllZip IsPrintOf w.delivered b.shown) (sym same) b.reported in
     a.printed
-    ∙ one_world_text a.world.delivered a.shown b.shown asked a.world.log a.told also
+    ∙ one_world_text a.world.delivered a.shown b.shown asked a.world.log a.reported also
     ∙ ap (λ (w : World). printed_world asked w.log b.shown) same
     ∙ sym b.printed
 

@@ -25,7 +25,7 @@ pub record IsPrinting (script : Script) (asked : Bool) (bytes : List ℕ) : Type
   pub of_script : WorldOf script world
   pub genuine : IsGenuineWorld script world
   pub shown : List Shown
-  pub told : AllZip IsPrintOf world.delivered shown
+  pub reported : AllZip IsPrintOf world.delivered shown
   pub printed : bytes ≡ printed_world asked world.log shown
 
 -- the text spells a script, and these bytes are the printing of its world

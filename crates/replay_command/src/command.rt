@@ -6,7 +6,7 @@ ghost use Rattle.world_model.specs.Printing.{Shown, printed_world};
 ghost use Rattle.collector_text.specs.Prints.{IsPrintOf};
 ghost use Rattle.command_io.specs.CommandRun.{IsCommandRun, WritesOutput, source_run, sink_run};
 ghost use Rattle.command_io.specs.Output.{bytes_of, status_of};
-ghost use Rattle.trace_script.specs.ScriptFaults.{TellsFirstFault, script_fault_text};
+ghost use Rattle.trace_script.specs.ScriptFaults.{ReportsFirstFault, script_fault_text};
 ghost use Rattle.replay_log.specs.LogTypes.{shown_log};
 ghost use Rattle.script_replay.specs.Replay.{IsHeadline};
 ghost use Rattle.replay_command.specs.Commands.{AccountGives, IsPrinting, ReplayGives};
@@ -85,7 +85,7 @@ impl Command for ReplayCommand {
 /// The script that a text spells, or its first fault. The text is given back.
 pub fn read_text(alloc: Global, text: Vec<u8>) -> Result<Script, ScriptFault>
     ensures script { IfOk result (λ script. ParsesScript text.items script) }
-    ensures fault { IfErr result (λ fault. TellsFirstFault text.items fault) }
+    ensures fault { IfErr result (λ fault. ReportsFirstFault text.items fault) }
 {
     read_script(alloc, text.as_slice())
 }

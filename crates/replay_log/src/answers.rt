@@ -22,8 +22,8 @@ pub struct At {
 
 /// What is logged of a ring's answer, if anything.
 fn log_line(at: At, answer: &Answer) -> Option<LogLine>
-    ensures { (size : ℕ) (told : model.Answer) → IsAnswerOf size answer.now told
-        → option_to_list (shown_logged result) ≡ logged at.line at.cpu.0 told }
+    ensures { (size : ℕ) (reported : model.Answer) → IsAnswerOf size answer.now reported
+        → option_to_list (shown_logged result) ≡ logged at.line at.cpu.0 reported }
 {
     let At { line, cpu } = at;
     match answer {
@@ -62,9 +62,9 @@ fn log_line(at: At, answer: &Answer) -> Option<LogLine>
 
 /// Appends to the log what is logged of a ring's answer.
 #[inline(never)]
-pub fn tell_any(at: At, answer: &Answer, log: &mut Vec<LogLine>) -> Result<(), NoMemory>
-    ensures { OnOk result ((size : ℕ) (told : model.Answer) → IsAnswerOf size answer.now told
-        → shown_log log.new.items ≡ shown_log log.old.items ++ logged at.line at.cpu.0 told) }
+pub fn report_any(at: At, answer: &Answer, log: &mut Vec<LogLine>) -> Result<(), NoMemory>
+    ensures { OnOk result ((size : ℕ) (reported : model.Answer) → IsAnswerOf size answer.now reported
+        → shown_log log.new.items ≡ shown_log log.old.items ++ logged at.line at.cpu.0 reported) }
 {
     if let Some(line) = log_line(at, answer) {
         log.push(line)?;
@@ -74,21 +74,21 @@ pub fn tell_any(at: At, answer: &Answer, log: &mut Vec<LogLine>) -> Result<(), N
 
 /// The same of an answer that isn't needed any more: nothing is logged of most answers to a writer.
 #[inline(always)]
-pub fn tell(at: At, answer: Answer, log: &mut Vec<LogLine>) -> Result<(), NoMemory>
-    ensures { OnOk result ((size : ℕ) (told : model.Answer) → IsAnswerOf size answer told
-        → shown_log log.new.items ≡ shown_log log.old.items ++ logged at.line at.cpu.0 told) }
+pub fn report(at: At, answer: Answer, log: &mut Vec<LogLine>) -> Result<(), NoMemory>
+    ensures { OnOk result ((size : ℕ) (reported : model.Answer) → IsAnswerOf size answer reported
+        → shown_log log.new.items ≡ shown_log log.old.items ++ logged at.line at.cpu.0 reported) }
 {
     match answer {
         Answer::Pushed | Answer::Going | Answer::Reserved(_) | Answer::Ended(_) | Answer::Gone =>
             Ok(()),
-        Answer::Refused(fault) => tell_refusal(at, fault, log),
-        other => tell_any(at, &other, log),
+        Answer::Refused(fault) => report_refusal(at, fault, log),
+        other => report_any(at, &other, log),
     }
 }
 
 /// A writer is refused, which is logged.
 #[inline(never)]
-pub fn tell_refusal(at: At, fault: WriteFault, log: &mut Vec<LogLine>) -> Result<(), NoMemory>
+pub fn report_refusal(at: At, fault: WriteFault, log: &mut Vec<LogLine>) -> Result<(), NoMemory>
     ensures { OnOk result (shown_log log.new.items
         ≡ shown_log log.old.items ++ refused at.line at.cpu.0 (refusal_of fault) ∷ []) }
 {

@@ -5,6 +5,6 @@ mod answers;
 mod line;
 mod printer;
 
-pub use answers::{At, tell, tell_any, tell_refusal};
+pub use answers::{At, report, report_any, report_refusal};
 pub use line::LogLine;
 pub use printer::put_log;

@@ -105,12 +105,12 @@ module _ (n size start : ℕ) (v : CoreValue) (c : Core) (core : IsCore n size s
       let answer : model.Answer = model.begin_answer top.frame.kind top.frame.state top.below in
       let after : Core = model.after_begin top.frame.kind top.frame.state tail top.frame top.below in
       let value : CoreValue = record (with_frames v new) { homes = slice_set v.homes page None } in
-      let (tells, are) = fill n size start page c top.frame top.below s.frames top.is_top in
+      let (reports, are) = fill n size start page c top.frame top.below s.frames top.is_top in
       let same : after ≡ private_state tail after.frames after.history after.held = changes_privately tail after (begin_result tail top.frame.kind top.frame.state top.frame top.below top.is_top) in
       let held : after.held ≡ tail.held = begin_holds tail top.frame.kind top.frame.state top.frame top.below in
       stepped n size start v value c model.steps result answer after core
       (step_by (cases.frame_step top.frame top.below refl top.is_top (subst (λ (p : ModelPhase). cases.FrameStep n size c top.frame top.below p answer after) (sym (top.phase_is ∙ ap phase_of is)) (cases.opens (sym s.frames.opened_is) refl refl))))
-      tells
+      reports
       (subst (HasStateOf n size start value) (sym same) (assumption (
         subst (AreFrames n size start new) same are,
         (λ (f : ℕ) (low : c.head ≤ f) (high : f < c.done). subst (λ (pages : List PageRecords). IsHome (slice_set v.homes page None) size (page_at n c.order f) f (model.contents_of (private_state tail after.frames after.history pages) (page_at n c.order f))) (sym held) (closed f low high)),

@@ -8,7 +8,7 @@ use Rattle.trace_model.specs.Frames.{Frame, noted_fill}
 use Rattle.trace_model.specs.Ring.{Core, link_into, links_with}
 use Rattle.trace_model.specs.Steps as model_steps
 use Rattle.trace_model.proofs.steps.StepCases as cases
-use Rattle.trace_model.specs.Steps.{MayOpen}
+use Rattle.trace_model.specs.Steps.{MayContinue}
 use Rattle.link_marks.specs.declared.link.Mark.{Mark}
 use Rattle.link_marks.specs.declared.link.Mark.TheVariants.{Normal, Header, Update}
 use Rattle.link_marks.specs.ModelLinks.{mark_of}
@@ -16,8 +16,8 @@ use Rattle.link_marks.specs.KeptLinks.{PhaseKept, LinksKept}
 use Rattle.link_marks.specs.KeptProgress.{FramesAdvance, PhaseAdvances, ProgressKept}
 use Rattle.link_marks.specs.RingKept.{IsRingKept}
 use Rattle.link_marks.specs.Seats.{PhaseIsPrivate}
-use Rattle.link_marks.proofs.links.Positions.{link_turn}
-use Rattle.link_marks.proofs.links.LinkFills.{normal_tells, header_tells, update_tells, owned_by}
+use Rattle.link_marks.proofs.links.Positions.{link_round}
+use Rattle.link_marks.proofs.links.LinkFills.{normal_reports, header_reports, update_reports, owned_by}
 use Rattle.link_marks.proofs.links.FrameChanges.{top_kept}
 use Rattle.nested_writer.specs.Stack.{opened}
 use Rattle.ring_frames.specs.declared.answer.Answer.TheVariants.{Going}
@@ -26,9 +26,9 @@ use Rattle.ring_frames.specs.declared.phase.Role.TheVariants.{Owner, Helper}
 use Rattle.ring_frames.specs.declared.phase.Phase.{Phase}
 use Rattle.ring_frames.specs.declared.phase.Phase.TheVariants.{Looking, Claiming, LookingNext, Marking, Clearing, Opening}
 use Rattle.ring_frames.specs.Value.{phase_of, role_of}
-use Rattle.ring_frames.specs.declared.phase.Turned.{Turned}
-use Rattle.ring_frames.specs.declared.phase.Turned.TheVariants.{Going as TheGoing}
-use Rattle.ring_frames.specs.Phases.{told}
+use Rattle.ring_frames.specs.declared.phase.StepAnswer.{StepAnswer}
+use Rattle.ring_frames.specs.declared.phase.StepAnswer.TheVariants.{Going as TheGoing}
+use Rattle.ring_frames.specs.Phases.{as_answer}
 use Rattle.ring_core.specs.Value.{CoreValue, frames_of}
 use Rattle.ring_core.specs.IsCore.{HasStateOf, IsCore}
 use Rattle.ring_core.specs.Heads.{HasHeader, ClaimsHead}
@@ -44,25 +44,25 @@ module _ (n : ℕ) (c : Core) (k : LinksKept n c) (r : ProgressKept n c) (noted 
   normal_fill : (page fill : ℕ) → link_into n c.links noted ≡ normal_link page fill → fill ≡ noted
   normal_fill page fill at = let some_pages = k.some_pages in let unread = k.head_le in let behind = k.done_lt in let within = k.opened_le in
       dite (ℕ_discrete noted (c.head + n))
-      (λ e. let here = sym (link_turn n c.links c.head) ∙ ap (link_into n c.links) (sym e) ∙ at in
-      let told = normal_tells n c.links c.order c.head c.frames c.head page fill (k.each c.head (omega arith) (omega arith)) here in
-      let more = r.room page (here ∙ ap (normal_link page) told.0) in absurd (omega arith))
-      (λ ne. (normal_tells n c.links c.order c.head c.frames noted page fill (k.each noted (omega arith) (omega arith)) at).0)
+      (λ e. let here = sym (link_round n c.links c.head) ∙ ap (link_into n c.links) (sym e) ∙ at in
+      let reported = normal_reports n c.links c.order c.head c.frames c.head page fill (k.each c.head (omega arith) (omega arith)) here in
+      let more = r.room page (here ∙ ap (normal_link page) reported.0) in absurd (omega arith))
+      (λ ne. (normal_reports n c.links c.order c.head c.frames noted page fill (k.each noted (omega arith) (omega arith)) at).0)
 
   header_fill : (page fill : ℕ) → link_into n c.links noted ≡ header_link page fill → fill + n ≡ noted
   header_fill page fill at = let some_pages = k.some_pages in let unread = k.head_le in let behind = k.done_lt in let within = k.opened_le in
       dite (ℕ_discrete noted (c.head + n))
-      (λ e. let here = sym (link_turn n c.links c.head) ∙ ap (link_into n c.links) (sym e) ∙ at in
-      let told = header_tells n c.links c.order c.head c.frames c.head page fill (k.each c.head (omega arith) (omega arith)) here in let it = told.0 in omega arith)
-      (λ ne. let told = header_tells n c.links c.order c.head c.frames noted page fill (k.each noted (omega arith) (omega arith)) at in let it = told.1 in absurd (omega arith))
+      (λ e. let here = sym (link_round n c.links c.head) ∙ ap (link_into n c.links) (sym e) ∙ at in
+      let reported = header_reports n c.links c.order c.head c.frames c.head page fill (k.each c.head (omega arith) (omega arith)) here in let it = reported.0 in omega arith)
+      (λ ne. let reported = header_reports n c.links c.order c.head c.frames noted page fill (k.each noted (omega arith) (omega arith)) at in let it = reported.1 in absurd (omega arith))
 
   update_fill : (page fill : ℕ) → link_into n c.links noted ≡ update_link page fill → fill + n ≡ noted
   update_fill page fill at = let some_pages = k.some_pages in let unread = k.head_le in let behind = k.done_lt in let within = k.opened_le in
       dite (ℕ_discrete noted (c.head + n))
-      (λ e. let here = sym (link_turn n c.links c.head) ∙ ap (link_into n c.links) (sym e) ∙ at in
-      let told = update_tells n c.links c.order c.head c.frames c.head page fill (k.each c.head (omega arith) (omega arith)) here in
-      let (u, sum, low, open_yet, there) = owned_by n c k c.head told.2 in absurd (omega arith))
-      (λ ne. (update_tells n c.links c.order c.head c.frames noted page fill (k.each noted (omega arith) (omega arith)) at).0)
+      (λ e. let here = sym (link_round n c.links c.head) ∙ ap (link_into n c.links) (sym e) ∙ at in
+      let reported = update_reports n c.links c.order c.head c.frames c.head page fill (k.each c.head (omega arith) (omega arith)) here in
+      let (u, sum, low, open_yet, there) = owned_by n c k c.head reported.2 in absurd (omega arith))
+      (λ ne. (update_reports n c.links c.order c.head c.frames noted page fill (k.each noted (omega arith) (omega arith)) at).0)
 
 -- ---- what the value shows of it
 
@@ -111,22 +111,22 @@ module _ (n size start : ℕ) (v : CoreValue) (c : Core) (core : IsCore n size s
   looks_normal noted page fill at now link =
       let here = link_shown n size start v c noted core.shows ∙ link in
       let it = is_opened noted now in
-      let tells = normal_fill n c kept.links kept.progress noted it page fill here in
-      goes (model.looking noted) (Opening noted page) noted (ap phase_of at) refl refl (λ frame below. cases.sees_free page it (here ∙ ap (normal_link page) tells) refl refl)
+      let reports = normal_fill n c kept.links kept.progress noted it page fill here in
+      goes (model.looking noted) (Opening noted page) noted (ap phase_of at) refl refl (λ frame below. cases.sees_free page it (here ∙ ap (normal_link page) reports) refl refl)
 
   pub looks_header : (noted page fill : ℕ) → v.phase ≡ Looking noted → noted ≡ opened v.stack → link_into (length v.links) v.links noted ≡ header_link page fill → IsStep n size start c model_steps.steps Going (record v { phase = Claiming noted page })
   looks_header noted page fill at now link =
       let here = link_shown n size start v c noted core.shows ∙ link in
       let it = is_opened noted now in
-      let tells = header_fill n c kept.links kept.progress noted it page fill here in
-      goes (model.looking noted) (Claiming noted page) noted (ap phase_of at) refl refl (λ frame below. cases.sees_header page fill it tells here refl refl)
+      let reports = header_fill n c kept.links kept.progress noted it page fill here in
+      goes (model.looking noted) (Claiming noted page) noted (ap phase_of at) refl refl (λ frame below. cases.sees_header page fill it reports here refl refl)
 
   pub looks_update : (noted page fill : ℕ) → v.phase ≡ Looking noted → noted ≡ opened v.stack → link_into (length v.links) v.links noted ≡ update_link page fill → IsStep n size start c model_steps.steps Going (record v { phase = LookingNext Helper noted page })
   looks_update noted page fill at now link =
       let here = link_shown n size start v c noted core.shows ∙ link in
       let it = is_opened noted now in
-      let tells = update_fill n c kept.links kept.progress noted it page fill here in
-      goes (model.looking noted) (LookingNext Helper noted page) noted (ap phase_of at) refl refl (λ frame below. cases.sees_update page fill it tells here refl refl)
+      let reports = update_fill n c kept.links kept.progress noted it page fill here in
+      goes (model.looking noted) (LookingNext Helper noted page) noted (ap phase_of at) refl refl (λ frame below. cases.sees_update page fill it reports here refl refl)
 
   -- ---- the head is lost
 
@@ -152,7 +152,7 @@ module _ (n size start : ℕ) (v : CoreValue) (c : Core) (core : IsCore n size s
 
   -- ---- the next link
 
-  goes_on : (role : Role) (noted : ℕ) → MayOpen (role_of role) noted (opened v.stack) → MayOpen (role_of role) noted c.opened
+  goes_on : (role : Role) (noted : ℕ) → MayContinue (role_of role) noted (opened v.stack) → MayContinue (role_of role) noted c.opened
   goes_on Owner noted now = tt
   goes_on Helper noted now = is_opened noted now
 
@@ -168,7 +168,7 @@ module _ (n size start : ℕ) (v : CoreValue) (c : Core) (core : IsCore n size s
   pub round_mark : (role : Role) (noted page next : ℕ) → v.phase ≡ Marking role noted page next → length v.links ≤ noted
   round_mark role noted page next at = let wide = core.shows.positions in let turn : n ≤ noted = advances (model.marking (role_of role) noted page next) (ap phase_of at) in omega arith
 
-  pub next_waits : (role : Role) (noted page next lost : ℕ) → v.phase ≡ LookingNext role noted page → MayOpen (role_of role) noted (opened v.stack) → lost + length v.links ≡ noted → link_into (length v.links) v.links (suc lost) ≡ normal_link next (suc lost)
+  pub next_waits : (role : Role) (noted page next lost : ℕ) → v.phase ≡ LookingNext role noted page → MayContinue (role_of role) noted (opened v.stack) → lost + length v.links ≡ noted → link_into (length v.links) v.links (suc lost) ≡ normal_link next (suc lost)
       → IsStep n size start c model_steps.steps Going (record v { phase = Marking role noted page next })
   next_waits role noted page next lost at now sum link =
       let here = link_shown n size start v c (suc lost) core.shows ∙ link in
@@ -181,7 +181,7 @@ module _ (n size start : ℕ) (v : CoreValue) (c : Core) (core : IsCore n size s
   noted_after Owner noted page = refl
   noted_after Helper noted page = refl
 
-  pub next_passed : (role : Role) (noted page lost : ℕ) (to : Phase) → v.phase ≡ LookingNext role noted page → MayOpen (role_of role) noted (opened v.stack) → lost + length v.links ≡ noted
+  pub next_passed : (role : Role) (noted page lost : ℕ) (to : Phase) → v.phase ≡ LookingNext role noted page → MayContinue (role_of role) noted (opened v.stack) → lost + length v.links ≡ noted
       → ((next : ℕ) → link_into (length v.links) v.links (suc lost) ≢ normal_link next (suc lost))
       → phase_of to ≡ model_steps.after_next (role_of role) noted page
       → IsStep n size start c model_steps.steps Going (record v { phase = to })
@@ -191,7 +191,7 @@ module _ (n size start : ℕ) (v : CoreValue) (c : Core) (core : IsCore n size s
       goes (model.looking_next (role_of role) noted page) to noted (ap phase_of at) refl (ap noted_fill to_is ∙ noted_after role noted page)
       (λ frame below. cases.sees_other lost (goes_on role noted now) (omega arith) (λ next e. differ next (sym same ∙ e)) refl (ap (model_steps.in_phase c frame below) to_is))
 
-  marks : (role : Role) (noted page next lost : ℕ) (to : Phase) → v.phase ≡ Marking role noted page next → MayOpen (role_of role) noted (opened v.stack) → lost + length v.links ≡ noted
+  marks : (role : Role) (noted page next lost : ℕ) (to : Phase) → v.phase ≡ Marking role noted page next → MayContinue (role_of role) noted (opened v.stack) → lost + length v.links ≡ noted
       → phase_of to ≡ model_steps.after_next (role_of role) noted page
       → link_into (length v.links) v.links (suc lost) ≡ normal_link next (suc lost)
       → IsStep n size start c model_steps.steps Going (record v { phase = to; links = links_with (length v.links) v.links (suc lost) (header_link next (suc lost)) })
@@ -201,7 +201,7 @@ module _ (n size start : ℕ) (v : CoreValue) (c : Core) (core : IsCore n size s
       sets (model.marking (role_of role) noted page next) to noted (suc lost) c.head (header_link next (suc lost)) (ap phase_of at) refl (ap noted_fill to_is ∙ noted_after role noted page) (omega arith)
       (λ frame below. cases.marks lost (goes_on role noted now) (omega arith) here refl (ap (model_steps.in_phase (model_steps.with_link n c (suc lost) (header_link next (suc lost))) frame below) to_is))
 
-  fails : (role : Role) (noted page next lost : ℕ) (to : Phase) → v.phase ≡ Marking role noted page next → MayOpen (role_of role) noted (opened v.stack) → lost + length v.links ≡ noted
+  fails : (role : Role) (noted page next lost : ℕ) (to : Phase) → v.phase ≡ Marking role noted page next → MayContinue (role_of role) noted (opened v.stack) → lost + length v.links ≡ noted
       → phase_of to ≡ model_steps.after_next (role_of role) noted page
       → link_into (length v.links) v.links (suc lost) ≢ normal_link next (suc lost)
       → IsStep n size start c model_steps.steps Going (record v { phase = to })
@@ -212,7 +212,7 @@ module _ (n size start : ℕ) (v : CoreValue) (c : Core) (core : IsCore n size s
       (λ frame below. cases.mark_fails lost (goes_on role noted now) (omega arith) (λ e. differ (sym same ∙ e)) refl (ap (model_steps.in_phase c frame below) to_is))
 
   -- the exchange succeeds or fails
-  pub mark_exchanged : (role : Role) (noted page next lost : ℕ) (to : Phase) (met : Bool) (new : CoreValue) → v.phase ≡ Marking role noted page next → MayOpen (role_of role) noted (opened v.stack) → lost + length v.links ≡ noted
+  pub mark_exchanged : (role : Role) (noted page next lost : ℕ) (to : Phase) (met : Bool) (new : CoreValue) → v.phase ≡ Marking role noted page next → MayContinue (role_of role) noted (opened v.stack) → lost + length v.links ≡ noted
       → phase_of to ≡ model_steps.after_next (role_of role) noted page
       → IsTrue met ↔ (link_into (length v.links) v.links (suc lost) ≡ normal_link next (suc lost))
       → (met ≡ true → new ≡ record v { links = links_with (length v.links) v.links (suc lost) (header_link next (suc lost)) })
@@ -241,5 +241,5 @@ is_late v phase noted at is own passed = (noted, ap (λ (p : Phase). noted_fill 
 
 -- ---- the frame on top goes on
 
-pub gone_on : (n size start : ℕ) (c : Core) (between new : CoreValue) (phase : Phase) (result : Turned) → result ≡ TheGoing → new ≡ record between { phase = phase } → IsStep n size start c model_steps.steps Going (record between { phase = phase }) → IsStep n size start c model_steps.steps (told result) new
-gone_on n size start c between new phase result answer is step = subst (λ (r : Turned). IsStep n size start c model_steps.steps (told r) new) (sym answer) (subst (IsStep n size start c model_steps.steps Going) (sym is) step)
+pub gone_on : (n size start : ℕ) (c : Core) (between new : CoreValue) (phase : Phase) (result : StepAnswer) → result ≡ TheGoing → new ≡ record between { phase = phase } → IsStep n size start c model_steps.steps Going (record between { phase = phase }) → IsStep n size start c model_steps.steps (as_answer result) new
+gone_on n size start c between new phase result answer is step = subst (λ (r : StepAnswer). IsStep n size start c model_steps.steps (as_answer r) new) (sym answer) (subst (IsStep n size start c model_steps.steps Going) (sym is) step)

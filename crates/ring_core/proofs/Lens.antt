@@ -7,29 +7,29 @@ use Rattle.ring_frames.specs.declared.answer.Answer.TheVariants.{Pushed, Ended}
 use Rattle.ring_frames.specs.Lens.{lens, IsOneMore, KeepsLens}
 use Rattle.ring_frames.proofs.PushedKinds as frames
 use Rattle.ring_core.specs.Value.{CoreValue, frames_of}
-use Rattle.ring_core.specs.Steps.{Makes, IsSomeCore}
+use Rattle.ring_core.specs.Steps.{MakesStep, IsSomeCore}
 
 module _ (old new : CoreValue) (result : Answer) (some : IsSomeCore old) where
-  pub keeps_lens : Makes old model.steps result new → KeepsLens result old.stack new.stack
+  pub keeps_lens : MakesStep old model.steps result new → KeepsLens result old.stack new.stack
   keeps_lens makes =
       let (n, size, start, c, core) = some in
       let s = makes n size start c core in
-      frames.keeps_lens n size start (frames_of old) (frames_of new) c s.after core.shows.frames s.is_core.shows.frames result s.answer s.tells s.step
+      frames.keeps_lens n size start (frames_of old) (frames_of new) c s.after core.shows.frames s.is_core.shows.frames result s.answer s.reports s.step
 
-  pub pushes_lens : (moment len : ℕ) → Makes old (model.pushes moment len) result new → result ≡ Pushed → lens new.stack ≡ Some len ∷ lens old.stack
+  pub pushes_lens : (moment len : ℕ) → MakesStep old (model.pushes moment len) result new → result ≡ Pushed → lens new.stack ≡ Some len ∷ lens old.stack
   pushes_lens moment len makes =
       let (n, size, start, c, core) = some in
       let s = makes n size start c core in
-      frames.pushes_lens n size start (frames_of old) (frames_of new) c s.after core.shows.frames s.is_core.shows.frames result s.answer s.tells moment len s.step
+      frames.pushes_lens n size start (frames_of old) (frames_of new) c s.after core.shows.frames s.is_core.shows.frames result s.answer s.reports moment len s.step
 
-  pub pushes_none : Makes old model.pushes_close result new → result ≡ Pushed → lens new.stack ≡ None ∷ lens old.stack
+  pub pushes_none : MakesStep old model.pushes_close result new → result ≡ Pushed → lens new.stack ≡ None ∷ lens old.stack
   pushes_none makes =
       let (n, size, start, c, core) = some in
       let s = makes n size start c core in
-      frames.pushes_none n size start (frames_of old) (frames_of new) c s.after core.shows.frames s.is_core.shows.frames result s.answer s.tells s.step
+      frames.pushes_none n size start (frames_of old) (frames_of new) c s.after core.shows.frames s.is_core.shows.frames result s.answer s.reports s.step
 
-  pub ends_lens : (payload : List ℕ) → Makes old (model.ends payload) result new → result ≡ Ended Pending → IsOneMore (lens old.stack) (lens new.stack)
+  pub ends_lens : (payload : List ℕ) → MakesStep old (model.ends payload) result new → result ≡ Ended Pending → IsOneMore (lens old.stack) (lens new.stack)
   ends_lens payload makes =
       let (n, size, start, c, core) = some in
       let s = makes n size start c core in
-      frames.ends_lens n size start (frames_of old) (frames_of new) c s.after core.shows.frames s.is_core.shows.frames result s.answer s.tells payload s.step
+      frames.ends_lens n size start (frames_of old) (frames_of new) c s.after core.shows.frames s.is_core.shows.frames result s.answer s.reports payload s.step

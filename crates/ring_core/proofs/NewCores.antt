@@ -11,7 +11,7 @@ use Rattle.link_marks.specs.declared.link.Mark.TheVariants.{Normal}
 use Rattle.link_marks.specs.ModelLinks.{link_of}
 use Rattle.link_marks.proofs.links.Positions.{apart}
 use Rattle.ring_frames.specs.declared.reader.Reader.{Reader}
-use Rattle.ring_frames.specs.declared.reader.ReaderPhase.TheVariants.{LoadingLink}
+use Rattle.ring_frames.specs.declared.reader.ReaderPhase.TheVariants.{LoadingHead}
 use Rattle.ring_frames.specs.Steps.{AreNew}
 use Rattle.ring_frames.specs.ReaderPhases.{reader_phase_of}
 use Rattle.ring_core.specs.Value.{CoreValue, frames_of}
@@ -33,7 +33,7 @@ pub record HasFirstParts (n size start : ℕ) (laid : List code.Link) (v : CoreV
   pub homes_are : length v.homes ≡ n + 1
   pub homes : AreFirstHomes n size (start % n) v.homes
   pub wish : v.wish ≡ 0
-  pub reader : v.reader ≡ record { phase = LoadingLink; hint = start; seen = start; expected = 0 }
+  pub reader : v.reader ≡ record { phase = LoadingHead; hint = start; seen = start; expected = 0 }
 
 module _ (n size start : ℕ) (laid : List code.Link) (v : CoreValue) (some : MIN_PAGES ≤ n) (numbers : start + n < LINK_FILLS) (p : HasFirstParts n size start laid v) where
   no_link : code.Link

@@ -28,11 +28,11 @@ pub shows_moved : (n size start : ℕ) (v : CoreValue) (c : Core) (frame : Frame
     → c.head ≤ head
     → HasStateOf n size start (record v { phase = to; links = shown }) (record c { frames = record frame { phase = phase_of to } ∷ below; links = links; head = head })
 shows_moved n size start v c frame below to links shown head o s top was is same wide later = assumption (
-    same_frames n size start (record (frames_of v) { phase = to }) (in_phase c frame below (phase_of to)) (record c { frames = record frame { phase = phase_of to } ∷ below; links = links; head = head })
-        (goes_on (frames_of v) to o record { before = was; behind = is } n size start c frame below s.frames top) refl refl refl refl,
-    (λ (f : ℕ) (low : head ≤ f) (high : f < c.done). s.closed f (omega arith) high),
-    s,
-  )
+  same_frames n size start (record (frames_of v) { phase = to }) (in_phase c frame below (phase_of to)) (record c { frames = record frame { phase = phase_of to } ∷ below; links = links; head = head })
+      (goes_on (frames_of v) to o record { before = was; behind = is } n size start c frame below s.frames top) refl refl refl refl,
+  (λ (f : ℕ) (low : head ≤ f) (high : f < c.done). s.closed f (omega arith) high),
+  s,
+)
 
 -- only the phase changes
 pub shows_phase : (n size start : ℕ) (v : CoreValue) (c : Core) (frame : Frame) (below : List Frame) (to : Phase) (o : ℕ) → HasStateOf n size start v c → c.frames ≡ frame ∷ below
@@ -48,5 +48,5 @@ pub top_steps : (n size start : ℕ) (v new : CoreValue) (c : Core) (frame : Fra
     → IsAnswerOf size result answer
     → HasStateOf n size start new after
     → IsStep n size start c steps result new
-top_steps n size start v new c frame below phase result answer after core top at step tells shows =
-    stepped n size start v new c steps result answer after core (step_by (frame_step frame below refl top (subst (λ (p : model.Phase). FrameStep n size c frame below p answer after) (sym at) step))) tells shows
+top_steps n size start v new c frame below phase result answer after core top at step reports shows =
+    stepped n size start v new c steps result answer after core (step_by (frame_step frame below refl top (subst (λ (p : model.Phase). FrameStep n size c frame below p answer after) (sym at) step))) reports shows

@@ -7,12 +7,12 @@ use Rattle.trace_model.specs.Steps as model
 use Rattle.trace_model.proofs.steps.StepCases as cases
 use Rattle.trace_model.proofs.steps.StepIs.{step_by}
 use Rattle.link_marks.specs.KeptLinks.{ReaderKept, LinkKept, is_normal, is_header, is_update, LinksKept}
-use Rattle.link_marks.proofs.links.LinkFills.{fill_at, normal_tells}
+use Rattle.link_marks.proofs.links.LinkFills.{fill_at, normal_reports}
 use Rattle.link_marks.proofs.links.Positions.{at_position}
 use Rattle.ring_frames.specs.declared.answer.Answer.{Answer}
 use Rattle.ring_frames.specs.declared.answer.Answer.TheVariants.{Looking, Empty, Moving, Wished}
 use Rattle.ring_frames.specs.declared.reader.Reader.{Reader}
-use Rattle.ring_frames.specs.declared.reader.ReaderPhase.TheVariants.{LoadingLink, LoadingDone, StoringLink, Swapping}
+use Rattle.ring_frames.specs.declared.reader.ReaderPhase.TheVariants.{LoadingHead, LoadingDone, StoringSpareLink, Swapping}
 use Rattle.ring_frames.proofs.Same.{same_frames}
 use Rattle.ring_frames.specs.ReaderPhases.{reader_phase_of}
 use Rattle.ring_core.specs.Value.{CoreValue, frames_of}
@@ -31,8 +31,8 @@ reader_shown n size start v c spare_link of_link wish of_wish reader of s link_i
 -- ---- what the links state
 
 -- a link states a fill that has a number
-told_below : (n : ℕ) (c : ring.Core) → LinksKept n c → (f : ℕ) → (ring.link_into n c.links f).fill < LINK_FILLS
-told_below n c k f = let (g, low, high, same, kept) = fill_at n c k f in subst (λ (l : Link). l.fill < LINK_FILLS) same (from g high kept)
+reported_below : (n : ℕ) (c : ring.Core) → LinksKept n c → (f : ℕ) → (ring.link_into n c.links f).fill < LINK_FILLS
+reported_below n c k f = let (g, low, high, same, kept) = fill_at n c k f in subst (λ (l : Link). l.fill < LINK_FILLS) same (from g high kept)
   where
     from : (g : ℕ) → g < c.head + n → LinkKept n c.links c.order c.head c.frames g → (ring.link_into n c.links g).fill < LINK_FILLS
     from g high (is_normal e owed) = let is = ap (λ (l : Link). l.fill) e in let a = k.head_le in let b = k.done_lt in let fits = k.fits in omega arith
@@ -45,7 +45,7 @@ turned n c page fill k at ne =
     let some_pages = k.some_pages in let hint = k.hint_le in
     let (g, low, high, position) = at_position c.head n (c.reader.hint % n) (mod-lt c.reader.hint (omega arith)) in
     let there = ap (λ (i : ℕ). get_or c.links i (normal_link 0 0)) position ∙ at in
-    let is : fill ≡ g = (normal_tells n c.links c.order c.head c.frames g page fill (k.each g low high) there).0 in
+    let is : fill ≡ g = (normal_reports n c.links c.order c.head c.frames g page fill (k.each g low high) there).0 in
     let first : (fill < n → fill ≡ c.reader.hint) = λ less. is ∙ sym (mod-eq_of_lt (let x : g < n = omega arith in x)) ∙ position ∙ mod-eq_of_lt (let x : c.reader.hint < n = omega arith in x) in
     let far : (fill < n → ⊥) = λ less. ne (first less) in
     (omega arith, omega arith)
@@ -65,58 +65,58 @@ module _ (n size start : ℕ) (v : CoreValue) (c : ring.Core) (core : IsCore n s
       → cases.ReadStep n c phase answer (record c { spare_link = of_link; reader = of }) → IsAnswerOf size result answer
       → of_link ≡ spare_link → of.phase ≡ reader_phase_of reader.phase → of.hint ≡ reader.hint → of.seen ≡ reader.seen → of.expected ≡ reader.expected
       → IsStep n size start c model.reads result (record v { spare_link = spare_link; reader = reader })
-  reads phase answer result spare_link of_link reader of at step tells link_is phase_is hint seen expected = let s = core.shows in
+  reads phase answer result spare_link of_link reader of at step reports link_is phase_is hint seen expected = let s = core.shows in
       stepped n size start v (record v { spare_link = spare_link; reader = reader }) c model.reads result answer (record c { spare_link = of_link; reader = of }) core
-      (step_by (cases.read_step refl (subst (λ (p : ring.ReaderPhase). cases.ReadStep n c p answer (record c { spare_link = of_link; reader = of })) (sym (s.reader_phase_is ∙ at)) step))) tells
+      (step_by (cases.read_step refl (subst (λ (p : ring.ReaderPhase). cases.ReadStep n c p answer (record c { spare_link = of_link; reader = of })) (sym (s.reader_phase_is ∙ at)) step))) reports
       (reader_shown n size start v c spare_link of_link v.wish c.wish reader of s link_is s.wish_is phase_is hint seen expected)
 
   -- the link into the position of the hint, as it is loaded
   link_at : (l : Link) → ring.link_into (length v.links) v.links v.reader.hint ≡ l → ring.link_into n c.links c.reader.hint ≡ l
   link_at l e = let s = core.shows in (λ i. ring.link_into (sym s.positions i) (s.links_are i) (s.hint_is i)) ∙ e
 
-  pub sees_header : (page fill : ℕ) (body : List ℕ) → v.reader.phase ≡ LoadingLink → ring.link_into (length v.links) v.links v.reader.hint ≡ header_link page fill
+  pub sees_header : (page fill : ℕ) (body : List ℕ) → v.reader.phase ≡ LoadingHead → ring.link_into (length v.links) v.links v.reader.hint ≡ header_link page fill
       → IsStep n size start c model.reads (Looking body) (record v { reader = record v.reader { phase = LoadingDone page fill; hint = fill } })
   sees_header page fill body at link = let s = core.shows in
-      reads ring.loading_link model.reading (Looking body) v.spare_link c.spare_link (record v.reader { phase = LoadingDone page fill; hint = fill }) (record c.reader { phase = ring.loading_done page fill; hint = fill })
+      reads ring.loading_head model.reading (Looking body) v.spare_link c.spare_link (record v.reader { phase = LoadingDone page fill; hint = fill }) (record c.reader { phase = ring.loading_done page fill; hint = fill })
       (ap reader_phase_of at) (cases.loads_header page fill (link_at (header_link page fill) link) refl refl) refl s.spare_link_is refl refl s.seen_is s.expected_is
 
-  pub sees_update : (page lost : ℕ) (body : List ℕ) → v.reader.phase ≡ LoadingLink → ring.link_into (length v.links) v.links v.reader.hint ≡ update_link page lost
-      → IsStep n size start c model.reads (Moving record { 0 = lost + 1 } body) (record v { reader = record v.reader { phase = LoadingLink; hint = lost + 1 } })
+  pub sees_update : (page lost : ℕ) (body : List ℕ) → v.reader.phase ≡ LoadingHead → ring.link_into (length v.links) v.links v.reader.hint ≡ update_link page lost
+      → IsStep n size start c model.reads (Moving record { 0 = lost + 1 } body) (record v { reader = record v.reader { phase = LoadingHead; hint = lost + 1 } })
   sees_update page lost body at link = let s = core.shows in let next : suc lost ≡ lost + 1 = omega arith in
-      reads ring.loading_link (model.moving (suc lost)) (Moving record { 0 = lost + 1 } body) v.spare_link c.spare_link (record v.reader { phase = LoadingLink; hint = lost + 1 }) (record c.reader { phase = ring.loading_link; hint = suc lost })
+      reads ring.loading_head (model.moving (suc lost)) (Moving record { 0 = lost + 1 } body) v.spare_link c.spare_link (record v.reader { phase = LoadingHead; hint = lost + 1 }) (record c.reader { phase = ring.loading_head; hint = suc lost })
       (ap reader_phase_of at) (cases.loads_update page lost (link_at (update_link page lost) link) refl refl) (ap model.moving next) s.spare_link_is refl next s.seen_is s.expected_is
 
-  pub sees_owed : (page : ℕ) (body : List ℕ) → v.reader.phase ≡ LoadingLink → ring.link_into (length v.links) v.links v.reader.hint ≡ normal_link page v.reader.hint
+  pub sees_owed : (page : ℕ) (body : List ℕ) → v.reader.phase ≡ LoadingHead → ring.link_into (length v.links) v.links v.reader.hint ≡ normal_link page v.reader.hint
       → IsStep n size start c model.reads (Moving record { 0 = v.reader.hint } body) v
   sees_owed page body at link = let s = core.shows in
-      reads ring.loading_link (model.moving c.reader.hint) (Moving record { 0 = v.reader.hint } body) v.spare_link c.spare_link v.reader (record c.reader { phase = ring.loading_link; hint = c.reader.hint })
+      reads ring.loading_head (model.moving c.reader.hint) (Moving record { 0 = v.reader.hint } body) v.spare_link c.spare_link v.reader (record c.reader { phase = ring.loading_head; hint = c.reader.hint })
       (ap reader_phase_of at) (cases.loads_owed page (link_at (normal_link page v.reader.hint) link ∙ ap (normal_link page) (sym s.hint_is)) refl refl) (ap model.moving s.hint_is)
       s.spare_link_is (sym (ap reader_phase_of at)) s.hint_is s.seen_is s.expected_is
 
-  pub sees_passed : (page fill least : ℕ) (body : List ℕ) → v.reader.phase ≡ LoadingLink → ring.link_into (length v.links) v.links v.reader.hint ≡ normal_link page fill → fill ≢ v.reader.hint → least ≡ fill + 1 - length v.links
-      → IsStep n size start c model.reads (Looking body) (record v { reader = record v.reader { phase = LoadingLink; hint = least } })
+  pub sees_passed : (page fill least : ℕ) (body : List ℕ) → v.reader.phase ≡ LoadingHead → ring.link_into (length v.links) v.links v.reader.hint ≡ normal_link page fill → fill ≢ v.reader.hint → least ≡ fill + 1 - length v.links
+      → IsStep n size start c model.reads (Looking body) (record v { reader = record v.reader { phase = LoadingHead; hint = least } })
   sees_passed page fill least body at link ne is = let s = core.shows in
-      let told = link_at (normal_link page fill) link in let positions = s.positions in
-      let (behind, turn) = turned n c page fill (kept_of n size start v c core).links told (λ e. ne (e ∙ s.hint_is)) in
-      reads ring.loading_link model.reading (Looking body) v.spare_link c.spare_link (record v.reader { phase = LoadingLink; hint = least }) (record c.reader { phase = ring.loading_link; hint = least })
-      (ap reader_phase_of at) (cases.loads_passed page fill least told behind (omega arith) refl refl) refl s.spare_link_is refl refl s.seen_is s.expected_is
+      let reported = link_at (normal_link page fill) link in let positions = s.positions in
+      let (behind, turn) = turned n c page fill (kept_of n size start v c core).links reported (λ e. ne (e ∙ s.hint_is)) in
+      reads ring.loading_head model.reading (Looking body) v.spare_link c.spare_link (record v.reader { phase = LoadingHead; hint = least }) (record c.reader { phase = ring.loading_head; hint = least })
+      (ap reader_phase_of at) (cases.loads_passed page fill least reported behind (omega arith) refl refl) refl s.spare_link_is refl refl s.seen_is s.expected_is
 
   pub finds_none : (page fill done : ℕ) (body : List ℕ) → v.reader.phase ≡ LoadingDone page fill → done ≡ v.stack.done → done ≤ fill
-      → IsStep n size start c model.reads (Empty done body) (record v { reader = record v.reader { phase = LoadingLink; seen = done } })
+      → IsStep n size start c model.reads (Empty done body) (record v { reader = record v.reader { phase = LoadingHead; seen = done } })
   finds_none page fill done body at is le = let s = core.shows in let done_is : c.done ≡ done = s.frames.done_is ∙ sym is in
-      reads (ring.loading_done page fill) (model.empty c.done) (Empty done body) v.spare_link c.spare_link (record v.reader { phase = LoadingLink; seen = done }) (record c.reader { phase = ring.loading_link; seen = c.done })
+      reads (ring.loading_done page fill) (model.empty c.done) (Empty done body) v.spare_link c.spare_link (record v.reader { phase = LoadingHead; seen = done }) (record c.reader { phase = ring.loading_head; seen = c.done })
       (ap reader_phase_of at) (cases.finds_none (omega arith) refl refl) (ap model.empty done_is) s.spare_link_is refl s.hint_is done_is s.expected_is
 
   pub finds_closed : (page fill done : ℕ) (body : List ℕ) → v.reader.phase ≡ LoadingDone page fill → done ≡ v.stack.done → fill < done
-      → IsStep n size start c model.reads (Looking body) (record v { reader = record v.reader { phase = StoringLink page fill; seen = done } })
+      → IsStep n size start c model.reads (Looking body) (record v { reader = record v.reader { phase = StoringSpareLink page fill; seen = done } })
   finds_closed page fill done body at is less = let s = core.shows in let done_is : c.done ≡ done = s.frames.done_is ∙ sym is in
-      reads (ring.loading_done page fill) model.reading (Looking body) v.spare_link c.spare_link (record v.reader { phase = StoringLink page fill; seen = done }) (record c.reader { phase = ring.storing_link page fill; seen = c.done })
+      reads (ring.loading_done page fill) model.reading (Looking body) v.spare_link c.spare_link (record v.reader { phase = StoringSpareLink page fill; seen = done }) (record c.reader { phase = ring.storing_spare_link page fill; seen = c.done })
       (ap reader_phase_of at) (cases.finds_closed (omega arith) refl refl) refl s.spare_link_is refl s.hint_is done_is s.expected_is
 
-  pub stores : (page fill : ℕ) (link : Link) (body : List ℕ) → v.reader.phase ≡ StoringLink page fill → link ≡ header_link (ring.page_at (length v.links) v.order (fill + 1)) (fill + 1)
+  pub stores : (page fill : ℕ) (link : Link) (body : List ℕ) → v.reader.phase ≡ StoringSpareLink page fill → link ≡ header_link (ring.page_at (length v.links) v.order (fill + 1)) (fill + 1)
       → IsStep n size start c model.reads (Looking body) (record v { spare_link = link; reader = record v.reader { phase = Swapping page fill } })
   stores page fill link body at is = let s = core.shows in let next : suc fill ≡ fill + 1 = omega arith in
-      reads (ring.storing_link page fill) model.reading (Looking body) link (model.next_header n c fill) (record v.reader { phase = Swapping page fill }) (record c.reader { phase = ring.swapping page fill })
+      reads (ring.storing_spare_link page fill) model.reading (Looking body) link (model.next_header n c fill) (record v.reader { phase = Swapping page fill }) (record c.reader { phase = ring.swapping page fill })
       (ap reader_phase_of at) record { answer_is = refl; after_is = refl } refl
       ((λ i. header_link (ring.page_at (sym s.positions i) (s.order_is i) (next i)) (next i)) ∙ sym is) refl s.hint_is s.seen_is s.expected_is
 
@@ -124,9 +124,9 @@ module _ (n size start : ℕ) (v : CoreValue) (c : ring.Core) (core : IsCore n s
 
 module _ (v : CoreValue) (r : IsSomeCore v) where
   -- the fill of a link has a number
-  pub told_fits : (f : ℕ) → (ring.link_into (length v.links) v.links f).fill < LINK_FILLS
-  told_fits f = let (n, size, start, c, core) = r in let s = core.shows in
-      subst (λ (l : Link). l.fill < LINK_FILLS) (λ i. ring.link_into (sym s.positions i) (s.links_are i) f) (told_below n c (kept_of n size start v c core).links f)
+  pub reported_fits : (f : ℕ) → (ring.link_into (length v.links) v.links f).fill < LINK_FILLS
+  reported_fits f = let (n, size, start, c, core) = r in let s = core.shows in
+      subst (λ (l : Link). l.fill < LINK_FILLS) (λ i. ring.link_into (sym s.positions i) (s.links_are i) f) (reported_below n c (kept_of n size start v c core).links f)
 
   -- a link that states another fill than the hint's states one that isn't in the first round
   pub turn_fits : (page fill : ℕ) → ring.link_into (length v.links) v.links v.reader.hint ≡ normal_link page fill → fill ≢ v.reader.hint → length v.links ≤ fill + 1
@@ -134,7 +134,7 @@ module _ (v : CoreValue) (r : IsSomeCore v) where
       let (behind, turn) = turned n c page fill (kept_of n size start v c core).links (link_at n size start v c core (normal_link page fill) link) (λ e. ne (e ∙ s.hint_is)) in omega arith
 
   -- a fill that the reader knows to be closed has a next one
-  pub closed_fits : (page fill : ℕ) → v.reader.phase ≡ StoringLink page fill → fill + 1 < LINK_FILLS
+  pub closed_fits : (page fill : ℕ) → v.reader.phase ≡ StoringSpareLink page fill → fill + 1 < LINK_FILLS
   closed_fits page fill at = let (n, size, start, c, core) = r in let s = core.shows in
       let links = (kept_of n size start v c core).links in
       let known = subst (λ (p : ring.ReaderPhase). ReaderKept n c.links c.order c.spare_link c.head c.done c.reader.hint p) (s.reader_phase_is ∙ ap reader_phase_of at) links.reader in

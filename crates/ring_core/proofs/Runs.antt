@@ -11,7 +11,7 @@ pub calls_are_runs : CallsAreRuns
 calls_are_runs n size start from v [] after core same = record {
   exchanges = [];
   state = from;
-  told = tt;
+  reported = tt;
   run = refl;
   is_core = subst (λ (w : CoreValue). IsCore n size start w from) (sym same) core;
 }
@@ -21,7 +21,7 @@ calls_are_runs n size start from v (happens event answer next ∷ more) after co
     let rest = calls_are_runs n size start step.after next more after step.is_core calls in record {
       exchanges = x ∷ rest.exchanges;
       state = rest.state;
-      told = (refl, step.tells, rest.told);
+      reported = (refl, step.reports, rest.reported);
       run = (step.after, step.step, rest.run);
       is_core = rest.is_core;
     }
@@ -29,7 +29,7 @@ calls_are_runs n size start from v (writes next ∷ more) after core (stays, cal
     let rest = calls_are_runs n size start from next more after (stays n size start from core) calls in record {
       exchanges = rest.exchanges;
       state = rest.state;
-      told = rest.told;
+      reported = rest.reported;
       run = rest.run;
       is_core = rest.is_core;
     }

@@ -23,8 +23,8 @@ use Rattle.link_marks.proofs.seats.SeatPages.{IsHeadTaken, head_taken, open_not_
 use Rattle.page_image.specs.Contents.{Contents}
 use Rattle.nested_writer.specs.Stack.{blank_page}
 use Rattle.nested_writer.specs.Released.{IsWrittenPage}
-use Rattle.ring_frames.specs.declared.answer.Answer.TheVariants.{Looking, Taken as IsTaken}
-use Rattle.ring_frames.specs.declared.reader.ReaderPhase.TheVariants.{LoadingLink, Swapping}
+use Rattle.ring_frames.specs.declared.answer.Answer.TheVariants.{Looking, Taken}
+use Rattle.ring_frames.specs.declared.reader.ReaderPhase.TheVariants.{LoadingHead, Swapping}
 use Rattle.ring_frames.proofs.Same.{same_frames}
 use Rattle.ring_frames.specs.ReaderPhases.{reader_phase_of}
 use Rattle.ring_core.specs.Value.{CoreValue, frames_of}
@@ -68,14 +68,14 @@ module _ (n size start : ℕ) (v : CoreValue) (c : ring.Core) (core : IsCore n s
   turn_has_number = let links = (kept_of n size start v c core).links in
       let below = known.1 in let open_yet = links.done_lt in let fits = links.fits in omega arith
 
-  link_told : (l : Link) → ring.link_into n c.links fill ≡ l → ring.link_into (length v.links) v.links fill ≡ l
-  link_told l e = sym (λ i. ring.link_into (sym core.shows.positions i) (core.shows.links_are i) fill) ∙ e
+  link_reported : (l : Link) → ring.link_into n c.links fill ≡ l → ring.link_into (length v.links) v.links fill ≡ l
+  link_reported l e = sym (λ i. ring.link_into (sym core.shows.positions i) (core.shows.links_are i) fill) ∙ e
 
   pub fails : (body : List ℕ) → ring.link_into (length v.links) v.links fill ≢ header_link page fill
-      → IsStep n size start c model.reads (Looking body) (record v { reader = record v.reader { phase = LoadingLink; hint = fill + 1 } })
+      → IsStep n size start c model.reads (Looking body) (record v { reader = record v.reader { phase = LoadingHead; hint = fill + 1 } })
   fails body ne = let s = core.shows in let next : suc fill ≡ fill + 1 = omega arith in
-      reads n size start v c core (ring.swapping page fill) model.reading (Looking body) v.spare_link c.spare_link (record v.reader { phase = LoadingLink; hint = fill + 1 }) (record c.reader { phase = ring.loading_link; hint = suc fill })
-      (ap reader_phase_of at) (cases.swap_fails (λ e. ne (link_told (header_link page fill) e)) refl refl) refl s.spare_link_is refl next s.seen_is s.expected_is
+      reads n size start v c core (ring.swapping page fill) model.reading (Looking body) v.spare_link c.spare_link (record v.reader { phase = LoadingHead; hint = fill + 1 }) (record c.reader { phase = ring.loading_head; hint = suc fill })
+      (ap reader_phase_of at) (cases.swap_fails (λ e. ne (link_reported (header_link page fill) e)) refl refl) refl s.spare_link_is refl next s.seen_is s.expected_is
 
 -- ---- the swap
 
@@ -84,11 +84,11 @@ module _ (n size start : ℕ) (v : CoreValue) (c : ring.Core) (core : IsCore n s
   kept : IsRingKept n size start c
   kept = kept_of n size start v c core
 
-  told : ring.link_into n c.links fill ≡ header_link page fill
-  told = (λ i. ring.link_into (sym core.shows.positions i) (core.shows.links_are i) fill) ∙ link
+  reported : ring.link_into n c.links fill ≡ header_link page fill
+  reported = (λ i. ring.link_into (sym core.shows.positions i) (core.shows.links_are i) fill) ∙ link
 
   head : IsHeadTaken n c page fill
-  head = head_taken n c page fill kept.links (known n size start v c core page fill at) told
+  head = head_taken n c page fill kept.links (known n size start v c core page fill at) reported
 
   some : 1 ≤ n
   some = let two = kept.links.some_pages in omega arith
@@ -230,10 +230,10 @@ module _ (n size start : ℕ) (v : CoreValue) (c : ring.Core) (core : IsCore n s
       free = free_after;
     }
 
-    pub takes : IsStep n size start c model.reads (IsTaken taken (taken.first - v.reader.expected)) (value_after v behind body_size page fill (taken.first + taken.count))
+    pub takes : IsStep n size start c model.reads (Taken taken (taken.first - v.reader.expected)) (value_after v behind body_size page fill (taken.first + taken.count))
     takes = let s = core.shows in
-        stepped n size start v (value_after v behind body_size page fill (taken.first + taken.count)) c model.reads (IsTaken taken (taken.first - v.reader.expected))
-        (model.swapped (model.taken_fill c page fill)) (model.after_swap n c page fill) core
-        (step_by (cases.read_step refl (subst (λ (p : ring.ReaderPhase). cases.ReadStep n c p (model.swapped (model.taken_fill c page fill)) (model.after_swap n c page fill)) (sym (s.reader_phase_is ∙ ap reader_phase_of at)) (cases.swaps told refl refl))))
+        stepped n size start v (value_after v behind body_size page fill (taken.first + taken.count)) c model.reads (Taken taken (taken.first - v.reader.expected))
+        (model.page_taken (model.taken_fill c page fill)) (model.after_swap n c page fill) core
+        (step_by (cases.read_step refl (subst (λ (p : ring.ReaderPhase). cases.ReadStep n c p (model.page_taken (model.taken_fill c page fill)) (model.after_swap n c page fill)) (sym (s.reader_phase_is ∙ ap reader_phase_of at)) (cases.swaps reported refl refl))))
         (model.taken_fill c page fill, refl, record { written = w; missed_is = λ i. w.first_is i - sym s.expected_is i })
         shown_after

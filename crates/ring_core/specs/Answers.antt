@@ -7,7 +7,7 @@ use Rattle.nested_writer.specs.declared.stack.leave.Ended.TheVariants.{Pending}
 use Rattle.ring_core.specs.declared.event.Event.{Event}
 use Rattle.ring_core.specs.declared.event.Event.TheVariants.{Push, PushClose, Step, End, Read, Wish}
 use Rattle.ring_frames.specs.declared.answer.Answer.{Answer}
-use Rattle.ring_frames.specs.declared.answer.Answer.TheVariants.{Pushed, Going, Reserved, Ended, Gone, Refused, Looking, Empty, Moving, Taken as IsTaken, Wished}
+use Rattle.ring_frames.specs.declared.answer.Answer.TheVariants.{Pushed, Going, Reserved, Ended, Gone, Refused, Looking, Empty, Moving, Taken, Wished}
 use Rattle.ring_frames.specs.Answers.{top_bytes, KeepsPayloads, EndsPayload}
 use Rattle.ring_frames.specs.Lens.{lens, IsOneMore, KeepsLens}
 use Rattle.ring_core.specs.Value.{CoreValue}
@@ -56,7 +56,7 @@ GivesBack body (Refused fault) = ⊥
 GivesBack body (Looking back) = back ≡ body
 GivesBack body (Empty done back) = back ≡ body
 GivesBack body (Moving fill back) = back ≡ body
-GivesBack body (IsTaken page missed) = Unit {0}
+GivesBack body (Taken page missed) = Unit {0}
 GivesBack body (Wished fill) = ⊥
 
 -- a page that is taken reads as its records, and has the ring's data size
@@ -70,5 +70,5 @@ HasWholePage size (Refused fault) = Unit {0}
 HasWholePage size (Looking body) = Unit {0}
 HasWholePage size (Empty done body) = Unit {0}
 HasWholePage size (Moving fill body) = Unit {0}
-HasWholePage size (IsTaken page missed) = IsPage page × (page.size ≡ size)
+HasWholePage size (Taken page missed) = IsPage page × (page.size ≡ size)
 HasWholePage size (Wished fill) = Unit {0}

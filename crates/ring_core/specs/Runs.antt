@@ -8,7 +8,7 @@ use Rattle.ring_core.specs.Value.{CoreValue}
 use Rattle.ring_core.specs.IsCore.{IsCore}
 use Rattle.ring_frames.specs.Answers.{IsAnswerOf}
 use Rattle.ring_core.specs.Answers.{event_of}
-use Rattle.ring_core.specs.Steps.{Makes, IsNewRing}
+use Rattle.ring_core.specs.Steps.{MakesStep, IsNewRing}
 
 -- What happens to a ring, with the ring after it: an event, with its answer; or a payload is written into its slot,
 -- which is no event.
@@ -24,17 +24,17 @@ Stays old new = (n size start : ℕ) (c : Core) → IsCore n size start old c �
 abbrev pub AreCalls : CoreValue → List Call → CoreValue → Type 0
 AreCalls v [] after = after ≡ v
 AreCalls v (happens event answer next ∷ more) after =
-    Makes v (event_of v event) answer next × AreCalls next more after
+    MakesStep v (event_of v event) answer next × AreCalls next more after
 AreCalls v (writes next ∷ more) after = Stays v next × AreCalls next more after
 
 -- the exchanges of the model are these events, in order, with what is answered
-abbrev pub AreTold : (size : ℕ) → CoreValue → List Call → List model.Exchange → Type 0
-AreTold size v [] [] = Unit {0}
-AreTold size v [] (x ∷ exchanges) = ⊥
-AreTold size v (happens event answer next ∷ more) [] = ⊥
-AreTold size v (happens event answer next ∷ more) (x ∷ exchanges) =
-    (x.event ≡ event_of v event) × IsAnswerOf size answer x.answer × AreTold size next more exchanges
-AreTold size v (writes next ∷ more) exchanges = AreTold size next more exchanges
+abbrev pub AreAnsweredSo : (size : ℕ) → CoreValue → List Call → List model.Exchange → Type 0
+AreAnsweredSo size v [] [] = Unit {0}
+AreAnsweredSo size v [] (x ∷ exchanges) = ⊥
+AreAnsweredSo size v (happens event answer next ∷ more) [] = ⊥
+AreAnsweredSo size v (happens event answer next ∷ more) (x ∷ exchanges) =
+    (x.event ≡ event_of v event) × IsAnswerOf size answer x.answer × AreAnsweredSo size next more exchanges
+AreAnsweredSo size v (writes next ∷ more) exchanges = AreAnsweredSo size next more exchanges
 
 -- From this state of the model on there is a run with these events and answers; and the ring after them is in the state
 -- to which it leads, which steps from a new ring reach.
@@ -42,7 +42,7 @@ pub record IsRunOf (n size start : ℕ) (from : Core) (v : CoreValue) (happened 
     : Type 0 where
   pub exchanges : List model.Exchange
   pub state : Core
-  pub told : AreTold size v happened exchanges
+  pub reported : AreAnsweredSo size v happened exchanges
   pub run : model.Run n size from exchanges state
   pub is_core : IsCore n size start after state
 

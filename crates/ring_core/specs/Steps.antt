@@ -20,12 +20,12 @@ pub record IsStep (n size start : ℕ) (c : Core) (event : model.Event) (result 
   pub answer : model.Answer
   pub after : Core
   pub step : model.Step n size c event answer after
-  pub tells : IsAnswerOf size result answer
+  pub reports : IsAnswerOf size result answer
   pub is_core : IsCore n size start new after
 
 -- so in each state that the value shows
-abbrev pub Makes : CoreValue → model.Event → Answer → CoreValue → Type 0
-Makes old event result new = (n size start : ℕ) (c : Core)
+abbrev pub MakesStep : CoreValue → model.Event → Answer → CoreValue → Type 0
+MakesStep old event result new = (n size start : ℕ) (c : Core)
     → IsCore n size start old c
     → IsStep n size start c event result new
 
@@ -69,8 +69,8 @@ GivesBodyBack Wish answer = Unit {0}
 -- The event is one step of the model, whose answer is the value's. The body of a `Read` is given back but for a page;
 -- payloads stay in their slots; the slot that this answer reserves holds only zeros; and it is known how long the
 -- payloads are that the frames were pushed for.
-pub record Obeys (event : Event) (old : CoreValue) (result : Answer) (new : CoreValue) : Type 0 where
-  pub step : Makes old (event_of old event) result new
+pub record MakesEvent (event : Event) (old : CoreValue) (result : Answer) (new : CoreValue) : Type 0 where
+  pub step : MakesStep old (event_of old event) result new
   pub given_back : GivesBodyBack event result
   pub payloads : StepsPayloads event old.stack new.stack
   pub zeros : ZerosSlot old.stack result new.stack
@@ -78,6 +78,6 @@ pub record Obeys (event : Event) (old : CoreValue) (result : Answer) (new : Core
 
 -- so is a step of the reader, which has this body; and the stack stays
 pub record MakesRead (old : CoreValue) (body : List ℕ) (result : Answer) (new : CoreValue) : Type 0 where
-  pub step : Makes old model.reads result new
+  pub step : MakesStep old model.reads result new
   pub given_back : GivesBack body result
   pub stack : new.stack ≡ old.stack

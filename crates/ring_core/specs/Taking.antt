@@ -3,7 +3,7 @@ use Rattle.std.specs.Prelude.{ℕ, ◌+◌, ◌%◌, List, length, Option, Some,
 use Rattle.trace_model.specs.Ring.{link_into, links_with}
 use Rattle.page_image.specs.Contents.{Contents}
 use Rattle.nested_writer.specs.Stack.{blank_page}
-use Rattle.ring_frames.specs.declared.reader.ReaderPhase.TheVariants.{LoadingLink}
+use Rattle.ring_frames.specs.declared.reader.ReaderPhase.TheVariants.{LoadingHead}
 use Rattle.ring_core.specs.Value.{CoreValue}
 
 -- the pages at home, the reader's among them, empty, in a body of this size
@@ -18,5 +18,5 @@ with_head_taken v page fill expected = record v {
   spare_link = link_into (length v.links) v.links (fill + 1);
   order = slice_set v.order (fill % length v.links) v.spare;
   spare = page;
-  reader = record v.reader { phase = LoadingLink; hint = fill + 1; expected = expected };
+  reader = record v.reader { phase = LoadingHead; hint = fill + 1; expected = expected };
 }

@@ -61,21 +61,21 @@ again_idle n size start c Close (Reserved slot) frame below new close gone throu
 again_idle n size start c purpose (Left noted) frame below new close gone through k = absurd (gone noted refl)
 
 -- the frame of the model is what that of the stack is
-told_of : (n size start : ℕ) (v : FramesValue) (c : Core) (top : Frame) (frames : List Frame) (frame : ModelFrame) (below : List ModelFrame) (result : Answer) (new : FramesValue) → AreFrames n size start v c → v.stack.frames ≡ top ∷ frames → c.frames ≡ frame ∷ below → Again n size start c (kind_of top.purpose) (state_of top.progress) frame below result new → Again n size start c frame.kind frame.state frame below result new
-told_of n size start v c top frames frame below result new k stack_is model_is again =
+reported_of : (n size start : ℕ) (v : FramesValue) (c : Core) (top : Frame) (frames : List Frame) (frame : ModelFrame) (below : List ModelFrame) (result : Answer) (new : FramesValue) → AreFrames n size start v c → v.stack.frames ≡ top ∷ frames → c.frames ≡ frame ∷ below → Again n size start c (kind_of top.purpose) (state_of top.progress) frame below result new → Again n size start c frame.kind frame.state frame below result new
+reported_of n size start v c top frames frame below result new k stack_is model_is again =
     let (frame_is, below_is, same) = tops_are v c n size start top frames frame below k stack_is model_is in
     subst (λ (f : ModelFrame). Again n size start c f.kind f.state frame below result new) (sym frame_is) again
 
 pub closes_again : (v : FramesValue) (top : Frame) (frames : List Frame) (noted : Option ℕ) (result : Answer) (new : FramesValue) → v.stack.frames ≡ top ∷ frames → top.purpose ≡ Close → top.progress ≡ Waiting noted → LeavesWithout v result new → BeginsAgain v result new
 closes_again v top frames noted result new stack_is close waits leaves = λ n size start c frame below k model_is.
-    told_of n size start v c top frames frame below result new k stack_is model_is
+    reported_of n size start v c top frames frame below result new k stack_is model_is
     (subst (λ (p : Progress). Again n size start c (kind_of top.purpose) (state_of p) frame below result new) (sym waits)
     (subst (λ (p : Purpose). Again n size start c (kind_of p) waiting frame below result new) (sym close) (leaves n size start c frame below k model_is)))
 
 pub leaver_again : (v : FramesValue) (top : Frame) (frames : List Frame) (noted : Option ℕ) (phase : Phase) → v.stack.frames ≡ top ∷ frames → top.progress ≡ Left noted → phase ≡ closing_phase v.stack → BeginsAgain v Going (record v { phase = phase })
 leaver_again v top frames noted phase stack_is has phase_is = λ n size start c frame below k model_is.
     let alike : NotedAlike top.purpose top.progress phase = subst (λ (p : Progress). NotedAlike top.purpose p phase) (sym has) (subst (NotedAlike top.purpose (Left noted)) (sym phase_is) (left_notes v.stack top.purpose noted)) in
-    told_of n size start v c top frames frame below Going (record v { phase = phase }) k stack_is model_is
+    reported_of n size start v c top frames frame below Going (record v { phase = phase }) k stack_is model_is
     (subst (λ (p : Progress). Again n size start c (kind_of top.purpose) (state_of p) frame below Going (record v { phase = phase })) (sym has)
     (again_left n size start c (kind_of top.purpose) frame below (record v { phase = phase })
     (rephased n size start v c top frames frame below phase (model.closing_phase c) k stack_is model_is (ap phase_of phase_is ∙ closing_is v.stack c k.done_is k.opened_is) alike)))
@@ -98,7 +98,7 @@ stays_not Close progress phase alike noted is = subst (λ (p : Progress). NotedA
 pub tries_again : (v : FramesValue) (top : Frame) (frames : List Frame) → v.stack.frames ≡ top ∷ frames → ((noted : Option ℕ) → top.purpose ≡ Close → top.progress ≡ Waiting noted → ⊥) → ((noted : Option ℕ) → top.progress ≡ Left noted → ⊥) → BeginsAgain v Going (record v { phase = Idle })
 tries_again v top frames stack_is close gone = λ n size start c frame below k model_is.
     let alike = (subst (λ (fs : List Frame). AreNotedAlike fs (v.phase ∷ v.below)) stack_is k.noted).0 in
-    told_of n size start v c top frames frame below Going (record v { phase = Idle }) k stack_is model_is
+    reported_of n size start v c top frames frame below Going (record v { phase = Idle }) k stack_is model_is
     (again_idle n size start c top.purpose top.progress frame below (record v { phase = Idle }) close gone (stays_not top.purpose top.progress v.phase alike)
     (rephased n size start v c top frames frame below Idle idle k stack_is model_is refl (rests top.purpose top.progress v.phase alike close)))
 

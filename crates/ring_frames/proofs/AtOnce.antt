@@ -19,7 +19,7 @@ use Rattle.nested_writer.specs.Stack.{Stack, opened, next_number, model_frames}
 use Rattle.nested_writer.specs.Calls.{with_frame}
 use Rattle.nested_writer.specs.IsStack.{IsStack}
 use Rattle.nested_writer.specs.AtOnce.{FitsAtOnce, with_written, with_left, with_record}
-use Rattle.nested_writer.specs.Allotted.{HasActed}
+use Rattle.nested_writer.specs.Allotted.{HasEvents}
 use Rattle.nested_writer.proofs.Pushing.{pushed_record}
 use Rattle.nested_writer.proofs.Answering.{number_counts, record_fits}
 use Rattle.nested_writer.proofs.AtOnce.{padded_twice, left_alike, fits_page, stands_again}
@@ -103,17 +103,17 @@ module _ (n size start : ℕ) (v : FramesValue) (c : Core) (k : AreFrames n size
   reserved_alone : (writer_after (pushed.history ++ reserve ∷ [])).stack ≡ record_frame moment len (Some number) ∷ []
   reserved_alone = reserved_stack pushed.history moment len [] (is_pushed.stack_is ∙ ap (λ (fs : List Frame). pushed_of (model_frames (new_frame (Record moment len) ∷ fs))) none)
 
-  kept : HasActed v.stack (push moment len ∷ reserve ∷ leave (Some payload) ∷ []) stack → IsStack start after.history stack
-  kept acted =
+  kept : HasEvents v.stack (push moment len ∷ reserve ∷ leave (Some payload) ∷ []) stack → IsStack start after.history stack
+  kept has_events =
       let turns = append_assoc pushed.history (reserve ∷ []) (leave (Some payload) ∷ []) ∙ append_assoc c.history (push moment len ∷ []) (reserve ∷ leave (Some payload) ∷ []) in
       left_alike start (pushed.history ++ reserve ∷ []) stack moment len number [] (padded payload) payload (padded_twice payload) reserved_alone same_slot
-      (subst (λ (h : List HistoryEvent). IsStack start h stack) (sym turns) (acted start c.history k.stack_is))
+      (subst (λ (h : List HistoryEvent). IsStack start h stack) (sym turns) (has_events start c.history k.stack_is))
 
   abbrev has_left : Frame
   has_left = record { purpose = Record moment len; progress = Left None }
 
-  shown : HasActed v.stack (push moment len ∷ reserve ∷ leave (Some payload) ∷ []) stack → AreFrames n size start (closing_value v stack) after
-  shown acted =
+  shown : HasEvents v.stack (push moment len ∷ reserve ∷ leave (Some payload) ∷ []) stack → AreFrames n size start (closing_value v stack) after
+  shown has_events =
       let frames_is : stack.frames ≡ has_left ∷ [] = ap (λ (s : Stack). s.frames) is in
       let done : c.done ≡ stack.done = k.done_is ∙ sym (ap (λ (s : Stack). s.done) is) in
       let begun : c.opened ≡ opened stack = k.opened_is ∙ sym (ap opened is) in
@@ -122,14 +122,14 @@ module _ (n size start : ℕ) (v : FramesValue) (c : Core) (k : AreFrames n size
         size_is = ap (λ (s : Stack). s.size) is;
         done_is = ap (λ (s : Stack). s.done) is;
         opened_is = ap opened is;
-        stack_is = kept acted;
+        stack_is = kept has_events;
         frames_are = (λ i. let f : ModelFrame = record { kind = for_record moment len; state = left; phase = sym (closing_is stack c done begun) i } in f ∷ []) ∙ ap (λ (fs : List Frame). ring_frames fs (closing_phase stack ∷ v.below)) (sym frames_is);
         below_are = subst (λ (fs : List Frame). AreBelow fs v.below) (sym frames_is) (ap length none_below);
         noted = subst (λ (fs : List Frame). AreNotedAlike fs (closing_phase stack ∷ v.below)) (sym frames_is) (left_notes stack (Record moment len) None, tt);
       }
 
-  pub written : HasActed v.stack (push moment len ∷ reserve ∷ leave (Some payload) ∷ []) stack → IsWriteAtOnce n size start c moment payload (next_number v.stack) (closing_value v stack)
-  written acted = record {
+  pub written : HasEvents v.stack (push moment len ∷ reserve ∷ leave (Some payload) ∷ []) stack → IsWriteAtOnce n size start c moment payload (next_number v.stack) (closing_value v stack)
+  written has_events = record {
     pushed = pushed;
     reserved = with_its_record;
     after = after;
@@ -140,19 +140,19 @@ module _ (n size start : ℕ) (v : FramesValue) (c : Core) (k : AreFrames n size
     reserve_private = top_is_private pushed waits [] pushed_frames tt;
     end = end_is;
     end_private = tt;
-    are = shown acted;
+    are = shown has_events;
   }
 
 -- its frame, which has left, may be put on the stack afterwards
-left_acted : (s stack : Stack) (moment : ℕ) (payload : List ℕ) → FitsAtOnce s moment (length payload) → stack ≡ with_written s moment payload → HasActed s (push moment (length payload) ∷ reserve ∷ leave (Some payload) ∷ []) stack → HasActed s (push moment (length payload) ∷ reserve ∷ leave (Some payload) ∷ []) (with_left stack moment (length payload))
-left_acted s stack moment payload fits is acted = λ start h k.
+left_has_events : (s stack : Stack) (moment : ℕ) (payload : List ℕ) → FitsAtOnce s moment (length payload) → stack ≡ with_written s moment payload → HasEvents s (push moment (length payload) ∷ reserve ∷ leave (Some payload) ∷ []) stack → HasEvents s (push moment (length payload) ∷ reserve ∷ leave (Some payload) ∷ []) (with_left stack moment (length payload))
+left_has_events s stack moment payload fits is has_events = λ start h k.
     let none : stack.frames ≡ [] = ap (λ (x : Stack). x.frames) is ∙ fits.0 in
     let short = subst (λ (z : ℕ). model.IsTooLong z (length payload) → ⊥) (sym (ap (λ (x : Stack). x.size) is)) fits.1 in
-    stands_again start (h ++ push moment (length payload) ∷ reserve ∷ leave (Some payload) ∷ []) stack moment (length payload) none (short, fits.2) (acted start h k)
+    stands_again start (h ++ push moment (length payload) ∷ reserve ∷ leave (Some payload) ∷ []) stack moment (length payload) none (short, fits.2) (has_events start h k)
 
-pub writes_at_once : (v : FramesValue) (stack : Stack) (moment : ℕ) (payload : List ℕ) → FitsAtOnce v.stack moment (length payload) → stack ≡ with_written v.stack moment payload → HasActed v.stack (push moment (length payload) ∷ reserve ∷ leave (Some payload) ∷ []) stack → WritesAtOnce v moment payload (with_left_frame (record v { stack = stack }) moment (length payload))
-writes_at_once v stack moment payload fits is acted = λ n size start c reached are.
-    written n size start v c are moment payload fits (with_left stack moment (length payload)) (ap (λ (s : Stack). with_left s moment (length payload)) is) (left_acted v.stack stack moment payload fits is acted)
+pub writes_at_once : (v : FramesValue) (stack : Stack) (moment : ℕ) (payload : List ℕ) → FitsAtOnce v.stack moment (length payload) → stack ≡ with_written v.stack moment payload → HasEvents v.stack (push moment (length payload) ∷ reserve ∷ leave (Some payload) ∷ []) stack → WritesAtOnce v moment payload (with_left_frame (record v { stack = stack }) moment (length payload))
+writes_at_once v stack moment payload fits is has_events = λ n size start c reached are.
+    written n size start v c are moment payload fits (with_left stack moment (length payload)) (ap (λ (s : Stack). with_left s moment (length payload)) is) (left_has_events v.stack stack moment payload fits is has_events)
 
 -- if no frame is on the stack, no fill is left to close
 pub closed_at_rest : (v : FramesValue) → IsFrames v → v.stack.frames ≡ [] → closing_phase v.stack ≡ Wishing

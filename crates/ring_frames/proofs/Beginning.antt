@@ -10,7 +10,7 @@ use Rattle.link_marks.proofs.links.FrameChanges.{top_kept}
 use Rattle.nested_writer.specs.declared.frame.Frame as stack
 use Rattle.nested_writer.specs.Stack.{Stack, opened, blank_page}
 use Rattle.nested_writer.specs.Calls.{with_tail}
-use Rattle.nested_writer.specs.Allotted.{HasActed}
+use Rattle.nested_writer.specs.Allotted.{HasEvents}
 use Rattle.ring_frames.specs.declared.phase.Phase.{Phase}
 use Rattle.ring_frames.specs.declared.phase.Phase.TheVariants.{Opening}
 use Rattle.ring_frames.specs.Value.{FramesValue, phase_of}
@@ -34,16 +34,16 @@ module _ (n size start : ℕ) (v : FramesValue) (c : Core) (core : HasFrames n s
   pub fills : opened v.stack + v.stack.pages < LINK_FILLS
   fills = let s = core.are in let begun = s.opened_is in let pages = s.pages_is in let low = (opens.noted c.opened refl).3 in omega arith
 
-pub begun : (n size start : ℕ) (v : FramesValue) (c : Core) (page : ℕ) (later : Stack) (first : ℕ) → AreFrames n size start v c → later ≡ with_tail v.stack (blank_page v.stack.size first (opened v.stack)) → HasActed v.stack (open_fill ∷ []) later
+pub begun : (n size start : ℕ) (v : FramesValue) (c : Core) (page : ℕ) (later : Stack) (first : ℕ) → AreFrames n size start v c → later ≡ with_tail v.stack (blank_page v.stack.size first (opened v.stack)) → HasEvents v.stack (open_fill ∷ []) later
     → AreFrames n size start (record v { stack = later }) (model.with_new_tail c page)
-begun n size start v c page later first s added acted =
+begun n size start v c page later first s added has_events =
     let same_done : later.done ≡ v.stack.done = ap (λ (x : Stack). x.done) added in
     let long : length later.older ≡ length v.stack.older + 1 = ap (λ (x : Stack). length x.older) added ∙ length-append v.stack.older (v.stack.tail ∷ []) in
     let same_frames : later.frames ≡ v.stack.frames = ap (λ (x : Stack). x.frames) added in
     let was_done = s.done_is in let was_opened = s.opened_is in record {
       pages_is = ap (λ (x : Stack). x.pages) added ∙ s.pages_is;
       size_is = ap (λ (x : Stack). x.size) added ∙ s.size_is;
-      stack_is = acted start c.history s.stack_is;
+      stack_is = has_events start c.history s.stack_is;
       done_is = omega arith;
       opened_is = omega arith;
       frames_are = s.frames_are ∙ ap (λ (fs : List stack.Frame). ring_frames fs (v.phase ∷ v.below)) (sym same_frames);

@@ -16,8 +16,8 @@ use Rattle.nested_writer.specs.declared.frame.Progress.TheVariants.{Waiting, Thr
 use Rattle.nested_writer.specs.declared.frame.Frame.{Frame}
 use Rattle.nested_writer.specs.Stack.{Stack, opened}
 use Rattle.nested_writer.specs.Calls.{with_progress, frames_after_leave, after_leave}
-use Rattle.nested_writer.specs.Allotted.{HasActed, first_try, IsAllotted}
-use Rattle.nested_writer.specs.Answered.{IsAnswered}
+use Rattle.nested_writer.specs.Allotted.{HasEvents, first_try, IsAllotted}
+use Rattle.nested_writer.specs.Answered.{IsAllotAnswer}
 use Rattle.nested_writer.specs.Ends.{MayEndTop, IsEnd}
 use Rattle.nested_writer.specs.IsStack.{IsStack}
 use Rattle.ring_frames.specs.Phases.{left_answer}
@@ -25,7 +25,7 @@ use Rattle.ring_frames.specs.Value.{FramesValue}
 use Rattle.ring_frames.specs.AreFrames.{AreFrames}
 use Rattle.ring_frames.specs.Answers.{IsAnswerOf}
 use Rattle.ring_frames.specs.Steps.{IsCloseTop}
-use Rattle.ring_frames.proofs.Left.{tops_are, left_value, left_without, leave_told}
+use Rattle.ring_frames.proofs.Left.{tops_are, left_value, left_without, leave_reported}
 
 -- the frame with this progress
 abbrev pub at_progress : Frame → Progress → Frame
@@ -35,11 +35,11 @@ at_progress top progress = record top { progress = progress }
 
 -- it is through
 abbrev pub IsThrough : Stack → Frame → List Frame → Option ℕ → Stack → Type 0
-IsThrough s top below noted after = (after ≡ with_progress s top below (Through (first_try s (Waiting noted)))) × HasActed s [] after
+IsThrough s top below noted after = (after ≡ with_progress s top below (Through (first_try s (Waiting noted)))) × HasEvents s [] after
 
 -- if a fill was begun since it noted, it fits
 pub close_fits : (s : Stack) (history : List HistoryEvent) (noted : ℕ) (below : List Frame) (result : Result Allot WriteFault) (after : Stack) → noted ≢ opened s
-    → IsAnswered s history (record { purpose = Close; progress = Waiting (Some noted) } ∷ below) result
+    → IsAllotAnswer s history (record { purpose = Close; progress = Waiting (Some noted) } ∷ below) result
     → IsAllotted s (record { purpose = Close; progress = Waiting (Some noted) } ∷ below) result after
     → ((place : Place) × (result ≡ Ok (Fits place))) × IsThrough s (record { purpose = Close; progress = Waiting (Some noted) }) below (Some noted) after
 close_fits s history noted below (Ok (Fits place)) after ne answered allotted = ((place, refl), (allotted.1, allotted.2))
@@ -54,19 +54,19 @@ close_fits s history noted below (Err LateMoment) after ne answered allotted = a
 
 -- so does that on top of the ring's stack
 pub top_fits : (n size start : ℕ) (v : FramesValue) (c : Core) (noted : ℕ) (result : Result Allot WriteFault) (after : Stack) → AreFrames n size start v c → (top : IsCloseTop v noted) → noted ≢ opened v.stack
-    → ((start : ℕ) (history : List HistoryEvent) → IsStack start history v.stack → IsAnswered v.stack history v.stack.frames result)
+    → ((start : ℕ) (history : List HistoryEvent) → IsStack start history v.stack → IsAllotAnswer v.stack history v.stack.frames result)
     → IsAllotted v.stack v.stack.frames result after
     → ((place : Place) × (result ≡ Ok (Fits place))) × IsThrough v.stack (record { purpose = Close; progress = Waiting (Some noted) }) top.0 (Some noted) after
 top_fits n size start v c noted result after k (below, is) ne answered allotted =
-    close_fits v.stack c.history noted below result after ne (subst (λ (fs : List Frame). IsAnswered v.stack c.history fs result) is (answered start c.history k.stack_is)) (subst (λ (fs : List Frame). IsAllotted v.stack fs result after) is allotted)
+    close_fits v.stack c.history noted below result after ne (subst (λ (fs : List Frame). IsAllotAnswer v.stack c.history fs result) is (answered start c.history k.stack_is)) (subst (λ (fs : List Frame). IsAllotted v.stack fs result after) is allotted)
 
 -- ---- it may be ended
 
 pub through_may_end : (s : Stack) (top : Frame) (below : List Frame) (noted : ℕ) (after : Stack) → after ≡ with_progress s top below (Through noted) → MayEndTop after.frames
 through_may_end s top below noted after is = subst (λ (x : Stack). MayEndTop x.frames) (sym is) tt
 
-pub acted_none : (start : ℕ) (history : List HistoryEvent) (s after : Stack) → HasActed s [] after → IsStack start history s → IsStack start history after
-acted_none start history s after acted k = subst (λ (h : List HistoryEvent). IsStack start h after) (append-nil history) (acted start history k)
+pub has_no_events : (start : ℕ) (history : List HistoryEvent) (s after : Stack) → HasEvents s [] after → IsStack start history s → IsStack start history after
+has_no_events start history s after has_events k = subst (λ (h : List HistoryEvent). IsStack start h after) (append-nil history) (has_events start history k)
 
 -- ---- and then it leaves
 
@@ -85,7 +85,7 @@ closed_shown n size start v c top frames frame below noted between stack k stack
     let top' : Frame = at_progress top (Through tries) in
     let ended' : IsEnd between (top' ∷ frames) stack = subst (λ (fs : List Frame). IsEnd between fs stack) (ap (λ (s : Stack). s.frames) through.0) ended in
     let is : stack ≡ after_leave v.stack top frames = ended'.0 ∙ ap (λ (s : Stack). after_leave s top' frames) through.0 ∙ ap (λ (fs : List Frame). let s : Stack = record v.stack { frames = fs } in s) (same_left top (Through tries) frames) in
-    let kept : IsStack start (c.history ++ leave None ∷ []) stack = ended'.1 start c.history (acted_none start c.history v.stack between through.1 k.stack_is) in (
-      leave_told size frames v.below below below_is same,
+    let kept : IsStack start (c.history ++ leave None ∷ []) stack = ended'.1 start c.history (has_no_events start c.history v.stack between through.1 k.stack_is) in (
+      leave_reported size frames v.below below below_is same,
       left_without n size start v c top frames frame below stack k stack_is model_is is kept,
     )

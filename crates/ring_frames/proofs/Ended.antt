@@ -83,9 +83,9 @@ module _ (n size start : ℕ) (v : FramesValue) (c : Core) (k : AreFrames n size
       step_by (cases.end_step bytes frame below slot.number stands.0 stands.1 refl model_is (ap (λ (f : ModelFrame). f.state) frame_is ∙ ap state_of has) (ap (λ (f : ModelFrame). f.kind) frame_is ∙ stands.2) fills_slot refl refl)
 
   shown : (stack : Stack) → stack ≡ after_leave v.stack top frames → HasEnded v.stack (Reserved slot) stack → AreFrames n size start (left_value v stack) (model.after_leave c frame below (Some bytes))
-  shown stack is acted =
+  shown stack is has_events =
       let (moment, len, kind, lies) = stands in
-      let kept : IsStack start (c.history ++ leave (Some bytes) ∷ []) stack = subst (λ (xs : List ℕ). IsStack start (c.history ++ leave (Some xs) ∷ []) stack) (sym (bytes_are lies.page lies.open_page)) (acted lies.page lies.open_page start c.history k.stack_is) in
+      let kept : IsStack start (c.history ++ leave (Some bytes) ∷ []) stack = subst (λ (xs : List ℕ). IsStack start (c.history ++ leave (Some xs) ∷ []) stack) (sym (bytes_are lies.page lies.open_page)) (has_events lies.page lies.open_page start c.history k.stack_is) in
       subst (λ (s : Stack). AreFrames n size start (left_value v s) (model.after_leave c frame below (Some bytes))) (sym is)
       (left_shown n size start v c top frames frame below (Some bytes) k stack_is model_is (subst (IsStack start (c.history ++ leave (Some bytes) ∷ [])) is kept))
 
@@ -95,13 +95,13 @@ module _ (n size start : ℕ) (v : FramesValue) (c : Core) (k : AreFrames n size
   answered ended (g ∷ frames) (p ∷ phases) same pending full = subst (λ (e : Ended). IsAnswerOf size (HasEndedSo e) model.pending) (sym (pending (omega arith))) refl
 
   made : (ended : Ended) (stack : Stack) → (MayEndTop v.stack.frames → 1 < length v.stack.frames → ended ≡ Pending) → (MayEndTop v.stack.frames → length v.stack.frames ≤ 1 → ended ≡ Full) → stack ≡ after_leave v.stack top frames → HasEnded v.stack (Reserved slot) stack → IsPrivateStep n size start c (model.ends bytes) (HasEndedSo ended) (left_value v stack)
-  made ended stack pending full is acted =
+  made ended stack pending full is has_events =
       let (frame_is, below_is, same) = tops_are v c n size start top frames frame below k stack_is model_is in
       let may : MayEndTop v.stack.frames = subst MayEndTop (sym stack_is) (subst MayEnd (sym has) tt) in
       let deep : length v.stack.frames ≡ suc (length frames) = ap length stack_is in
       privately n size start (left_value v stack) c (model.ends bytes) (HasEndedSo ended) (model.end_answer below) (model.after_leave c frame below (Some bytes)) end_is tt
       (subst (λ (fs : List ModelFrame). IsAnswerOf size (HasEndedSo ended) (model.end_answer fs)) (sym below_is) (answered ended frames v.below same (λ many. pending may (omega (arith, deep, many))) (λ one. full may (omega (arith, deep, one)))))
-      (shown stack is acted)
+      (shown stack is has_events)
 
 -- the frames of the model, if one is on the stack
 model_top : (frames : List Frame) (phase : Phase) (phases : List Phase) (top : Frame) (rest : List Frame) → frames ≡ top ∷ rest → (frame : ModelFrame) × (below : List ModelFrame) × (ring_frames frames (phase ∷ phases) ≡ frame ∷ below)
@@ -115,12 +115,12 @@ pub frame_ended : (n size start : ℕ) (v : FramesValue) (c : Core) (ended : End
 frame_ended n size start v c ended stack k pending full is = by_frames v.stack.frames refl
   where
     by_progress : (top : Frame) (rest : List Frame) → v.stack.frames ≡ top ∷ rest → (progress : Progress) → top.progress ≡ progress → stack ≡ after_leave v.stack top rest → HasEnded v.stack progress stack → NotedAlike top.purpose progress v.phase → IsPrivateStep n size start c (model.ends (top_bytes v.stack v.stack.frames)) (HasEndedSo ended) (left_value v stack)
-    by_progress top rest stack_is (Waiting noted) has left acted alike = absurd acted
-    by_progress top rest stack_is (Through noted) has left acted alike = absurd (through_not top.purpose noted v.phase alike)
-    by_progress top rest stack_is (Reserved slot) has left acted alike =
+    by_progress top rest stack_is (Waiting noted) has left has_events alike = absurd has_events
+    by_progress top rest stack_is (Through noted) has left has_events alike = absurd (through_not top.purpose noted v.phase alike)
+    by_progress top rest stack_is (Reserved slot) has left has_events alike =
         let (frame, below, model_is) = model_top v.stack.frames v.phase v.below top rest stack_is in
-        made n size start v c k top rest slot stack_is has frame below (k.frames_are ∙ model_is) ended stack pending full left acted
-    by_progress top rest stack_is (Left noted) has left acted alike = absurd acted
+        made n size start v c k top rest slot stack_is has frame below (k.frames_are ∙ model_is) ended stack pending full left has_events
+    by_progress top rest stack_is (Left noted) has left has_events alike = absurd has_events
 
     by_frames : (frames : List Frame) → v.stack.frames ≡ frames → IsPrivateStep n size start c (model.ends (top_bytes v.stack v.stack.frames)) (HasEndedSo ended) (left_value v stack)
     by_frames [] none = absurd (subst (λ (fs : List Frame). IsEnd v.stack fs stack) none is)

@@ -41,8 +41,8 @@ module _ (n size : ℕ) (c : Core) (frame : Frame) (below : List Frame) where
 pub late_private : (v : FramesValue) (result : Answer) (new : FramesValue) (noted : ℕ) → v.stack.frames ≢ [] → noted_fill (phase_of v.phase) ≡ Some noted → PhaseIsPrivate (phase_of v.phase) (opened v.stack) → BeginsAgain v result new → MakesPrivate v model.steps result new
 late_private v result new noted some is own again = λ n size start c reached are.
     let top = topped n size start v c are some in
-    let (tells, shows) = again n size start c top.frame top.below are top.is_top in
+    let (reports, shows) = again n size start c top.frame top.below are top.is_top in
     let own_phase : PhaseIsPrivate top.frame.phase c.opened = subst (λ (o : ℕ). PhaseIsPrivate top.frame.phase o) (sym are.opened_is) (subst (λ (p : Phase). PhaseIsPrivate p (opened v.stack)) (sym top.phase_is) own) in
     privately n size start new c model.steps result (model.begin_answer top.frame.kind top.frame.state top.below) (model.after_begin top.frame.kind top.frame.state c top.frame top.below)
     (step_by (cases.frame_step top.frame top.below refl top.is_top (late_in n size c top.frame top.below top.frame.phase noted (ap noted_fill top.phase_is ∙ is) own_phase)))
-    (top_is_private c top.frame top.below top.is_top own_phase) tells shows
+    (top_is_private c top.frame top.below top.is_top own_phase) reports shows

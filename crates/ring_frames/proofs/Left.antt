@@ -78,8 +78,8 @@ answer_for size (g ∷ frames) [] same = absurd (omega (arith, same))
 answer_for size (g ∷ frames) (p ∷ phases) same = refl
 
 -- what a leave answers
-pub leave_told : (size : ℕ) (frames : List Frame) (phases : List Phase) (below : List ModelFrame) → below ≡ ring_frames frames phases → length phases ≡ length frames → IsAnswerOf size (left_answer phases) (model.leave_answer below)
-leave_told size frames phases below is same = subst (λ (fs : List ModelFrame). IsAnswerOf size (left_answer phases) (model.leave_answer fs)) (sym is) (answer_for size frames phases same)
+pub leave_reported : (size : ℕ) (frames : List Frame) (phases : List Phase) (below : List ModelFrame) → below ≡ ring_frames frames phases → length phases ≡ length frames → IsAnswerOf size (left_answer phases) (model.leave_answer below)
+leave_reported size frames phases below is same = subst (λ (fs : List ModelFrame). IsAnswerOf size (left_answer phases) (model.leave_answer fs)) (sym is) (answer_for size frames phases same)
 
 -- ---- the ring
 

@@ -2,7 +2,7 @@ pub mod Same
 pub mod Reshown
 pub mod Privately
 pub mod Pushed
-pub mod Told
+pub mod Reported
 pub mod FramePayloads
 pub mod Pushes
 pub mod Left

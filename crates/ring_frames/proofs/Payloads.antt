@@ -25,8 +25,8 @@ use Rattle.nested_writer.specs.declared.frame.Progress.TheVariants.{Waiting, Thr
 use Rattle.nested_writer.specs.declared.frame.Frame.{Frame}
 use Rattle.nested_writer.specs.Stack.{Stack, opened, tail_fill, next_number, blank_page, kind_of}
 use Rattle.nested_writer.specs.Calls.{with_frame, with_progress, with_tail, frames_after_leave, HasLeft, HasNoSlot, IsAtBottom, LacksSlot, IsTopSlot, ReservesRecord}
-use Rattle.nested_writer.specs.Allotted.{HasActed, HasFit, IsAllotted}
-use Rattle.nested_writer.specs.Answered.{WantsFill, IsAnswered}
+use Rattle.nested_writer.specs.Allotted.{HasEvents, HasFit, IsAllotted}
+use Rattle.nested_writer.specs.Answered.{WantsFill, IsAllotAnswer}
 use Rattle.nested_writer.specs.Ends.{IsEnd}
 use Rattle.nested_writer.specs.IsStack.{IsOpenPage, is_tail, is_older, IsUnwritten, StandsAt, FramesStand, IsStack}
 use Rattle.nested_writer.specs.Next.{below_top}
@@ -195,9 +195,9 @@ grown start h s after more k done older fill bytes stay slot held = (stay slot h
         by_page s slot page k.holds.tail_is.fill_is (is_older j at is)
         ∙ sym (by_page after slot page fill (is_older j (at ∙ ap (λ (d : ℕ). d + j) (sym done)) (ap (λ (ps : List Contents). slice_get ps j) older ∙ is)))
 
-record_kept : (start : ℕ) (h : List HistoryEvent) (s after : Stack) (top : Frame) (below : List Frame) (moment len : ℕ) (place : Place) → IsStack start h s → s.frames ≡ top ∷ below → HasNoSlot top.progress → ReservesRecord s top below moment len place after → HasActed s (reserve ∷ []) after → KeepsPayloads s after
-record_kept start h s after top below moment len place k at none is acted =
-    grown start h s after _ k (ap (λ (t : Stack). t.done) is.others) (ap (λ (t : Stack). t.older) is.others) (acted start h k).holds.tail_is.fill_is is.bytes
+record_kept : (start : ℕ) (h : List HistoryEvent) (s after : Stack) (top : Frame) (below : List Frame) (moment len : ℕ) (place : Place) → IsStack start h s → s.frames ≡ top ∷ below → HasNoSlot top.progress → ReservesRecord s top below moment len place after → HasEvents s (reserve ∷ []) after → KeepsPayloads s after
+record_kept start h s after top below moment len place k at none is has_events =
+    grown start h s after _ k (ap (λ (t : Stack). t.done) is.others) (ap (λ (t : Stack). t.older) is.others) (has_events start h k).holds.tail_is.fill_is is.bytes
     (went_on s.frames top below after.frames at none (λ slot there. subst (λ (t : Stack). HoldSlot t.frames slot) (sym is.others) (inr there)))
 
 wants_none : (s : Stack) (h : List HistoryEvent) (purpose : Purpose) (progress : Progress) → WantsFill s h purpose progress → HasNoSlot progress
@@ -208,7 +208,7 @@ wants_none s h Close (Reserved slot) wants = wants
 wants_none s h purpose (Left noted) wants = tt
 
 -- a place is answered for what fits, whichever it is
-pub fits_anywhere : (s : Stack) (h : List HistoryEvent) (frames : List Frame) (one other : Place) → IsAnswered s h frames (Ok (Fits one)) → IsAnswered s h frames (Ok (Fits other))
+pub fits_anywhere : (s : Stack) (h : List HistoryEvent) (frames : List Frame) (one other : Place) → IsAllotAnswer s h frames (Ok (Fits one)) → IsAllotAnswer s h frames (Ok (Fits other))
 fits_anywhere s h [] one other none = absurd (not_both none)
   where
     not_both : ◌≡◌ {A = Result Allot WriteFault} (Ok (Fits one)) (Err NoFrame) → ⊥
@@ -216,7 +216,7 @@ fits_anywhere s h [] one other none = absurd (not_both none)
 fits_anywhere s h (top ∷ below) one other fits = fits
 
 -- whatever is allotted
-pub allotted_kept : (start : ℕ) (h : List HistoryEvent) (s after : Stack) (result : Result Allot WriteFault) → IsStack start h s → IsAnswered s h s.frames result → IsAllotted s s.frames result after → KeepsPayloads s after
+pub allotted_kept : (start : ℕ) (h : List HistoryEvent) (s after : Stack) (result : Result Allot WriteFault) → IsStack start h s → IsAllotAnswer s h s.frames result → IsAllotted s s.frames result after → KeepsPayloads s after
 allotted_kept start h s after result k = by_frames s.frames refl
   where
     framed : (top : Frame) (below frames : List Frame) → s.frames ≡ top ∷ below → HasNoSlot top.progress → StayHeld below frames → after ≡ record s { frames = frames } → KeepsPayloads s after
@@ -234,18 +234,18 @@ allotted_kept start h s after result k = by_frames s.frames refl
     by_fit top below place (Record moment len) (Left noted) at now fit = absurd fit
     by_fit top below place Close (Left noted) at now fit = absurd fit
 
-    by_result : (top : Frame) (below : List Frame) (result : Result Allot WriteFault) → s.frames ≡ top ∷ below → IsAnswered s h (top ∷ below) result → IsAllotted s (top ∷ below) result after → KeepsPayloads s after
+    by_result : (top : Frame) (below : List Frame) (result : Result Allot WriteFault) → s.frames ≡ top ∷ below → IsAllotAnswer s h (top ∷ below) result → IsAllotted s (top ∷ below) result after → KeepsPayloads s after
     by_result top below (Ok (Fits place)) at answered fit = by_fit top below place top.purpose top.progress at refl fit
-    by_result top below (Ok NeedsPage) at answered (same, acted) = framed top below _ at (wants_none s h top.purpose top.progress answered.0) (λ slot there. inr there) same
-    by_result top below (Err Crowded) at answered (same, acted) = framed top below _ at (wants_none s h top.purpose top.progress answered.0) (left_held top below) same
-    by_result top below (Err Worn) at answered (same, acted) = framed top below _ at (wants_none s h top.purpose top.progress answered.0) (left_held top below) same
+    by_result top below (Ok NeedsPage) at answered (same, has_events) = framed top below _ at (wants_none s h top.purpose top.progress answered.0) (λ slot there. inr there) same
+    by_result top below (Err Crowded) at answered (same, has_events) = framed top below _ at (wants_none s h top.purpose top.progress answered.0) (left_held top below) same
+    by_result top below (Err Worn) at answered (same, has_events) = framed top below _ at (wants_none s h top.purpose top.progress answered.0) (left_held top below) same
     by_result top below (Err NotReserved) at answered same = same_stack s after same
     by_result top below (Err NoFrame) at answered none = absurd none
     by_result top below (Err TooDeep) at answered none = absurd none
     by_result top below (Err TooLong) at answered none = absurd none
     by_result top below (Err LateMoment) at answered none = absurd none
 
-    by_frames : (frames : List Frame) → s.frames ≡ frames → IsAnswered s h frames result → IsAllotted s frames result after → KeepsPayloads s after
+    by_frames : (frames : List Frame) → s.frames ≡ frames → IsAllotAnswer s h frames result → IsAllotted s frames result after → KeepsPayloads s after
     by_frames [] at answered (refused, same) = same_stack s after same
     by_frames (top ∷ below) at answered allotted = by_result top below result at answered allotted
 
@@ -295,14 +295,14 @@ last_bytes bytes front last start len is end long =
     ap (take len) (ap (drop start) is ∙ drop_at front last start at) ∙ take_all len last (omega (arith, long))
 
 -- the place of a record that is put into the tail holds zeros
-pub zeros_put : (start : ℕ) (h : List HistoryEvent) (s after : Stack) (top : Frame) (below : List Frame) (moment len : ℕ) (place : Place) (number : ℕ) → IsStack start h s → ReservesRecord s top below moment len place after → HasActed s (reserve ∷ []) after
+pub zeros_put : (start : ℕ) (h : List HistoryEvent) (s after : Stack) (top : Frame) (below : List Frame) (moment len : ℕ) (place : Place) (number : ℕ) → IsStack start h s → ReservesRecord s top below moment len place after → HasEvents s (reserve ∷ []) after
     → bytes_in after record { number = number; fill = tail_fill s; place = place } ≡ replicate place.len 0
-zeros_put start h s after top below moment len place number k is acted =
+zeros_put start h s after top below moment len place number k is has_events =
     let zeros : List ℕ = replicate (slot_len len) 0 in
     let (front, ends) = encoding_ends (max moment s.last_moment - s.last_moment) (is_blank s.tail.bytes) zeros in
     let same : tail_fill s ≡ tail_fill after = (λ i. sym (ap (λ (t : Stack). t.done) is.others) i + length (sym (ap (λ (t : Stack). t.older) is.others) i)) in
     let page : Contents = after.tail in
-    by_page after record { number = number; fill = tail_fill s; place = place } page (acted start h k).holds.tail_is.fill_is (is_tail same refl)
+    by_page after record { number = number; fill = tail_fill s; place = place } page (has_events start h k).holds.tail_is.fill_is (is_tail same refl)
     ∙ last_bytes page.bytes (s.tail.bytes ++ front) zeros place.start place.len (is.bytes ∙ ap (λ (b : List ℕ). s.tail.bytes ++ b) ends ∙ sym (append_assoc s.tail.bytes front zeros)) is.place_end (is.place_len ∙ sym (length-replicate (slot_len len) 0))
     ∙ ap (λ (n : ℕ). replicate n 0) (sym is.place_len)
 

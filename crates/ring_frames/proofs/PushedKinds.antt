@@ -45,7 +45,7 @@ KeepsKinds (model.refused why) before after = after ≡ others_of before
 KeepsKinds model.reading before after = Unit {0}
 KeepsKinds (model.empty done) before after = Unit {0}
 KeepsKinds (model.moving fill) before after = Unit {0}
-KeepsKinds (model.swapped t) before after = Unit {0}
+KeepsKinds (model.page_taken t) before after = Unit {0}
 KeepsKinds (model.wished_for fill) before after = Unit {0}
 
 module _ (n size : ℕ) (c : Core) (frame : Frame) where
@@ -135,60 +135,60 @@ module _ (n size : ℕ) (c : Core) (answer : model.Answer) (after : Core) where
 
   -- an end
   ends_kinds : (payload : List ℕ) → cases.StepCases n size c (model.ends payload) answer after → answer ≡ model.pending → (top : Kind) × (kinds_of c.frames ≡ top ∷ kinds_of after.frames)
-  ends_kinds payload (cases.push_step moment len e few short early a is) told = absurd (cc)
-  ends_kinds payload (cases.push_refused moment len why e refused a is) told = absurd (cc)
-  ends_kinds payload (cases.close_step e few a is) told = absurd (cc)
-  ends_kinds payload (cases.close_refused e many a is) told = absurd (cc)
-  ends_kinds payload (cases.frame_step frame below e is step) told = absurd (cc)
-  ends_kinds payload (cases.frame_lacks e none a is) told = absurd (cc)
-  ends_kinds payload (cases.end_step given frame below number moment len e is x kind slot a after_is) told =
+  ends_kinds payload (cases.push_step moment len e few short early a is) reported = absurd (cc)
+  ends_kinds payload (cases.push_refused moment len why e refused a is) reported = absurd (cc)
+  ends_kinds payload (cases.close_step e few a is) reported = absurd (cc)
+  ends_kinds payload (cases.close_refused e many a is) reported = absurd (cc)
+  ends_kinds payload (cases.frame_step frame below e is step) reported = absurd (cc)
+  ends_kinds payload (cases.frame_lacks e none a is) reported = absurd (cc)
+  ends_kinds payload (cases.end_step given frame below number moment len e is x kind slot a after_is) reported =
       subst (λ (fs : List Frame). (top : Kind) × (kinds_of fs ≡ top ∷ kinds_of after.frames)) (sym is)
-      (subst (λ (x : model.Answer). KeepsKinds x (kinds_of (frame ∷ below)) (kinds_of after.frames)) told (kept_end n size c frame below is answer after given a after_is))
-  ends_kinds payload (cases.end_lacks given e none a is) told = absurd (cc)
-  ends_kinds payload (cases.end_early given frame below e is none a after_is) told = absurd (cc)
-  ends_kinds payload (cases.read_step e step) told = absurd (cc)
-  ends_kinds payload (cases.store_wish_step e a is) told = absurd (cc)
+      (subst (λ (x : model.Answer). KeepsKinds x (kinds_of (frame ∷ below)) (kinds_of after.frames)) reported (kept_end n size c frame below is answer after given a after_is))
+  ends_kinds payload (cases.end_lacks given e none a is) reported = absurd (cc)
+  ends_kinds payload (cases.end_early given frame below e is none a after_is) reported = absurd (cc)
+  ends_kinds payload (cases.read_step e step) reported = absurd (cc)
+  ends_kinds payload (cases.store_wish_step e a is) reported = absurd (cc)
 
   -- a push
   push_kinds : (moment len : ℕ) → cases.StepCases n size c (model.pushes moment len) answer after → answer ≡ model.pushed → kinds_of after.frames ≡ for_record moment len ∷ kinds_of c.frames
-  push_kinds moment len (cases.push_step moment' len' e few short early a is) told =
+  push_kinds moment len (cases.push_step moment' len' e few short early a is) reported =
       ap (λ (d : Core). kinds_of d.frames) is
       ∙ (let same : for_record moment' len' ≡ for_record moment len = cc in ap (λ (k : Kind). k ∷ kinds_of c.frames) same)
-  push_kinds moment len (cases.push_refused moment' len' why e refused a is) told = absurd (cc)
-  push_kinds moment len (cases.close_step e few a is) told = absurd (cc)
-  push_kinds moment len (cases.close_refused e many a is) told = absurd (cc)
-  push_kinds moment len (cases.frame_step frame below e is step) told = absurd (cc)
-  push_kinds moment len (cases.frame_lacks e none a is) told = absurd (cc)
-  push_kinds moment len (cases.end_step payload frame below number moment' len' e is x kind slot a after_is) told = absurd (cc)
-  push_kinds moment len (cases.end_lacks payload e none a is) told = absurd (cc)
-  push_kinds moment len (cases.end_early payload frame below e is none a after_is) told = absurd (cc)
-  push_kinds moment len (cases.read_step e step) told = absurd (cc)
-  push_kinds moment len (cases.store_wish_step e a is) told = absurd (cc)
+  push_kinds moment len (cases.push_refused moment' len' why e refused a is) reported = absurd (cc)
+  push_kinds moment len (cases.close_step e few a is) reported = absurd (cc)
+  push_kinds moment len (cases.close_refused e many a is) reported = absurd (cc)
+  push_kinds moment len (cases.frame_step frame below e is step) reported = absurd (cc)
+  push_kinds moment len (cases.frame_lacks e none a is) reported = absurd (cc)
+  push_kinds moment len (cases.end_step payload frame below number moment' len' e is x kind slot a after_is) reported = absurd (cc)
+  push_kinds moment len (cases.end_lacks payload e none a is) reported = absurd (cc)
+  push_kinds moment len (cases.end_early payload frame below e is none a after_is) reported = absurd (cc)
+  push_kinds moment len (cases.read_step e step) reported = absurd (cc)
+  push_kinds moment len (cases.store_wish_step e a is) reported = absurd (cc)
 
   close_kinds : cases.StepCases n size c model.pushes_close answer after → answer ≡ model.pushed → kinds_of after.frames ≡ for_close ∷ kinds_of c.frames
-  close_kinds (cases.push_step moment len e few short early a is) told = absurd (cc)
-  close_kinds (cases.push_refused moment len why e refused a is) told = absurd (cc)
-  close_kinds (cases.close_step e few a is) told = ap (λ (d : Core). kinds_of d.frames) is
-  close_kinds (cases.close_refused e many a is) told = absurd (cc)
-  close_kinds (cases.frame_step frame below e is step) told = absurd (cc)
-  close_kinds (cases.frame_lacks e none a is) told = absurd (cc)
-  close_kinds (cases.end_step payload frame below number moment len e is x kind slot a after_is) told = absurd (cc)
-  close_kinds (cases.end_lacks payload e none a is) told = absurd (cc)
-  close_kinds (cases.end_early payload frame below e is none a after_is) told = absurd (cc)
-  close_kinds (cases.read_step e step) told = absurd (cc)
-  close_kinds (cases.store_wish_step e a is) told = absurd (cc)
+  close_kinds (cases.push_step moment len e few short early a is) reported = absurd (cc)
+  close_kinds (cases.push_refused moment len why e refused a is) reported = absurd (cc)
+  close_kinds (cases.close_step e few a is) reported = ap (λ (d : Core). kinds_of d.frames) is
+  close_kinds (cases.close_refused e many a is) reported = absurd (cc)
+  close_kinds (cases.frame_step frame below e is step) reported = absurd (cc)
+  close_kinds (cases.frame_lacks e none a is) reported = absurd (cc)
+  close_kinds (cases.end_step payload frame below number moment len e is x kind slot a after_is) reported = absurd (cc)
+  close_kinds (cases.end_lacks payload e none a is) reported = absurd (cc)
+  close_kinds (cases.end_early payload frame below e is none a after_is) reported = absurd (cc)
+  close_kinds (cases.read_step e step) reported = absurd (cc)
+  close_kinds (cases.store_wish_step e a is) reported = absurd (cc)
 
 -- ---- of a step, by its answer
 
 module _ (n size : ℕ) (c : Core) (answer : model.Answer) (after : Core) where
   pub pushed_kinds : (moment len : ℕ) → model.Step n size c (model.pushes moment len) answer after → answer ≡ model.pushed → kinds_of after.frames ≡ for_record moment len ∷ kinds_of c.frames
-  pushed_kinds moment len step told = push_kinds n size c answer after moment len (cases_of step) told
+  pushed_kinds moment len step reported = push_kinds n size c answer after moment len (cases_of step) reported
 
   pub closing_kinds : model.Step n size c model.pushes_close answer after → answer ≡ model.pushed → kinds_of after.frames ≡ for_close ∷ kinds_of c.frames
-  closing_kinds step told = close_kinds n size c answer after (cases_of step) told
+  closing_kinds step reported = close_kinds n size c answer after (cases_of step) reported
 
   pub ended_kinds : (payload : List ℕ) → model.Step n size c (model.ends payload) answer after → answer ≡ model.pending → (top : Kind) × (kinds_of c.frames ≡ top ∷ kinds_of after.frames)
-  ended_kinds payload step told = ends_kinds n size c answer after payload (cases_of step) told
+  ended_kinds payload step reported = ends_kinds n size c answer after payload (cases_of step) reported
 
   pub stepped_kinds : model.Step n size c model.steps answer after → (a : model.Answer) → answer ≡ a → KeepsKinds a (kinds_of c.frames) (kinds_of after.frames)
   stepped_kinds step a is = subst (λ (x : model.Answer). KeepsKinds x (kinds_of c.frames) (kinds_of after.frames)) is (steps_kinds n size c answer after (cases_of step))
@@ -254,27 +254,27 @@ module _ (n size start : ℕ) (old new : FramesValue) (c after : Core) (before_a
   new_is : lens new.stack ≡ map_kinds kind_len (kinds_of after.frames)
   new_is = lens_shown new after after_are
 
-  module _ (result : Answer) (answer : model.Answer) (tells : IsAnswerOf size result answer) where
-    tells_so : (to : Answer) → result ≡ to → IsAnswerOf size to answer
-    tells_so to is = subst (λ (r : Answer). IsAnswerOf size r answer) is tells
+  module _ (result : Answer) (answer : model.Answer) (reports : IsAnswerOf size result answer) where
+    reports_so : (to : Answer) → result ≡ to → IsAnswerOf size to answer
+    reports_so to is = subst (λ (r : Answer). IsAnswerOf size r answer) is reports
 
     -- of a step of the frame on top
     pub keeps_lens : model.Step n size c model.steps answer after → KeepsLens result old.stack new.stack
     keeps_lens step = record {
-      going = λ is. same_mapped kind_len (kinds_of c.frames) (kinds_of after.frames) (lens old.stack) (lens new.stack) old_is new_is (stepped_kinds n size c answer after step model.going (tells_so Going is));
-      reserved = λ number is. same_mapped kind_len (kinds_of c.frames) (kinds_of after.frames) (lens old.stack) (lens new.stack) old_is new_is (stepped_kinds n size c answer after step (model.reserved_as number.0) (tells_so (Reserved number) is));
-      gone = λ is. fewer_mapped kind_len (kinds_of c.frames) (kinds_of after.frames) (lens old.stack) (lens new.stack) old_is new_is (stepped_kinds n size c answer after step model.gone (tells_so Gone is));
-      refused = λ fault is. others_mapped kind_len (kinds_of c.frames) (kinds_of after.frames) (lens old.stack) (lens new.stack) old_is new_is (stepped_kinds n size c answer after step (model.refused (refusal_of fault)) (tells_so (Refused fault) is));
+      going = λ is. same_mapped kind_len (kinds_of c.frames) (kinds_of after.frames) (lens old.stack) (lens new.stack) old_is new_is (stepped_kinds n size c answer after step model.going (reports_so Going is));
+      reserved = λ number is. same_mapped kind_len (kinds_of c.frames) (kinds_of after.frames) (lens old.stack) (lens new.stack) old_is new_is (stepped_kinds n size c answer after step (model.reserved_as number.0) (reports_so (Reserved number) is));
+      gone = λ is. fewer_mapped kind_len (kinds_of c.frames) (kinds_of after.frames) (lens old.stack) (lens new.stack) old_is new_is (stepped_kinds n size c answer after step model.gone (reports_so Gone is));
+      refused = λ fault is. others_mapped kind_len (kinds_of c.frames) (kinds_of after.frames) (lens old.stack) (lens new.stack) old_is new_is (stepped_kinds n size c answer after step (model.refused (refusal_of fault)) (reports_so (Refused fault) is));
     }
 
     -- a frame that is pushed is for the payload that is asked for
     pub pushes_lens : (moment len : ℕ) → model.Step n size c (model.pushes moment len) answer after → result ≡ Pushed → lens new.stack ≡ Some len ∷ lens old.stack
-    pushes_lens moment len step is = more_mapped kind_len (kinds_of c.frames) (kinds_of after.frames) (lens old.stack) (lens new.stack) old_is new_is (for_record moment len) (pushed_kinds n size c answer after moment len step (tells_so Pushed is))
+    pushes_lens moment len step is = more_mapped kind_len (kinds_of c.frames) (kinds_of after.frames) (lens old.stack) (lens new.stack) old_is new_is (for_record moment len) (pushed_kinds n size c answer after moment len step (reports_so Pushed is))
 
     -- or for none
     pub pushes_none : model.Step n size c model.pushes_close answer after → result ≡ Pushed → lens new.stack ≡ None ∷ lens old.stack
-    pushes_none step is = more_mapped kind_len (kinds_of c.frames) (kinds_of after.frames) (lens old.stack) (lens new.stack) old_is new_is for_close (closing_kinds n size c answer after step (tells_so Pushed is))
+    pushes_none step is = more_mapped kind_len (kinds_of c.frames) (kinds_of after.frames) (lens old.stack) (lens new.stack) old_is new_is for_close (closing_kinds n size c answer after step (reports_so Pushed is))
 
     -- one that ends above others leaves them
     pub ends_lens : (payload : List ℕ) → model.Step n size c (model.ends payload) answer after → result ≡ Ended Pending → IsOneMore (lens old.stack) (lens new.stack)
-    ends_lens payload step is = fewer_mapped kind_len (kinds_of c.frames) (kinds_of after.frames) (lens old.stack) (lens new.stack) old_is new_is (ended_kinds n size c answer after payload step (tells_so (Ended Pending) is))
+    ends_lens payload step is = fewer_mapped kind_len (kinds_of c.frames) (kinds_of after.frames) (lens old.stack) (lens new.stack) old_is new_is (ended_kinds n size c answer after payload step (reports_so (Ended Pending) is))

@@ -17,7 +17,7 @@ use Rattle.nested_writer.specs.declared.frame.Frame as stack
 use Rattle.nested_writer.specs.Stack.{Stack, opened, kind_of}
 use Rattle.nested_writer.specs.IsStack.{IsStack}
 use Rattle.nested_writer.specs.Calls.{IsAtBottom}
-use Rattle.nested_writer.specs.Allotted.{HasActed}
+use Rattle.nested_writer.specs.Allotted.{HasEvents}
 use Rattle.nested_writer.specs.Released.{IsWrittenPage}
 use Rattle.ring_frames.specs.declared.phase.Phase.{Phase}
 use Rattle.ring_frames.specs.declared.phase.Phase.TheVariants.{Releasing, Wishing}
@@ -32,7 +32,7 @@ use Rattle.ring_frames.proofs.Bottom.{IsAlone, alone}
 pub record IsLetGo (v : FramesValue) (later : Stack) (page : Contents) : Type 0 where
   pub oldest : v.stack.older ≡ page ∷ later.older
   pub released : later ≡ record v.stack { done = v.stack.done + 1; older = later.older }
-  pub acted : HasActed v.stack [] later
+  pub has_events : HasEvents v.stack [] later
   pub written : (start : ℕ) (history : List HistoryEvent) → IsStack start history v.stack → IsWrittenPage v.stack.size v.stack.done (fill_of history start v.stack.done) page
 
 module _ (n size start : ℕ) (v : FramesValue) (c : Core) (core : HasFrames n size start v c) (some : v.stack.frames ≢ []) (is : v.phase ≡ Releasing) where
@@ -74,7 +74,7 @@ module _ (n size start : ℕ) (v : FramesValue) (c : Core) (core : HasFrames n s
         let was_done = s.done_is in let was_opened = s.opened_is in record {
           pages_is = ap (λ (x : Stack). x.pages) gone.released ∙ s.pages_is;
           size_is = ap (λ (x : Stack). x.size) gone.released ∙ s.size_is;
-          stack_is = subst (λ (h : List HistoryEvent). IsStack start h later) (append-nil c.history) (gone.acted start c.history s.stack_is);
+          stack_is = subst (λ (h : List HistoryEvent). IsStack start h later) (append-nil c.history) (gone.has_events start c.history s.stack_is);
           done_is = omega arith;
           opened_is = omega arith;
           frames_are = sym (λ i. ring_frames (frames_same i) (phase ∷ one.below_is i));

@@ -24,8 +24,8 @@ use Rattle.nested_writer.specs.declared.frame.Progress.TheVariants.{Waiting, Thr
 use Rattle.nested_writer.specs.declared.frame.Frame.{Frame}
 use Rattle.nested_writer.specs.Stack.{Stack, opened, next_number, kind_of, state_of}
 use Rattle.nested_writer.specs.Calls.{with_progress, after_leave, HasLeft, IsCrowded, ReservesRecord, IsTopSlot}
-use Rattle.nested_writer.specs.Allotted.{HasActed, first_try, HasFit, IsAllotted}
-use Rattle.nested_writer.specs.Answered.{FitsTail, WantsFill, HasItsFill, IsAnswered}
+use Rattle.nested_writer.specs.Allotted.{HasEvents, first_try, HasFit, IsAllotted}
+use Rattle.nested_writer.specs.Answered.{FitsTail, WantsFill, HasItsFill, IsAllotAnswer}
 use Rattle.nested_writer.specs.Ends.{IsEnd}
 use Rattle.ring_frames.specs.declared.answer.Answer.TheVariants.{Going, Reserved as ReservedAs, Refused}
 use Rattle.ring_frames.specs.declared.phase.Phase.{Phase}
@@ -38,7 +38,7 @@ use Rattle.ring_frames.specs.Steps.{IsPrivateStep}
 use Rattle.ring_frames.proofs.Privately.{kept_of, privately, top_is_private}
 use Rattle.ring_frames.proofs.Reshown.{reshown}
 use Rattle.ring_frames.proofs.Left.{tops_are, left_value, left_without}
-use Rattle.ring_frames.proofs.Closing.{IsThrough, acted_none, closed_shown}
+use Rattle.ring_frames.proofs.Closing.{IsThrough, has_no_events, closed_shown}
 
 -- a value with another stack, in this phase
 abbrev pub at_phase : FramesValue → Stack → Phase → FramesValue
@@ -126,10 +126,10 @@ module _ (n size start : ℕ) (v : FramesValue) (c : Core) (core : HasFrames n s
 
   noted_top : (stack : Stack) (noted : ℕ) → WantsFill v.stack c.history top.purpose top.progress → (IsCrowded v.stack → ⊥) → opened v.stack + v.stack.pages < LINK_FILLS
       → stack ≡ with_progress v.stack top rest (Waiting (Some (opened v.stack)))
-      → HasActed v.stack [] stack
+      → HasEvents v.stack [] stack
       → noted ≡ opened v.stack
       → IsPrivateStep n size start c model.steps Going (at_phase v stack (Looking noted))
-  noted_top stack noted want free fills is acted noted_is =
+  noted_top stack noted want free fills is has_events noted_is =
       let (waits, needs) = wanted want in
       let few : c.opened + n < LINK_FILLS = subst (λ (m : ℕ). m < LINK_FILLS) (λ i. sym k.opened_is i + k.pages_is i) fills in
       let frames_is : stack.frames ≡ record top { progress = Waiting (Some (opened v.stack)) } ∷ rest = ap (λ (s : Stack). s.frames) is in
@@ -142,35 +142,35 @@ module _ (n size start : ℕ) (v : FramesValue) (c : Core) (core : HasFrames n s
         size_is = ap (λ (s : Stack). s.size) is;
         done_is = ap (λ (s : Stack). s.done) is;
         opened_is = ap opened is;
-        stack_is = acted_none start c.history v.stack stack acted k.stack_is;
+        stack_is = has_no_events start c.history v.stack stack has_events k.stack_is;
         frames_are = (λ i. let f : ModelFrame = record { kind = kind_of top.purpose; state = waits i; phase = looking ((k.opened_is ∙ sym noted_is) i) } in f ∷ below) ∙ ap (λ (fs : List Frame). ring_frames fs (Looking noted ∷ v.below)) (sym frames_is);
         below_are = subst (λ (fs : List Frame). Rattle.ring_frames.specs.AreFrames.AreBelow fs v.below) (sym frames_is) same;
         noted = subst (λ (fs : List Frame). AreNotedAlike fs (Looking noted ∷ v.below)) (sym frames_is) (subst (λ (o : ℕ). NotedAlike top.purpose (Waiting (Some (opened v.stack))) (Looking o)) (sym noted_is) (notes_alike top.purpose), noted_below);
       })
 
-  pub page_noted : (stack : Stack) (noted : ℕ) → IsAnswered v.stack c.history v.stack.frames (Ok NeedsPage) → IsAllotted v.stack v.stack.frames (Ok NeedsPage) stack → noted ≡ opened stack → IsPrivateStep n size start c model.steps Going (at_phase v stack (Looking noted))
+  pub page_noted : (stack : Stack) (noted : ℕ) → IsAllotAnswer v.stack c.history v.stack.frames (Ok NeedsPage) → IsAllotted v.stack v.stack.frames (Ok NeedsPage) stack → noted ≡ opened stack → IsPrivateStep n size start c model.steps Going (at_phase v stack (Looking noted))
   page_noted stack noted answered allotted noted_is =
-      let (want, free, fills) = subst (λ (fs : List Frame). IsAnswered v.stack c.history fs (Ok NeedsPage)) stack_is answered in
-      let (is, acted) = subst (λ (fs : List Frame). IsAllotted v.stack fs (Ok NeedsPage) stack) stack_is allotted in
-      noted_top stack noted want free fills is acted (noted_is ∙ ap opened is)
+      let (want, free, fills) = subst (λ (fs : List Frame). IsAllotAnswer v.stack c.history fs (Ok NeedsPage)) stack_is answered in
+      let (is, has_events) = subst (λ (fs : List Frame). IsAllotted v.stack fs (Ok NeedsPage) stack) stack_is allotted in
+      noted_top stack noted want free fills is has_events (noted_is ∙ ap opened is)
 
   -- ---- it is refused
 
-  refused_with : (stack : Stack) (fault : WriteFault) → (state_of top.progress ≡ waiting) → stack ≡ after_leave v.stack top rest → HasActed v.stack (leave None ∷ []) stack → cases.ReserveStep n size c frame below (model.refused (refusal_of fault)) (model.after_leave c frame below None) → IsPrivateStep n size start c model.steps (Refused fault) (left_value v stack)
-  refused_with stack fault waits is acted step =
+  refused_with : (stack : Stack) (fault : WriteFault) → (state_of top.progress ≡ waiting) → stack ≡ after_leave v.stack top rest → HasEvents v.stack (leave None ∷ []) stack → cases.ReserveStep n size c frame below (model.refused (refusal_of fault)) (model.after_leave c frame below None) → IsPrivateStep n size start c model.steps (Refused fault) (left_value v stack)
+  refused_with stack fault waits is has_events step =
       privately n size start (left_value v stack) c model.steps (Refused fault) (model.refused (refusal_of fault)) (model.after_leave c frame below None)
       (waits_step (model.refused (refusal_of fault)) (model.after_leave c frame below None) waits step)
       own_step
       refl
-      (left_without n size start v c top rest frame below stack k stack_is model_is is (acted start c.history k.stack_is))
+      (left_without n size start v c top rest frame below stack k stack_is model_is is (has_events start c.history k.stack_is))
 
-  refused_top : (fault : WriteFault) (stack : Stack) → IsAnswered v.stack c.history (top ∷ rest) (Err fault) → IsAllotted v.stack (top ∷ rest) (Err fault) stack → IsPrivateStep n size start c model.steps (Refused fault) (left_value v stack)
-  refused_top Crowded stack (want, full) (is, acted) =
+  refused_top : (fault : WriteFault) (stack : Stack) → IsAllotAnswer v.stack c.history (top ∷ rest) (Err fault) → IsAllotted v.stack (top ∷ rest) (Err fault) stack → IsPrivateStep n size start c model.steps (Refused fault) (left_value v stack)
+  refused_top Crowded stack (want, full) (is, has_events) =
       let (waits, needs) = wanted want in
-      refused_with stack Crowded waits is acted (cases.is_crowded needs (crowded_is full) refl refl)
-  refused_top Worn stack (want, free, worn) (is, acted) =
+      refused_with stack Crowded waits is has_events (cases.is_crowded needs (crowded_is full) refl refl)
+  refused_top Worn stack (want, free, worn) (is, has_events) =
       let (waits, needs) = wanted want in
-      refused_with stack Worn waits is acted (cases.is_worn needs (free_is free) (subst (λ (m : ℕ). LINK_FILLS ≤ m) (λ i. sym k.opened_is i + k.pages_is i) worn) refl refl)
+      refused_with stack Worn waits is has_events (cases.is_worn needs (free_is free) (subst (λ (m : ℕ). LINK_FILLS ≤ m) (λ i. sym k.opened_is i + k.pages_is i) worn) refl refl)
   refused_top NotReserved stack answered allotted = absurd (stays (left_is top.progress answered))
     where
       left_is : (progress : Progress) → HasLeft progress → state_of progress ≡ left
@@ -183,8 +183,8 @@ module _ (n size start : ℕ) (v : FramesValue) (c : Core) (core : HasFrames n s
   refused_top TooLong stack answered allotted = absurd answered
   refused_top LateMoment stack answered allotted = absurd answered
 
-  pub refused : (fault : WriteFault) (stack : Stack) → IsAnswered v.stack c.history v.stack.frames (Err fault) → IsAllotted v.stack v.stack.frames (Err fault) stack → IsPrivateStep n size start c model.steps (Refused fault) (left_value v stack)
-  refused fault stack answered allotted = refused_top fault stack (subst (λ (fs : List Frame). IsAnswered v.stack c.history fs (Err fault)) stack_is answered) (subst (λ (fs : List Frame). IsAllotted v.stack fs (Err fault) stack) stack_is allotted)
+  pub refused : (fault : WriteFault) (stack : Stack) → IsAllotAnswer v.stack c.history v.stack.frames (Err fault) → IsAllotted v.stack v.stack.frames (Err fault) stack → IsPrivateStep n size start c model.steps (Refused fault) (left_value v stack)
+  refused fault stack answered allotted = refused_top fault stack (subst (λ (fs : List Frame). IsAllotAnswer v.stack c.history fs (Err fault)) stack_is answered) (subst (λ (fs : List Frame). IsAllotted v.stack fs (Err fault) stack) stack_is allotted)
 
   -- ---- its record is reserved, or there is nothing to close
 
@@ -201,10 +201,10 @@ module _ (n size start : ℕ) (v : FramesValue) (c : Core) (core : HasFrames n s
 
   record_reserved : (moment len : ℕ) (place : Place) (stack : Stack) (slot : Slot) → kind_of top.purpose ≡ for_record moment len → state_of top.progress ≡ waiting → FitsTail v.stack c.history moment len → next_number v.stack ≡ length (reserved_records c.history)
       → ReservesRecord v.stack top rest moment len place stack
-      → HasActed v.stack (reserve ∷ []) stack
+      → HasEvents v.stack (reserve ∷ []) stack
       → slot.number ≡ next_number v.stack
       → IsPrivateStep n size start c model.steps (ReservedAs record { 0 = slot.number }) (record v { stack = stack })
-  record_reserved moment len place stack slot kind waits fits numbered is acted slot_is =
+  record_reserved moment len place stack slot kind waits fits numbered is has_events slot_is =
       let number : ℕ = length (reserved_records c.history) in
       let r : Reservation = model.new_reservation c moment len in
       let after : Core = model.in_reserved (model.with_reservation c r) frame below number in
@@ -221,7 +221,7 @@ module _ (n size start : ℕ) (v : FramesValue) (c : Core) (core : HasFrames n s
         size_is = ap (λ (s : Stack). s.size) is.others;
         done_is = ap (λ (s : Stack). s.done) is.others;
         opened_is = ap opened is.others;
-        stack_is = acted start c.history k.stack_is;
+        stack_is = has_events start c.history k.stack_is;
         frames_are = (λ i. let f : ModelFrame = record { kind = kind_of top.purpose; state = reserved (sym numbered i); phase = phase_of (sym resting i) } in f ∷ below) ∙ ap (λ (fs : List Frame). ring_frames fs (v.phase ∷ v.below)) (sym frames_is);
         below_are = subst (λ (fs : List Frame). Rattle.ring_frames.specs.AreFrames.AreBelow fs v.below) (sym frames_is) same;
         noted = subst (λ (fs : List Frame). AreNotedAlike fs (v.phase ∷ v.below)) (sym frames_is) (reserved_alike top.purpose own, noted_below);
@@ -277,18 +277,18 @@ module _ (n size start : ℕ) (v : FramesValue) (c : Core) (core : HasFrames n s
   without_slot (Record moment len) (Left noted) place stack purpose_is progress_is agree fill fit none = absurd fit
   without_slot Close (Left noted) place stack purpose_is progress_is agree fill fit none = absurd fit
 
-  pub fits_slot : (place other : Place) (stack : Stack) (slot : Slot) → IsAnswered v.stack c.history v.stack.frames (Ok (Fits other)) → IsAllotted v.stack v.stack.frames (Ok (Fits place)) stack → IsTopSlot stack.frames slot → IsPrivateStep n size start c model.steps (ReservedAs record { 0 = slot.number }) (record v { stack = stack })
+  pub fits_slot : (place other : Place) (stack : Stack) (slot : Slot) → IsAllotAnswer v.stack c.history v.stack.frames (Ok (Fits other)) → IsAllotted v.stack v.stack.frames (Ok (Fits place)) stack → IsTopSlot stack.frames slot → IsPrivateStep n size start c model.steps (ReservedAs record { 0 = slot.number }) (record v { stack = stack })
   fits_slot place other stack slot answered allotted has =
-      with_slot top.purpose top.progress place stack slot refl refl alike (subst (λ (fs : List Frame). IsAnswered v.stack c.history fs (Ok (Fits other))) stack_is answered) (subst (λ (fs : List Frame). IsAllotted v.stack fs (Ok (Fits place)) stack) stack_is allotted) has
+      with_slot top.purpose top.progress place stack slot refl refl alike (subst (λ (fs : List Frame). IsAllotAnswer v.stack c.history fs (Ok (Fits other))) stack_is answered) (subst (λ (fs : List Frame). IsAllotted v.stack fs (Ok (Fits place)) stack) stack_is allotted) has
 
-  pub fits_close : (place : Place) (stack : Stack) → IsAnswered v.stack c.history v.stack.frames (Ok (Fits place)) → IsAllotted v.stack v.stack.frames (Ok (Fits place)) stack → ((slot : Slot) → IsTopSlot stack.frames slot → ⊥) → IsClosing v c top rest stack
+  pub fits_close : (place : Place) (stack : Stack) → IsAllotAnswer v.stack c.history v.stack.frames (Ok (Fits place)) → IsAllotted v.stack v.stack.frames (Ok (Fits place)) stack → ((slot : Slot) → IsTopSlot stack.frames slot → ⊥) → IsClosing v c top rest stack
   fits_close place stack answered allotted none =
-      without_slot top.purpose top.progress place stack refl refl alike (subst (λ (fs : List Frame). IsAnswered v.stack c.history fs (Ok (Fits place))) stack_is answered) (subst (λ (fs : List Frame). IsAllotted v.stack fs (Ok (Fits place)) stack) stack_is allotted) none
+      without_slot top.purpose top.progress place stack refl refl alike (subst (λ (fs : List Frame). IsAllotAnswer v.stack c.history fs (Ok (Fits place))) stack_is answered) (subst (λ (fs : List Frame). IsAllotted v.stack fs (Ok (Fits place)) stack) stack_is allotted) none
 
   pub nothing_found : (between stack : Stack) → IsClosing v c top rest between → IsEnd between between.frames stack → IsPrivateStep n size start c model.steps (left_answer v.below) (left_value v stack)
   nothing_found between stack closing ended =
-      let (tells, shows) = closed_shown n size start v c top rest frame below closing.noted between stack k stack_is model_is closing.waits closing.through ended in
+      let (reports, shows) = closed_shown n size start v c top rest frame below closing.noted between stack k stack_is model_is closing.waits closing.through ended in
       privately n size start (left_value v stack) c model.steps (left_answer v.below) (model.leave_answer below) (model.after_leave c frame below None)
       (waits_step (model.leave_answer below) (model.after_leave c frame below None) (ap state_of closing.waits) (cases.finds_nothing (ap kind_of closing.close) closing.nothing refl refl))
       own_step
-      tells shows
+      reports shows

@@ -10,7 +10,7 @@ use Rattle.nested_writer.specs.declared.frame.Progress.TheVariants.{Left}
 use Rattle.nested_writer.specs.declared.frame.Frame.{Frame}
 use Rattle.nested_writer.specs.Stack.{Stack, opened}
 use Rattle.nested_writer.specs.IsStack.{IsStack}
-use Rattle.nested_writer.specs.Allotted.{HasActed}
+use Rattle.nested_writer.specs.Allotted.{HasEvents}
 use Rattle.nested_writer.specs.AtOnce.{with_left}
 use Rattle.nested_writer.proofs.AtOnce.{goes_again}
 use Rattle.ring_frames.specs.declared.phase.Phase.{Phase}
@@ -38,7 +38,7 @@ some_left : (v : FramesValue) (moment len : ℕ) → (with_left v.stack moment l
 some_left v moment len e = let none = ap (length {A = Frame}) e in absurd (omega arith)
 
 -- without it the stack is as it was
-left_again : (s : Stack) (moment len : ℕ) → s.frames ≡ [] → HasActed (with_left s moment len) [] s
+left_again : (s : Stack) (moment len : ℕ) → s.frames ≡ [] → HasEvents (with_left s moment len) [] s
 left_again s moment len none = λ start h k.
     let bare : ◌≡◌ {A = Stack} (record s { frames = [] }) s = ap (λ (fs : List Frame). let x : Stack = record s { frames = fs } in x) (sym none) in
     subst (λ (g : List HistoryEvent). IsStack start g s) (sym (append-nil h))

@@ -16,7 +16,7 @@ use Rattle.nested_writer.specs.declared.frame.Frame as stack
 use Rattle.nested_writer.specs.Stack.{Stack, opened, kind_of}
 use Rattle.nested_writer.specs.IsStack.{IsStack}
 use Rattle.nested_writer.specs.Calls.{with_bottom, asked_frames, IsAtBottom}
-use Rattle.nested_writer.specs.Allotted.{HasActed}
+use Rattle.nested_writer.specs.Allotted.{HasEvents}
 use Rattle.ring_frames.specs.declared.phase.Phase.{Phase}
 use Rattle.ring_frames.specs.declared.phase.Phase.TheVariants.{Looking, Releasing, Wishing}
 use Rattle.ring_frames.specs.declared.answer.Answer.{Answer}
@@ -24,7 +24,7 @@ use Rattle.ring_frames.specs.declared.answer.Answer.TheVariants.{Going, Gone}
 use Rattle.ring_frames.specs.Value.{FramesValue, phase_of}
 use Rattle.ring_frames.specs.AreFrames.{ring_frames, AreBelow, AreNotedAlike, AreFrames, HasFrames}
 use Rattle.ring_frames.specs.Answers.{IsAnswerOf}
-use Rattle.ring_frames.specs.Fills.{told_in, IsLookForWish, GrantsNone}
+use Rattle.ring_frames.specs.Fills.{reported_in, IsLookForWish, GrantsNone}
 use Rattle.ring_frames.proofs.Privately.{kept_of}
 use Rattle.ring_frames.proofs.Bottom.{IsAlone, alone}
 use Rattle.ring_frames.proofs.Reshown.{reshown}
@@ -42,22 +42,22 @@ module _ (n size start : ℕ) (v : FramesValue) (c : Core) (core : HasFrames n s
   frame_in : Phase → Frame
   frame_in phase = record { kind = kind_of one.purpose; state = left; phase = phase_of phase }
 
-  looks : (result : Answer) (new : FramesValue) (answer : model.Answer) (frames : List Frame) (history : List HistoryEvent) → cases.LoadWishStep n c (frame_in v.phase) [] answer (told_in c frames history) → IsAnswerOf size result answer → AreFrames n size start new (told_in c frames history)
+  looks : (result : Answer) (new : FramesValue) (answer : model.Answer) (frames : List Frame) (history : List HistoryEvent) → cases.LoadWishStep n c (frame_in v.phase) [] answer (reported_in c frames history) → IsAnswerOf size result answer → AreFrames n size start new (reported_in c frames history)
       → IsLookForWish n size start c result new
   unfolding frame_in
-  looks result new answer frames history step tells shows = record {
+  looks result new answer frames history step reports shows = record {
     answer = answer;
     frames = frames;
     history = history;
-    step = step_by (cases.frame_step (frame_in v.phase) [] refl one.model (subst (λ (p : Phase). cases.FrameStep n size c (frame_in v.phase) [] (phase_of p) answer (told_in c frames history)) (sym is) step));
-    tells = tells;
+    step = step_by (cases.frame_step (frame_in v.phase) [] refl one.model (subst (λ (p : Phase). cases.FrameStep n size c (frame_in v.phase) [] (phase_of p) answer (reported_in c frames history)) (sym is) step));
+    reports = reports;
     are = shows;
   }
 
-  pub granted : (later : Stack) → c.wish ≡ opened v.stack → opened v.stack + v.stack.pages < LINK_FILLS → tail_of c.history ≢ [] → later ≡ with_bottom v.stack (Some (opened v.stack)) → HasActed v.stack (wished ∷ []) later
+  pub granted : (later : Stack) → c.wish ≡ opened v.stack → opened v.stack + v.stack.pages < LINK_FILLS → tail_of c.history ≢ [] → later ≡ with_bottom v.stack (Some (opened v.stack)) → HasEvents v.stack (wished ∷ []) later
       → IsLookForWish n size start c Going (record v { stack = later; phase = Looking (opened v.stack) })
   unfolding frame_in
-  granted later asks more holds asked acted = let s = core.are in
+  granted later asks more holds asked has_events = let s = core.are in
       let begun = s.opened_is in let wide = s.pages_is in
       let same_frames : later.frames ≡ record { purpose = one.purpose; progress = Left (Some (opened v.stack)) } ∷ [] = ap (λ (x : Stack). x.frames) asked ∙ ap (λ (fs : List stack.Frame). asked_frames fs (Some (opened v.stack))) one.frames_are in
       looks Going (record v { stack = later; phase = Looking (opened v.stack) }) model.going (frame_in (Looking c.opened) ∷ []) (c.history ++ wished ∷ [])
@@ -67,7 +67,7 @@ module _ (n size start : ℕ) (v : FramesValue) (c : Core) (core : HasFrames n s
         size_is = ap (λ (x : Stack). x.size) asked;
         done_is = ap (λ (x : Stack). x.done) asked;
         opened_is = ap opened asked;
-        stack_is = acted start c.history s.stack_is;
+        stack_is = has_events start c.history s.stack_is;
         frames_are = ap (λ (o : ℕ). frame_in (Looking o) ∷ []) s.opened_is ∙ sym (λ i. ring_frames (same_frames i) (Looking (opened v.stack) ∷ one.below_is i));
         below_are = subst (λ (fs : List stack.Frame). AreBelow fs v.below) (sym same_frames) (subst (λ (fs : List stack.Frame). AreBelow fs v.below) one.frames_are s.below_are);
         noted = subst (λ (fs : List stack.Frame). AreNotedAlike fs (Looking (opened v.stack) ∷ v.below)) (sym same_frames) ((λ o e. e), tt);
@@ -89,8 +89,8 @@ module _ (n size start : ℕ) (v : FramesValue) (c : Core) (core : HasFrames n s
         noted = subst (λ (fs : List stack.Frame). AreNotedAlike fs (Releasing ∷ v.below)) (sym one.frames_are) ((λ o e. absurd (none_some e)), tt);
       })
 
-  pub goes_away : (later : Stack) (phase : Phase) → (model.IsGranted n c → ⊥) → opened v.stack ≤ v.stack.done + 1 → later ≡ record v.stack { frames = [] } → HasActed v.stack [] later → IsLookForWish n size start c Gone (record v { stack = later; phase = phase })
-  goes_away later phase none last popped acted = let s = core.are in let begun = s.opened_is in let done = s.done_is in
+  pub goes_away : (later : Stack) (phase : Phase) → (model.IsGranted n c → ⊥) → opened v.stack ≤ v.stack.done + 1 → later ≡ record v.stack { frames = [] } → HasEvents v.stack [] later → IsLookForWish n size start c Gone (record v { stack = later; phase = phase })
+  goes_away later phase none last popped has_events = let s = core.are in let begun = s.opened_is in let done = s.done_is in
       let no_frames : later.frames ≡ [] = ap (λ (x : Stack). x.frames) popped in
       looks Gone (record v { stack = later; phase = phase }) model.gone [] c.history
       (cases.goes_away refl none (omega arith) refl refl) refl
@@ -99,7 +99,7 @@ module _ (n size start : ℕ) (v : FramesValue) (c : Core) (core : HasFrames n s
         size_is = ap (λ (x : Stack). x.size) popped;
         done_is = ap (λ (x : Stack). x.done) popped;
         opened_is = ap opened popped;
-        stack_is = subst (λ (h : List HistoryEvent). IsStack start h later) (append-nil c.history) (acted start c.history s.stack_is);
+        stack_is = subst (λ (h : List HistoryEvent). IsStack start h later) (append-nil c.history) (has_events start c.history s.stack_is);
         frames_are = ap (λ (fs : List stack.Frame). ring_frames fs (phase ∷ v.below)) (sym no_frames);
         below_are = subst (λ (fs : List stack.Frame). AreBelow fs v.below) (sym no_frames) one.below_is;
         noted = subst (λ (fs : List stack.Frame). AreNotedAlike fs (phase ∷ v.below)) (sym no_frames) tt;

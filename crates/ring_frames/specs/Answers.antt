@@ -2,7 +2,7 @@
 use Rattle.std.specs.Prelude.{◌≡◌, ℕ, ◌-◌, if◌then◌else◌, ◌==◌, List, [], ◌∷◌, ◌⊎◌, replicate, slice_index_or}
 use Rattle.trace_model.specs.Frames.{Refusal, too_deep, too_long, late_moment, crowded, worn, no_frame, not_reserved}
 use Rattle.trace_model.specs.Overwriting.{bytes_at}
-use Rattle.trace_model.specs.Ring.{Taken}
+use Rattle.trace_model.specs.Ring.{TakenFill}
 use Rattle.trace_model.specs.Steps as model
 use Rattle.trace_model.specs.declared.numbers.RecordNo.{RecordNo}
 use Rattle.page_image.specs.Contents.{Contents}
@@ -18,7 +18,7 @@ use Rattle.nested_writer.specs.Next.{below_top}
 use Rattle.nested_writer.specs.Calls.{LacksSlot, IsTopSlot}
 use Rattle.nested_writer.specs.Released.{IsWrittenPage}
 use Rattle.ring_frames.specs.declared.answer.Answer.{Answer}
-use Rattle.ring_frames.specs.declared.answer.Answer.TheVariants.{Pushed, Going, Reserved, Ended, Gone, Refused, Looking, Empty, Moving, Taken as IsTaken, Wished}
+use Rattle.ring_frames.specs.declared.answer.Answer.TheVariants.{Pushed, Going, Reserved, Ended, Gone, Refused, Looking, Empty, Moving, Taken, Wished}
 
 -- ---- payloads
 
@@ -71,24 +71,24 @@ refusal_of NotReserved = not_reserved
 
 -- The page is that of a fill which the reader took, with its number, its first record's number, and all its records;
 -- and `missed` records were lost before it.
-pub record IsTakenPage (size : ℕ) (page : Contents) (missed : ℕ) (t : Taken) : Type 0 where
+pub record IsTakenPage (size : ℕ) (page : Contents) (missed : ℕ) (t : TakenFill) : Type 0 where
   pub written : IsWrittenPage size t.fill t.held page
   pub missed_is : missed ≡ t.skipped
 
 -- the answer means that of the model
 abbrev pub IsAnswerOf : (size : ℕ) → Answer → model.Answer → Type 0
-IsAnswerOf size Pushed told = told ≡ model.pushed
-IsAnswerOf size Going told = told ≡ model.going
-IsAnswerOf size (Reserved number) told = told ≡ model.reserved_as number.0
-IsAnswerOf size (Ended Pending) told = told ≡ model.pending
-IsAnswerOf size (Ended Full) told = told ≡ model.full
-IsAnswerOf size Gone told = told ≡ model.gone
-IsAnswerOf size (Refused fault) told = told ≡ model.refused (refusal_of fault)
-IsAnswerOf size (Looking body) told = told ≡ model.reading
-IsAnswerOf size (Empty done body) told = told ≡ model.empty done
-IsAnswerOf size (Moving fill body) told = told ≡ model.moving fill.0
-IsAnswerOf size (IsTaken page missed) told = (t : Taken) × (told ≡ model.swapped t) × IsTakenPage size page missed t
-IsAnswerOf size (Wished fill) told = told ≡ model.wished_for fill.0
+IsAnswerOf size Pushed reported = reported ≡ model.pushed
+IsAnswerOf size Going reported = reported ≡ model.going
+IsAnswerOf size (Reserved number) reported = reported ≡ model.reserved_as number.0
+IsAnswerOf size (Ended Pending) reported = reported ≡ model.pending
+IsAnswerOf size (Ended Full) reported = reported ≡ model.full
+IsAnswerOf size Gone reported = reported ≡ model.gone
+IsAnswerOf size (Refused fault) reported = reported ≡ model.refused (refusal_of fault)
+IsAnswerOf size (Looking body) reported = reported ≡ model.reading
+IsAnswerOf size (Empty done body) reported = reported ≡ model.empty done
+IsAnswerOf size (Moving fill body) reported = reported ≡ model.moving fill.0
+IsAnswerOf size (Taken page missed) reported = (t : TakenFill) × (reported ≡ model.page_taken t) × IsTakenPage size page missed t
+IsAnswerOf size (Wished fill) reported = reported ≡ model.wished_for fill.0
 
 -- A slot that is reserved by this answer holds only zeros.
 abbrev pub ZerosSlot : Stack → Answer → Stack → Type 0

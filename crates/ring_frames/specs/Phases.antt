@@ -5,8 +5,8 @@ use Rattle.ring_frames.specs.declared.answer.Answer.{Answer}
 use Rattle.ring_frames.specs.declared.answer.Answer.TheVariants.{Going, Gone}
 use Rattle.ring_frames.specs.declared.phase.Phase.{Phase}
 use Rattle.ring_frames.specs.declared.phase.Phase.TheVariants.{Idle, Releasing, Wishing}
-use Rattle.ring_frames.specs.declared.phase.Turned.{Turned}
-use Rattle.ring_frames.specs.declared.phase.Turned.TheVariants as turned
+use Rattle.ring_frames.specs.declared.phase.StepAnswer.{StepAnswer}
+use Rattle.ring_frames.specs.declared.phase.StepAnswer.TheVariants as step_answer
 use Rattle.ring_frames.specs.Value.{FramesValue}
 
 -- a frame is pushed above those of these phases, the first of which is the top one's
@@ -44,6 +44,6 @@ with_left_phase v = record v {
 }
 
 -- what a frame's step at the pages answers, as the ring's answer
-abbrev pub told : Turned → Answer
-told turned.Going = Going
-told turned.Gone = Gone
+abbrev pub as_answer : StepAnswer → Answer
+as_answer step_answer.Going = Going
+as_answer step_answer.Gone = Gone

@@ -36,7 +36,7 @@ pub record IsPrivateStep (n size start : ℕ) (c : Core) (event : model.Event) (
   pub after : Core
   pub step : model.Step n size c event answer after
   pub private : IsPrivate c event
-  pub tells : IsAnswerOf size result answer
+  pub reports : IsAnswerOf size result answer
   pub are : AreFrames n size start new after
 
 -- so in each state whose frames these are, and which steps from a new ring reach

@@ -41,7 +41,7 @@ impl Frames {
     ghost use Rattle.std.specs.Prelude.{◌≡◌, ◌≢◌, true, false, ◌+◌, ◌≤◌, ◌<◌, ◌↔◌, [], length, IfOk, IsTrue};
     ghost use Rattle.trace_model.specs.declared.limits.TheConstants.{MIN_PAGES, MAX_PAGES, MIN_SIZE, MAX_SIZE, MAX_FRAMES, LINK_FILLS};
     ghost use Rattle.trace_model.specs.Ring.{HasRingLimits};
-    ghost use Rattle.trace_model.specs.Steps.{MayOpen};
+    ghost use Rattle.trace_model.specs.Steps.{MayContinue};
     ghost use Rattle.nested_writer.specs.Stack.{opened};
     ghost use Rattle.nested_writer.specs.Calls.{top_of};
     ghost use Rattle.ring_frames.specs.declared.phase.Role.TheVariants.{Helper};
@@ -123,7 +123,7 @@ impl Frames {
     #[inline(always)]
     pub fn stops(&self, role: Role, noted: u64) -> bool
         ensures stops { result ≡ true → (role ≡ Helper) × (noted ≢ opened self.now.stack) }
-        ensures goes_on { result ≡ false → MayOpen (role_of role) noted (opened self.now.stack) }
+        ensures goes_on { result ≡ false → MayContinue (role_of role) noted (opened self.now.stack) }
     {
         match role {
             Role::Owner => false,

@@ -6,7 +6,7 @@
 #![tactic(auto)]
 
 pub mod answer;
-#[tactic(auto, unfolding(nested_writer::specs::IsStack::Stands))]
+#[tactic(auto, unfolding(nested_writer::specs::IsStack::IsReachedStack))]
 pub mod frames;
 pub mod laws;
 pub mod phase;
@@ -15,5 +15,5 @@ mod stage;
 
 pub use answer::Answer;
 pub use frames::Frames;
-pub use phase::{Phase, Role, Turned};
+pub use phase::{Phase, Role, StepAnswer};
 pub use reader::{Reader, ReaderPhase};

@@ -73,25 +73,25 @@ pub enum Phase {
 
 /// What a step answers by which a frame opens or closes a page, or has nothing left to do there.
 #[derive(Clone, Copy, Debug)]
-pub enum Turned {
+pub enum StepAnswer {
     /// It is on the stack.
     Going,
     /// It has left the stack.
     Gone,
 }
 
-impl Turned {
+impl StepAnswer {
     ghost use Rattle.std.specs.Prelude.{◌≡◌};
-    ghost use Rattle.ring_frames.specs.Phases.{told};
+    ghost use Rattle.ring_frames.specs.Phases.{as_answer};
 
     /// As the ring's answer.
     #[inline(always)]
     pub fn answer(self) -> Answer
-        ensures { result ≡ told self }
+        ensures { result ≡ as_answer self }
     {
         match self {
-            Turned::Going => Answer::Going,
-            Turned::Gone => Answer::Gone,
+            StepAnswer::Going => Answer::Going,
+            StepAnswer::Gone => Answer::Gone,
         }
     }
 }

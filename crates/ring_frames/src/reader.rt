@@ -4,11 +4,11 @@
 #[derive(Clone, Copy, Debug, PartialEq, Eq)]
 pub enum ReaderPhase {
     /// It looks for the head.
-    LoadingLink,
+    LoadingHead,
     /// It looks whether the head is closed.
     LoadingDone { page: u16, fill: u64 },
     /// It sets the link of its own page.
-    StoringLink { page: u16, fill: u64 },
+    StoringSpareLink { page: u16, fill: u64 },
     /// It swaps its page for the head.
     Swapping { page: u16, fill: u64 },
 }

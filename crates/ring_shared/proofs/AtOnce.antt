@@ -24,6 +24,7 @@ use Rattle.ring_frames.specs.Value.{FramesValue}
 use Rattle.ring_frames.specs.AreFrames.{ring_frames}
 use Rattle.ring_frames.specs.Steps.{IsFrames}
 use Rattle.ring_frames.specs.AtOnce.{with_left_frame, IsWriteAtOnce, WritesAtOnce, IsWrittenAlone}
+use Rattle.ring_frames.proofs.Reported.{is_going}
 use Rattle.ring_steps.specs.Views.{Writing, writing_of}
 use Rattle.ring_steps.specs.Seats.{Leads}
 use Rattle.ring_steps.specs.Paging.{IsTopIn}
@@ -169,13 +170,13 @@ module _ (v : WriterValue) (w : AreWriterFields v) (moment : ℕ) (payload : Lis
   pushed_as = writing_of first.pushed
 
   push_call : IsCall v.shape v.part (model.pushes moment (length payload)) Pushed pushed_as
-  push_call = record { core = w.core; next = first.pushed; answer = model.pushed; reached = w.reached; before_is = w.part_is; step = first.push; after_is = refl; tells = refl }
+  push_call = record { core = w.core; next = first.pushed; answer = model.pushed; reached = w.reached; before_is = w.part_is; step = first.push; after_is = refl; reports = refl }
 
   reserve_call : IsCall v.shape pushed_as model.steps (Reserved number) (writing_of first.reserved)
-  reserve_call = record { core = first.pushed; next = first.reserved; answer = model.reserved_as (next_number v.frames.stack); reached = pushed_reached; before_is = refl; step = first.reserve; after_is = refl; tells = refl }
+  reserve_call = record { core = first.pushed; next = first.reserved; answer = model.reserved_as (next_number v.frames.stack); reached = pushed_reached; before_is = refl; step = first.reserve; after_is = refl; reports = refl }
 
   end_call : IsCall v.shape (writing_of first.reserved) (model.ends (padded payload)) (Ended Full) now
-  end_call = record { core = first.reserved; next = first.after; answer = model.full; reached = reserved_reached; before_is = refl; step = first.end; after_is = now_part w.core w.reached w.part_is; tells = refl }
+  end_call = record { core = first.reserved; next = first.after; answer = model.full; reached = reserved_reached; before_is = refl; step = first.end; after_is = now_part w.core w.reached w.part_is; reports = refl }
 
   abbrev begun : HasBegun moment (length payload) v.part pushed_as
   begun = (has_begun v.shape v.part pushed_as moment (length payload) Pushed push_call (λ (fault, e). cc)).0
@@ -208,7 +209,7 @@ module _ (v : WriterValue) (w : AreWriterFields v) (moment : ℕ) (payload : Lis
         (top_stepped n size call.core bottom [] wishing call.answer call.next (ap (λ (x : Writing). x.frames) call.before_is ∙ bottom_is) refl call.step)
 
     goes_so : Wished bottom [] call.answer call.next.frames → result ≢ Going → after.frames ≡ []
-    goes_so (wishes_on next a top kind state) ne = absurd (ne (Rattle.ring_shared.proofs.Finishes.is_going size result call.answer call.tells a))
+    goes_so (wishes_on next a top kind state) ne = absurd (ne (is_going size result call.answer call.reports a))
     goes_so (wished_gone a top) ne = ap (λ (x : Writing). x.frames) (sym call.after_is) ∙ top
 
     -- the frame is gone
@@ -217,7 +218,7 @@ module _ (v : WriterValue) (w : AreWriterFields v) (moment : ℕ) (payload : Lis
 
     stands_so : Wished bottom [] call.answer call.next.frames → result ≡ Going → (next : Frame) × (after.frames ≡ next ∷ []) × IsLeaving next.kind next.state
     stands_so (wishes_on next a top kind state) e = (next, ap (λ (x : Writing). x.frames) (sym call.after_is) ∙ top, subst (λ (s : Rattle.trace_model.specs.Frames.FrameState). IsLeaving next.kind s) (sym state) (subst (λ (k : Rattle.trace_model.specs.Frames.Kind). IsLeaving k left) (sym kind) tt))
-    stands_so (wished_gone a top) e = absurd (let tells = subst (λ (x : Answer). Rattle.ring_frames.specs.Answers.IsAnswerOf size x call.answer) e call.tells in let both : model.going ≡ model.gone = sym tells ∙ a in cc)
+    stands_so (wished_gone a top) e = absurd (let reports = subst (λ (x : Answer). Rattle.ring_frames.specs.Answers.IsAnswerOf size x call.answer) e call.reports in let both : model.going ≡ model.gone = sym reports ∙ a in cc)
 
     -- it goes on
     pub stands_still : result ≡ Going → (next : Frame) × (others : List Frame) × (after.frames ≡ next ∷ others) × IsLeaving next.kind next.state

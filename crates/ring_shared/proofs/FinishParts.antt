@@ -12,10 +12,10 @@ use Rattle.nested_writer.specs.Calls.{IsTopSlot}
 use Rattle.ring_frames.specs.declared.answer.Answer.{Answer}
 use Rattle.ring_frames.specs.declared.answer.Answer.TheVariants.{Going, Reserved, Gone, Refused}
 use Rattle.ring_frames.specs.declared.phase.Phase.{Phase}
-use Rattle.ring_frames.specs.declared.phase.Turned.{Turned}
-use Rattle.ring_frames.specs.declared.phase.Turned.TheVariants as turned
+use Rattle.ring_frames.specs.declared.phase.StepAnswer.{StepAnswer}
+use Rattle.ring_frames.specs.declared.phase.StepAnswer.TheVariants as step_answer
 use Rattle.ring_frames.specs.AreFrames.{ring_frames}
-use Rattle.ring_frames.specs.Phases.{told}
+use Rattle.ring_frames.specs.Phases.{as_answer}
 use Rattle.ring_steps.specs.declared.rule.Shape.{Shape}
 use Rattle.ring_steps.specs.Views.{Writing}
 use Rattle.ring_shared.specs.declared.writer.finish.Finished.{Finished}
@@ -24,8 +24,8 @@ use Rattle.ring_shared.specs.Value.{WriterValue}
 use Rattle.ring_shared.specs.Calls.{AreWriterFields, IsCall}
 use Rattle.ring_shared.specs.Finishing.{MakesSteps, at_once, one_more, IsReservedOr, is_reserved, stays_refused, is_refused, Leaves, Closes, Finishes, IsNumberOrRefused, IsOutcomeOf, IsFinished, IsGoneOrRefused}
 use Rattle.ring_shared.proofs.Targets.{frames_of}
-use Rattle.ring_frames.proofs.Told.{IsRefusal}
-use Rattle.ring_shared.proofs.Finishes.{leaves_behind, IsAmidLeaving, leaving_first, leaving_going, leaving_gone}
+use Rattle.ring_frames.proofs.Reported.{IsRefusal}
+use Rattle.ring_shared.proofs.Finishes.{leaves_behind, IsStillLeaving, leaving_first, leaving_going, leaving_gone}
 use Rattle.ring_shared.proofs.WholeWrites.{HasTopRecord, top_slot_of}
 
 -- ---- a record
@@ -34,21 +34,21 @@ use Rattle.ring_shared.proofs.WholeWrites.{HasTopRecord, top_slot_of}
 pub record HasNumber (below : List Frame) (result : Answer) (frames : List Frame) : Type 0 where
   pub next : Frame
   pub number : RecordNo
-  pub told : result ≡ Reserved number
+  pub reported : result ≡ Reserved number
   pub top : frames ≡ next ∷ below
   pub state_is : next.state ≡ reserved number.0
 
 -- an answer states that number, or refuses
-abbrev pub TellsTop : Answer → List Frame → Type 0
-TellsTop result frames = ((below : List Frame) × HasNumber below result frames) ⊎ IsRefusal result
+abbrev pub ReportsTop : Answer → List Frame → Type 0
+ReportsTop result frames = ((below : List Frame) × HasNumber below result frames) ⊎ IsRefusal result
 
-pub reserving_tells : (kind : Kind) (below : List Frame) (result : Answer) (after : List Frame) → IsReservedOr kind below result after → TellsTop result after
-reserving_tells kind below _ after (is_reserved next number end top kind_is state_is) = inl (below, record { next = next; number = number; told = refl; top = top; state_is = state_is })
-reserving_tells kind below _ after (stays_refused fault next end top leaves) = inr (fault, refl)
-reserving_tells kind below _ after (is_refused fault end top) = inr (fault, refl)
+pub reserving_reports : (kind : Kind) (below : List Frame) (result : Answer) (after : List Frame) → IsReservedOr kind below result after → ReportsTop result after
+reserving_reports kind below _ after (is_reserved next number end top kind_is state_is) = inl (below, record { next = next; number = number; reported = refl; top = top; state_is = state_is })
+reserving_reports kind below _ after (stays_refused fault next end top leaves) = inr (fault, refl)
+reserving_reports kind below _ after (is_refused fault end top) = inr (fault, refl)
 
-pub number_or_refused : (result : Answer) (frames : List Frame) → TellsTop result frames → IsNumberOrRefused result
-number_or_refused result frames (inl (below, h)) = inl (h.number, h.told)
+pub number_or_refused : (result : Answer) (frames : List Frame) → ReportsTop result frames → IsNumberOrRefused result
+number_or_refused result frames (inl (below, h)) = inl (h.number, h.reported)
 number_or_refused result frames (inr refusal) = inr refusal
 
 abbrev state_first : List Frame → FrameState
@@ -66,7 +66,7 @@ slot_number (f ∷ frames) phase phases shown next below number slot same top at
 pub number_of_slot : (v : WriterValue) (w : AreWriterFields v) (below : List Frame) (result : Answer) (h : HasNumber below result v.part.frames) (slot : Slot) → IsTopSlot v.frames.stack.frames slot → result ≡ Reserved record { 0 = slot.number }
 number_of_slot v w below result h slot is =
     let same : slot.number ≡ h.number.0 = slot_number v.frames.stack.frames v.frames.phase v.frames.below v.part.frames h.next below h.number.0 slot (frames_of v w) h.top h.state_is is in
-    h.told ∙ ap (λ (n : ℕ). let r : RecordNo = record { 0 = n } in Reserved r) (sym same)
+    h.reported ∙ ap (λ (n : ℕ). let r : RecordNo = record { 0 = n } in Reserved r) (sym same)
 
 pub slot_of_number : (v : WriterValue) (w : AreWriterFields v) (below : List Frame) (result : Answer) → HasNumber below result v.part.frames → (slot : Slot) × IsTopSlot v.frames.stack.frames slot
 slot_of_number v w below result h =
@@ -74,13 +74,13 @@ slot_of_number v w below result h =
     top_slot_of v w h.next.kind below t
 
 -- so what the brief answer states
-pub finished_so : (old new : WriterValue) (w : AreWriterFields new) (answer : Answer) (to : Finished) → IsOutcomeOf answer to → TellsTop answer new.part.frames → Finishes old.shape old.part answer new.part → IsFinished old to new
+pub finished_so : (old new : WriterValue) (w : AreWriterFields new) (answer : Answer) (to : Finished) → IsOutcomeOf answer to → ReportsTop answer new.part.frames → Finishes old.shape old.part answer new.part → IsFinished old to new
 finished_so old new w answer finished.Reserved (number, is) (inl (below, h)) f =
     let (slot, at) = slot_of_number new w below answer h in
     (slot, at, subst (λ (x : Answer). Finishes old.shape old.part x new.part) (number_of_slot new w below answer h slot at) f)
 finished_so old new w answer finished.Reserved (number, is) (inr (fault, refuses)) f = absurd (let both : Reserved number ≡ Refused fault = sym is ∙ refuses in cc)
-finished_so old new w answer finished.Gone is tells f = subst (λ (x : Answer). Finishes old.shape old.part x new.part) is f
-finished_so old new w answer (finished.Refused fault) is tells f = subst (λ (x : Answer). Finishes old.shape old.part x new.part) is f
+finished_so old new w answer finished.Gone is reports f = subst (λ (x : Answer). Finishes old.shape old.part x new.part) is f
+finished_so old new w answer (finished.Refused fault) is reports f = subst (λ (x : Answer). Finishes old.shape old.part x new.part) is f
 
 -- ---- a frame that leaves
 
@@ -91,21 +91,21 @@ module _ (shape : Shape) (below : List Frame) (before : Writing) where
   leaves_then now (one_more between end goes call) answer after l = leaves_then between goes answer after (leaves_behind shape below between now after answer call l)
 
   -- one step more
-  pub closes_then : (now next : Writing) (to : Turned) → Closes shape below before turned.Going now → IsCall shape now model.steps (told to) next → Closes shape below before to next
-  closes_then now next turned.Going (frame, top, is, goes) call =
-      let a : IsAmidLeaving shape below now None next = leaving_going shape below now None now next Going (leaving_first shape frame below now top is) call refl in
+  pub closes_then : (now next : Writing) (to : StepAnswer) → Closes shape below before step_answer.Going now → IsCall shape now model.steps (as_answer to) next → Closes shape below before to next
+  closes_then now next step_answer.Going (frame, top, is, goes) call =
+      let a : IsStillLeaving shape below now None next = leaving_going shape below now None now next Going (leaving_first shape frame below now top is) call refl in
       (a.frame, a.top, a.leaves, one_more now next goes call)
-  closes_then now next turned.Gone (frame, top, is, goes) call =
+  closes_then now next step_answer.Gone (frame, top, is, goes) call =
       leaves_then now goes Gone next (leaving_gone shape below now None now next Gone (leaving_first shape frame below now top is) call refl)
 
   -- if it is still on the stack
-  pub closes_still : (now : Writing) (to : Turned) → Closes shape below before to now → to ≡ turned.Going → (next : Frame) × (others : List Frame) × (now.frames ≡ next ∷ others) × IsLeaving next.kind next.state
+  pub closes_still : (now : Writing) (to : StepAnswer) → Closes shape below before to now → to ≡ step_answer.Going → (next : Frame) × (others : List Frame) × (now.frames ≡ next ∷ others) × IsLeaving next.kind next.state
   closes_still now to c e =
-      let (frame, top, is, goes) = subst (λ (t : Turned). Closes shape below before t now) e c in (frame, below, top, is)
+      let (frame, top, is, goes) = subst (λ (t : StepAnswer). Closes shape below before t now) e c in (frame, below, top, is)
 
-  pub closes_rest : (now : WriterValue) (to : Turned) → Closes shape below before to now.part → to ≡ turned.Going → now.shape ≡ shape → (answer : Answer) (after : Writing) → ((next : Frame) (others : List Frame) → now.part.frames ≡ next ∷ others → Leaves now.shape others now.part answer after) → Leaves shape below before answer after
+  pub closes_rest : (now : WriterValue) (to : StepAnswer) → Closes shape below before to now.part → to ≡ step_answer.Going → now.shape ≡ shape → (answer : Answer) (after : Writing) → ((next : Frame) (others : List Frame) → now.part.frames ≡ next ∷ others → Leaves now.shape others now.part answer after) → Leaves shape below before answer after
   closes_rest now to c e same answer after rest =
-      let (frame, top, is, goes) = subst (λ (t : Turned). Closes shape below before t now.part) e c in
+      let (frame, top, is, goes) = subst (λ (t : StepAnswer). Closes shape below before t now.part) e c in
       leaves_then now.part goes answer after (subst (λ (s : Shape). Leaves s below now.part answer after) same (rest frame below top))
 
 -- one that met no refusal is gone

@@ -15,8 +15,8 @@ use Rattle.ring_steps.specs.declared.rule.Shape.{Shape}
 use Rattle.ring_steps.specs.Views.{Writing}
 use Rattle.ring_shared.specs.Value.{WriterValue, SameWriter}
 use Rattle.ring_shared.specs.Calls.{IsWriter, IsCall, MakesSome}
-use Rattle.ring_shared.specs.Finishing.{MakesSteps, at_once, one_more, IsReservedOr, is_reserved, stays_refused, is_refused, Reserves, Leaves, is_gone, was_refused, met_behind, told_behind, IsGoneOrRefused}
-use Rattle.ring_frames.proofs.Told.{IsRefusal, is_going, is_refusal, is_gone_told, is_number}
+use Rattle.ring_shared.specs.Finishing.{MakesSteps, at_once, one_more, IsReservedOr, is_reserved, stays_refused, is_refused, Reserves, Leaves, is_gone, was_refused, met_behind, reported_behind, IsGoneOrRefused}
+use Rattle.ring_frames.proofs.Reported.{IsRefusal, is_going, is_refusal, is_gone_reported, is_number}
 
 -- a frame that hasn't reserved has no number
 pub reserving_unnumbered : (kind : Kind) (state : FrameState) → IsReserving kind state → number_of state ≡ None
@@ -67,18 +67,18 @@ module _ (shape : Shape) where
 
 -- Part of the steps to a record are made: it is still to be reserved, and what is made from here is made from the
 -- first.
-pub record IsAmidReserving (shape : Shape) (kind : Kind) (below : List Frame) (before now : Writing) : Type 0 where
+pub record IsStillReserving (shape : Shape) (kind : Kind) (below : List Frame) (before now : Writing) : Type 0 where
   pub frame : Frame
   pub top : now.frames ≡ frame ∷ below
   pub kind_is : frame.kind ≡ kind
   pub reserves : IsReserving frame.kind frame.state
   pub ends : (answer : Answer) (after : Writing) → Reserves shape kind below now answer after → Reserves shape kind below before answer after
 
-pub reserving_first : (shape : Shape) (frame : Frame) (below : List Frame) (before : Writing) → before.frames ≡ frame ∷ below → IsReserving frame.kind frame.state → IsAmidReserving shape frame.kind below before before
+pub reserving_first : (shape : Shape) (frame : Frame) (below : List Frame) (before : Writing) → before.frames ≡ frame ∷ below → IsReserving frame.kind frame.state → IsStillReserving shape frame.kind below before before
 reserving_first shape frame below before top is = record { frame = frame; top = top; kind_is = refl; reserves = is; ends = λ answer after r. r }
 
-module _ (shape : Shape) (kind : Kind) (below : List Frame) (before now next : Writing) (result : Answer) (a : IsAmidReserving shape kind below before now) (call : IsCall shape now model.steps result next) where
-  goes_with : Reserving a.frame below call.answer call.next.frames → result ≡ Going → IsAmidReserving shape kind below before next
+module _ (shape : Shape) (kind : Kind) (below : List Frame) (before now next : Writing) (result : Answer) (a : IsStillReserving shape kind below before now) (call : IsCall shape now model.steps result next) where
+  goes_with : Reserving a.frame below call.answer call.next.frames → result ≡ Going → IsStillReserving shape kind below before next
   goes_with (reserves_on frame answer_is top kind_is state_is) e = record {
     frame = frame;
     top = frames_after shape now next result call (frame ∷ below) top;
@@ -87,12 +87,12 @@ module _ (shape : Shape) (kind : Kind) (below : List Frame) (before now next : W
     ends = λ answer after r. a.ends answer after (reserves_behind shape kind below now next after answer (subst (λ (x : Answer). IsCall shape now model.steps x next) e call) r);
   }
   goes_with (has_reserved frame number answer_is top kind_is state_is) e =
-      let (told, is, at) = is_number shape.size result call.answer number call.tells answer_is in absurd (let both : Going ≡ Reserved told = sym e ∙ is in cc)
+      let (reported, is, at) = is_number shape.size result call.answer number call.reports answer_is in absurd (let both : Going ≡ Reserved reported = sym e ∙ is in cc)
   goes_with (refused_to why answer_is leaves) e =
-      let (fault, is) = is_refusal shape.size result call.answer why call.tells answer_is in absurd (let both : Going ≡ Refused fault = sym e ∙ is in cc)
+      let (fault, is) = is_refusal shape.size result call.answer why call.reports answer_is in absurd (let both : Going ≡ Refused fault = sym e ∙ is in cc)
 
   -- it goes on
-  pub reserving_on : result ≡ Going → IsAmidReserving shape kind below before next
+  pub reserving_on : result ≡ Going → IsStillReserving shape kind below before next
   reserving_on e = goes_with (reserving_step shape now next result call a.frame below a.top a.reserves) e
 
   pub reserving_stands : result ≡ Going → length next.frames ≡ length now.frames
@@ -103,13 +103,13 @@ module _ (shape : Shape) (kind : Kind) (below : List Frame) (before now next : W
   refused_how fault (gone_from how top) = is_refused fault next.frames (frames_after shape now next result call below top)
 
   ends_with : Reserving a.frame below call.answer call.next.frames → result ≢ Going → IsReservedOr kind below result next.frames
-  ends_with (reserves_on frame answer_is top kind_is state_is) ne = absurd (ne (is_going shape.size result call.answer call.tells answer_is))
+  ends_with (reserves_on frame answer_is top kind_is state_is) ne = absurd (ne (is_going shape.size result call.answer call.reports answer_is))
   ends_with (has_reserved frame number answer_is top kind_is state_is) ne =
-      let (told, is, at) = is_number shape.size result call.answer number call.tells answer_is in
+      let (reported, is, at) = is_number shape.size result call.answer number call.reports answer_is in
       subst (λ (x : Answer). IsReservedOr kind below x next.frames) (sym is)
-      (is_reserved frame told next.frames (frames_after shape now next result call (frame ∷ below) top) (kind_is ∙ a.kind_is) (state_is ∙ ap Rattle.trace_model.specs.Frames.reserved (sym at)))
+      (is_reserved frame reported next.frames (frames_after shape now next result call (frame ∷ below) top) (kind_is ∙ a.kind_is) (state_is ∙ ap Rattle.trace_model.specs.Frames.reserved (sym at)))
   ends_with (refused_to why answer_is leaves) ne =
-      let (fault, is) = is_refusal shape.size result call.answer why call.tells answer_is in
+      let (fault, is) = is_refusal shape.size result call.answer why call.reports answer_is in
       subst (λ (x : Answer). IsReservedOr kind below x next.frames) (sym is) (refused_how fault leaves)
 
   -- it reaches its end
@@ -122,31 +122,31 @@ module _ (shape : Shape) (kind : Kind) (below : List Frame) (before now next : W
   }
 
 -- Part of the steps of a frame that leaves are made; it was refused before, or not.
-pub record IsAmidLeaving (shape : Shape) (below : List Frame) (before : Writing) (met : Option WriteFault) (now : Writing) : Type 0 where
+pub record IsStillLeaving (shape : Shape) (below : List Frame) (before : Writing) (met : Option WriteFault) (now : Writing) : Type 0 where
   pub frame : Frame
   pub top : now.frames ≡ frame ∷ below
   pub leaves : IsLeaving frame.kind frame.state
-  pub ends : (answer : Answer) (after : Writing) → Leaves shape below now answer after → Leaves shape below before (told_behind met answer) after
+  pub ends : (answer : Answer) (after : Writing) → Leaves shape below now answer after → Leaves shape below before (reported_behind met answer) after
 
-pub leaving_first : (shape : Shape) (frame : Frame) (below : List Frame) (before : Writing) → before.frames ≡ frame ∷ below → IsLeaving frame.kind frame.state → IsAmidLeaving shape below before None before
+pub leaving_first : (shape : Shape) (frame : Frame) (below : List Frame) (before : Writing) → before.frames ≡ frame ∷ below → IsLeaving frame.kind frame.state → IsStillLeaving shape below before None before
 leaving_first shape frame below before top is = record { frame = frame; top = top; leaves = is; ends = λ answer after l. l }
 
 met_going : (met : Option WriteFault) → met_behind met Going ≡ met
 met_going None = refl
 met_going (Some fault) = refl
 
-told_refused : (met : Option WriteFault) (fault : WriteFault) (last : Answer) → told_behind met (Refused fault) ≡ told_behind (met_behind met (Refused fault)) last
-told_refused None fault last = refl
-told_refused (Some first) fault last = refl
+reported_refused : (met : Option WriteFault) (fault : WriteFault) (last : Answer) → reported_behind met (Refused fault) ≡ reported_behind (met_behind met (Refused fault)) last
+reported_refused None fault last = refl
+reported_refused (Some first) fault last = refl
 
-module _ (shape : Shape) (below : List Frame) (before : Writing) (met : Option WriteFault) (now next : Writing) (result : Answer) (a : IsAmidLeaving shape below before met now) (call : IsCall shape now model.steps result next) where
-  leaves_with : (frame : Frame) → next.frames ≡ frame ∷ below → IsLeaving frame.kind frame.state → (result ≡ Going) ⊎ IsRefusal result → IsAmidLeaving shape below before (met_behind met result) next
+module _ (shape : Shape) (below : List Frame) (before : Writing) (met : Option WriteFault) (now next : Writing) (result : Answer) (a : IsStillLeaving shape below before met now) (call : IsCall shape now model.steps result next) where
+  leaves_with : (frame : Frame) → next.frames ≡ frame ∷ below → IsLeaving frame.kind frame.state → (result ≡ Going) ⊎ IsRefusal result → IsStillLeaving shape below before (met_behind met result) next
   leaves_with frame top leaves (inl e) = record {
     frame = frame;
     top = top;
     leaves = leaves;
     ends = λ answer after l.
-        subst (λ (m : Option WriteFault). Leaves shape below before (told_behind m answer) after) (sym (ap (met_behind met) e ∙ met_going met))
+        subst (λ (m : Option WriteFault). Leaves shape below before (reported_behind m answer) after) (sym (ap (met_behind met) e ∙ met_going met))
         (a.ends answer after (leaves_behind shape below now next after answer (subst (λ (x : Answer). IsCall shape now model.steps x next) e call) l));
   }
   leaves_with frame top leaves (inr (fault, e)) = record {
@@ -154,13 +154,13 @@ module _ (shape : Shape) (below : List Frame) (before : Writing) (met : Option W
     top = top;
     leaves = leaves;
     ends = λ answer after l.
-        subst (λ (x : Answer). Leaves shape below before x after) (told_refused met fault answer ∙ ap (λ (x : Answer). told_behind (met_behind met x) answer) (sym e))
+        subst (λ (x : Answer). Leaves shape below before x after) (reported_refused met fault answer ∙ ap (λ (x : Answer). reported_behind (met_behind met x) answer) (sym e))
         (a.ends (Refused fault) after (was_refused now now next after frame fault answer at_once (subst (λ (x : Answer). IsCall shape now model.steps x next) e call) top leaves l));
   }
 
   answered : (call.answer ≡ model.going) ⊎ ((why : Refusal) × (call.answer ≡ model.refused why)) → (result ≡ Going) ⊎ IsRefusal result
-  answered (inl e) = inl (is_going shape.size result call.answer call.tells e)
-  answered (inr (why, e)) = inr (is_refusal shape.size result call.answer why call.tells e)
+  answered (inl e) = inl (is_going shape.size result call.answer call.reports e)
+  answered (inr (why, e)) = inr (is_refusal shape.size result call.answer why call.reports e)
 
   step : Leaving below call.answer call.next.frames
   step = leaving_step shape now next result call a.frame below a.top a.leaves
@@ -168,12 +168,12 @@ module _ (shape : Shape) (below : List Frame) (before : Writing) (met : Option W
   wide : length now.frames ≡ suc (length below)
   wide = ap (length {A = Frame}) a.top
 
-  leaves_more : Leaving below call.answer call.next.frames → (length next.frames < length now.frames → ⊥) → IsAmidLeaving shape below before (met_behind met result) next
+  leaves_more : Leaving below call.answer call.next.frames → (length next.frames < length now.frames → ⊥) → IsStillLeaving shape below before (met_behind met result) next
   leaves_more (leaves_on frame answer_is top leaves) stands = leaves_with frame (frames_after shape now next result call (frame ∷ below) top) leaves (answered answer_is)
   leaves_more (gone_from how top) stands = let short = ap (length {A = Frame}) (frames_after shape now next result call below top) in absurd (stands (let w = wide in omega arith))
 
   -- it stays
-  pub leaving_on : (length next.frames < length now.frames → ⊥) → IsAmidLeaving shape below before (met_behind met result) next
+  pub leaving_on : (length next.frames < length now.frames → ⊥) → IsStillLeaving shape below before (met_behind met result) next
   leaving_on stands = leaves_more step stands
 
   pub leaving_stands : (length next.frames < length now.frames → ⊥) → length next.frames ≡ length now.frames
@@ -184,40 +184,40 @@ module _ (shape : Shape) (below : List Frame) (before : Writing) (met : Option W
   gone_to (gone_from how top) less = frames_after shape now next result call below top
 
   -- it is gone
-  pub leaving_ends : length next.frames < length now.frames → Leaves shape below before (told_behind met result) next
+  pub leaving_ends : length next.frames < length now.frames → Leaves shape below before (reported_behind met result) next
   leaving_ends less = a.ends result next (is_gone now now next result at_once call (gone_to step less))
 
-  gone_how : Leaving below call.answer call.next.frames → length next.frames < length now.frames → IsGoneOrRefused (told_behind met result)
+  gone_how : Leaving below call.answer call.next.frames → length next.frames < length now.frames → IsGoneOrRefused (reported_behind met result)
   unfolding IsWriter
   gone_how (leaves_on frame answer_is top leaves) less = let same = ap (length {A = Frame}) (frames_after shape now next result call (frame ∷ below) top) in let w = wide in absurd (omega arith)
-  gone_how (gone_from how top) less = told_how met result (how_told how)
+  gone_how (gone_from how top) less = reported_how met result (how_reported how)
     where
-      how_told : (call.answer ≡ model.gone) ⊎ ((why : Refusal) × (call.answer ≡ model.refused why)) → IsGoneOrRefused result
-      how_told (inl e) = inl (is_gone_told shape.size result call.answer call.tells e)
-      how_told (inr (why, e)) = inr (is_refusal shape.size result call.answer why call.tells e)
+      how_reported : (call.answer ≡ model.gone) ⊎ ((why : Refusal) × (call.answer ≡ model.refused why)) → IsGoneOrRefused result
+      how_reported (inl e) = inl (is_gone_reported shape.size result call.answer call.reports e)
+      how_reported (inr (why, e)) = inr (is_refusal shape.size result call.answer why call.reports e)
 
-      told_how : (met : Option WriteFault) (last : Answer) → IsGoneOrRefused last → IsGoneOrRefused (told_behind met last)
-      told_how None last how = how
-      told_how (Some fault) last how = inr (fault, refl)
+      reported_how : (met : Option WriteFault) (last : Answer) → IsGoneOrRefused last → IsGoneOrRefused (reported_behind met last)
+      reported_how None last how = how
+      reported_how (Some fault) last how = inr (fault, refl)
 
-  pub leaving_told : length next.frames < length now.frames → IsGoneOrRefused (told_behind met result)
-  leaving_told less = gone_how step less
+  pub leaving_reported : length next.frames < length now.frames → IsGoneOrRefused (reported_behind met result)
+  leaving_reported less = gone_how step less
 
   -- its step answers that it goes on, or that it is gone
   going_stays : Leaving below call.answer call.next.frames → result ≡ Going → length next.frames < length now.frames → ⊥
   going_stays (leaves_on frame answer_is top leaves) e less = let same = ap (length {A = Frame}) (frames_after shape now next result call (frame ∷ below) top) in let w = wide in omega arith
-  going_stays (gone_from (inl g) top) e less = let told = is_gone_told shape.size result call.answer call.tells g in let both : Going ≡ Gone = sym e ∙ told in cc
-  going_stays (gone_from (inr (why, r)) top) e less = let (fault, told) = is_refusal shape.size result call.answer why call.tells r in let both : Going ≡ Refused fault = sym e ∙ told in cc
+  going_stays (gone_from (inl g) top) e less = let reported = is_gone_reported shape.size result call.answer call.reports g in let both : Going ≡ Gone = sym e ∙ reported in cc
+  going_stays (gone_from (inr (why, r)) top) e less = let (fault, reported) = is_refusal shape.size result call.answer why call.reports r in let both : Going ≡ Refused fault = sym e ∙ reported in cc
 
-  pub leaving_going : result ≡ Going → IsAmidLeaving shape below before met next
-  leaving_going e = subst (λ (m : Option WriteFault). IsAmidLeaving shape below before m next) (ap (met_behind met) e ∙ met_going met) (leaving_on (going_stays step e))
+  pub leaving_going : result ≡ Going → IsStillLeaving shape below before met next
+  leaving_going e = subst (λ (m : Option WriteFault). IsStillLeaving shape below before m next) (ap (met_behind met) e ∙ met_going met) (leaving_on (going_stays step e))
 
   gone_short : Leaving below call.answer call.next.frames → result ≡ Gone → length next.frames < length now.frames
-  gone_short (leaves_on frame (inl g) top leaves) e = let told = is_going shape.size result call.answer call.tells g in absurd (let both : Gone ≡ Going = sym e ∙ told in cc)
-  gone_short (leaves_on frame (inr (why, r)) top leaves) e = let (fault, told) = is_refusal shape.size result call.answer why call.tells r in absurd (let both : Gone ≡ Refused fault = sym e ∙ told in cc)
+  gone_short (leaves_on frame (inl g) top leaves) e = let reported = is_going shape.size result call.answer call.reports g in absurd (let both : Gone ≡ Going = sym e ∙ reported in cc)
+  gone_short (leaves_on frame (inr (why, r)) top leaves) e = let (fault, reported) = is_refusal shape.size result call.answer why call.reports r in absurd (let both : Gone ≡ Refused fault = sym e ∙ reported in cc)
   gone_short (gone_from how top) e = let same = ap (length {A = Frame}) (frames_after shape now next result call below top) in let w = wide in omega arith
 
-  pub leaving_gone : result ≡ Gone → Leaves shape below before (told_behind met result) next
+  pub leaving_gone : result ≡ Gone → Leaves shape below before (reported_behind met result) next
   leaving_gone e = leaving_ends (gone_short step e)
 
 -- ---- of a writer's value

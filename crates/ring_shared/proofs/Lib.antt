@@ -11,7 +11,7 @@ pub mod PageMoves
 pub mod Privately
 pub mod Settles
 pub mod Standing
-pub mod Swapped
+pub mod PageTaken
 pub mod TakeSteps
 pub mod Depths
 pub mod Targets

@@ -3,7 +3,7 @@ use Rattle.std.proofs.Common.{◌≡◌, ◌≢◌, ℕ, suc, ◌+◌, List, Som
 use Rattle.trace_model.specs.Links.{Mark, normal, header, update, Link, normal_link, header_link}
 use Rattle.trace_model.specs.Frames.{Role, owner, helper, Phase, claiming, looking_next, marking, opening, looking, Frame, noted_fill}
 use Rattle.trace_model.specs.Ring.{Core, link_into}
-use Rattle.trace_model.specs.Steps.{Answer, MayOpen, in_phase, after_next}
+use Rattle.trace_model.specs.Steps.{Answer, MayContinue, in_phase, after_next}
 use Rattle.trace_model.proofs.steps.StepCases.{LoadLinkStep, load_link_late, sees_free, sees_header, sees_update, ClaimHeadStep, claim_late, claims, claim_fails, LoadNextStep, load_next_late, sees_normal, sees_other, MarkHeadStep, mark_late, marks, mark_fails, ClearUpdateStep, clears}
 use Rattle.link_marks.specs.declared.link.Mark as code
 use Rattle.link_marks.specs.declared.link.Mark.TheVariants.{Normal, Header, Update}
@@ -53,10 +53,10 @@ module _ (n : ℕ) (c : Core) (frame : Frame) (below : List Frame) (answer : Ans
   -- ---- the next link
 
   -- a frame that goes on hasn't come late
-  not_late : (role : Role) (noted : ℕ) → role ≡ helper → noted ≢ c.opened → MayOpen role noted c.opened → ⊥
-  not_late role noted helps passed on = passed (subst (λ (r : Role). MayOpen r noted c.opened) helps on)
+  not_late : (role : Role) (noted : ℕ) → role ≡ helper → noted ≢ c.opened → MayContinue role noted c.opened → ⊥
+  not_late role noted helps passed on = passed (subst (λ (r : Role). MayContinue r noted c.opened) helps on)
 
-  pub waits : (role : Role) (noted page behind : ℕ) (l : Link) → MayOpen role noted c.opened → behind + n ≡ noted + 1 → link_into n c.links behind ≡ l → l ≡ normal_link l.page behind
+  pub waits : (role : Role) (noted page behind : ℕ) (l : Link) → MayContinue role noted c.opened → behind + n ≡ noted + 1 → link_into n c.links behind ≡ l → l ≡ normal_link l.page behind
       → LoadNextStep n c frame below role noted page answer after → To (marking role noted page l.page)
   waits role noted page behind l on sum link is_next (load_next_late helps late) = absurd (not_late role noted helps late.passed on)
   waits role noted page behind l on sum link is_next (sees_normal lost next x lost_sum at a is) =
@@ -67,7 +67,7 @@ module _ (n : ℕ) (c : Core) (frame : Frame) (below : List Frame) (answer : Ans
       let behind_is : suc lost ≡ behind = omega arith in
       absurd (none l.page (ap (link_into n c.links) behind_is ∙ (link ∙ (is_next ∙ ap (normal_link l.page) (sym behind_is)))))
 
-  pub is_passed : (role : Role) (noted page behind : ℕ) (l : Link) → MayOpen role noted c.opened → behind + n ≡ noted + 1 → link_into n c.links behind ≡ l → ((page : ℕ) → l ≢ normal_link page behind)
+  pub is_passed : (role : Role) (noted page behind : ℕ) (l : Link) → MayContinue role noted c.opened → behind + n ≡ noted + 1 → link_into n c.links behind ≡ l → ((page : ℕ) → l ≢ normal_link page behind)
       → LoadNextStep n c frame below role noted page answer after → To (after_next role noted page)
   is_passed role noted page behind l on sum link differ (load_next_late helps late) = absurd (not_late role noted helps late.passed on)
   is_passed role noted page behind l on sum link differ (sees_normal lost next x lost_sum at a is) =
@@ -75,7 +75,7 @@ module _ (n : ℕ) (c : Core) (frame : Frame) (below : List Frame) (answer : Ans
       absurd (differ next (sym link ∙ (ap (link_into n c.links) (sym behind_is) ∙ (at ∙ ap (normal_link next) behind_is))))
   is_passed role noted page behind l on sum link differ (sees_other lost x lost_sum none a is) = ap writing_of is
 
-  pub marked : (role : Role) (noted page next : ℕ) → MayOpen role noted c.opened → MarkHeadStep n c frame below role noted page next answer after → To (after_next role noted page)
+  pub marked : (role : Role) (noted page next : ℕ) → MayContinue role noted c.opened → MarkHeadStep n c frame below role noted page next answer after → To (after_next role noted page)
   marked role noted page next on (mark_late helps late) = absurd (not_late role noted helps late.passed on)
   marked role noted page next on (marks lost x sum at a is) = ap writing_of is
   marked role noted page next on (mark_fails lost x sum differ a is) = ap writing_of is

@@ -14,7 +14,7 @@ use Rattle.ring_steps.specs.Views.{Reading}
 use Rattle.ring_steps.specs.Seats.{IsReaderStep}
 use Rattle.ring_shared.specs.declared.take.Take.{Take}
 use Rattle.ring_shared.specs.declared.take.Take.TheVariants.{Page, Empty, Moving}
-use Rattle.ring_shared.specs.declared.take.Turn.TheVariants.{Looking}
+use Rattle.ring_shared.specs.declared.take.TakeStep.TheVariants.{Looking}
 use Rattle.ring_shared.specs.Takes.{TakesNothing, IsSentAway, IsTake, ReadsSo, IsAnswered}
 use Rattle.ring_shared.proofs.TakeSteps.{Stays, passed_below_hint}
 
@@ -38,7 +38,7 @@ answered shape before mid after body had (Page page missed) a same t =
     let hint = a.hint_le in let low = t.hint_le in let seen = a.seen_le in let no_less = t.seen_le in record {
       taken = t.taken;
       is = t.is;
-      one_more = t.one_more ∙ ap (λ (l : List ring.Taken). l ++ t.taken ∷ []) a.taken_is;
+      one_more = t.one_more ∙ ap (λ (l : List ring.TakenFill). l ++ t.taken ∷ []) a.taken_is;
       first_is = t.first_is ∙ ap (λ (e : ℕ). e + missed) a.expected_is;
       expected_is = t.expected_is;
       missed_fit = t.missed_fit;
@@ -61,7 +61,7 @@ answered shape before mid after body had (Moving fill back) a same (given, t) =
 
 -- a step that is answered by going on is one that the model answers so
 pub goes_on : (shape own : Shape) (before after : Reading) (back : List ℕ) → own ≡ shape → IsAnswered own before (Looking back) after → ReadsSo shape before model.reading after
-goes_on shape own before after back same a = subst (λ (s : Shape). ReadsSo s before model.reading after) same (subst (λ (told : model.Answer). ReadsSo own before told after) a.tells a.step)
+goes_on shape own before after back same a = subst (λ (s : Shape). ReadsSo s before model.reading after) same (subst (λ (reported : model.Answer). ReadsSo own before reported after) a.reports a.step)
 
 -- a take that took too many steps
 pub given_up : (shape : Shape) (before after : Reading) (fill : ℕ) → TakesNothing before after → after.reader.hint ≡ fill → IsSentAway shape before fill after

@@ -14,7 +14,7 @@ use Rattle.ring_frames.specs.declared.answer.Answer.{Answer}
 use Rattle.ring_frames.specs.declared.answer.Answer.TheVariants.{Going}
 use Rattle.ring_frames.specs.Value.{FramesValue, phase_of}
 use Rattle.ring_frames.specs.Answers.{IsAnswerOf}
-use Rattle.ring_frames.specs.Fills.{OpensFill, Releases, released_in, LooksForWish, told_in}
+use Rattle.ring_frames.specs.Fills.{OpensFill, Releases, released_in, LooksForWish, reported_in}
 use Rattle.ring_shared.specs.Value.{WriterValue}
 use Rattle.ring_shared.specs.Calls.{IsWriter, AreWriterFields, MakesSome}
 use Rattle.link_marks.proofs.frames.TopSteps.{top_stepped}
@@ -50,8 +50,8 @@ module _ (v new : WriterValue) (w : AreWriterFields v) (some : v.frames.stack.fr
       let here : noted ≡ s.core.opened = now ∙ ap (λ (p : Writing). p.opened) (sym s.before_is) in
       let step = top_stepped v.shape.pages v.shape.size s.core t.frame t.below (opening noted page) answer s.next t.is_top (t.phase_is ∙ at) s.step in
       let after_is : s.next ≡ model.after_begin t.frame.kind t.frame.state (model.with_new_tail s.core page) t.frame t.below = opened t.frame t.below here step in
-      let (tells, are) = opens v.shape.pages v.shape.size v.shape.start page s.core t.frame t.below (frames_in v w s.core s.before_is) t.is_top in
-      made v w new sees answer result shape_is table_is s (subst (IsAnswerOf v.shape.size result) (sym begun) tells) (subst (FramesIn v.shape new.frames) (sym after_is) are)
+      let (reports, are) = opens v.shape.pages v.shape.size v.shape.start page s.core t.frame t.below (frames_in v w s.core s.before_is) t.is_top in
+      made v w new sees answer result shape_is table_is s (subst (IsAnswerOf v.shape.size result) (sym begun) reports) (subst (FramesIn v.shape new.frames) (sym after_is) are)
       (ap (λ (c : Core). c.open_pages) after_is ∙ begun_pages t.frame.kind t.frame.state (model.with_new_tail s.core page) t.frame t.below
       ∙ ap (λ (pages : List ℕ). pages ++ page ∷ []) (pages_before answer s) ∙ sym pages_is)
     where
@@ -85,8 +85,8 @@ module _ (v new : WriterValue) (w : AreWriterFields v) (some : v.frames.stack.fr
   unfolding IsWriter
   looks_for_wish wish result answer looks pages_is s is_wish =
       let l = looks v.shape.pages v.shape.size v.shape.start s.core s.reached (frames_in v w s.core s.before_is) (is_wish s.seen) in
-      let (same, after_is) = steps_are_determined v.shape.pages v.shape.size s.core model.steps answer l.answer s.next (told_in s.core l.frames l.history) s.step l.step in
-      made v w new sees answer result shape_is table_is s (subst (IsAnswerOf v.shape.size result) (sym same) l.tells) (subst (FramesIn v.shape new.frames) (sym after_is) l.are)
+      let (same, after_is) = steps_are_determined v.shape.pages v.shape.size s.core model.steps answer l.answer s.next (reported_in s.core l.frames l.history) s.step l.step in
+      made v w new sees answer result shape_is table_is s (subst (IsAnswerOf v.shape.size result) (sym same) l.reports) (subst (FramesIn v.shape new.frames) (sym after_is) l.are)
       (ap (λ (c : Core). c.open_pages) after_is ∙ (pages_before answer s ∙ sym pages_is))
 
 -- the page that is let go holds what the fill holds

@@ -112,7 +112,7 @@ private_call old event result new w shape table noted pages made =
         before_is = w.part_is;
         step = m.step;
         after_is = after_is;
-        tells = m.tells;
+        reports = m.reports;
       };
       writer = record {
         core = m.after;

@@ -27,7 +27,7 @@ use Rattle.ring_shared.specs.Lending.{FitsFrame}
 use Rattle.ring_shared.specs.WholeWrites.{IsWritten, IsRefusedWrite}
 use Rattle.ring_shared.specs.Finishing.{MakesSteps, at_once, one_more, Leaves, is_gone, was_refused, FinishesFrame, FinishesTop, Finishes}
 use Rattle.ring_shared.specs.Rooms.{room_of, rooms_of, rooms, IsOneMore, IsTopRoom}
-use Rattle.ring_frames.proofs.Told.{IsRefusal, is_refusal, is_gone_told}
+use Rattle.ring_frames.proofs.Reported.{IsRefusal, is_refusal, is_gone_reported}
 use Rattle.ring_shared.proofs.PushedEnded.{push_answers}
 use Rattle.ring_shared.proofs.Standing.{kept_now}
 use Rattle.ring_shared.proofs.WholeWrites.{reserved_top}
@@ -57,36 +57,36 @@ refused_not answer what why a e = sym a ∙ e
 
 module _ (n size : ℕ) (c : Core) (answer : model.Answer) (after : Core) where
   close_in : StepCases n size c model.pushes_close answer after → answer ≡ model.pushed → rooms_of after.frames ≡ None ∷ rooms_of c.frames
-  close_in (push_step m l e few short early a is) told = absurd (subst IsClose e tt)
-  close_in (push_refused m l why e why_not a is) told = absurd (subst IsClose e tt)
-  close_in (close_step e few a is) told = ap (λ (d : Core). rooms_of d.frames) is
-  close_in (close_refused e many a is) told = absurd (let both = refused_not answer model.pushed _ a told in cc)
-  close_in (frame_step frame below e top step) told = absurd (subst IsClose e tt)
-  close_in (frame_lacks e none a is) told = absurd (subst IsClose e tt)
-  close_in (end_step payload frame below number m l e top at kind fits a is) told = absurd (subst IsClose e tt)
-  close_in (end_lacks payload e none a is) told = absurd (subst IsClose e tt)
-  close_in (end_early payload frame below e top none a is) told = absurd (subst IsClose e tt)
-  close_in (read_step e step) told = absurd (subst IsClose e tt)
-  close_in (store_wish_step e a is) told = absurd (subst IsClose e tt)
+  close_in (push_step m l e few short early a is) reported = absurd (subst IsClose e tt)
+  close_in (push_refused m l why e why_not a is) reported = absurd (subst IsClose e tt)
+  close_in (close_step e few a is) reported = ap (λ (d : Core). rooms_of d.frames) is
+  close_in (close_refused e many a is) reported = absurd (let both = refused_not answer model.pushed _ a reported in cc)
+  close_in (frame_step frame below e top step) reported = absurd (subst IsClose e tt)
+  close_in (frame_lacks e none a is) reported = absurd (subst IsClose e tt)
+  close_in (end_step payload frame below number m l e top at kind fits a is) reported = absurd (subst IsClose e tt)
+  close_in (end_lacks payload e none a is) reported = absurd (subst IsClose e tt)
+  close_in (end_early payload frame below e top none a is) reported = absurd (subst IsClose e tt)
+  close_in (read_step e step) reported = absurd (subst IsClose e tt)
+  close_in (store_wish_step e a is) reported = absurd (subst IsClose e tt)
 
   -- a frame that ends above others leaves them
   above_others : (frame : Frame) (below others : List Frame) → c.frames ≡ frame ∷ below → below ≡ others → answer ≡ end_answer others → answer ≡ model.pending → after.frames ≡ frames_after_leave c frame others → IsOneMore (rooms_of c.frames) (rooms_of after.frames)
-  above_others frame below [] top same a told is = absurd (let both : model.full ≡ model.pending = sym a ∙ told in cc)
-  above_others frame below (next ∷ others) top same a told is =
+  above_others frame below [] top same a reported is = absurd (let both : model.full ≡ model.pending = sym a ∙ reported in cc)
+  above_others frame below (next ∷ others) top same a reported is =
       (room_of frame.kind, ap rooms_of top ∙ ap (λ (fs : List Frame). room_of frame.kind ∷ rooms_of fs) (same ∙ sym is))
 
   end_in : (payload : List ℕ) → StepCases n size c (model.ends payload) answer after → answer ≡ model.pending → IsOneMore (rooms_of c.frames) (rooms_of after.frames)
-  end_in payload (push_step m l e few short early a is) told = absurd (subst IsEnd e tt)
-  end_in payload (push_refused m l why e why_not a is) told = absurd (subst IsEnd e tt)
-  end_in payload (close_step e few a is) told = absurd (subst IsEnd e tt)
-  end_in payload (close_refused e many a is) told = absurd (subst IsEnd e tt)
-  end_in payload (frame_step frame below e top step) told = absurd (subst IsEnd e tt)
-  end_in payload (frame_lacks e none a is) told = absurd (subst IsEnd e tt)
-  end_in payload (end_step p frame below number m l e top at kind fits a is) told = above_others frame below below top refl a told (ap (λ (d : Core). d.frames) is)
-  end_in payload (end_lacks p e none a is) told = absurd (let both = refused_not answer model.pending _ a told in cc)
-  end_in payload (end_early p frame below e top none a is) told = absurd (let both = refused_not answer model.pending _ a told in cc)
-  end_in payload (read_step e step) told = absurd (subst IsEnd e tt)
-  end_in payload (store_wish_step e a is) told = absurd (subst IsEnd e tt)
+  end_in payload (push_step m l e few short early a is) reported = absurd (subst IsEnd e tt)
+  end_in payload (push_refused m l why e why_not a is) reported = absurd (subst IsEnd e tt)
+  end_in payload (close_step e few a is) reported = absurd (subst IsEnd e tt)
+  end_in payload (close_refused e many a is) reported = absurd (subst IsEnd e tt)
+  end_in payload (frame_step frame below e top step) reported = absurd (subst IsEnd e tt)
+  end_in payload (frame_lacks e none a is) reported = absurd (subst IsEnd e tt)
+  end_in payload (end_step p frame below number m l e top at kind fits a is) reported = above_others frame below below top refl a reported (ap (λ (d : Core). d.frames) is)
+  end_in payload (end_lacks p e none a is) reported = absurd (let both = refused_not answer model.pending _ a reported in cc)
+  end_in payload (end_early p frame below e top none a is) reported = absurd (let both = refused_not answer model.pending _ a reported in cc)
+  end_in payload (read_step e step) reported = absurd (subst IsEnd e tt)
+  end_in payload (store_wish_step e a is) reported = absurd (subst IsEnd e tt)
 
 -- ---- of the writer's part
 
@@ -97,8 +97,8 @@ module _ (shape : Shape) (before : Writing) (event : model.Event) (result : Answ
   rooms_after : rooms_of call.next.frames ≡ rooms_of after.frames
   rooms_after = ap (λ (p : Writing). rooms_of p.frames) call.after_is
 
-  tells_so : (to : Answer) → result ≡ to → IsAnswerOf shape.size to call.answer
-  tells_so to e = subst (λ (r : Answer). IsAnswerOf shape.size r call.answer) e call.tells
+  reports_so : (to : Answer) → result ≡ to → IsAnswerOf shape.size to call.answer
+  reports_so to e = subst (λ (r : Answer). IsAnswerOf shape.size r call.answer) e call.reports
 
   more_rooms : IsOneMore (rooms_of call.core.frames) (rooms_of call.next.frames) → IsOneMore (rooms_of before.frames) (rooms_of after.frames)
   more_rooms (room, is) = (room, sym rooms_before ∙ is ∙ ap (λ (rs : List (Option ℕ)). room ∷ rs) rooms_after)
@@ -107,24 +107,24 @@ module _ (shape : Shape) (before : Writing) (result : Answer) (after : Writing) 
   -- a frame that is pushed has the room of its record
   pub push_rooms : (moment len : ℕ) → IsCall shape before (model.pushes moment len) result after → result ≡ Pushed → rooms_of after.frames ≡ Some (slot_len len) ∷ rooms_of before.frames
   push_rooms moment len call e =
-      let told : call.answer ≡ model.pushed = tells_so shape before (model.pushes moment len) result after call Pushed e in
+      let reported : call.answer ≡ model.pushed = reports_so shape before (model.pushes moment len) result after call Pushed e in
       elim (push_answers shape.pages shape.size call.core moment len call.answer call.next (cases_of call.step)) [
         | inl p ↦ sym (rooms_after shape before (model.pushes moment len) result after call) ∙ ap rooms_of p.top ∙ ap (λ (k : Kind). room_of k ∷ rooms_of call.core.frames) p.kind_is ∙ ap (λ (rs : List (Option ℕ)). Some (slot_len len) ∷ rs) (rooms_before shape before (model.pushes moment len) result after call)
-        | inr r ↦ absurd (let both = refused_not call.answer model.pushed r.0 r.1 told in cc)
+        | inr r ↦ absurd (let both = refused_not call.answer model.pushed r.0 r.1 reported in cc)
       ]
 
   -- and one that closes has none
   pub close_rooms : IsCall shape before model.pushes_close result after → result ≡ Pushed → rooms_of after.frames ≡ None ∷ rooms_of before.frames
   close_rooms call e =
       sym (rooms_after shape before model.pushes_close result after call)
-      ∙ close_in shape.pages shape.size call.core call.answer call.next (cases_of call.step) (tells_so shape before model.pushes_close result after call Pushed e)
+      ∙ close_in shape.pages shape.size call.core call.answer call.next (cases_of call.step) (reports_so shape before model.pushes_close result after call Pushed e)
       ∙ ap (λ (rs : List (Option ℕ)). None ∷ rs) (rooms_before shape before model.pushes_close result after call)
 
   -- one that ends above others leaves them
   pub end_rooms : (payload : List ℕ) → IsCall shape before (model.ends payload) result after → result ≡ Ended Pending → IsOneMore (rooms_of before.frames) (rooms_of after.frames)
   end_rooms payload call e =
       more_rooms shape before (model.ends payload) result after call
-      (end_in shape.pages shape.size call.core call.answer call.next payload (cases_of call.step) (tells_so shape before (model.ends payload) result after call (Ended Pending) e))
+      (end_in shape.pages shape.size call.core call.answer call.next payload (cases_of call.step) (reports_so shape before (model.ends payload) result after call (Ended Pending) e))
 
   module _ (call : IsCall shape before model.steps result after) where
     frames_in : (frames : List Frame) → before.frames ≡ frames → call.core.frames ≡ frames
@@ -136,8 +136,8 @@ module _ (shape : Shape) (before : Writing) (result : Answer) (after : Writing) 
         ∙ ap rooms_of is
         ∙ ap (λ (k : Kind). room_of k ∷ rooms_of below) kind
         ∙ sym (ap rooms_of top)
-    stands_with frame below top goes_on still (leaves (inl gone) is) = absurd (still (is_gone_told shape.size result call.answer call.tells gone))
-    stands_with frame below top goes_on still (leaves (inr (why, refuses)) is) = absurd (goes_on (is_refusal shape.size result call.answer why call.tells refuses))
+    stands_with frame below top goes_on still (leaves (inl gone) is) = absurd (still (is_gone_reported shape.size result call.answer call.reports gone))
+    stands_with frame below top goes_on still (leaves (inr (why, refuses)) is) = absurd (goes_on (is_refusal shape.size result call.answer why call.reports refuses))
 
     stands_in : (frames : List Frame) → before.frames ≡ frames → (IsRefusal result → ⊥) → result ≢ Gone → rooms_of after.frames ≡ rooms_of before.frames
     stands_in [] none goes_on still = absurd (goes_on (none_refused shape before result after call none))
@@ -155,7 +155,7 @@ module _ (shape : Shape) (before : Writing) (result : Answer) (after : Writing) 
     reserved_rooms number e = step_rooms (λ (fault, f). let both : Reserved number ≡ Refused fault = sym e ∙ f in cc) (λ g. let both : Reserved number ≡ Gone = sym e ∙ g in cc)
 
     gone_with : (frame : Frame) (below : List Frame) → before.frames ≡ frame ∷ below → result ≡ Gone → TopStep frame below call.answer call.next.frames → IsOneMore (rooms_of before.frames) (rooms_of after.frames)
-    gone_with frame below top e (stays next ne is kind) = absurd (ne (tells_so shape before model.steps result after call Gone e))
+    gone_with frame below top e (stays next ne is kind) = absurd (ne (reports_so shape before model.steps result after call Gone e))
     gone_with frame below top e (leaves how is) =
         (room_of frame.kind, ap rooms_of top ∙ ap (λ (rs : List (Option ℕ)). room_of frame.kind ∷ rs) (sym (ap rooms_of is) ∙ rooms_after shape before model.steps result after call))
 
@@ -217,13 +217,13 @@ module _ (shape : Shape) (before : Writing) (result : Answer) (after : Writing) 
 module _ (shape : Shape) (before after : Writing) (moment len : ℕ) where
   refused_push : (fault : WriteFault) → IsCall shape before (model.pushes moment len) (Refused fault) after → rooms_of after.frames ≡ rooms_of before.frames
   refused_push fault call = elim (push_answers shape.pages shape.size call.core moment len call.answer call.next (cases_of call.step)) [
-    | inl p ↦ absurd (let told = call.tells in let both : model.pushed ≡ model.refused (refusal_of fault) = sym p.answer_is ∙ told in cc)
+    | inl p ↦ absurd (let reported = call.reports in let both : model.pushed ≡ model.refused (refusal_of fault) = sym p.answer_is ∙ reported in cc)
     | inr r ↦ sym (rooms_after shape before (model.pushes moment len) (Refused fault) after call) ∙ ap (λ (c : Core). rooms_of c.frames) r.2 ∙ rooms_before shape before (model.pushes moment len) (Refused fault) after call
   ]
 
   refused_write : (fault : WriteFault) → IsRefusedWrite shape before moment len fault after → rooms_of after.frames ≡ rooms_of before.frames
   refused_write fault (inl push) = refused_push fault push
-  refused_write fault (inr amid) = ap rooms_of amid.frames
+  refused_write fault (inr part_way) = ap rooms_of part_way.frames
 
 -- a write keeps the frames on the stack, and so their rooms
 pub write_rooms : (shape : Shape) (before after : Writing) (moment : ℕ) (payload : List ℕ) (result : Result Unit WriteFault)

@@ -54,10 +54,10 @@ module _ (v : WriterValue) (w : AreWriterFields v) where
       → s.next.open_pages ≡ new.pages
       → MakesSome v model.steps result new
   unfolding IsWriter
-  made new sees answer result shape_is table_is s tells are pages = record {
+  made new sees answer result shape_is table_is s reports are pages = record {
     shape_is = shape_is;
     table_is = table_is;
-    call = record { core = s.core; next = s.next; answer = answer; reached = s.reached; before_is = s.before_is; step = s.step; after_is = s.after_is; tells = tells };
+    call = record { core = s.core; next = s.next; answer = answer; reached = s.reached; before_is = s.before_is; step = s.step; after_is = s.after_is; reports = reports };
     writer = record {
       core = s.next;
       reached = subst (λ (shape : Shape). IsReached shape.pages shape.size shape.start s.next) (sym shape_is)

@@ -23,10 +23,10 @@ use Rattle.ring_shared.proofs.Finishes.{frames_after, reserving_step, leaving_st
 -- ---- lists of events
 
 -- what events make of a writer's state
-abbrev pub acted : WriterState → List HistoryEvent → WriterState
-acted w events = fold (λ v a. after_event v.stack v.records a) w events
+abbrev pub has_events : WriterState → List HistoryEvent → WriterState
+has_events w events = fold (λ v a. after_event v.stack v.records a) w events
 
-pub fills_then : (w : WriterState) (fills others : List HistoryEvent) → AreFills fills → acted w (fills ++ others) ≡ acted w others
+pub fills_then : (w : WriterState) (fills others : List HistoryEvent) → AreFills fills → has_events w (fills ++ others) ≡ has_events w others
 fills_then w [] others are = refl
 fills_then w (push moment len ∷ fills) others are = absurd are
 fills_then w (push_close ∷ fills) others are = absurd are
@@ -35,10 +35,10 @@ fills_then w (reserve ∷ fills) others are = absurd are
 fills_then w (leave payload ∷ fills) others are = absurd are
 fills_then w (wished ∷ fills) others are = absurd are
 
-pub fills_keep : (w : WriterState) (fills : List HistoryEvent) → AreFills fills → acted w fills ≡ w
-fills_keep w fills are = ap (acted w) (sym (append-nil fills)) ∙ fills_then w fills [] are
+pub fills_keep : (w : WriterState) (fills : List HistoryEvent) → AreFills fills → has_events w fills ≡ w
+fills_keep w fills are = ap (has_events w) (sym (append-nil fills)) ∙ fills_then w fills [] are
 
-pub reader_keeps : (w : WriterState) (events : List HistoryEvent) → AreForReader events → acted w events ≡ w
+pub reader_keeps : (w : WriterState) (events : List HistoryEvent) → AreForReader events → has_events w events ≡ w
 reader_keeps w [] are = refl
 reader_keeps w (push moment len ∷ events) are = absurd are
 reader_keeps w (push_close ∷ events) are = absurd are
@@ -171,7 +171,7 @@ module _ (shape : Shape) (before after : Writing) (result : Answer) (frame : Fra
       ∙ (reached_kept shape.pages shape.size shape.start call.next (reached_further shape.pages shape.size shape.start call.core model.steps call.answer call.next call.reached call.step)).history.stack
       ∙ ap (λ (w : Writing). pushed_frames w.frames) call.after_is
 
-  stack_moved : (writer_after after.history).stack ≡ (acted (writer_after before.history) reported.history_events).stack
+  stack_moved : (writer_after after.history).stack ≡ (has_events (writer_after before.history) reported.history_events).stack
   stack_moved = ap (λ (h : List HistoryEvent). (writer_after h).stack) reported.history_is ∙ ap (λ (w : WriterState). w.stack) (writer-append record { stack = []; records = [] } before.history reported.history_events)
 
   -- a record frame that goes on begins fills at most
@@ -179,7 +179,7 @@ module _ (shape : Shape) (before after : Writing) (result : Answer) (frame : Fra
   going_fills is going = (
     reported.history_events,
     record_going shape.pages reported.core below reported.answer reported.history_events frame.kind frame.state frame.phase is
-        (subst (λ (x : Answer). IsAnswerOf shape.size x reported.answer) going reported.tells) appends,
+        (subst (λ (x : Answer). IsAnswerOf shape.size x reported.answer) going reported.reports) appends,
     reported.history_is,
   )
 
@@ -197,7 +197,7 @@ module _ (shape : Shape) (before after : Writing) (result : Answer) (frame : Fra
       still : (next.state ≡ left) ⊎ ((next.kind ≡ for_close) × (next.state ≡ waiting)) → LeftOrGone below result after.frames
       still (inl s) = has_left next above s
       still (inr (k, s)) = absurd (not_longer close_frame (pushed_frames below) (sym same ∙ ap pushed_frames above ∙ close_pushed next.kind next.state (pushed_frames below) k s))
-  popped same (is_gone a at) = has_gone (λ e. gone_not_going a (subst (λ (x : Answer). IsAnswerOf shape.size x call.answer) e call.tells)) (frames_after shape before after result call below at)
+  popped same (is_gone a at) = has_gone (λ e. gone_not_going a (subst (λ (x : Answer). IsAnswerOf shape.size x call.answer) e call.reports)) (frames_after shape before after result call below at)
 
   -- a frame that has left acts for the reader
   pub left_step : frame.state ≡ left → (events : List HistoryEvent) × AreForReader events × (after.history ≡ before.history ++ events) × LeftOrGone below result after.frames
@@ -235,7 +235,7 @@ module _ (shape : Shape) (before after : Writing) (result : Answer) (frame : Fra
       on h same (is_gone a at) =
           absurd (not_longer close_frame (pushed_frames below) (sym (ap pushed_frames (frames_after shape before after result call below at)) ∙ same))
 
-      popping : (w : WriterState) (fills : List HistoryEvent) → AreFills fills → w.stack ≡ close_frame ∷ pushed_frames below → (acted w (fills ++ leave None ∷ [])).stack ≡ pushed_frames below
+      popping : (w : WriterState) (fills : List HistoryEvent) → AreFills fills → w.stack ≡ close_frame ∷ pushed_frames below → (has_events w (fills ++ leave None ∷ [])).stack ≡ pushed_frames below
       popping w fills are e =
           ap (λ (v : WriterState). v.stack) (fills_then w fills (leave None ∷ []) are)
           ∙ ap (λ (stack : List PushedFrame). (after_event stack w.records (leave None)).stack) e
@@ -243,10 +243,10 @@ module _ (shape : Shape) (before after : Writing) (result : Answer) (frame : Fra
       by : (reported.history_events ≡ []) ⊎ ((fills : List HistoryEvent) × AreFills fills × (reported.history_events ≡ fills ++ leave None ∷ [])) → CloseStep below before result after
       by (inl none) =
           on (reported.history_is ∙ ap (λ (events : List HistoryEvent). before.history ++ events) none ∙ append-nil before.history)
-          (sym stack_after ∙ stack_moved ∙ ap (λ (events : List HistoryEvent). (acted (writer_after before.history) events).stack) none ∙ stood) leaving
+          (sym stack_after ∙ stack_moved ∙ ap (λ (events : List HistoryEvent). (has_events (writer_after before.history) events).stack) none ∙ stood) leaving
       by (inr (fills, are, is)) =
           closes fills are (reported.history_is ∙ ap (λ (events : List HistoryEvent). before.history ++ events) is)
-          (popped (sym stack_after ∙ stack_moved ∙ ap (λ (events : List HistoryEvent). (acted (writer_after before.history) events).stack) is ∙ popping (writer_after before.history) fills are stood) leaving)
+          (popped (sym stack_after ∙ stack_moved ∙ ap (λ (events : List HistoryEvent). (has_events (writer_after before.history) events).stack) is ∙ popping (writer_after before.history) fills are stood) leaving)
 
 module _ (shape : Shape) (before after : Writing) (fault : WriteFault) (frame : Frame) (below : List Frame) (top : before.frames ≡ frame ∷ below) (call : IsCall shape before model.steps (Refused fault) after) where
   refused_history : after.history ≡ before.history ++ leave None ∷ []
@@ -265,6 +265,6 @@ module _ (shape : Shape) (before after : Writing) (fault : WriteFault) (frame : 
   refused_step is = by (reserving_step shape before after (Refused fault) call frame below top is)
     where
       by : Reserving frame below call.answer call.next.frames → LeftOrGone below (Refused fault) after.frames
-      by (reserves_on next a at kind state) = absurd (let both : model.refused (refusal_of fault) ≡ model.going = sym call.tells ∙ a in cc)
-      by (has_reserved next number a at kind state) = absurd (let both : model.refused (refusal_of fault) ≡ model.reserved_as number = sym call.tells ∙ a in cc)
+      by (reserves_on next a at kind state) = absurd (let both : model.refused (refusal_of fault) ≡ model.going = sym call.reports ∙ a in cc)
+      by (has_reserved next number a at kind state) = absurd (let both : model.refused (refusal_of fault) ≡ model.reserved_as number = sym call.reports ∙ a in cc)
       by (is_refused why a leaving) = popped shape before after (Refused fault) frame below top call (refused_pops (reserving_waits frame.kind frame.state is)) leaving

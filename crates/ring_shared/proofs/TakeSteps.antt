@@ -2,7 +2,7 @@
 use Rattle.std.specs.Prelude.{⊤, false}
 use Rattle.std.proofs.Common.{◌≡◌, ℕ, ◌≤◌, Bool, refl, ap, ◌∙◌, arith}
 use Rattle.trace_model.specs.Links.{Link}
-use Rattle.trace_model.specs.Ring.{Core, Reader, ReaderPhase, loading_link}
+use Rattle.trace_model.specs.Ring.{Core, Reader, ReaderPhase, loading_head}
 use Rattle.trace_model.specs.Steps as model
 use Rattle.trace_model.proofs.steps.StepSound.{cases_of}
 use Rattle.link_marks.proofs.frames.AnswersRight.{passed_below}
@@ -68,29 +68,29 @@ module _ (shape : Shape) (before after : Reading) (sees : Core → Type 0) (answ
   }
 
 -- after a load of a link
-pub loaded : (shape : Shape) (before : Reading) (link : Link) (told : model.Answer) (phase : ReaderPhase) (hint : ℕ) (after : Reading) → LinkLoaded shape before link told phase hint after
+pub loaded : (shape : Shape) (before : Reading) (link : Link) (reported : model.Answer) (phase : ReaderPhase) (hint : ℕ) (after : Reading) → LinkLoaded shape before link reported phase hint after
     → Stays shape before after (record before.reader { phase = phase; hint = hint })
-loaded shape before link told phase hint after h = stays shape before after _ told h.step (record before.reader { phase = phase; hint = hint }) before.spare_link false h.after_is
+loaded shape before link reported phase hint after h = stays shape before after _ reported h.step (record before.reader { phase = phase; hint = hint }) before.spare_link false h.after_is
 
 -- after a load of the number of closed fills
-pub counted : (shape : Shape) (before : Reading) (done : ℕ) (told : model.Answer) (phase : ReaderPhase) (after : Reading) → DoneLoaded shape before done told phase after
+pub counted : (shape : Shape) (before : Reading) (done : ℕ) (reported : model.Answer) (phase : ReaderPhase) (after : Reading) → DoneLoaded shape before done reported phase after
     → Stays shape before after (record before.reader { phase = phase; seen = done })
-counted shape before done told phase after h = stays shape before after _ told h.step (record before.reader { phase = phase; seen = done }) before.spare_link before.keeps_spare h.after_is
+counted shape before done reported phase after h = stays shape before after _ reported h.step (record before.reader { phase = phase; seen = done }) before.spare_link before.keeps_spare h.after_is
 
 -- no closed fill is unread
-pub none_found : (shape : Shape) (before : Reading) (done : ℕ) (told : model.Answer) (after : Reading) → DoneLoaded shape before done told loading_link after → before.reader.hint ≡ done → IsEmptyFound shape before done after
+pub none_found : (shape : Shape) (before : Reading) (done : ℕ) (reported : model.Answer) (after : Reading) → DoneLoaded shape before done reported loading_head after → before.reader.hint ≡ done → IsEmptyFound shape before done after
 unfolding known_after
-none_found shape before done told after h hint =
-    let s = counted shape before done told loading_link after h in
+none_found shape before done reported after h hint =
+    let s = counted shape before done reported loading_head after h in
     let r = h.step in
-    let left = reader_leaves_writer shape.pages shape.size r.core model.reads told r.next tt (cases_of r.step) in
+    let left = reader_leaves_writer shape.pages shape.size r.core model.reads reported r.next tt (cases_of r.step) in
     let low = h.seen_le in
     let hint_done = ap (λ (x : Reader). x.hint) s.reader_is ∙ hint in record {
-      nothing = nothing shape before after (record before.reader { phase = loading_link; seen = done }) s refl refl (omega arith) low;
+      nothing = nothing shape before after (record before.reader { phase = loading_head; seen = done }) s refl refl (omega arith) low;
       seen_le = low;
       hint_is = hint_done;
       seen_is = ap (λ (x : Reader). x.seen) s.reader_is;
-      known = known_after shape before after (λ core. core.done ≡ done) told r;
+      known = known_after shape before after (λ core. core.done ≡ done) reported r;
       all = left.done ∙ r.seen;
       passed = passed_below_hint shape after done hint_done;
     }

@@ -28,8 +28,8 @@ use Rattle.ring_shared.specs.Calls.{AreWriterFields, IsCall}
 use Rattle.ring_shared.specs.Finishing.{IsTarget}
 use Rattle.ring_shared.proofs.Targets.{IsOnTop, frames_of}
 use Rattle.ring_shared.proofs.Depths.{depth_is}
-use Rattle.ring_frames.proofs.Told.{IsRefusal, is_going, is_refusal, is_number}
-use Rattle.ring_shared.proofs.FinishParts.{HasNumber, TellsTop}
+use Rattle.ring_frames.proofs.Reported.{IsRefusal, is_going, is_refusal, is_number}
+use Rattle.ring_shared.proofs.FinishParts.{HasNumber, ReportsTop}
 use Rattle.ring_shared.proofs.Standing.{kept_now, top_in}
 
 -- ---- by its phase
@@ -65,7 +65,7 @@ module _ (v : WriterValue) (w : AreWriterFields v) where
   pub release_goes : (result : Answer) (after : Writing) → v.frames.stack.frames ≢ [] → phase_of v.frames.phase ≡ releasing → IsCall v.shape v.part model.steps result after → result ≡ Going
   release_goes result after some at call =
       let t = top_in v w call.core call.before_is some in
-      is_going v.shape.size result call.answer call.tells
+      is_going v.shape.size result call.answer call.reports
       (release_answers call.core t.frame t.below call.answer call.next
       (top_stepped v.shape.pages v.shape.size call.core t.frame t.below releasing call.answer call.next t.is_top (t.phase_is ∙ at) call.step))
 
@@ -85,25 +85,25 @@ module _ (shape : Shape) (before : Writing) (result : Answer) (after : Writing) 
       let agree = top_agrees call.core frame below at kept.stack in
       let (answer_is, same) = subst (λ (s : FrameState). cases.IdleStep shape.pages shape.size call.core frame below s call.answer call.next) is
       (top_stepped shape.pages shape.size call.core frame below idle call.answer call.next at (reserved_rests frame.kind frame.state frame.phase number is agree.0) call.step) in
-      let (told, tells, told_is) = is_number shape.size result call.answer number call.tells answer_is in
+      let (reported, reports, reported_is) = is_number shape.size result call.answer number call.reports answer_is in
       record {
         next = frame;
-        number = told;
-        told = tells;
+        number = reported;
+        reported = reports;
         top = ap (λ (p : Writing). p.frames) (sym call.after_is) ∙ (ap (λ (c : Core). c.frames) same ∙ at);
-        state_is = is ∙ ap reserved (sym told_is);
+        state_is = is ∙ ap reserved (sym reported_is);
       }
 
   -- and if there is no frame, the step is refused
   pub none_refused : before.frames ≡ [] → IsRefusal result
   none_refused none =
-      is_refusal shape.size result call.answer no_frame call.tells
+      is_refusal shape.size result call.answer no_frame call.reports
       (no_top_step (ap (λ (p : Writing). p.frames) call.before_is ∙ none) call.step).0
 
 -- one that makes a single step answers its record's number, or is refused
-step_in : (shape : Shape) (before : Writing) (result : Answer) (after : Writing) (frames : List stack.Frame) (phase : Phase) (below : List Phase) → before.frames ≡ ring_frames frames (phase ∷ below) → IsTarget (top_of frames) target.Step → IsCall shape before model.steps result after → TellsTop result after.frames
+step_in : (shape : Shape) (before : Writing) (result : Answer) (after : Writing) (frames : List stack.Frame) (phase : Phase) (below : List Phase) → before.frames ≡ ring_frames frames (phase ∷ below) → IsTarget (top_of frames) target.Step → IsCall shape before model.steps result after → ReportsTop result after.frames
 step_in shape before result after [] phase below same is call = inr (none_refused shape before result after call same)
 step_in shape before result after (f ∷ frames) phase below same (number, is) call = inl (_, reserved_answers shape before result after call _ _ number same is)
 
-pub step_tells : (v : WriterValue) (w : AreWriterFields v) (result : Answer) (after : Writing) → IsTarget (top_of v.frames.stack.frames) target.Step → IsCall v.shape v.part model.steps result after → TellsTop result after.frames
-step_tells v w result after is call = step_in v.shape v.part result after v.frames.stack.frames v.frames.phase v.frames.below (frames_of v w) is call
+pub step_reports : (v : WriterValue) (w : AreWriterFields v) (result : Answer) (after : Writing) → IsTarget (top_of v.frames.stack.frames) target.Step → IsCall v.shape v.part model.steps result after → ReportsTop result after.frames
+step_reports v w result after is call = step_in v.shape v.part result after v.frames.stack.frames v.frames.phase v.frames.below (frames_of v w) is call

@@ -4,10 +4,10 @@ use Rattle.trace_model.specs.Frames.{Kind, Frame}
 use Rattle.trace_model.specs.Steps as model
 use Rattle.ring_frames.specs.declared.answer.Answer.{Answer}
 use Rattle.ring_frames.specs.declared.answer.Answer.TheVariants.{Going, Gone}
-use Rattle.ring_frames.specs.declared.phase.Turned.{Turned}
-use Rattle.ring_frames.specs.declared.phase.Turned.TheVariants as turned
+use Rattle.ring_frames.specs.declared.phase.StepAnswer.{StepAnswer}
+use Rattle.ring_frames.specs.declared.phase.StepAnswer.TheVariants as step_answer
 use Rattle.ring_frames.specs.Answers.{KeepsPayloads}
-use Rattle.ring_frames.specs.Phases.{told}
+use Rattle.ring_frames.specs.Phases.{as_answer}
 use Rattle.ring_frames.proofs.Payloads.{same_stack, kept_then}
 use Rattle.ring_steps.specs.declared.rule.Shape.{Shape}
 use Rattle.ring_steps.specs.Views.{Writing}
@@ -17,7 +17,7 @@ use Rattle.ring_shared.specs.Nearer.{rank_of, IsNearer}
 use Rattle.ring_shared.specs.Finishing.{MakesSteps, at_once, one_more, IsReservedOr, is_reserved, stays_refused, is_refused, Reserves}
 use Rattle.ring_shared.specs.Turning.{IsReservingTop, TurnsOn}
 use Rattle.ring_shared.proofs.Depths.{reserving_top}
-use Rattle.ring_shared.proofs.Finishes.{IsAmidReserving, reserving_first, reserving_on, reserving_stands, reserving_ends, reserving_unnumbered}
+use Rattle.ring_shared.proofs.Finishes.{IsStillReserving, reserving_first, reserving_on, reserving_stands, reserving_ends, reserving_unnumbered}
 
 -- ---- runs
 
@@ -48,28 +48,28 @@ never_gone kind below _ after (stays_refused fault next end top leaves) e = cc
 never_gone kind below _ after (is_refused fault end top) e = cc
 
 module _ (old new : WriterValue) (top : IsReservingTop old.part.frames) where
-  goes_with : (result : Turned) → IsCall old.shape old.part model.steps (told result) new.part → told result ≡ Going
-  goes_with turned.Going call = refl
-  goes_with turned.Gone call =
+  goes_with : (result : StepAnswer) → IsCall old.shape old.part model.steps (as_answer result) new.part → as_answer result ≡ Going
+  goes_with step_answer.Going call = refl
+  goes_with step_answer.Gone call =
       let (frame, below, at, is) = top in
       let first = reserving_first old.shape frame below old.part at is in
       let r = reserving_ends old.shape frame.kind below old.part old.part new.part Gone first call (λ e. let both : Gone ≡ Going = e in cc) in
       absurd (never_gone frame.kind below Gone new.part.frames r.ends refl)
 
-  pub turned_once : (result : Turned) → MakesSome old model.steps (told result) new → IsNearer old new → KeepsPayloads old.frames.stack new.frames.stack → TurnsOn old new
+  pub turned_once : (result : StepAnswer) → MakesSome old model.steps (as_answer result) new → IsNearer old new → KeepsPayloads old.frames.stack new.frames.stack → TurnsOn old new
   unfolding IsWriter
   turned_once result makes nearer kept =
       let going = goes_with result makes.call in
       let (frame, below, at, is) = top in
-      let first : IsAmidReserving old.shape frame.kind below old.part old.part = reserving_first old.shape frame below old.part at is in
-      let less : rank_of new < rank_of old = nearer frame below at (reserving_unnumbered frame.kind frame.state is) (reserving_stands old.shape frame.kind below old.part old.part new.part (told result) first makes.call going) in
+      let first : IsStillReserving old.shape frame.kind below old.part old.part = reserving_first old.shape frame below old.part at is in
+      let less : rank_of new < rank_of old = nearer frame below at (reserving_unnumbered frame.kind frame.state is) (reserving_stands old.shape frame.kind below old.part old.part new.part (as_answer result) first makes.call going) in
       record {
         ring = (makes.shape_is, makes.table_is);
         writer = makes.writer;
         goes = one_more old.part new.part at_once (subst (λ (x : Answer). IsCall old.shape old.part model.steps x new.part) going makes.call);
         stands = λ other others there.
-            let a : IsAmidReserving old.shape other.kind others old.part new.part =
-            reserving_on old.shape other.kind others old.part old.part new.part (told result)
+            let a : IsStillReserving old.shape other.kind others old.part new.part =
+            reserving_on old.shape other.kind others old.part old.part new.part (as_answer result)
             (reserving_first old.shape other others old.part there (reserving_top old.part.frames frame other below others at is there)) makes.call going in
             (a.frame, a.top, a.kind_is, a.reserves);
         nearer = omega arith;
@@ -95,8 +95,8 @@ pub same_turned : (first old new : WriterValue) → SameWriter first old → Tur
 same_turned first old new same t = (t.ring.0 ∙ same.0, t.ring.1 ∙ same.1)
 
 -- during the steps to a record
-pub amid_turned : (shape : Shape) (kind : Kind) (below : List Frame) (before : Writing) (old new : WriterValue) → old.shape ≡ shape → IsAmidReserving shape kind below before old.part → TurnsOn old new → IsAmidReserving shape kind below before new.part
-amid_turned shape kind below before old new same a t =
+pub part_way_turned : (shape : Shape) (kind : Kind) (below : List Frame) (before : Writing) (old new : WriterValue) → old.shape ≡ shape → IsStillReserving shape kind below before old.part → TurnsOn old new → IsStillReserving shape kind below before new.part
+part_way_turned shape kind below before old new same a t =
     let (next, at, kind_is, is) = t.stands a.frame below a.top in
     record {
       frame = next;

@@ -23,14 +23,14 @@ use Rattle.ring_steps.specs.Views.{Writing, writing_of}
 use Rattle.ring_shared.specs.Calls.{IsWriter, IsCall}
 use Rattle.ring_shared.specs.Laws.{events_of_refusal}
 use Rattle.ring_shared.specs.Finishing.{MakesSteps, at_once, one_more, Reserves, Leaves, is_gone, was_refused}
-use Rattle.ring_shared.specs.WholeWrites.{GoesAway, IsRefusedAmid}
+use Rattle.ring_shared.specs.WholeWrites.{GoesAway, IsRefusedPartWay}
 use Rattle.ring_shared.specs.WholeLaws.{AreFills, AreForReader, FinishesReserve, FinishesRefused, FinishesClose, FinishesLeft, WritesAppend, RefusedWritesAppend, written_record, WritesReserve, RefusedWritesReserveNone, RefusedWritesLeaveNoFrame, PaddedTwice, WritersHaveHistories}
 use Rattle.ring_shared.proofs.CallsAppend.{pushes_append, ends_append, reservations_append, refusals_append}
 use Rattle.ring_shared.proofs.Depths.{depth_is}
-use Rattle.ring_shared.proofs.Finishes.{IsAmidReserving, reserving_first, reserving_on}
+use Rattle.ring_shared.proofs.Finishes.{IsStillReserving, reserving_first, reserving_on}
 use Rattle.ring_shared.proofs.PushedEnded.{IsPushed, push_answers}
 use Rattle.ring_shared.proofs.Settles.{done_there}
-use Rattle.ring_shared.proofs.StepEvents.{acted, fills_then, fills_keep, reader_keeps, fills_joined, reader_joined, history_then, reserving_waits, LeftOrGone, has_left, has_gone, CloseStep, waits_on, closes, going_fills, left_step, close_step, refused_step}
+use Rattle.ring_shared.proofs.StepEvents.{has_events, fills_then, fills_keep, reader_keeps, fills_joined, reader_joined, history_then, reserving_waits, LeftOrGone, has_left, has_gone, CloseStep, waits_on, closes, going_fills, left_step, close_step, refused_step}
 use Rattle.ring_shared.proofs.WholeWrites.{HasBegun, has_begun, finished_reserving, finished_leaving, reserved_so, HasTopRecord, HasReservedTop, left_full}
 
 -- ---- a record frame
@@ -38,7 +38,7 @@ use Rattle.ring_shared.proofs.WholeWrites.{HasBegun, has_begun, finished_reservi
 module _ (shape : Shape) (frame : Frame) (below : List Frame) where
   -- it has gone on, and begun fills at most
   record Waits (before between : Writing) : Type 0 where
-    going_on : IsAmidReserving shape frame.kind below before between
+    going_on : IsStillReserving shape frame.kind below before between
     fills : List HistoryEvent
     are : AreFills fills
     history_is : between.history ≡ before.history ++ fills
@@ -264,7 +264,7 @@ writes_append shape before moment payload after w =
     let four = history_then before.history w.ended.history after.history ((push moment (length payload) ∷ (fills ++ reserve ∷ [])) ++ leave (Some (padded payload)) ∷ []) for_reader three acts in
     (fills, for_reader, are, reads, four ∙ in_order before.history fills for_reader (push moment (length payload)) (leave (Some (padded payload))))
 
-pushed_and_refused : (shape : Shape) (before : Writing) (moment len : ℕ) (fault : WriteFault) (after : Writing) → IsRefusedAmid shape before moment len fault after
+pushed_and_refused : (shape : Shape) (before : Writing) (moment len : ℕ) (fault : WriteFault) (after : Writing) → IsRefusedPartWay shape before moment len fault after
     → (fills for_reader : List HistoryEvent) × AreFills fills × AreForReader for_reader × (after.history ≡ before.history ++ push moment len ∷ (fills ++ leave None ∷ for_reader))
 pushed_and_refused shape before moment len fault after r =
     let begun : HasBegun moment len before r.pushed = (has_begun shape before r.pushed moment len Pushed r.push (λ (f, e). cc)).0 in
@@ -294,7 +294,7 @@ refused_push : (shape : Shape) (before : Writing) (moment len : ℕ) (fault : Wr
 refused_push shape before moment len fault after call = by (push_answers shape.pages shape.size call.core moment len call.answer call.next (cases_of call.step))
   where
     by : IsPushed moment len call.answer call.core.frames call.next.frames ⊎ ((why : Refusal) × (call.answer ≡ model.refused why) × (call.next ≡ call.core)) → after ≡ before
-    by (inl p) = absurd (let both : model.refused (refusal_of fault) ≡ model.pushed = sym call.tells ∙ p.answer_is in cc)
+    by (inl p) = absurd (let both : model.refused (refusal_of fault) ≡ model.pushed = sym call.reports ∙ p.answer_is in cc)
     by (inr (why, denied, same)) = sym call.after_is ∙ ap writing_of same ∙ call.before_is
 
 pub refused_writes_leave_no_frame : RefusedWritesLeaveNoFrame
@@ -313,7 +313,7 @@ last_written (s ∷ rs) r payload = ap (λ (l : List Reservation). s ∷ l) (las
 
 -- what a write makes of a writer's state
 record_adds : (w : WriterState) (moment : ℕ) (payload : List ℕ) (fills for_reader : List HistoryEvent) → AreFills fills → AreForReader for_reader
-    → (acted w (push moment (length payload) ∷ (fills ++ reserve ∷ leave (Some (padded payload)) ∷ for_reader))).records ≡ w.records ++ written_record moment payload w.records ∷ []
+    → (has_events w (push moment (length payload) ∷ (fills ++ reserve ∷ leave (Some (padded payload)) ∷ for_reader))).records ≡ w.records ++ written_record moment payload w.records ∷ []
 record_adds w moment payload fills for_reader are reads =
     ap (λ (v : WriterState). v.records) (fills_then record { stack = record_frame moment (length payload) None ∷ w.stack; records = w.records } fills (reserve ∷ leave (Some (padded payload)) ∷ for_reader) are)
     ∙ ap (λ (v : WriterState). v.records) (reader_keeps _ for_reader reads)
@@ -321,12 +321,12 @@ record_adds w moment payload fills for_reader are reads =
     ∙ ap (λ (bytes : List ℕ). w.records ++ record (reservation_for moment (length payload) w.records) { bytes = Some bytes } ∷ []) (twice payload)
 
 refused_adds : (w : WriterState) (moment len : ℕ) (fills for_reader : List HistoryEvent) → AreFills fills → AreForReader for_reader
-    → (acted w (push moment len ∷ (fills ++ leave None ∷ for_reader))).records ≡ w.records
+    → (has_events w (push moment len ∷ (fills ++ leave None ∷ for_reader))).records ≡ w.records
 refused_adds w moment len fills for_reader are reads =
     ap (λ (v : WriterState). v.records) (fills_then record { stack = record_frame moment len None ∷ w.stack; records = w.records } fills (leave None ∷ for_reader) are)
     ∙ ap (λ (v : WriterState). v.records) (reader_keeps _ for_reader reads)
 
-records_after : (front after own : List HistoryEvent) → after ≡ front ++ own → reserved_records after ≡ (acted (writer_after front) own).records
+records_after : (front after own : List HistoryEvent) → after ≡ front ++ own → reserved_records after ≡ (has_events (writer_after front) own).records
 records_after front after own is = ap reserved_records is ∙ ap (λ (v : WriterState). v.records) (writer-append record { stack = []; records = [] } front own)
 
 pub writes_reserve : WritesReserve

@@ -29,7 +29,7 @@ use Rattle.ring_shared.specs.Calls.{AreWriterFields, IsCall}
 use Rattle.ring_shared.specs.Finishing.{IsReservedOr, is_reserved, stays_refused, is_refused, Reserves, Leaves, is_gone, was_refused, FinishesFrame, FinishesTop, Finishes, met_behind}
 use Rattle.ring_shared.specs.WholeWrites.{GoesAway, IsReserved, EndsRecord, IsRefusedWrite, IsWritten}
 use Rattle.ring_shared.proofs.Targets.{frames_of}
-use Rattle.ring_frames.proofs.Told.{IsRefusal, is_refusal, is_pushed, is_pending, is_full}
+use Rattle.ring_frames.proofs.Reported.{IsRefusal, is_refusal, is_pushed, is_pending, is_full}
 use Rattle.ring_shared.proofs.PushedEnded.{IsPushed, push_answers, HasEnded, end_answers}
 
 -- ---- answers
@@ -105,9 +105,9 @@ module _ (shape : Shape) (before after : Writing) (moment len : ℕ) (result : A
       kind_is = p.kind_is;
       reserves = record_waits p.frame.kind p.frame.state moment len p.kind_is p.state_is;
     },
-    is_pushed shape.size result call.answer call.tells p.answer_is,
+    is_pushed shape.size result call.answer call.reports p.answer_is,
   )
-  push_so (inr (why, denied, same)) = absurd (not_no (is_refusal shape.size result call.answer why call.tells denied))
+  push_so (inr (why, denied, same)) = absurd (not_no (is_refusal shape.size result call.answer why call.reports denied))
 
   pub has_begun : HasBegun moment len before after × (result ≡ Pushed)
   has_begun = push_so (push_answers shape.pages shape.size call.core moment len call.answer call.next (cases_of call.step))
@@ -144,15 +144,15 @@ module _ (shape : Shape) (before pushed after : Writing) (moment len : ℕ) (beg
   pub has_record : (IsRefusal result → ⊥) → HasTopRecord (for_record moment len) before.frames after.frames
   has_record denied = (reserved_so (for_record moment len) before.frames result after.frames reserving.ends denied).0
 
-  push_told : IsCall shape before (model.pushes moment len) Pushed pushed
-  push_told = subst (λ (x : Answer). IsCall shape before (model.pushes moment len) x pushed) (has_begun shape before pushed moment len begun push went).1 push
+  push_reported : IsCall shape before (model.pushes moment len) Pushed pushed
+  push_reported = subst (λ (x : Answer). IsCall shape before (model.pushes moment len) x pushed) (has_begun shape before pushed moment len begun push went).1 push
 
   pub is_reserved_by : (IsRefusal result → ⊥) → IsReserved shape before moment len after
   is_reserved_by denied =
       let (number, is) = (reserved_so (for_record moment len) before.frames result after.frames reserving.ends denied).1 in record {
         pushed = pushed;
         number = number;
-        push = push_told;
+        push = push_reported;
         reserve = subst (λ (x : Answer). Reserves shape (for_record moment len) before.frames pushed x after) is reserving;
       }
 
@@ -165,7 +165,7 @@ module _ (shape : Shape) (before pushed after : Writing) (moment len : ℕ) (beg
       inr record {
         pushed = pushed;
         refused = after;
-        push = push_told;
+        push = push_reported;
         reserve = refused_with fault e;
         goes = inl refl;
         frames = gone_so (refused_so (for_record moment len) before.frames result fault after.frames reserving.ends e);
@@ -187,7 +187,7 @@ module _ (shape : Shape) (before pushed after : Writing) (moment len : ℕ) (beg
       inr record {
         pushed = pushed;
         refused = after;
-        push = push_told;
+        push = push_reported;
         reserve = refused_with fault e;
         goes = inr (next, last, top, leaves, all);
         frames = leaves_below shape before.frames after last end all;
@@ -240,8 +240,8 @@ module _ (shape : Shape) (before after : Writing) (payload : List ℕ) (result :
   frames_then = ap (λ (w : Writing). w.frames) (sym call.after_is) ∙ ended.frames_are
 
   pending_so : (below : List Frame) → t.below ≡ below → result ≢ Ended Full → result ≡ Ended Pending
-  pending_so [] e ne = absurd (ne (is_full shape.size result call.answer call.tells (ended.answer_is ∙ ap model.end_answer e)))
-  pending_so (next ∷ others) e ne = is_pending shape.size result call.answer call.tells (ended.answer_is ∙ ap model.end_answer e)
+  pending_so [] e ne = absurd (ne (is_full shape.size result call.answer call.reports (ended.answer_is ∙ ap model.end_answer e)))
+  pending_so (next ∷ others) e ne = is_pending shape.size result call.answer call.reports (ended.answer_is ∙ ap model.end_answer e)
 
   -- the frame below is on top
   pub ends_above : result ≢ Ended Full → (how : Rattle.nested_writer.specs.declared.stack.leave.Ended.Ended) × IsCall shape before (model.ends payload) (Ended how) after × GoesAway shape after how after
@@ -249,13 +249,13 @@ module _ (shape : Shape) (before after : Writing) (payload : List ℕ) (result :
 
   left_alone : (below : List Frame) → t.below ≡ below → result ≡ Ended Full → (frame : Frame) × (after.frames ≡ frame ∷ []) × (frame.state ≡ left)
   left_alone [] e full = (_, frames_then ∙ ap (model.frames_after_leave call.core t.frame) e, refl)
-  left_alone (next ∷ others) e full = absurd (let both : Ended Full ≡ Ended Pending = sym full ∙ is_pending shape.size result call.answer call.tells (ended.answer_is ∙ ap model.end_answer e) in cc)
+  left_alone (next ∷ others) e full = absurd (let both : Ended Full ≡ Ended Pending = sym full ∙ is_pending shape.size result call.answer call.reports (ended.answer_is ∙ ap model.end_answer e) in cc)
 
   others_are : (end : Writing) → end.frames ≡ t.below → (frame : Frame) (below : List Frame) → before.frames ≡ frame ∷ below → end.frames ≡ below
   others_are end at frame below top = at ∙ (let both : t.frame ∷ t.below ≡ frame ∷ below = sym t.top ∙ top in let same : t.below ≡ below = cc in same)
 
   below_left : (below : List Frame) → t.below ≡ below → result ≢ Ended Full → after.frames ≡ t.below
-  below_left [] e ne = absurd (ne (is_full shape.size result call.answer call.tells (ended.answer_is ∙ ap model.end_answer e)))
+  below_left [] e ne = absurd (ne (is_full shape.size result call.answer call.reports (ended.answer_is ∙ ap model.end_answer e)))
   below_left (next ∷ others) e ne = frames_then ∙ ap (model.frames_after_leave call.core t.frame) e ∙ sym e
 
   pub left_above : result ≢ Ended Full → (frame : Frame) (below : List Frame) → before.frames ≡ frame ∷ below → after.frames ≡ below
@@ -263,7 +263,7 @@ module _ (shape : Shape) (before after : Writing) (payload : List ℕ) (result :
 
   none_below : (below : List Frame) → t.below ≡ below → result ≡ Ended Full → below ≡ []
   none_below [] e full = refl
-  none_below (next ∷ others) e full = absurd (let both : Ended Full ≡ Ended Pending = sym full ∙ is_pending shape.size result call.answer call.tells (ended.answer_is ∙ ap model.end_answer e) in cc)
+  none_below (next ∷ others) e full = absurd (let both : Ended Full ≡ Ended Pending = sym full ∙ is_pending shape.size result call.answer call.reports (ended.answer_is ∙ ap model.end_answer e) in cc)
 
   pub left_full : result ≡ Ended Full → (frame : Frame) × (after.frames ≡ frame ∷ []) × (frame.state ≡ left)
   left_full full = left_alone t.below refl full

@@ -33,7 +33,7 @@ pub record IsCall (shape : Shape) (before : Writing) (event : model.Event) (resu
   pub before_is : writing_of core ≡ before
   pub step : model.Step shape.pages shape.size core event answer next
   pub after_is : writing_of next ≡ after
-  pub tells : IsAnswerOf shape.size result answer
+  pub reports : IsAnswerOf shape.size result answer
 
 -- so the writer makes of the ring, and is the same one
 pub record MakesSome (old : WriterValue) (event : model.Event) (result : Answer) (new : WriterValue) : Type 0 where

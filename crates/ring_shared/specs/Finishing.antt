@@ -11,8 +11,8 @@ use Rattle.nested_writer.specs.Stack.{Stack, kind_of, state_of}
 use Rattle.nested_writer.specs.Calls.{LacksSlot, IsTopSlot}
 use Rattle.ring_frames.specs.declared.answer.Answer.{Answer}
 use Rattle.ring_frames.specs.declared.answer.Answer.TheVariants.{Pushed, Going, Reserved, Ended, Gone, Refused, Looking, Empty, Moving, Taken, Wished}
-use Rattle.ring_frames.specs.declared.phase.Turned.{Turned}
-use Rattle.ring_frames.specs.declared.phase.Turned.TheVariants as turned
+use Rattle.ring_frames.specs.declared.phase.StepAnswer.{StepAnswer}
+use Rattle.ring_frames.specs.declared.phase.StepAnswer.TheVariants as step_answer
 use Rattle.ring_frames.specs.Answers.{bytes_in}
 use Rattle.ring_steps.specs.declared.rule.Shape.{Shape}
 use Rattle.ring_steps.specs.Views.{Writing}
@@ -75,10 +75,10 @@ pub data Leaves (shape : Shape) (below : List Frame) : Writing → Answer → Wr
 
 -- It has made steps, each of which was answered `Going`, and it is on the stack and leaves; or the last of them
 -- answered that it is gone.
-abbrev pub Closes : Shape → List Frame → Writing → Turned → Writing → Type 0
-Closes shape below before turned.Going after =
+abbrev pub Closes : Shape → List Frame → Writing → StepAnswer → Writing → Type 0
+Closes shape below before step_answer.Going after =
     (frame : Frame) × (after.frames ≡ frame ∷ below) × IsLeaving frame.kind frame.state × MakesSteps shape before after
-Closes shape below before turned.Gone after = Leaves shape below before Gone after
+Closes shape below before step_answer.Gone after = Leaves shape below before Gone after
 
 -- ---- the frame on top
 
@@ -164,6 +164,6 @@ abbrev pub IsGoneOrRefused : Answer → Type 0
 IsGoneOrRefused result = (result ≡ Gone) ⊎ ((fault : WriteFault) × (result ≡ Refused fault))
 
 -- it is answered if there is one, or else the last answer is
-abbrev pub told_behind : Option WriteFault → Answer → Answer
-told_behind None last = last
-told_behind (Some fault) last = Refused fault
+abbrev pub reported_behind : Option WriteFault → Answer → Answer
+reported_behind None last = last
+reported_behind (Some fault) last = Refused fault

@@ -24,7 +24,7 @@ pub record IsAppended (shape : Shape) (before : Writing) (event : model.Event) (
   pub answer : model.Answer
   pub history_events : List HistoryEvent
   pub before_is : writing_of core ≡ before
-  pub tells : IsAnswerOf shape.size result answer
+  pub reports : IsAnswerOf shape.size result answer
   pub appends : Appends shape.pages core event answer history_events
   pub history_is : after.history ≡ before.history ++ history_events
 
@@ -62,8 +62,8 @@ ReservationsAppend = (shape : Shape) (before : Writing) (frame : Frame) (below :
     → (number.0 ≡ length (reserved_records before.history)) × (after.history ≡ before.history ++ reserve ∷ [])
 
 -- one that has a number is answered it again, and appends nothing;
-abbrev pub NumbersAreToldAgain : Type 0
-NumbersAreToldAgain = (shape : Shape) (before : Writing) (frame : Frame) (below : List Frame) (number : ℕ)
+abbrev pub NumbersAreReportedAgain : Type 0
+NumbersAreReportedAgain = (shape : Shape) (before : Writing) (frame : Frame) (below : List Frame) (number : ℕ)
     (result : Answer) (after : Writing)
     → before.frames ≡ frame ∷ below
     → frame.state ≡ reserved number

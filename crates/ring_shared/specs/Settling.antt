@@ -3,7 +3,7 @@ use Rattle.std.specs.Prelude.{◌≡◌, ℕ, ◌+◌, ◌<◌, ◌≤◌, ◌�
 use Rattle.std.specs.List.{slice_get}
 use Rattle.trace_model.specs.History.{committed_records}
 use Rattle.trace_model.specs.Partition.{Piece, IsPartition}
-use Rattle.trace_model.specs.Ring.{Taken, fill_of, AreFillsOf}
+use Rattle.trace_model.specs.Ring.{TakenFill, fill_of, AreFillsOf}
 use Rattle.link_marks.specs.KeptPartition.{pieces_of}
 use Rattle.page_image.specs.Contents.{Contents, records_of_page}
 use Rattle.nested_writer.specs.Released.{IsWrittenPage}
@@ -23,7 +23,7 @@ piece_unread (Some page) = record { skipped = 0; records = records_of_page page 
 
 -- a fill that the reader took
 abbrev pub WasTaken : Reading → ℕ → Type 0
-WasTaken reading f = (k : ℕ) × (t : Taken) × (slice_get reading.reader.taken k ≡ Some t) × (t.fill ≡ f)
+WasTaken reading f = (k : ℕ) × (t : TakenFill) × (slice_get reading.reader.taken k ≡ Some t) × (t.fill ≡ f)
 
 -- The committed records are what the reader took, with what it reports as missed, and then the unread page's, and
 -- nothing else. That page is the tail. Each closed fill was taken, or is lost: the fill one round of the ring's pages

@@ -3,7 +3,7 @@ use Rattle.std.specs.Prelude.{◌≡◌, ⊤, ℕ, ◌+◌, ◌*◌, ◌^◌, �
 use Rattle.trace_model.specs.declared.limits.TheConstants.{LINK_PAGES}
 use Rattle.trace_model.specs.declared.numbers.FillNo.{FillNo}
 use Rattle.trace_model.specs.Record.{Record}
-use Rattle.trace_model.specs.Ring.{Taken, Core}
+use Rattle.trace_model.specs.Ring.{TakenFill, Core}
 use Rattle.trace_model.specs.Steps as model
 use Rattle.trace_model.specs.Partition.{IsPartition}
 use Rattle.link_marks.specs.Reached.{IsReached}
@@ -13,15 +13,15 @@ use Rattle.page_image.specs.Contents.{Contents, records_of_page, IsPage}
 use Rattle.ring_frames.specs.Answers.{IsTakenPage}
 use Rattle.ring_frames.specs.ReaderPhases.{reader_phase_of}
 use Rattle.ring_frames.specs.declared.reader.ReaderPhase.{ReaderPhase}
-use Rattle.ring_frames.specs.declared.reader.ReaderPhase.TheVariants.{LoadingLink, LoadingDone, StoringLink, Swapping}
+use Rattle.ring_frames.specs.declared.reader.ReaderPhase.TheVariants.{LoadingHead, LoadingDone, StoringSpareLink, Swapping}
 use Rattle.ring_steps.specs.declared.rule.Shape.{Shape}
 use Rattle.ring_steps.specs.Views.{Reading}
 use Rattle.ring_steps.specs.Shown.{IsReading}
 use Rattle.ring_steps.specs.Seats.{IsReaderStep}
 use Rattle.ring_shared.specs.declared.take.Take.{Take}
 use Rattle.ring_shared.specs.declared.take.Take.TheVariants.{Page, Empty, Moving}
-use Rattle.ring_shared.specs.declared.take.Turn.{Turn}
-use Rattle.ring_shared.specs.declared.take.Turn.TheVariants.{Looking, Done}
+use Rattle.ring_shared.specs.declared.take.TakeStep.{TakeStep}
+use Rattle.ring_shared.specs.declared.take.TakeStep.TheVariants.{Looking, Done}
 use Rattle.ring_shared.specs.Value.{ReaderValue}
 
 -- ---- the reader
@@ -34,16 +34,16 @@ pub record IsReaderPart (shape : Shape) (part : Reading) : Type 0 where
 
 -- the slot of the reader's page is out with it while it is about to swap, and may be until its next load of a link
 abbrev pub KeepsSlot : ReaderPhase → Bool → Type 0
-KeepsSlot LoadingLink keeps = Unit {0}
+KeepsSlot LoadingHead keeps = Unit {0}
 KeepsSlot (LoadingDone page fill) keeps = keeps ≡ false
-KeepsSlot (StoringLink page fill) keeps = keeps ≡ false
+KeepsSlot (StoringSpareLink page fill) keeps = keeps ≡ false
 KeepsSlot (Swapping page fill) keeps = keeps ≡ true
 
 -- the page that it saw is one that a link can state
 abbrev pub SawPage : ReaderPhase → Type 0
-SawPage LoadingLink = Unit {0}
+SawPage LoadingHead = Unit {0}
 SawPage (LoadingDone page fill) = page < LINK_PAGES
-SawPage (StoringLink page fill) = page < LINK_PAGES
+SawPage (StoringSpareLink page fill) = page < LINK_PAGES
 SawPage (Swapping page fill) = page < LINK_PAGES
 
 -- The last take found `done` closed fills, all of them passed: the reader knows exactly that, is at no take, and has no
@@ -51,7 +51,7 @@ SawPage (Swapping page fill) = page < LINK_PAGES
 pub record FoundEmpty (v : ReaderValue) (done : ℕ) : Type 0 where
   pub hint_is : v.part.reader.hint ≡ done
   pub seen_is : v.part.reader.seen ≡ done
-  pub phase_is : v.at.phase ≡ LoadingLink
+  pub phase_is : v.at.phase ≡ LoadingHead
   pub no_slot : v.part.keeps_spare ≡ false
 
 -- The reader's fields are its part of the ring.
@@ -91,7 +91,7 @@ ArePassedBelow shape part fill = (core : Core)
 -- wishes as before.
 pub record IsPageTaken (shape : Shape) (before : Reading) (page : Contents) (missed : ℕ) (after : Reading)
     : Type 0 where
-  pub taken : Taken
+  pub taken : TakenFill
   pub is : IsTakenPage shape.size page missed taken
   pub one_more : after.reader.taken ≡ before.reader.taken ++ taken ∷ []
   pub first_is : taken.held.first ≡ before.reader.expected + missed
@@ -145,27 +145,27 @@ empty_of (Moving fill back) = None
 -- ---- the steps of a take
 
 -- what one step of a take answers
-abbrev pub IsTurn : Shape → Reading → List ℕ → Turn → Reading → Type 0
-IsTurn shape before body (Looking back) after = (length back ≡ length body) × TakesNothing before after
-IsTurn shape before body (Done took) after = IsTake shape before body took after
+abbrev pub IsTakeStep : Shape → Reading → List ℕ → TakeStep → Reading → Type 0
+IsTakeStep shape before body (Looking back) after = (length back ≡ length body) × TakesNothing before after
+IsTakeStep shape before body (Done took) after = IsTake shape before body took after
 
 -- The model's reader makes a step with this answer: from a state in which its part is the first to one in which it is
 -- the second.
 abbrev pub ReadsSo : Shape → Reading → model.Answer → Reading → Type 0
-ReadsSo shape before told after = IsReaderStep shape before (λ _. ⊤) model.reads told after
+ReadsSo shape before reported after = IsReaderStep shape before (λ _. ⊤) model.reads reported after
 
 -- the step's answer means the model's
-abbrev pub TurnTells : ℕ → Turn → model.Answer → Type 0
-TurnTells size (Looking back) told = told ≡ model.reading
-TurnTells size (Done (Page page missed)) told = (t : Taken) × (told ≡ model.swapped t) × IsTakenPage size page missed t
-TurnTells size (Done (Empty done back)) told = told ≡ model.empty done
-TurnTells size (Done (Moving fill back)) told = told ≡ model.moving fill.0
+abbrev pub TakeStepMeans : ℕ → TakeStep → model.Answer → Type 0
+TakeStepMeans size (Looking back) reported = reported ≡ model.reading
+TakeStepMeans size (Done (Page page missed)) reported = (t : TakenFill) × (reported ≡ model.page_taken t) × IsTakenPage size page missed t
+TakeStepMeans size (Done (Empty done back)) reported = reported ≡ model.empty done
+TakeStepMeans size (Done (Moving fill back)) reported = reported ≡ model.moving fill.0
 
 -- so a take answers at once if the model does, and continues if the model does
-pub record IsAnswered (shape : Shape) (before : Reading) (turn : Turn) (after : Reading) : Type 0 where
-  pub told : model.Answer
-  pub step : ReadsSo shape before told after
-  pub tells : TurnTells shape.size turn told
+pub record IsAnswered (shape : Shape) (before : Reading) (take_step : TakeStep) (after : Reading) : Type 0 where
+  pub reported : model.Answer
+  pub step : ReadsSo shape before reported after
+  pub reports : TakeStepMeans shape.size take_step reported
 
 -- ---- how many steps a take makes
 
@@ -201,20 +201,20 @@ SameRing before after = (after.shape ≡ before.shape) × (after.table ≡ befor
 
 -- After a step, the reader's fields are its part again; it found nothing if the answer says so, and the last take's
 -- answer isn't given yet.
-abbrev pub EmptyAfter : ReaderValue → Turn → Type 0
+abbrev pub EmptyAfter : ReaderValue → TakeStep → Type 0
 EmptyAfter v (Looking back) = Unit {0}
 EmptyAfter v (Done (Page page missed)) = Unit {0}
 EmptyAfter v (Done (Empty done back)) = FoundEmpty v done
 EmptyAfter v (Done (Moving fill back)) = Unit {0}
 
 -- the reader keeps no `Empty` of a take
-pub record IsTaking (v : ReaderValue) : Type 0 where
+pub record KeepsNoEmpty (v : ReaderValue) : Type 0 where
   pub reader : IsReader v
   pub again : v.empty_at ≡ None
 
 -- One step of a take, which has this answer: what it takes, as the model does, and what the reader knows then.
-pub record MakesTurn (old : ReaderValue) (body : List ℕ) (result : Turn) (new : ReaderValue) : Type 0 where
-  pub turn : IsTurn old.shape old.part body result new.part
+pub record MakesTakeStep (old : ReaderValue) (body : List ℕ) (result : TakeStep) (new : ReaderValue) : Type 0 where
+  pub take_step : IsTakeStep old.shape old.part body result new.part
   pub answered : IsAnswered old.shape old.part result new.part
   pub empty : EmptyAfter new result
   pub empty_at : new.empty_at ≡ None

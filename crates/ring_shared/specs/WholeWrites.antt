@@ -58,7 +58,7 @@ pub record EndsRecord (old new : WriterValue) : Type 0 where
 
 -- The frame is pushed, and makes steps until it is refused; if it is not gone then, it makes steps until it is. So the
 -- same frames as before are left.
-pub record IsRefusedAmid (shape : Shape) (before : Writing) (moment len : ℕ) (fault : WriteFault) (after : Writing)
+pub record IsRefusedPartWay (shape : Shape) (before : Writing) (moment len : ℕ) (fault : WriteFault) (after : Writing)
     : Type 0 where
   pub pushed : Writing
   pub refused : Writing
@@ -75,4 +75,4 @@ pub record IsRefusedAmid (shape : Shape) (before : Writing) (moment len : ℕ) (
 -- The frame is refused as it is pushed, or after that.
 abbrev pub IsRefusedWrite : Shape → Writing → (moment len : ℕ) → WriteFault → Writing → Type 0
 IsRefusedWrite shape before moment len fault after =
-    Pushes shape before moment len (Refused fault) after ⊎ IsRefusedAmid shape before moment len fault after
+    Pushes shape before moment len (Refused fault) after ⊎ IsRefusedPartWay shape before moment len fault after

@@ -1,5 +1,5 @@
 //! What holds of any call of a running ring's writer.
-ghost use Rattle.ring_shared.specs.Laws.{CallsAppend, ClosesAppend, EndsAppend, NumbersAreToldAgain, PushesAppend, RefusalsAppend, ReservationsAppend};
+ghost use Rattle.ring_shared.specs.Laws.{CallsAppend, ClosesAppend, EndsAppend, NumbersAreReportedAgain, PushesAppend, RefusalsAppend, ReservationsAppend};
 ghost use Rattle.ring_shared.specs.WholeLaws.{FinishesClose, FinishesLeft, FinishesRefused, FinishesReserve, PaddedTwice, RefusedWritesAppend, RefusedWritesLeaveNoFrame, RefusedWritesReserveNone, WritersHaveHistories, WritesAppend, WritesReserve};
 
 /// A call appends to the history of its writer's frames what its answer states, and nothing else.
@@ -9,7 +9,7 @@ pub fn calls_append()
     ensures closes { ClosesAppend }
     ensures ends { EndsAppend }
     ensures reserves { ReservationsAppend }
-    ensures again { NumbersAreToldAgain }
+    ensures again { NumbersAreReportedAgain }
     ensures refusals { RefusalsAppend }
 {}
 

@@ -17,7 +17,7 @@ pub enum Take {
 
 /// What one step of a take answers.
 #[derive(Drop)]
-pub(crate) enum Turn {
+pub(crate) enum TakeStep {
     /// The take continues.
     Looking(Body),
     /// It has its answer.

@@ -10,7 +10,7 @@ use Rattle.link_marks.specs.RingKept.{IsRingKept}
 use Rattle.link_marks.proofs.contents.PageChanges.{pages_differ}
 use Rattle.link_marks.proofs.partition.RingsKept.{reached_kept}
 use Rattle.ring_steps.specs.declared.rule.Shape.{Shape}
-use Rattle.ring_steps.specs.Views.{Writing, writing_of, Reading, SeatView, laid, whole, writes, reads, writing, passed, reading, ArePlaced, made, running}
+use Rattle.ring_steps.specs.Views.{Writing, writing_of, Reading, SeatView, laid, whole, writes, reads, writing, passed, reading, AreSeated, made, running}
 use Rattle.ring_steps.specs.Shown.{Homes, IsHome, HasBody, AreHomes, IsShown, Shows}
 use Rattle.ring_steps.specs.Seats.{Sat}
 use Rattle.ring_steps.proofs.Placed.{laid_at, whole_at}
@@ -59,7 +59,7 @@ module _ (shape : Shape) (first_w : Writing) (first_r : Reading) where
             are_homes = oldest_taken shape.pages shape.size shape.start h.core h.reader s.homes page k h.shown.is_reading.spare_is (ap (λ (w : Writing). get_or w.open_pages 0 0) w_is) h.shown.are_homes;
             is_reading = h.shown.is_reading;
           };
-          seats = subst (ArePlaced (writing_of h.core) h.reader h.core.head) (λ i. set (sym views i) (sym first i) (whole (sym w_is i) (sym r_is i))) made;
+          seats = subst (AreSeated (writing_of h.core) h.reader h.core.head) (λ i. set (sym views i) (sym first i) (whole (sym w_is i) (sym r_is i))) made;
           tail = λ u v e. let there : whole first_w first_r ∷ [] ≡ laid u v ∷ [] = sym (λ i. set (views i) (first i) (whole first_w first_r)) ∙ e in absurd (cc);
         },
         (refl, ap (λ (m : Sat). (page, None) ∷ m.1) is),
@@ -71,7 +71,7 @@ cut n size start id view is s h at =
       core = h.core;
       reader = h.reader;
       shown = h.shown;
-      seats = subst (ArePlaced (writing_of h.core) h.reader h.core.head) (λ i. set (sym views i) (sym first i) (writes (sym w_is i) (passed (sym is i))) ++ reads (sym r_is i) ∷ []) (running 0 (omega arith));
+      seats = subst (AreSeated (writing_of h.core) h.reader h.core.head) (λ i. set (sym views i) (sym first i) (writes (sym w_is i) (passed (sym is i))) ++ reads (sym r_is i) ∷ []) (running 0 (omega arith));
       tail = λ u v e. let there : writes (writing view) (passed view) ∷ reads (reading view) ∷ [] ≡ laid u v ∷ [] = sym (λ i. set (views i) (first i) (writes (writing view) (passed view)) ++ reads (reading view) ∷ []) ∙ e in absurd (cc);
     }
 

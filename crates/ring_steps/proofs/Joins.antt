@@ -5,7 +5,7 @@ use mathlib.Core.Option.{some}
 use lib.ListN.{get_elem?}
 use Rattle.atomic_table.specs.Table.{keeps, Allows, Joins}
 use Rattle.ring_steps.specs.declared.rule.Shape.{Shape}
-use Rattle.ring_steps.specs.Views.{Writing, writing_of, Reading, SeatView, laid, writes, reads, joined, spent, writing, passed, reading, ArePlaced, settled}
+use Rattle.ring_steps.specs.Views.{Writing, writing_of, Reading, SeatView, laid, writes, reads, joined, spent, writing, passed, reading, AreSeated, settled}
 use Rattle.ring_steps.specs.Shown.{AreWords, IsReading, Shows}
 use Rattle.ring_steps.specs.Seats.{Sat, AreParts}
 use Rattle.ring_steps.proofs.Placed.{writer_at, joined_at}
@@ -27,7 +27,7 @@ joins n size start id view other with is its s h at ne there =
       core = h.core;
       reader = h.reader;
       shown = h.shown;
-      seats = subst (ArePlaced (writing_of h.core) h.reader h.core.head) ((λ i. joined (sym w_is i) (sym r_is i) ∷ spent ∷ []) ∙ sym whole) settled;
+      seats = subst (AreSeated (writing_of h.core) h.reader h.core.head) ((λ i. joined (sym w_is i) (sym r_is i) ∷ spent ∷ []) ∙ sym whole) settled;
       tail = λ u v e. let there : joined w r ∷ spent ∷ [] ≡ laid u v ∷ [] = sym whole ∙ e in absurd (cc);
     }
 
@@ -49,7 +49,7 @@ looks shape slots id me is s h deep at range =
           are_homes = h.shown.are_homes;
           is_reading = h.shown.is_reading;
         };
-        seats = subst (ArePlaced (writing_of h.core) h.reader h.core.head) (sym same) settled;
+        seats = subst (AreSeated (writing_of h.core) h.reader h.core.head) (sym same) settled;
         tail = λ u v e. let there : joined (writing_of h.core) h.reader ∷ spent ∷ [] ≡ laid u v ∷ [] = sym same ∙ e in absurd (cc);
       },
       record { core = h.core; reached = h.shown.reached; writing_is = sym w_is; reading_is = subst (IsReading h.core) (sym r_is) h.shown.is_reading },

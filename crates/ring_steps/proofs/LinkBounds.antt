@@ -10,7 +10,7 @@ use Rattle.trace_model.specs.Frames.{Phase, marking, clearing, Frame, noted_fill
 use Rattle.trace_model.specs.Ring.{Core, link_into}
 use Rattle.trace_model.specs.Steps.{Answer}
 use Rattle.trace_model.proofs.steps.StepCases.{ClearUpdateStep, clears}
-use Rattle.trace_model.proofs.words.LinkWords.{word_tells}
+use Rattle.trace_model.proofs.words.LinkWords.{word_reports}
 use Rattle.link_marks.specs.KeptLinks.{spot, passed_spot}
 use Rattle.link_marks.specs.RingKept.{IsRingKept}
 use Rattle.link_marks.specs.Reached.{IsReached}
@@ -123,7 +123,7 @@ seen_as shape before sees other answer after turn s = record {
 module _ (shape : Shape) (few : shape.pages ≤ MAX_PAGES) (fill found : ℕ) (l : Link) (fits : FitsWord l) (core : Core) (reached : IsReached shape.pages shape.size shape.start core) (seen : word_of (link_into shape.pages core.links fill) ≡ found) where
   -- the link is the one whose word was found
   pub link_seen : word_of l ≡ found → link_into shape.pages core.links fill ≡ l
-  link_seen same = word_tells (link_into shape.pages core.links fill) l (link_fits shape.pages shape.size shape.start core fill few reached) fits (seen ∙ sym same)
+  link_seen same = word_reports (link_into shape.pages core.links fill) l (link_fits shape.pages shape.size shape.start core fill few reached) fits (seen ∙ sym same)
 
   -- an exchange was done if and only if it was there
   pub done_seen : (from : ℕ) → from ≡ word_of l → ((found == from) ≡ true) ↔ (link_into shape.pages core.links fill ≡ l)

@@ -12,9 +12,9 @@ use Rattle.trace_model.specs.declared.limits.TheConstants.{MAX_PAGES, LINK_PAGES
 use Rattle.trace_model.specs.Links.{Link, word_of, normal_link, header_link, update_link, FitsWord}
 use Rattle.trace_model.specs.Frames.{Role, owner, helper, Phase, looking, claiming, looking_next, marking, clearing, opening, wishing, Frame, noted_fill}
 use Rattle.trace_model.specs.Ring.{Core, link_into, links_with, page_at}
-use Rattle.trace_model.specs.Steps.{steps, going, Answer, MayOpen, after_next, in_phase, with_head_claimed, with_link, contents_of, Step}
+use Rattle.trace_model.specs.Steps.{steps, going, Answer, MayContinue, after_next, in_phase, with_head_claimed, with_link, contents_of, Step}
 use Rattle.trace_model.proofs.steps.StepCases.{LoadLinkStep, load_link_late, sees_free, sees_header, sees_update, ClaimHeadStep, claim_late, claims, claim_fails, LoadNextStep, load_next_late, sees_normal, sees_other, MarkHeadStep, mark_late, marks, mark_fails, ClearUpdateStep, clears, LoadWishStep, grants, closes_more, goes_away}
-use Rattle.trace_model.proofs.words.LinkWords.{word_tells}
+use Rattle.trace_model.proofs.words.LinkWords.{word_reports}
 use Rattle.link_marks.specs.KeptLinks.{passed_spot}
 use Rattle.link_marks.specs.RingKept.{IsRingKept}
 use Rattle.link_marks.specs.Reached.{IsReached}
@@ -29,9 +29,9 @@ use Rattle.link_marks.proofs.steps.StepsGiven.{each_event_is_a_step}
 use Rattle.ring_steps.specs.declared.rule.Shape.{Shape}
 use Rattle.ring_steps.specs.Views.{Writing, writing_of, Reading, writing, passed}
 use Rattle.ring_steps.specs.Shown.{page_word, page_before, AreWords, Homes}
-use Rattle.ring_steps.specs.Seats.{Sat, emptied, IsWriting, WriterTold}
+use Rattle.ring_steps.specs.Seats.{Sat, emptied, IsWriting, WriterReported}
 use Rattle.ring_steps.specs.Paging.{IsTopIn}
-use Rattle.ring_steps.specs.Linking.{tail_in, LooksBehind, MarksBehind, number_or_zero, noted_on_top, behind_in, SeesLink, LinkTold, ClaimTold, WishTold}
+use Rattle.ring_steps.specs.Linking.{tail_in, LooksBehind, MarksBehind, number_or_zero, noted_on_top, behind_in, SeesLink, LinkReported, ClaimReported, WishReported}
 use Rattle.ring_steps.proofs.LinkWords.{with_link_word}
 use Rattle.ring_steps.proofs.Private.{stays_shown}
 use Rattle.ring_steps.proofs.Allowing.{IsShownBy, WriterMoves}
@@ -90,7 +90,7 @@ module _ (shape : Shape) (me : Sat) (is : IsWriting me) (now : Writing) (c : Cor
       → c.head ≤ head
       → sees (slice_index ws i) c
       → AreWords shape.pages (moved c frames links head) (slice_set ws i (f (slice_index ws i)))
-      → WriterMoves shape r me ws homes i f (λ found after. WriterTold shape now (passed me.0) (sees found) going after)
+      → WriterMoves shape r me ws homes i f (λ found after. WriterReported shape now (passed me.0) (sees found) going after)
   moves_on i f sees frames links head step low seen words = record {
     next = moved c frames links head;
     knows = passed me.0;
@@ -111,7 +111,7 @@ module _ (shape : Shape) (me : Sat) (is : IsWriting me) (now : Writing) (c : Cor
         observed_is = s.is_reading.observed_is;
       };
     };
-    told = record {
+    reported = record {
       seat = record { view = refl; hand = is.hand ∙ ap emptied (sym pages) };
       knows = omega arith;
       step = record { core = c; next = moved c frames links head; reached = s.reached; before_is = now_is; seen = seen; step = step; after_is = refl };
@@ -123,7 +123,7 @@ module _ (shape : Shape) (me : Sat) (is : IsWriting me) (now : Writing) (c : Cor
       → Step shape.pages shape.size c steps going (moved c frames c.links c.head)
       → sees (slice_index ws i) c
       → f (slice_index ws i) ≡ slice_index ws i
-      → WriterMoves shape r me ws homes i f (λ found after. WriterTold shape now (passed me.0) (sees found) going after)
+      → WriterMoves shape r me ws homes i f (λ found after. WriterReported shape now (passed me.0) (sees found) going after)
   stays_on i f sees frames step seen same =
       let a = s.are_words in
       moves_on i f sees frames c.links c.head step (omega arith) seen
@@ -171,7 +171,7 @@ module _ (shape : Shape) (me : Sat) (is : IsWriting me) (now : Writing) (c : Cor
   -- the word isn't that of a link which isn't there
   other_word : (page f : ℕ) (l : Link) → page ≡ page_before shape.pages c.order f → FitsWord l → link_into shape.pages c.links f ≢ l → slice_index ws (page_word page) ≢ word_of l
   other_word page f l e fits differ same =
-      differ (word_tells (link_into shape.pages c.links f) l (link_fits shape.pages shape.size shape.start c f s.pages_fit s.reached) fits (word_there page f e ∙ same))
+      differ (word_reports (link_into shape.pages c.links f) l (link_fits shape.pages shape.size shape.start c f s.pages_fit s.reached) fits (word_there page f e ∙ same))
 
   -- ---- loads of links
 
@@ -179,7 +179,7 @@ module _ (shape : Shape) (me : Sat) (is : IsWriting me) (now : Writing) (c : Cor
   Sees fill found = SeesLink shape (passed me.0) fill found
 
   abbrev LoadMoves : (page fill : ℕ) → Type 0
-  LoadMoves page fill = WriterMoves shape r me ws homes (page_word page) (λ n. n) (λ found after. LinkTold shape now (passed me.0) fill found after)
+  LoadMoves page fill = WriterMoves shape r me ws homes (page_word page) (λ n. n) (λ found after. LinkReported shape now (passed me.0) fill found after)
 
   loads : (page fill : ℕ) (frame : Frame) (below : List Frame) (phase : Phase) (answer : Answer) (after : Core) → page ≡ page_before shape.pages c.order fill
       → Step shape.pages shape.size c steps answer after → answer ≡ going → after ≡ in_phase c frame below phase → LoadMoves page fill
@@ -203,9 +203,9 @@ module _ (shape : Shape) (me : Sat) (is : IsWriting me) (now : Writing) (c : Cor
       looks tail now.opened top.frame top.below answer after (tail_is ∙ tail_front) opened_is step
       (top_stepped shape.pages shape.size c top.frame top.below (looking now.opened) answer after top.is top.phase_is step)
 
-  nexts : (page behind : ℕ) (frame : Frame) (below : List Frame) (role : Role) (noted : ℕ) (answer : Answer) (after : Core) → page ≡ page_before shape.pages c.order behind → MayOpen role noted c.opened
+  nexts : (page behind : ℕ) (frame : Frame) (below : List Frame) (role : Role) (noted : ℕ) (answer : Answer) (after : Core) → page ≡ page_before shape.pages c.order behind → MayContinue role noted c.opened
       → Step shape.pages shape.size c steps answer after → LoadNextStep shape.pages c frame below role noted page answer after → LoadMoves page behind
-  nexts page behind frame below role noted answer after e on step (load_next_late helps late) = absurd (late.passed (subst (λ (x : Role). MayOpen x noted c.opened) helps on))
+  nexts page behind frame below role noted answer after e on step (load_next_late helps late) = absurd (late.passed (subst (λ (x : Role). MayContinue x noted c.opened) helps on))
   nexts page behind frame below role noted answer after e on step (sees_normal lost next x sum at a after_is) = loads page behind frame below (marking role noted page next) answer after e step a after_is
   nexts page behind frame below role noted answer after e on step (sees_other lost x sum other a after_is) = loads page behind frame below (after_next role noted page) answer after e step a after_is
 
@@ -216,13 +216,13 @@ module _ (shape : Shape) (me : Sat) (is : IsWriting me) (now : Writing) (c : Cor
       let known = top_kept shape.pages c top.frame top.below kept.links top.is in
       let passed = known.passed due.noted page (ap passed_spot top.phase_is) in
       subst (λ (fill : ℕ). LoadMoves page fill) (looks_behind shape.pages now page behind due)
-      (nexts page behind top.frame top.below due.role due.noted answer after (passed_front page due.noted behind passed.2 due.behind_is) (subst (MayOpen due.role due.noted) opened_is due.goes_on) step
+      (nexts page behind top.frame top.below due.role due.noted answer after (passed_front page due.noted behind passed.2 due.behind_is) (subst (MayContinue due.role due.noted) opened_is due.goes_on) step
       (top_stepped shape.pages shape.size c top.frame top.below (looking_next due.role due.noted page) answer after top.is top.phase_is step))
 
   -- ---- the wish
 
   asks : (answer : Answer) (after next : Core) → Step shape.pages shape.size c steps answer after → after ≡ next → IsPrivateOf c next → ((page : ℕ) → contents_of next page ≡ contents_of c page) → next.open_pages ≡ c.open_pages
-      → WriterMoves shape r me ws homes 2 (λ n. n) (λ found after. WishTold shape now (passed me.0) found after)
+      → WriterMoves shape r me ws homes 2 (λ n. n) (λ found after. WishReported shape now (passed me.0) found after)
   asks answer after next step after_is own holds same =
       let shown = stays_shown shape.pages shape.size shape.start c steps answer next r ws homes s (subst (λ (d : Core). Step shape.pages shape.size c steps answer d) after_is step) own
       (λ f low high. holds (page_at shape.pages c.order f)) in
@@ -233,7 +233,7 @@ module _ (shape : Shape) (me : Sat) (is : IsWriting me) (now : Writing) (c : Cor
         act = keeps;
         valid = tt;
         shown = subst (λ (words : List ℕ). IsShownBy shape next r words homes) (sym (set-get_or ws 2 0)) shown;
-        told = record {
+        reported = record {
           seat = record { view = refl; hand = is.hand ∙ ap emptied (sym (same ∙ pages)) };
           knows = omega arith;
           answer = answer;
@@ -250,12 +250,12 @@ module _ (shape : Shape) (me : Sat) (is : IsWriting me) (now : Writing) (c : Cor
       }
 
   wishes_at : (frame : Frame) (below : List Frame) (answer : Answer) (after : Core) → Step shape.pages shape.size c steps answer after → LoadWishStep shape.pages c frame below answer after
-      → WriterMoves shape r me ws homes 2 (λ n. n) (λ found after. WishTold shape now (passed me.0) found after)
+      → WriterMoves shape r me ws homes 2 (λ n. n) (λ found after. WishReported shape now (passed me.0) found after)
   wishes_at frame below answer after step (grants alone granted a after_is) = asks answer after _ step after_is refl (λ page. refl) refl
   wishes_at frame below answer after step (closes_more alone denied more a after_is) = asks answer after _ step after_is refl (λ page. refl) refl
   wishes_at frame below answer after step (goes_away alone denied last a after_is) = asks answer after _ step after_is refl (λ page. refl) refl
 
-  pub load_wish_moves : IsTopIn now.frames wishing → WriterMoves shape r me ws homes 2 (λ n. n) (λ found after. WishTold shape now (passed me.0) found after)
+  pub load_wish_moves : IsTopIn now.frames wishing → WriterMoves shape r me ws homes 2 (λ n. n) (λ found after. WishReported shape now (passed me.0) found after)
   load_wish_moves phase =
       let top = top_of c.frames wishing (top_now wishing phase) in
       let (answer, after, step) = each_event_is_a_step shape.pages shape.size shape.start c steps kept tt in
@@ -264,7 +264,7 @@ module _ (shape : Shape) (me : Sat) (is : IsWriting me) (now : Writing) (c : Cor
   -- ---- exchanges of links
 
   abbrev ExchangeMoves : (page fill from to : ℕ) → Type 0
-  ExchangeMoves page fill from to = WriterMoves shape r me ws homes (page_word page) (λ n. either (n == from) to n) (λ found after. LinkTold shape now (passed me.0) fill found after)
+  ExchangeMoves page fill from to = WriterMoves shape r me ws homes (page_word page) (λ n. either (n == from) to n) (λ found after. LinkReported shape now (passed me.0) fill found after)
 
   done_on : (page fill from to : ℕ) (old new : Link) (frames : List Frame) (head : ℕ) → page ≡ page_before shape.pages c.order fill → from ≡ word_of old → to ≡ word_of new
       → link_into shape.pages c.links fill ≡ old → c.head ≤ head → Step shape.pages shape.size c steps going (moved c frames (links_with shape.pages c.links fill new) head) → ExchangeMoves page fill from to
@@ -281,20 +281,20 @@ module _ (shape : Shape) (me : Sat) (is : IsWriting me) (now : Writing) (c : Cor
       (not_done_at (slice_index ws (page_word page)) from to (λ same. other_word page fill old e fits differ (same ∙ from_is)))
 
   abbrev ClaimMoves : (page from to : ℕ) → Type 0
-  ClaimMoves page from to = WriterMoves shape r me ws homes (page_word page) (λ n. either (n == from) to n) (λ found after. ClaimTold shape now (passed me.0) found after)
+  ClaimMoves page from to = WriterMoves shape r me ws homes (page_word page) (λ n. either (n == from) to n) (λ found after. ClaimReported shape now (passed me.0) found after)
 
   -- the lost fill is passed after the claim, and the writer knows it
   raised : (page from to lost : ℕ) → lost + shape.pages ≡ now.opened → (m : ExchangeMoves page now.opened from to) → lost < m.next.head → ClaimMoves page from to
   raised page from to lost sum m behind =
-      let (knows, more, least, low) = known_with m.knows (lost + 1) m.next.head m.low (omega arith) in let before = m.told.knows in record {
+      let (knows, more, least, low) = known_with m.knows (lost + 1) m.next.head m.low (omega arith) in let before = m.reported.knows in record {
         next = m.next;
         knows = knows;
         low = low;
         act = m.act;
         valid = m.valid;
         shown = m.shown;
-        told = record {
-          told = record { seat = record { view = refl; hand = m.told.seat.hand }; knows = omega arith; step = m.told.step };
+        reported = record {
+          reported = record { seat = record { view = refl; hand = m.reported.seat.hand }; knows = omega arith; step = m.reported.step };
           lost = omega arith;
         };
       }
@@ -329,10 +329,10 @@ module _ (shape : Shape) (me : Sat) (is : IsWriting me) (now : Writing) (c : Cor
       (top_stepped shape.pages shape.size c top.frame top.below (claiming now.opened page) answer after top.is top.phase_is step)
 
   marks_at : (page next behind from to : ℕ) (frame : Frame) (below : List Frame) (role : Role) (noted : ℕ) (answer : Answer) (after : Core)
-      → MayOpen role noted c.opened → behind + shape.pages ≡ noted + 1 → FitsWord (normal_link next behind) → from ≡ word_of (normal_link next behind) → to ≡ word_of (header_link next behind)
+      → MayContinue role noted c.opened → behind + shape.pages ≡ noted + 1 → FitsWord (normal_link next behind) → from ≡ word_of (normal_link next behind) → to ≡ word_of (header_link next behind)
       → page ≡ page_before shape.pages c.order behind
       → Step shape.pages shape.size c steps answer after → MarkHeadStep shape.pages c frame below role noted page next answer after → ExchangeMoves page behind from to
-  marks_at page next behind from to frame below role noted answer after on sum fits from_is to_is e step (mark_late helps late) = absurd (late.passed (subst (λ (x : Role). MayOpen x noted c.opened) helps on))
+  marks_at page next behind from to frame below role noted answer after on sum fits from_is to_is e step (mark_late helps late) = absurd (late.passed (subst (λ (x : Role). MayContinue x noted c.opened) helps on))
   marks_at page next behind from to frame below role noted answer after on sum fits from_is to_is e step (marks lost x lost_sum at a after_is) =
       let same : suc lost ≡ behind = omega arith in
       done_on page behind from to (normal_link next behind) (header_link next behind) (record frame { phase = after_next role noted page } ∷ below) c.head e from_is to_is
@@ -354,7 +354,7 @@ module _ (shape : Shape) (me : Sat) (is : IsWriting me) (now : Writing) (c : Cor
       let passed = known.passed due.noted page (ap passed_spot top.phase_is) in
       let (low, high, room, numbers) = known.noted due.noted (ap noted_fill top.phase_is) in let some = kept.links.some_pages in let sum = due.behind_is in
       subst (λ (fill : ℕ). ExchangeMoves page fill from to) (marks_behind shape.pages now page next behind due)
-      (marks_at page next behind from to top.frame top.below due.role due.noted answer after (subst (MayOpen due.role due.noted) opened_is due.goes_on) due.behind_is
+      (marks_at page next behind from to top.frame top.below due.role due.noted answer after (subst (MayContinue due.role due.noted) opened_is due.goes_on) due.behind_is
       record { page_fits = fits; fill_fits = omega arith } from_is to_is (passed_front page due.noted behind passed.2 due.behind_is) step
       (top_stepped shape.pages shape.size c top.frame top.below (marking due.role due.noted page next) answer after top.is top.phase_is step))
 

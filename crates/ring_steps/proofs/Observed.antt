@@ -10,7 +10,7 @@ use Rattle.trace_model.proofs.steps.StepSound.{cases_of}
 use Rattle.link_marks.specs.RingKept.{IsRingKept}
 use Rattle.link_marks.proofs.partition.PartitionChanges.{frozen}
 use Rattle.link_marks.proofs.partition.PartitionSteps.{settled}
-use Rattle.link_marks.proofs.histories.ToldSteps.{leads_step}
+use Rattle.link_marks.proofs.histories.StepsAsEvents.{leads_step}
 
 -- the first of the reserved records, as they are by now
 abbrev pub first_records : ℕ → List HistoryEvent → List Record

@@ -29,8 +29,8 @@ use Rattle.nested_writer.specs.Released.{IsWrittenPage}
 use Rattle.ring_steps.specs.declared.rule.Shape.{Shape}
 use Rattle.ring_steps.specs.Views.{Writing, writing_of, Reading, writing, passed}
 use Rattle.ring_steps.specs.Shown.{Homes, IsHome, HasBody, AreWords, AreHomes, IsReading, Shows}
-use Rattle.ring_steps.specs.Seats.{Sat, emptied, IsWriting, Leads, WriterTold}
-use Rattle.ring_steps.specs.Paging.{IsTopIn, begun_answer, OpenTold}
+use Rattle.ring_steps.specs.Seats.{Sat, emptied, IsWriting, Leads, WriterReported}
+use Rattle.ring_steps.specs.Paging.{IsTopIn, begun_answer, OpenReported}
 use Rattle.ring_steps.proofs.Words as words
 use Rattle.ring_steps.proofs.Observed.{first_records, observed_stays}
 use Rattle.ring_steps.proofs.Allowing.{IsShownBy, WriterMoves, writer_allows}
@@ -245,7 +245,7 @@ module _ (shape : Shape) (me : Sat) (now : Writing) (c : Core) (r : Reading) (ws
 
   release_moves : (number fill : ℕ) (page : Contents) → rest me.1 ≡ emptied (drop 1 c.open_pages) → IsTopIn now.frames releasing → number ≡ slice_index_or now.open_pages 0 0
       → IsWrittenPage shape.size now.done (fill_of now.history shape.start now.done) page → fill ≡ now.done
-      → WriterMoves shape r (me.0, (number, Some page) ∷ rest me.1) ws homes 1 (λ _. fill + 1) (λ _. WriterTold shape now (passed me.0) (λ _. ⊤) going)
+      → WriterMoves shape r (me.0, (number, Some page) ∷ rest me.1) ws homes 1 (λ _. fill + 1) (λ _. WriterReported shape now (passed me.0) (λ _. ⊤) going)
   release_moves number fill page hand phase oldest written fill_is =
       let (frames, step) = released_step shape c r ws homes s (top_now releasing phase) in
       let oldest_is : number ≡ slice_index_or c.open_pages 0 0 = oldest ∙ ap (λ (w : Writing). slice_index_or w.open_pages 0 0) (sym now_is) in
@@ -257,7 +257,7 @@ module _ (shape : Shape) (me : Sat) (now : Writing) (c : Core) (r : Reading) (ws
         act = gives;
         valid = tt;
         shown = released_shown shape c r ws homes s number page oldest_is written_is fill frames done_is step;
-        told = record {
+        reported = record {
           seat = record { view = refl; hand = hand };
           knows = omega arith;
           step = record { core = c; next = released_in shape c r ws homes s frames; reached = s.reached; before_is = now_is; seen = tt; step = step; after_is = refl };
@@ -265,7 +265,7 @@ module _ (shape : Shape) (me : Sat) (now : Writing) (c : Core) (r : Reading) (ws
       }
 
   open_moves : (number fill : ℕ) → me.1 ≡ emptied c.open_pages → IsTopIn now.frames (opening fill number) → fill ≡ now.opened
-      → WriterMoves shape r me ws homes 0 (λ _. fill + 1) (λ _. OpenTold shape now (passed me.0))
+      → WriterMoves shape r me ws homes 0 (λ _. fill + 1) (λ _. OpenReported shape now (passed me.0))
   open_moves number fill hand phase fill_is =
       let now_opened : fill ≡ c.opened = fill_is ∙ ap (λ (w : Writing). w.opened) (sym now_is) in
       let top = top_now (opening fill number) phase in
@@ -282,7 +282,7 @@ module _ (shape : Shape) (me : Sat) (now : Writing) (c : Core) (r : Reading) (ws
         act = takes number (Some body);
         valid = lies;
         shown = begun_shown shape c r ws homes s top.frame top.below top.is number phase_is fill now_opened;
-        told = record {
+        reported = record {
           view = refl;
           knows = omega arith;
           page = number;
@@ -300,18 +300,18 @@ module _ (shape : Shape) (me : Sat) (now : Writing) (c : Core) (r : Reading) (ws
 pub release_allowed : (shape : Shape) (slots id : ℕ) (me mid : Sat) (now : Writing) (number fill : ℕ) (page : Contents)
     → IsWriting me → mid ≡ (me.0, (number, Some page) ∷ rest me.1) → Leads shape (writing me.0) now → IsTopIn now.frames releasing → number ≡ slice_index_or now.open_pages 0 0
     → IsWrittenPage shape.size now.done (fill_of now.history shape.start now.done) page → fill ≡ now.done
-    → Allows (Shows shape.pages shape.size shape.start) slots id mid 1 (λ _. fill + 1) (λ _. WriterTold shape now (passed mid.0) (λ _. ⊤) going)
+    → Allows (Shows shape.pages shape.size shape.start) slots id mid 1 (λ _. fill + 1) (λ _. WriterReported shape now (passed mid.0) (λ _. ⊤) going)
 release_allowed shape slots id me mid now number fill page is mid_is leads phase oldest written fill_is =
-    subst (λ (m : Sat). Allows (Shows shape.pages shape.size shape.start) slots id m 1 (λ _. fill + 1) (λ _. WriterTold shape now (passed m.0) (λ _. ⊤) going)) (sym mid_is)
-    (writer_allows shape slots id (me.0, (number, Some page) ∷ rest me.1) now 1 (λ _. fill + 1) (λ _. WriterTold shape now (passed me.0) (λ _. ⊤) going) is.view leads
+    subst (λ (m : Sat). Allows (Shows shape.pages shape.size shape.start) slots id m 1 (λ _. fill + 1) (λ _. WriterReported shape now (passed m.0) (λ _. ⊤) going)) (sym mid_is)
+    (writer_allows shape slots id (me.0, (number, Some page) ∷ rest me.1) now 1 (λ _. fill + 1) (λ _. WriterReported shape now (passed me.0) (λ _. ⊤) going) is.view leads
     (λ c r ws homes s now_is pages low. release_moves shape me now c r ws homes s now_is low number fill page
     (ap rest is.hand ∙ (rest_emptied (writing me.0).open_pages ∙ ap (λ (ps : List ℕ). emptied (drop 1 ps)) (sym pages))) phase oldest written fill_is))
 
 pub open_allowed : (shape : Shape) (slots id : ℕ) (me : Sat) (now : Writing) (number fill : ℕ)
     → IsWriting me → Leads shape (writing me.0) now → IsTopIn now.frames (opening fill number) → fill ≡ now.opened
-    → Allows (Shows shape.pages shape.size shape.start) slots id me 0 (λ _. fill + 1) (λ _. OpenTold shape now (passed me.0))
+    → Allows (Shows shape.pages shape.size shape.start) slots id me 0 (λ _. fill + 1) (λ _. OpenReported shape now (passed me.0))
 open_allowed shape slots id me now number fill is leads phase fill_is =
-    writer_allows shape slots id me now 0 (λ _. fill + 1) (λ _. OpenTold shape now (passed me.0)) is.view leads
+    writer_allows shape slots id me now 0 (λ _. fill + 1) (λ _. OpenReported shape now (passed me.0)) is.view leads
     (λ c r ws homes s now_is pages low. open_moves shape me now c r ws homes s now_is low number fill (is.hand ∙ ap emptied (sym pages)) phase fill_is)
 
 -- ---- the page that the writer got
@@ -330,29 +330,29 @@ body_of (slot ∷ slots) = slot.1
 pub same_body : (a b : Contents) → Some a ≡ Some b → a ≡ b
 same_body a b e = cc
 
-module _ (shape : Shape) (now : Writing) (known : ℕ) (mid : Sat) (told : OpenTold shape now known mid) (number fill : ℕ) (phase : IsTopIn now.frames (opening fill number)) where
-  page_is : told.page ≡ number
-  page_is = one_opening now.frames now.opened fill told.page number told.position phase
+module _ (shape : Shape) (now : Writing) (known : ℕ) (mid : Sat) (reported : OpenReported shape now known mid) (number fill : ℕ) (phase : IsTopIn now.frames (opening fill number)) where
+  page_is : reported.page ≡ number
+  page_is = one_opening now.frames now.opened fill reported.page number reported.position phase
 
   -- its slot is the first of the writer's
-  pub opened_slot : mid.1 ≡ (number, Some told.body) ∷ rest mid.1
-  opened_slot = told.hand ∙ (λ i. (page_is i, Some told.body) ∷ sym (ap rest told.hand) i)
+  pub opened_slot : mid.1 ≡ (number, Some reported.body) ∷ rest mid.1
+  opened_slot = reported.hand ∙ (λ i. (page_is i, Some reported.body) ∷ sym (ap rest reported.hand) i)
 
   -- and the body is what is there
-  pub opened_body : (found : Option Contents) → mid.1 ≡ (number, found) ∷ rest mid.1 → found ≡ Some told.body
+  pub opened_body : (found : Option Contents) → mid.1 ≡ (number, found) ∷ rest mid.1 → found ≡ Some reported.body
   opened_body found at = sym (ap body_of at) ∙ ap body_of opened_slot
 
   pub opened_size : (found : Option Contents) (page : Contents) → mid.1 ≡ (number, found) ∷ rest mid.1 → found ≡ Some page → page.size ≡ shape.size
-  opened_size found page at is = ap (λ (body : Contents). body.size) (same_body page told.body (sym is ∙ opened_body found at)) ∙ told.size_is
+  opened_size found page at is = ap (λ (body : Contents). body.size) (same_body page reported.body (sym is ∙ opened_body found at)) ∙ reported.size_is
 
   -- the slot that is emptied goes after the others
-  pub opened_seat : (after end : Sat) → after ≡ (mid.0, (number, None) ∷ rest mid.1) → end ≡ (after.0, turned after.1) → WriterTold shape now known (λ _. ⊤) (begun_answer now.frames) end
-  opened_seat after end after_is end_is = subst (WriterTold shape now known (λ _. ⊤) (begun_answer now.frames)) (sym (end_is ∙ ap (λ (m : Sat). let seat : Sat = (m.0, turned m.1) in seat) after_is)) record {
+  pub opened_seat : (after end : Sat) → after ≡ (mid.0, (number, None) ∷ rest mid.1) → end ≡ (after.0, turned after.1) → WriterReported shape now known (λ _. ⊤) (begun_answer now.frames) end
+  opened_seat after end after_is end_is = subst (WriterReported shape now known (λ _. ⊤) (begun_answer now.frames)) (sym (end_is ∙ ap (λ (m : Sat). let seat : Sat = (m.0, turned m.1) in seat) after_is)) record {
     seat = record {
-      view = told.view;
-      hand = ap (λ (slots : List (ℕ × Option Contents)). rest slots ++ (number, None) ∷ []) told.hand
-          ∙ (emptied_more now.open_pages number ∙ ap emptied (ap (λ (p : ℕ). now.open_pages ++ p ∷ []) (sym page_is) ∙ sym told.open_pages_are));
+      view = reported.view;
+      hand = ap (λ (slots : List (ℕ × Option Contents)). rest slots ++ (number, None) ∷ []) reported.hand
+          ∙ (emptied_more now.open_pages number ∙ ap emptied (ap (λ (p : ℕ). now.open_pages ++ p ∷ []) (sym page_is) ∙ sym reported.open_pages_are));
     };
-    knows = told.knows;
-    step = told.step;
+    knows = reported.knows;
+    step = reported.step;
   }

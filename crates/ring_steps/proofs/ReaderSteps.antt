@@ -2,7 +2,7 @@
 use Rattle.std.specs.Prelude.{⊤}
 use Rattle.std.proofs.Common.{◌≡◌, ℕ, ◌+◌, List, refl, sym, ap, ◌∙◌, subst, arith}
 use Rattle.atomic_table.specs.Table.{keeps}
-use Rattle.trace_model.specs.Ring.{Core, ReaderPhase, storing_link, swapping, Reader, AreApart}
+use Rattle.trace_model.specs.Ring.{Core, ReaderPhase, storing_spare_link, swapping, Reader, AreApart}
 use Rattle.trace_model.specs.Steps.{wishes, wished_for, with_wish, Step}
 use Rattle.trace_model.proofs.steps.StepCases.{store_wish_step}
 use Rattle.trace_model.proofs.steps.StepIs.{step_by}
@@ -12,7 +12,7 @@ use Rattle.link_marks.proofs.partition.RingsKept.{reached_kept, reached_further}
 use Rattle.ring_steps.specs.declared.rule.Shape.{Shape}
 use Rattle.ring_steps.specs.Views.{Reading, reading}
 use Rattle.ring_steps.specs.Shown.{Homes, IsReading, IsShown}
-use Rattle.ring_steps.specs.Seats.{Sat, IsSeatOfReader, IsReaderWithin, ReaderTold}
+use Rattle.ring_steps.specs.Seats.{Sat, IsSeatOfReader, IsReaderWithin, ReaderReported}
 use Rattle.ring_steps.proofs.Words as words
 use Rattle.ring_steps.proofs.Allowing.{IsShownBy, ReaderMoves}
 
@@ -26,7 +26,7 @@ reader_within shape c r k is =
       apart = subst (λ (spare : ℕ). AreApart shape.pages r.order spare) (sym is.spare_is) (subst (λ (order : List ℕ). AreApart shape.pages order c.spare) (sym is.order_is) k.links.apart);
       hint = omega arith;
       seen = omega arith;
-      storing = λ page fill at. let below = (phase_kept (storing_link page fill) at).1 in omega arith;
+      storing = λ page fill at. let below = (phase_kept (storing_spare_link page fill) at).1 in omega arith;
       swaps = λ page fill at. let below = (phase_kept (swapping page fill) at).1 in omega arith;
     }
   where
@@ -35,7 +35,7 @@ reader_within shape c r k is =
 
 module _ (shape : Shape) (me : Sat) (is : IsSeatOfReader me) (c : Core) (ws : List ℕ) (homes : Homes) (s : IsShownBy shape c (reading me.0) ws homes) where
   -- the wish is stored
-  pub wish_moves : (fill : ℕ) → fill ≡ (reading me.0).reader.seen → ReaderMoves shape c me ws homes 2 (λ _. fill + 1) (λ _ after. ReaderTold shape (λ _. ⊤) wishes (wished_for (reading me.0).reader.seen) me after)
+  pub wish_moves : (fill : ℕ) → fill ≡ (reading me.0).reader.seen → ReaderMoves shape c me ws homes 2 (λ _. fill + 1) (λ _ after. ReaderReported shape (λ _. ⊤) wishes (wished_for (reading me.0).reader.seen) me after)
   wish_moves fill due =
       let seen : fill ≡ c.reader.seen = due ∙ ap (λ (x : Reader). x.seen) s.is_reading.reader_is in
       let next : Core = with_wish c in
@@ -63,7 +63,7 @@ module _ (shape : Shape) (me : Sat) (is : IsSeatOfReader me) (c : Core) (ws : Li
         };
         writer_is = refl;
         head_le = omega arith;
-        told = record {
+        reported = record {
           seat = record { view = refl; hand = is.hand };
           within = reader_within shape next after (reached_kept shape.pages shape.size shape.start next reached) is_reading;
           step = record { core = c; next = next; reached = s.reached; before_is = s.is_reading; seen = tt; of_reader = tt; step = step; after_is = is_reading };

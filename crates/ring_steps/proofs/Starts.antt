@@ -20,7 +20,7 @@ use Rattle.link_marks.proofs.links.Positions.{at_position, apart}
 use Rattle.link_marks.proofs.partition.OneNewRing.{new_ring_is_one}
 use Rattle.page_image.specs.Contents.{Contents}
 use Rattle.ring_steps.specs.declared.rule.Shape.{Shape}
-use Rattle.ring_steps.specs.Views.{Writing, writing_of, laid, ArePlaced, begun}
+use Rattle.ring_steps.specs.Views.{Writing, writing_of, laid, AreSeated, begun}
 use Rattle.ring_steps.specs.Shown.{HasBody, page_word, page_before, AreWords, AreHomes, IsReading, Shows}
 use Rattle.ring_steps.specs.Seats.{IsReaderWithin}
 use Rattle.ring_steps.specs.Paging.{IsWriterReached}
@@ -134,7 +134,7 @@ module _ (shape : Shape) (is : IsShape shape) (ws : List ℕ) (first_ws : AreFir
       are_homes = first_are_homes c s;
       is_reading = first_is_reading c s;
     };
-    seats = subst (λ (w : Writing). ArePlaced w (first_reading shape) c.head (laid (first_writing shape) (first_reading shape) ∷ [])) (sym (first_writing_is c s)) begun;
+    seats = subst (λ (w : Writing). AreSeated w (first_reading shape) c.head (laid (first_writing shape) (first_reading shape) ∷ [])) (sym (first_writing_is c s)) begun;
     tail = λ w r e. let same : first_writing shape ≡ w = cc in let low = mod-lt start some_pages in
         ap (λ (v : Writing). get_elem? (map some slots) (get_or v.open_pages 0 0)) (sym same) ∙ home_at (start % n) None (omega arith) ((slot_at (start % n) (omega arith)).tail refl);
   }

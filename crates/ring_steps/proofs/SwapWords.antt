@@ -23,11 +23,11 @@ use Rattle.ring_steps.proofs.Taking.{part_of}
 
 module _ (n size start : ℕ) (c : Core) (k : IsRingKept n size start c) (page fill : ℕ)
     (facts : ReaderKept n c.links c.order c.spare_link c.head c.done c.reader.hint (swapping page fill))
-    (told : link_into n c.links fill ≡ header_link page fill) where
+    (reported : link_into n c.links fill ≡ header_link page fill) where
   -- ---- the head
 
   pub head : IsHeadTaken n c page fill
-  head = head_taken n c page fill k.links facts told
+  head = head_taken n c page fill k.links facts reported
 
   two_pages : 2 ≤ n
   two_pages = k.links.some_pages
@@ -96,27 +96,27 @@ module _ (n size start : ℕ) (c : Core) (k : IsRingKept n size start c) (page f
     link_else g ne ne' = get_or-set_other links_once (suc fill % n) (g % n) c.spare_link (normal_link 0 0) ne
         ∙ get_or-set_other c.links (fill % n) (g % n) (normal_link c.spare (fill + n)) (normal_link 0 0) ne'
 
-    abbrev Tells : ℕ → Type 0
-    Tells g = get_or words_behind (page_word (page_before n order_behind g)) 0 ≡ word_of (link_into n (links_with n links_once (suc fill) c.spare_link) g)
+    abbrev Reports : ℕ → Type 0
+    Reports g = get_or words_behind (page_word (page_before n order_behind g)) 0 ≡ word_of (link_into n (links_with n links_once (suc fill) c.spare_link) g)
 
-    tells_next : (g : ℕ) → g % n ≡ suc fill % n → Tells g
-    tells_next g e = ap (λ (p : ℕ). get_or words_behind (page_word p) 0) (front_next g e)
+    reports_next : (g : ℕ) → g % n ≡ suc fill % n → Reports g
+    reports_next g e = ap (λ (p : ℕ). get_or words_behind (page_word p) 0) (front_next g e)
         ∙ (other_page c.spare (λ same. front_differs (sym same)) ∙ (a.spare ∙ ap word_of (sym (link_next g e))))
 
-    tells_here : (g : ℕ) → g % n ≢ suc fill % n → g % n ≡ fill % n → Tells g
-    tells_here g ne e = let two = two_pages in
+    reports_here : (g : ℕ) → g % n ≢ suc fill % n → g % n ≡ fill % n → Reports g
+    reports_here g ne e = let two = two_pages in
         ap (λ (p : ℕ). get_or words_behind (page_word p) 0) (front_else g ne ∙ ap (λ (i : ℕ). get_or c.order i 0) (one_before n g fill (omega arith) e))
         ∙ (get_or-set_same ws word word_behind 0 word_below ∙ ap word_of (sym (link_here g e)))
 
-    tells_else : (g : ℕ) → g % n ≢ suc fill % n → g % n ≢ fill % n → Tells g
-    tells_else g ne ne' = let two = two_pages in
+    reports_else : (g : ℕ) → g % n ≢ suc fill % n → g % n ≢ fill % n → Reports g
+    reports_else g ne ne' = let two = two_pages in
         ap (λ (p : ℕ). get_or words_behind (page_word p) 0) (front_else g ne)
         ∙ (other_page (page_before n c.order g) (befores_differ n c.order c.spare g fill (omega arith) k.links.apart ne')
         ∙ (a.links g ∙ ap word_of (sym (link_else g ne ne'))))
 
     -- the word of the head's page is the link into the position after it
-    tells_spare : get_or words_behind (page_word page) 0 ≡ word_of (link_into n c.links (suc fill))
-    tells_spare = let two = two_pages in
+    reports_spare : get_or words_behind (page_word page) 0 ≡ word_of (link_into n c.links (suc fill))
+    reports_spare = let two = two_pages in
         let front : page ≡ page_before n c.order (suc fill) = page_is ∙ ap (λ (i : ℕ). get_or c.order i 0) (sym before_next) in
         ap (λ (p : ℕ). get_or words_behind (page_word p) 0) front
         ∙ (other_page (page_before n c.order (suc fill)) (befores_differ n c.order c.spare (suc fill) fill (omega arith) k.links.apart next_apart) ∙ a.links (suc fill))
@@ -128,9 +128,9 @@ module _ (n size start : ℕ) (c : Core) (k : IsRingKept n size start c) (page f
       done = get_or-set_other ws word 1 word_behind 0 (λ e. omega arith) ∙ a.done;
       wish = get_or-set_other ws word 2 word_behind 0 (λ e. omega arith) ∙ a.wish;
       links = λ g. dite (ℕ_discrete (g % n) (suc fill % n))
-          (λ e. tells_next g e)
-          (λ ne. dite (ℕ_discrete (g % n) (fill % n)) (λ e. tells_here g ne e) (λ ne'. tells_else g ne ne'));
-      spare = tells_spare;
+          (λ e. reports_next g e)
+          (λ ne. dite (ℕ_discrete (g % n) (fill % n)) (λ e. reports_here g ne e) (λ ne'. reports_else g ne ne'));
+      spare = reports_spare;
     }
 
   -- ---- pages at home

@@ -15,11 +15,11 @@ use Rattle.trace_model.specs.declared.limits.TheConstants.{LINK_FILLS}
 use Rattle.trace_model.specs.History.{as_record, reserved_records}
 use Rattle.trace_model.specs.Links.{word_of, normal_link, header_link, FitsWord}
 use Rattle.trace_model.specs.Packing.{first_of_fill}
-use Rattle.trace_model.specs.Ring.{PageRecords, Core, ReaderPhase, loading_link, swapping, Reader, link_into, fill_of}
+use Rattle.trace_model.specs.Ring.{PageRecords, Core, ReaderPhase, loading_head, swapping, Reader, link_into, fill_of}
 use Rattle.trace_model.specs.Steps as model
 use Rattle.trace_model.proofs.steps.StepCases as cases
 use Rattle.trace_model.specs.Steps.{contents_of}
-use Rattle.trace_model.proofs.words.LinkWords.{word_tells}
+use Rattle.trace_model.proofs.words.LinkWords.{word_reports}
 use Rattle.link_marks.specs.KeptLinks.{Spot, spot, ReaderKept}
 use Rattle.link_marks.specs.RingKept.{IsRingKept}
 use Rattle.link_marks.proofs.contents.RecordCounts.{records_few}
@@ -29,7 +29,7 @@ use Rattle.ring_steps.specs.declared.rule.Shape.{Shape}
 use Rattle.ring_steps.specs.Views.{Reading, reading}
 use Rattle.ring_steps.specs.Shown.{page_before, AreWords, Homes, AreHomes, Shows}
 use Rattle.ring_steps.specs.Seats.{Sat, kept_slots, IsSeatOfReader, IsReaderStep}
-use Rattle.ring_steps.specs.Swapping.{HeadTaken, HeadMissed, head_to_take, SwapTold}
+use Rattle.ring_steps.specs.Swapping.{HeadTaken, HeadMissed, head_to_take, SwapReported}
 use Rattle.ring_steps.proofs.Allowing.{IsShownBy, ReaderMoves, reader_allows}
 use Rattle.ring_steps.proofs.Observed.{first_records}
 use Rattle.ring_steps.proofs.ObservedMore.{observed_with}
@@ -44,7 +44,7 @@ module _ (shape : Shape) (me : Sat) (c : Core) (ws : List ℕ) (homes : Homes) (
     (sized : blank.size ≡ shape.size) (front_is : front ≡ page_before shape.pages (reading me.0).order fill) (fits : FitsWord (header_link page fill))
     (from_is : from ≡ word_of (header_link page fill)) (to_is : to ≡ word_of (normal_link (reading me.0).spare (fill + shape.pages))) where
   abbrev Moves : Type 0
-  Moves = ReaderMoves shape c me ws homes (front + 3) (λ k. either (k == from) to k) (λ found after. SwapTold shape me (spot fill page) found after)
+  Moves = ReaderMoves shape c me ws homes (front + 3) (λ k. either (k == from) to k) (λ found after. SwapReported shape me (spot fill page) found after)
 
   abbrev found : ℕ
   found = slice_index ws (front + 3)
@@ -83,20 +83,20 @@ module _ (shape : Shape) (me : Sat) (c : Core) (ws : List ℕ) (homes : Homes) (
     differs e = other (found_is ∙ (ap word_of e ∙ sym from_is))
 
     abbrev reader_on : Reader
-    reader_on = record c.reader { phase = loading_link; hint = suc fill }
+    reader_on = record c.reader { phase = loading_head; hint = suc fill }
 
     pub fails : Moves
     fails =
         let next : Core = gone_on c reader_on c.spare_link in
         let step : model.Step shape.pages shape.size c model.reads model.reading next = step_in shape me c ws homes s (swapping page fill) model.reading next at (cases.swap_fails differs refl refl) in
         let on : suc fill ≡ fill + 1 = omega arith in
-        reads_on shape me c ws homes s (front + 3) (λ k. either (k == from) to k) (λ found after. SwapTold shape me (spot fill page) found after) (λ _. ⊤) true model.reading next keeps step (omega arith) tt
+        reads_on shape me c ws homes s (front + 3) (λ k. either (k == from) to k) (λ found after. SwapReported shape me (spot fill page) found after) (λ _. ⊤) true model.reading next keeps step (omega arith) tt
         tt
         (exchanged found from to (λ (word : ℕ). AreWords shape.pages next (slice_set ws (front + 3) word)) (λ e. absurd (other e))
         (λ _. subst (AreWords shape.pages next) (sym (set-get_or ws (front + 3) 0)) (words_on shape.pages c ws reader_on s.are_words)))
         (homes_on shape.pages shape.size c (reading me.0) homes reader_on c.spare_link true s.are_homes (λ e. absurd (cc)))
-        (λ told. record {
-          read = told;
+        (λ reported. record {
+          read = reported;
           took = λ e. absurd (other (e ∙ sym from_is));
           missed = λ _. (
             refl,
@@ -106,7 +106,7 @@ module _ (shape : Shape) (me : Sat) (c : Core) (ws : List ℕ) (homes : Homes) (
                 order = sym s.is_reading.order_is i;
                 spare = sym s.is_reading.spare_is i;
                 spare_link = sym s.is_reading.spare_link_is i;
-                reader = record (sym s.is_reading.reader_is i) { phase = loading_link; hint = on i };
+                reader = record (sym s.is_reading.reader_is i) { phase = loading_head; hint = on i };
                 wish = sym s.is_reading.wish_is i;
                 observed = sym s.is_reading.observed_is i;
                 keeps_spare = sym keeps_slot i;
@@ -118,12 +118,12 @@ module _ (shape : Shape) (me : Sat) (c : Core) (ws : List ℕ) (homes : Homes) (
   -- ---- it is done
 
   module _ (same : found ≡ from) where
-    told : link_into shape.pages c.links fill ≡ header_link page fill
-    told = word_tells (link_into shape.pages c.links fill) (header_link page fill) (link_fits shape.pages shape.size shape.start c fill s.pages_fit ring) fits (sym found_is ∙ (same ∙ from_is))
+    reported : link_into shape.pages c.links fill ≡ header_link page fill
+    reported = word_reports (link_into shape.pages c.links fill) (header_link page fill) (link_fits shape.pages shape.size shape.start c fill s.pages_fit ring) fits (sym found_is ∙ (same ∙ from_is))
 
     -- what is in the head's slot
     home : (body : Contents) × (get_elem? homes page ≡ some (some (Some body))) × IsWrittenPage shape.size fill (contents_of c page) body
-    home = behind.head_home shape.pages shape.size shape.start c ring page fill facts told (reading me.0) homes blank sized s.are_homes
+    home = behind.head_home shape.pages shape.size shape.start c ring page fill facts reported (reading me.0) homes blank sized s.are_homes
 
     written : IsWrittenPage shape.size fill (contents_of c page) home.0
     written = home.2
@@ -135,12 +135,12 @@ module _ (shape : Shape) (me : Sat) (c : Core) (ws : List ℕ) (homes : Homes) (
     expected_is = ap (λ (x : Reader). x.expected) s.is_reading.reader_is
 
     holds : contents_of c page ≡ fill_of c.history shape.start fill
-    holds = let is = behind.head shape.pages shape.size shape.start c ring page fill facts told in
+    holds = let is = behind.head shape.pages shape.size shape.start c ring page fill facts reported in
         let fill_is = is.fill_is in let below = facts.1 in let open_yet = ring.links.done_lt in
-        ap (contents_of c) (behind.page_is shape.pages shape.size shape.start c ring page fill facts told) ∙ ring.contents.each fill (omega arith) (omega arith)
+        ap (contents_of c) (behind.page_is shape.pages shape.size shape.start c ring page fill facts reported) ∙ ring.contents.each fill (omega arith) (omega arith)
 
     expected_low : c.reader.expected ≤ first_of_fill c.history shape.start fill
-    expected_low = let is = behind.head shape.pages shape.size shape.start c ring page fill facts told in
+    expected_low = let is = behind.head shape.pages shape.size shape.start c ring page fill facts reported in
         let low = ring.partition.expected_le in let e = ap (first_of_fill c.history shape.start) is.fill_is in omega arith
 
     hears : (lost : List Record)
@@ -148,7 +148,7 @@ module _ (shape : Shape) (me : Sat) (c : Core) (ws : List ℕ) (homes : Homes) (
         × ((contents_of c page).first + length (contents_of c page).records ≤ length (reserved_records c.history))
         × (first_records ((contents_of c page).first + length (contents_of c page).records) c.history
         ≡ first_records c.reader.expected c.history ++ (lost ++ map as_record (contents_of c page).records))
-    hears = let is = behind.head shape.pages shape.size shape.start c ring page fill facts told in
+    hears = let is = behind.head shape.pages shape.size shape.start c ring page fill facts reported in
         let fill_is = is.fill_is in let below = facts.1 in let open_yet = ring.links.done_lt in
         let begun = ring.contents.begun in let from_start = ring.contents.from_start in
         observed_with shape.start c.history fill c.reader.expected (contents_of c page) (omega arith) ring.contents.rising expected_low holds
@@ -161,17 +161,17 @@ module _ (shape : Shape) (me : Sat) (c : Core) (ws : List ℕ) (homes : Homes) (
     next : Core
     next = model.after_swap shape.pages c page fill
 
-    step : model.Step shape.pages shape.size c model.reads (model.swapped (model.taken_fill c page fill)) next
+    step : model.Step shape.pages shape.size c model.reads (model.page_taken (model.taken_fill c page fill)) next
     unfolding next
-    step = step_in shape me c ws homes s (swapping page fill) (model.swapped (model.taken_fill c page fill)) next at (cases.swaps told refl refl)
+    step = step_in shape me c ws homes s (swapping page fill) (model.page_taken (model.taken_fill c page fill)) next at (cases.swaps reported refl refl)
 
     taken : HeadTaken shape (reading me.0) page fill home.0 (part_of next true)
     unfolding next
     taken = let on : suc fill ≡ fill + 1 = omega arith in let first = written.first_is in let held = ap (λ (h : PageRecords). h.first) holds in let low = expected_low in let same_number = expected_is in record {
-      told = model.taken_fill c page fill;
+      reported = model.taken_fill c page fill;
       fill_is = refl;
       written = written;
-      step = seen_by _ (model.swapped (model.taken_fill c page fill)) next told step;
+      step = seen_by _ (model.page_taken (model.taken_fill c page fill)) next reported step;
       behind = omega arith;
       skipped_is = λ i. sym written.first_is i - sym expected_is i;
       lost = hears.0;
@@ -179,7 +179,7 @@ module _ (shape : Shape) (me : Sat) (c : Core) (ws : List ℕ) (homes : Homes) (
       numbers_fit = numbers_fit;
       observed_is = hears.3 ∙ ((λ i. sym s.is_reading.observed_is i ++ (hears.0 ++ sym written.records_are i)) ∙ sym (append_assoc (reading me.0).observed hears.0 (records_of_page home.0)));
       reader_is = λ i. record {
-        phase = loading_link;
+        phase = loading_head;
         hint = on i;
         seen = (sym s.is_reading.reader_is i).seen;
         expected = sym written.first_is i + sym count_is i;
@@ -197,15 +197,15 @@ module _ (shape : Shape) (me : Sat) (c : Core) (ws : List ℕ) (homes : Homes) (
     unfolding next home
     done =
         let hand_here : me.1 ≡ (c.spare, Some blank) ∷ [] = hand ∙ (λ i. (spare_here i, Some blank) ∷ []) in
-        reads_on shape me c ws homes s (front + 3) (λ k. either (k == from) to k) (λ found after. SwapTold shape me (spot fill page) found after) (λ _. ⊤) true (model.swapped (model.taken_fill c page fill)) next act step (omega arith) tt
-        (tt, ap (λ (l : List (ℕ × Option Contents)). get_elem? (put_back homes l) page) hand_here ∙ behind.head_stays shape.pages shape.size shape.start c ring page fill facts told (reading me.0) homes blank sized s.are_homes)
+        reads_on shape me c ws homes s (front + 3) (λ k. either (k == from) to k) (λ found after. SwapReported shape me (spot fill page) found after) (λ _. ⊤) true (model.page_taken (model.taken_fill c page fill)) next act step (omega arith) tt
+        (tt, ap (λ (l : List (ℕ × Option Contents)). get_elem? (put_back homes l) page) hand_here ∙ behind.head_stays shape.pages shape.size shape.start c ring page fill facts reported (reading me.0) homes blank sized s.are_homes)
         (exchanged found from to (λ (word : ℕ). AreWords shape.pages next (slice_set ws (front + 3) word))
         (λ _. subst (λ (word : ℕ). AreWords shape.pages next (slice_set ws (front + 3) word)) (sym (to_is ∙ ap (λ (spare : ℕ). word_of (normal_link spare (fill + shape.pages))) spare_here))
         (subst (λ (f : ℕ). AreWords shape.pages next (slice_set ws (f + 3) (word_of (normal_link c.spare (fill + shape.pages))))) (sym front_here)
-        (behind.swapped_words shape.pages shape.size shape.start c ring page fill facts told ws s.are_words)))
+        (behind.swapped_words shape.pages shape.size shape.start c ring page fill facts reported ws s.are_words)))
         (λ other. absurd (other same)))
         (subst (λ (l : List (ℕ × Option Contents)). AreHomes shape.pages shape.size next (part_of next true) (homes_after homes l act)) (sym hand_here)
-        (behind.swapped_homes shape.pages shape.size shape.start c ring page fill facts told (reading me.0) homes blank sized s.are_homes))
+        (behind.swapped_homes shape.pages shape.size shape.start c ring page fill facts reported (reading me.0) homes blank sized s.are_homes))
         (λ read. record {
           read = read;
           took = λ _. (home.0, ap (λ (l : List (ℕ × Option Contents)). (page, Some home.0) ∷ rest l) hand, taken);
@@ -229,22 +229,22 @@ module _ (shape : Shape) (me mid : Sat) (page fill spare : ℕ) (blank : Content
 
   pub swap_allowed : (slots id front from to : ℕ) → blank.size ≡ shape.size → front ≡ page_before shape.pages (reading me.0).order fill → FitsWord (header_link page fill)
       → from ≡ word_of (header_link page fill) → to ≡ word_of (normal_link spare (fill + shape.pages))
-      → Allows (Shows shape.pages shape.size shape.start) slots id mid (front + 3) (λ k. either (k == from) to k) (SwapTold shape mid (head_to_take (reading mid.0).reader.phase))
+      → Allows (Shows shape.pages shape.size shape.start) slots id mid (front + 3) (λ k. either (k == from) to k) (SwapReported shape mid (head_to_take (reading mid.0).reader.phase))
   swap_allowed slots id front from to sized front_is fits from_is to_is =
-      subst (λ (m : Sat). Allows (Shows shape.pages shape.size shape.start) slots id m (front + 3) (λ k. either (k == from) to k) (SwapTold shape m (head_to_take (reading m.0).reader.phase))) (sym laid_is)
-      (subst (λ (head : Spot). Allows (Shows shape.pages shape.size shape.start) slots id (laid_into me blank) (front + 3) (λ k. either (k == from) to k) (SwapTold shape (laid_into me blank) head)) (sym (ap head_to_take at))
-      (reader_allows shape slots id (laid_into me blank) (front + 3) (λ k. either (k == from) to k) (SwapTold shape (laid_into me blank) (spot fill page)) is.view
+      subst (λ (m : Sat). Allows (Shows shape.pages shape.size shape.start) slots id m (front + 3) (λ k. either (k == from) to k) (SwapReported shape m (head_to_take (reading m.0).reader.phase))) (sym laid_is)
+      (subst (λ (head : Spot). Allows (Shows shape.pages shape.size shape.start) slots id (laid_into me blank) (front + 3) (λ k. either (k == from) to k) (SwapReported shape (laid_into me blank) head)) (sym (ap head_to_take at))
+      (reader_allows shape slots id (laid_into me blank) (front + 3) (λ k. either (k == from) to k) (SwapReported shape (laid_into me blank) (spot fill page)) is.view
       (λ core ws homes s. swap_moves shape (laid_into me blank) core ws homes s page fill front from to blank at keeps_slot refl sized front_is fits from_is
       (to_is ∙ ap (λ (p : ℕ). word_of (normal_link p (fill + shape.pages))) spare_is))))
 
   -- what is known of the swap, said of the seat before
-  pub told_before : (found : ℕ) (after : Sat) → SwapTold shape mid (head_to_take (reading mid.0).reader.phase) found after → SwapTold shape (laid_into me blank) (spot fill page) found after
-  told_before found after t = subst (λ (head : Spot). SwapTold shape (laid_into me blank) head found after) (ap head_to_take at)
-      (subst (λ (m : Sat). SwapTold shape m (head_to_take (reading m.0).reader.phase) found after) laid_is t)
+  pub reported_before : (found : ℕ) (after : Sat) → SwapReported shape mid (head_to_take (reading mid.0).reader.phase) found after → SwapReported shape (laid_into me blank) (spot fill page) found after
+  reported_before found after t = subst (λ (head : Spot). SwapReported shape (laid_into me blank) head found after) (ap head_to_take at)
+      (subst (λ (m : Sat). SwapReported shape m (head_to_take (reading m.0).reader.phase) found after) laid_is t)
 
 -- ---- what comes out of the slot
 
-module _ (shape : Shape) (me after end : Sat) (page fill found : ℕ) (blank : Contents) (t : SwapTold shape (laid_into me blank) (spot fill page) found after) where
+module _ (shape : Shape) (me after end : Sat) (page fill found : ℕ) (blank : Contents) (t : SwapReported shape (laid_into me blank) (spot fill page) found after) where
   -- the seat, once the page of the spare is out of its slot
   emptied_seat : (number : ℕ) → number ≡ (reading after.0).spare → rest after.1 ≡ [] → end ≡ (after.0, (number, None) ∷ rest after.1) → IsSeatOfReader end
   emptied_seat number is alone end_is = subst IsSeatOfReader (sym end_is) record {
@@ -260,8 +260,8 @@ module _ (shape : Shape) (me after end : Sat) (page fill found : ℕ) (blank : C
       pub taken_seat : IsSeatOfReader end
       taken_seat = let (body, hand, taken) = t.took met in emptied_seat page (sym taken.spare_is) (ap rest hand) end_is
 
-      pub taken_told : (result : Contents) → after.1 ≡ (page, Some result) ∷ rest after.1 → HeadTaken shape (reading me.0) page fill result (reading end.0)
-      taken_told result at = let (body, hand, taken) = t.took met in
+      pub taken_reported : (result : Contents) → after.1 ≡ (page, Some result) ∷ rest after.1 → HeadTaken shape (reading me.0) page fill result (reading end.0)
+      taken_reported result at = let (body, hand, taken) = t.took met in
           subst (λ (m : Sat). HeadTaken shape (reading me.0) page fill result (reading m.0)) (sym end_is)
           (subst (λ (b : Contents). HeadTaken shape (reading me.0) page fill b (reading after.0)) (same_body body result (ap body_of (sym hand ∙ at))) taken)
 
@@ -279,5 +279,5 @@ module _ (shape : Shape) (me after end : Sat) (page fill found : ℕ) (blank : C
       pub missed_seat : IsSeatOfReader end
       missed_seat = emptied_seat spare (spare_is ∙ sym (ap (λ (r : Reading). r.spare) (t.missed unmet).1.after_is)) (ap rest still_there) end_is
 
-      pub missed_told : HeadMissed shape (reading me.0) page fill (reading end.0)
-      missed_told = subst (λ (m : Sat). HeadMissed shape (reading me.0) page fill (reading m.0)) (sym end_is) (t.missed unmet).1
+      pub missed_reported : HeadMissed shape (reading me.0) page fill (reading end.0)
+      missed_reported = subst (λ (m : Sat). HeadMissed shape (reading me.0) page fill (reading m.0)) (sym end_is) (t.missed unmet).1

@@ -6,11 +6,11 @@ use native.Mathlib.Decide.{dec_le}
 use Rattle.trace_model.specs.Record.{Record}
 use Rattle.trace_model.specs.History.{as_record, reserved_records}
 use Rattle.trace_model.specs.Links.{Link, word_of, normal_link, header_link, update_link, FitsWord}
-use Rattle.trace_model.specs.Ring.{Core, Reader, ReaderPhase, loading_link, loading_done, storing_link, swapping, link_into, page_at}
+use Rattle.trace_model.specs.Ring.{Core, Reader, ReaderPhase, loading_head, loading_done, storing_spare_link, swapping, link_into, page_at}
 use Rattle.trace_model.specs.Steps as model
 use Rattle.trace_model.proofs.steps.StepCases as cases
 use Rattle.trace_model.proofs.steps.StepIs.{step_by}
-use Rattle.trace_model.proofs.words.LinkWords.{word_tells}
+use Rattle.trace_model.proofs.words.LinkWords.{word_reports}
 use Rattle.link_marks.specs.ModelLinks.{link_of}
 use Rattle.link_marks.specs.declared.link.Link as code
 use Rattle.link_marks.specs.declared.link.Mark.{Mark}
@@ -18,23 +18,23 @@ use Rattle.link_marks.specs.declared.link.Mark.TheVariants.{Normal, Header, Upda
 use Rattle.link_marks.specs.KeptLinks.{ReaderKept}
 use Rattle.link_marks.specs.RingKept.{IsRingKept}
 use Rattle.link_marks.proofs.frames.AnswersRight.{moving_right}
-use Rattle.link_marks.proofs.links.LinkFills.{fill_at, normal_tells, header_tells}
+use Rattle.link_marks.proofs.links.LinkFills.{fill_at, normal_reports, header_reports}
 use Rattle.link_marks.proofs.links.Positions.{at_position, one_position}
 use Rattle.link_marks.proofs.partition.RingsKept.{reached_kept}
 use Rattle.link_marks.proofs.steps.StepsDetermined.{steps_are_determined}
 use Rattle.ring_steps.specs.declared.rule.Shape.{Shape}
 use Rattle.ring_steps.specs.Views.{Reading}
 use Rattle.ring_steps.specs.Seats.{IsReaderStep}
-use Rattle.ring_steps.specs.Taking.{IsRead, IsWordInto, page_found, fill_found, IsStoringLink, LinkLoaded, DoneLoaded, SpareLinked}
+use Rattle.ring_steps.specs.Taking.{IsReadStep, IsWordInto, page_found, fill_found, IsStoringLink, LinkLoaded, DoneLoaded, SpareLinked}
 use Rattle.ring_steps.proofs.Taking.{gone_on}
 
 -- the step is seen as one of which less is told, and that has this answer
-pub seen_as : (shape : Shape) (before : Reading) (sees other : Core → Type 0) (event : model.Event) (answer told : model.Answer) (after : Reading)
+pub seen_as : (shape : Shape) (before : Reading) (sees other : Core → Type 0) (event : model.Event) (answer reported : model.Answer) (after : Reading)
     → (r : IsReaderStep shape before sees event answer after)
     → other r.core
-    → answer ≡ told
-    → IsReaderStep shape before other event told after
-seen_as shape before sees other event answer told after r seen e = record {
+    → answer ≡ reported
+    → IsReaderStep shape before other event reported after
+seen_as shape before sees other event answer reported after r seen e = record {
   core = r.core;
   next = r.next;
   reached = r.reached;
@@ -69,13 +69,13 @@ module _ (shape : Shape) (before after : Reading) (sees : Core → Type 0) (answ
   -- ---- the state after it
 
   -- the step is this one
-  is_step : (phase : ReaderPhase) (told : model.Answer) (next : Core) → before.reader.phase ≡ phase → cases.ReadStep shape.pages r.core phase told next → (answer ≡ told) × (r.next ≡ next)
-  is_step phase told next at step = steps_are_determined shape.pages shape.size r.core model.reads answer told r.next next r.step
-      (step_by (cases.read_step refl (subst (λ (p : ReaderPhase). cases.ReadStep shape.pages r.core p told next) (phase_in phase at) step)))
+  is_step : (phase : ReaderPhase) (reported : model.Answer) (next : Core) → before.reader.phase ≡ phase → cases.ReadStep shape.pages r.core phase reported next → (answer ≡ reported) × (r.next ≡ next)
+  is_step phase reported next at step = steps_are_determined shape.pages shape.size r.core model.reads answer reported r.next next r.step
+      (step_by (cases.read_step refl (subst (λ (p : ReaderPhase). cases.ReadStep shape.pages r.core p reported next) (phase_in phase at) step)))
 
   -- the model answers it so
-  so : (told : model.Answer) → answer ≡ told → IsReaderStep shape before sees model.reads told after
-  so told e = seen_as shape before sees sees model.reads answer told after r r.seen e
+  so : (reported : model.Answer) → answer ≡ reported → IsReaderStep shape before sees model.reads reported after
+  so reported e = seen_as shape before sees sees model.reads answer reported after r r.seen e
 
   -- the reader's part, after a step by which nothing is taken
   part_is : (reader : Reader) (link : Link) (keeps : Bool) → r.next ≡ gone_on r.core reader link → reader.expected ≡ r.core.reader.expected → after.keeps_spare ≡ keeps
@@ -116,8 +116,8 @@ module _ (shape : Shape) (before after : Reading) (sees : Core → Type 0) (answ
       let on : suc fill ≡ fill + 1 = omega arith in
       let same : link ≡ behind = is ∙ (λ i. header_link (page_at shape.pages (r.before_is.order_is i) (sym on i)) (sym on i)) in
       let next : Core = gone_on r.core (record r.core.reader { phase = swapping page fill; hint = r.core.reader.hint }) behind in
-      let (told, next_is) = is_step (storing_link page fill) model.reading next at record { answer_is = refl; after_is = refl } in record {
-        step = seen_as shape before sees (λ _. ⊤) model.reads answer model.reading after r tt told;
+      let (reported, next_is) = is_step (storing_spare_link page fill) model.reading next at record { answer_is = refl; after_is = refl } in record {
+        step = seen_as shape before sees (λ _. ⊤) model.reads answer model.reading after r tt reported;
         after_is = subst (λ (l : Link). after ≡ record before { spare_link = l; reader = record before.reader { phase = swapping page fill }; keeps_spare = true }) (sym same)
             (subst (λ (x : Reader). after ≡ record before { spare_link = behind; reader = record x { phase = swapping page fill }; keeps_spare = true }) (sym reader_is)
             (part_is (record r.core.reader { phase = swapping page fill }) behind true next_is refl slot));
@@ -130,13 +130,13 @@ abbrev SeesLink : Shape → Reading → Link → Core → Type 0
 SeesLink shape before link core = link_into shape.pages core.links before.reader.hint ≡ link
 
 module _ (shape : Shape) (before after : Reading) (link : Link) (answer : model.Answer) (r : IsReaderStep shape before (SeesLink shape before link) model.reads answer after)
-    (at : before.reader.phase ≡ loading_link) (slot : after.keeps_spare ≡ false) where
+    (at : before.reader.phase ≡ loading_head) (slot : after.keeps_spare ≡ false) where
   -- the reader goes on in this phase, with this hint
-  loads : (told : model.Answer) (phase : ReaderPhase) (hint : ℕ) → cases.LoadHeadStep shape.pages r.core told (model.reader_at r.core phase hint) → before.reader.hint ≤ hint
-      → LinkLoaded shape before link told phase hint after
-  loads told phase hint step low =
-      let (told_is, next_is) = is_step shape before after (SeesLink shape before link) answer r loading_link told (model.reader_at r.core phase hint) at step in record {
-        step = so shape before after (SeesLink shape before link) answer r told told_is;
+  loads : (reported : model.Answer) (phase : ReaderPhase) (hint : ℕ) → cases.LoadHeadStep shape.pages r.core reported (model.reader_at r.core phase hint) → before.reader.hint ≤ hint
+      → LinkLoaded shape before link reported phase hint after
+  loads reported phase hint step low =
+      let (reported_is, next_is) = is_step shape before after (SeesLink shape before link) answer r loading_head reported (model.reader_at r.core phase hint) at step in record {
+        step = so shape before after (SeesLink shape before link) answer r reported reported_is;
         hint_le = low;
         after_is = subst (λ (x : Reader). after ≡ record before { reader = record x { phase = phase; hint = hint }; keeps_spare = false }) (sym (reader_is shape before after (SeesLink shape before link) answer r))
             (part_like shape before after (SeesLink shape before link) answer r (record r.core.reader { phase = phase; hint = hint }) false next_is refl slot);
@@ -154,24 +154,24 @@ module _ (shape : Shape) (before after : Reading) (link : Link) (answer : model.
   pub sees_header : (page fill : ℕ) → link ≡ header_link page fill → LinkLoaded shape before link model.reading (loading_done page fill) fill after
   sees_header page fill is =
       let (g, low, high, same, into) = fill_at shape.pages r.core k.links before.reader.hint in
-      let told = header_tells shape.pages r.core.links r.core.order r.core.head r.core.frames g page fill into (same ∙ (r.seen ∙ is)) in
-      let fill_is = told.0 in let head_is = told.1 in let behind = k.links.hint_le in let hint = same_hint in
+      let reported = header_reports shape.pages r.core.links r.core.order r.core.head r.core.frames g page fill into (same ∙ (r.seen ∙ is)) in
+      let fill_is = reported.0 in let head_is = reported.1 in let behind = k.links.hint_le in let hint = same_hint in
       loads model.reading (loading_done page fill) fill (cases.loads_header page fill (here (header_link page fill) is) refl refl) (omega arith)
 
-  pub sees_update : (page lost : ℕ) → link ≡ update_link page lost → LinkLoaded shape before link (model.moving (lost + 1)) loading_link (lost + 1) after
+  pub sees_update : (page lost : ℕ) → link ≡ update_link page lost → LinkLoaded shape before link (model.moving (lost + 1)) loading_head (lost + 1) after
   sees_update page lost is =
-      let step : cases.LoadHeadStep shape.pages r.core (model.moving (suc lost)) (model.reader_at r.core loading_link (suc lost)) = cases.loads_update page lost (here (update_link page lost) is) refl refl in
+      let step : cases.LoadHeadStep shape.pages r.core (model.moving (suc lost)) (model.reader_at r.core loading_head (suc lost)) = cases.loads_update page lost (here (update_link page lost) is) refl refl in
       let next : suc lost ≡ lost + 1 = omega arith in
-      let told = is_step shape before after (SeesLink shape before link) answer r loading_link (model.moving (suc lost)) (model.reader_at r.core loading_link (suc lost)) at step in
-      let way = (moving_right shape.pages shape.size shape.start r.core model.reads (suc lost) r.next k (subst (λ (a : model.Answer). model.Step shape.pages shape.size r.core model.reads a r.next) told.0 r.step)).0 in
+      let reported = is_step shape before after (SeesLink shape before link) answer r loading_head (model.moving (suc lost)) (model.reader_at r.core loading_head (suc lost)) at step in
+      let way = (moving_right shape.pages shape.size shape.start r.core model.reads (suc lost) r.next k (subst (λ (a : model.Answer). model.Step shape.pages shape.size r.core model.reads a r.next) reported.0 r.step)).0 in
       let low = way.hint_le in let same = same_hint in
-      subst (λ (hint : ℕ). LinkLoaded shape before link (model.moving hint) loading_link hint after) next (loads (model.moving (suc lost)) loading_link (suc lost) step (omega arith))
+      subst (λ (hint : ℕ). LinkLoaded shape before link (model.moving hint) loading_head hint after) next (loads (model.moving (suc lost)) loading_head (suc lost) step (omega arith))
 
-  pub sees_owed : (page : ℕ) → link ≡ normal_link page before.reader.hint → LinkLoaded shape before link (model.moving before.reader.hint) loading_link before.reader.hint after
+  pub sees_owed : (page : ℕ) → link ≡ normal_link page before.reader.hint → LinkLoaded shape before link (model.moving before.reader.hint) loading_head before.reader.hint after
   sees_owed page is =
       let same = same_hint in
-      subst (λ (hint : ℕ). LinkLoaded shape before link (model.moving hint) loading_link hint after) (sym same)
-      (loads (model.moving r.core.reader.hint) loading_link r.core.reader.hint (cases.loads_owed page (here (normal_link page before.reader.hint) is ∙ ap (normal_link page) same) refl refl) (omega arith))
+      subst (λ (hint : ℕ). LinkLoaded shape before link (model.moving hint) loading_head hint after) (sym same)
+      (loads (model.moving r.core.reader.hint) loading_head r.core.reader.hint (cases.loads_owed page (here (normal_link page before.reader.hint) is ∙ ap (normal_link page) same) refl refl) (omega arith))
 
   -- the position has a fill from the head on, at least a whole round after the hint
   far : (page fill : ℕ) → link ≡ normal_link page fill → fill ≢ before.reader.hint → (before.reader.hint + shape.pages ≤ fill) × (1 ≤ shape.pages)
@@ -179,27 +179,27 @@ module _ (shape : Shape) (before after : Reading) (link : Link) (answer : model.
       let some_pages = k.links.some_pages in let behind = k.links.hint_le in let same = same_hint in
       let hint : ℕ = before.reader.hint in
       let (g, low, high, position) = at_position r.core.head shape.pages (hint % shape.pages) (mod-lt hint (omega arith)) in
-      let told : fill ≡ g = (normal_tells shape.pages r.core.links r.core.order r.core.head r.core.frames g page fill (k.links.each g low high) (ap (λ (i : ℕ). get_or r.core.links i (normal_link 0 0)) position ∙ (r.seen ∙ is))).0 in (
+      let reported : fill ≡ g = (normal_reports shape.pages r.core.links r.core.order r.core.head r.core.frames g page fill (k.links.each g low high) (ap (λ (i : ℕ). get_or r.core.links i (normal_link 0 0)) position ∙ (r.seen ∙ is))).0 in (
         dite (dec_le (hint + shape.pages) fill) (λ yes. yes)
-            (λ no. let one = one_position hint shape.pages g hint (omega arith) (omega arith) (omega arith) (omega arith) position in absurd (other (told ∙ one))),
+            (λ no. let one = one_position hint shape.pages g hint (omega arith) (omega arith) (omega arith) (omega arith) position in absurd (other (reported ∙ one))),
         omega arith,
       )
 
   pub sees_passed : (page fill : ℕ) → link ≡ normal_link page fill → fill ≢ before.reader.hint
-      → LinkLoaded shape before link model.reading loading_link (fill + 1 - shape.pages) after × (before.reader.hint + shape.pages ≤ fill)
+      → LinkLoaded shape before link model.reading loading_head (fill + 1 - shape.pages) after × (before.reader.hint + shape.pages ≤ fill)
   sees_passed page fill is other =
       let (behind, some_pages) = far page fill is other in let same = same_hint in (
-        loads model.reading loading_link (fill + 1 - shape.pages) (cases.loads_passed page fill (fill + 1 - shape.pages) (here (normal_link page fill) is) (omega arith) (omega arith) refl refl) (omega arith),
+        loads model.reading loading_head (fill + 1 - shape.pages) (cases.loads_passed page fill (fill + 1 - shape.pages) (here (normal_link page fill) is) (omega arith) (omega arith) refl refl) (omega arith),
         behind,
       )
 
 -- the same by the mark of a link whose word was found
-module _ (shape : Shape) (before after : Reading) (found : ℕ) (read : IsRead shape before (IsWordInto shape before.reader.hint found) after)
-    (at : before.reader.phase ≡ loading_link) (slot : after.keeps_spare ≡ false) (l : code.Link) (fits : FitsWord (link_of l)) (word : word_of (link_of l) ≡ found) where
+module _ (shape : Shape) (before after : Reading) (found : ℕ) (read : IsReadStep shape before (IsWordInto shape before.reader.hint found) after)
+    (at : before.reader.phase ≡ loading_head) (slot : after.keeps_spare ≡ false) (l : code.Link) (fits : FitsWord (link_of l)) (word : word_of (link_of l) ≡ found) where
   seen : IsReaderStep shape before (SeesLink shape before (link_of l)) model.reads read.0 after
   seen = let r = read.1 in
       seen_as shape before (IsWordInto shape before.reader.hint found) (SeesLink shape before (link_of l)) model.reads read.0 read.0 after r
-      (word_tells (link_into shape.pages r.core.links before.reader.hint) (link_of l) r.seen.fits fits (r.seen.word_is ∙ sym word)) refl
+      (word_reports (link_into shape.pages r.core.links before.reader.hint) (link_of l) r.seen.fits fits (r.seen.word_is ∙ sym word)) refl
 
   is_marked : (mark : Mark) → l.mark ≡ mark → link_of l ≡ link_of record { mark = mark; page = l.page; fill = l.fill }
   is_marked mark is = ap (λ (m : Mark). link_of record { mark = m; page = l.page; fill = l.fill }) is
@@ -207,42 +207,42 @@ module _ (shape : Shape) (before after : Reading) (found : ℕ) (read : IsRead s
   pub at_header : l.mark ≡ Header → LinkLoaded shape before (link_of l) model.reading (loading_done l.page l.fill) l.fill after
   at_header is = sees_header shape before after (link_of l) read.0 seen at slot l.page l.fill (is_marked Header is)
 
-  pub at_update : l.mark ≡ Update → LinkLoaded shape before (link_of l) (model.moving (l.fill + 1)) loading_link (l.fill + 1) after
+  pub at_update : l.mark ≡ Update → LinkLoaded shape before (link_of l) (model.moving (l.fill + 1)) loading_head (l.fill + 1) after
   at_update is = sees_update shape before after (link_of l) read.0 seen at slot l.page l.fill (is_marked Update is)
 
-  pub at_owed : l.mark ≡ Normal → l.fill ≡ before.reader.hint → LinkLoaded shape before (link_of l) (model.moving l.fill) loading_link l.fill after
-  at_owed is same = subst (λ (hint : ℕ). LinkLoaded shape before (link_of l) (model.moving hint) loading_link hint after) (sym same)
+  pub at_owed : l.mark ≡ Normal → l.fill ≡ before.reader.hint → LinkLoaded shape before (link_of l) (model.moving l.fill) loading_head l.fill after
+  at_owed is same = subst (λ (hint : ℕ). LinkLoaded shape before (link_of l) (model.moving hint) loading_head hint after) (sym same)
       (sees_owed shape before after (link_of l) read.0 seen at slot l.page (is_marked Normal is ∙ ap (normal_link l.page) same))
 
   pub at_passed : l.mark ≡ Normal → l.fill ≢ before.reader.hint
-      → LinkLoaded shape before (link_of l) model.reading loading_link (l.fill + 1 - shape.pages) after × (before.reader.hint + shape.pages ≤ l.fill)
+      → LinkLoaded shape before (link_of l) model.reading loading_head (l.fill + 1 - shape.pages) after × (before.reader.hint + shape.pages ≤ l.fill)
   at_passed is other = sees_passed shape before after (link_of l) read.0 seen at slot l.page l.fill (is_marked Normal is) other
 
 -- ---- a load of the number of closed fills
 
 module _ (shape : Shape) (before after : Reading) (done : ℕ) (answer : model.Answer) (r : IsReaderStep shape before (λ core. core.done ≡ done) model.reads answer after)
     (page fill : ℕ) (at : before.reader.phase ≡ loading_done page fill) (slot : after.keeps_spare ≡ before.keeps_spare) where
-  saw : (told : model.Answer) (phase : ReaderPhase) → cases.LoadDoneStep r.core page fill told (model.reader_saw r.core phase) → DoneLoaded shape before done told phase after
-  saw told phase step =
+  saw : (reported : model.Answer) (phase : ReaderPhase) → cases.LoadDoneStep r.core page fill reported (model.reader_saw r.core phase) → DoneLoaded shape before done reported phase after
+  saw reported phase step =
       let sees : Core → Type 0 = λ core. core.done ≡ done in
-      let (told_is, next_is) = is_step shape before after sees answer r (loading_done page fill) told (model.reader_saw r.core phase) at step in
+      let (reported_is, next_is) = is_step shape before after sees answer r (loading_done page fill) reported (model.reader_saw r.core phase) at step in
       let low = seen_low shape before after sees answer r in let same : r.core.done ≡ done = r.seen in record {
-        step = so shape before after sees answer r told told_is;
+        step = so shape before after sees answer r reported reported_is;
         seen_le = omega arith;
         after_is = subst (λ (d : ℕ). after ≡ record before { reader = record before.reader { phase = phase; seen = d } }) same
             (subst (λ (x : Reader). after ≡ record before { reader = record x { phase = phase; seen = r.core.done } }) (sym (reader_is shape before after sees answer r))
             (part_like shape before after sees answer r (record r.core.reader { phase = phase; seen = r.core.done }) before.keeps_spare next_is refl slot));
       }
 
-  pub finds_closed : fill < done → DoneLoaded shape before done model.reading (storing_link page fill) after
-  finds_closed below = let same : r.core.done ≡ done = r.seen in saw model.reading (storing_link page fill) (cases.finds_closed (omega arith) refl refl)
+  pub finds_closed : fill < done → DoneLoaded shape before done model.reading (storing_spare_link page fill) after
+  finds_closed below = let same : r.core.done ≡ done = r.seen in saw model.reading (storing_spare_link page fill) (cases.finds_closed (omega arith) refl refl)
 
-  pub finds_none : done ≤ fill → DoneLoaded shape before done (model.empty done) loading_link after × (before.reader.hint ≡ done)
+  pub finds_none : done ≤ fill → DoneLoaded shape before done (model.empty done) loading_head after × (before.reader.hint ≡ done)
   finds_none le =
       let sees : Core → Type 0 = λ core. core.done ≡ done in
       let k = kept shape before after sees answer r in let same : r.core.done ≡ done = r.seen in
       let fill_is = (facts shape before after sees answer r (loading_done page fill) at).fill_is in let behind = k.links.hint_le in let unread = k.links.head_le in
       let hint = hint_is shape before after sees answer r in (
-        subst (λ (d : ℕ). DoneLoaded shape before done (model.empty d) loading_link after) same (saw (model.empty r.core.done) loading_link (cases.finds_none (omega arith) refl refl)),
+        subst (λ (d : ℕ). DoneLoaded shape before done (model.empty d) loading_head after) same (saw (model.empty r.core.done) loading_head (cases.finds_none (omega arith) refl refl)),
         omega arith,
       )

@@ -14,7 +14,7 @@ use Rattle.atomic_table.proofs.Lists.{set_here, set_else}
 use Rattle.trace_model.specs.declared.limits.TheConstants.{MAX_PAGES}
 use Rattle.trace_model.specs.History.{as_record, reserved_records}
 use Rattle.trace_model.specs.Links.{Link, word_of, normal_link, header_link, FitsWord}
-use Rattle.trace_model.specs.Ring.{Core, ReaderPhase, loading_link, loading_done, storing_link, swapping, Reader, AreApart, link_into, page_at}
+use Rattle.trace_model.specs.Ring.{Core, ReaderPhase, loading_head, loading_done, storing_spare_link, swapping, Reader, AreApart, link_into, page_at}
 use Rattle.trace_model.specs.Steps as model
 use Rattle.trace_model.proofs.steps.StepCases as cases
 use Rattle.trace_model.proofs.steps.StepCases.{loads_header, loads_update, loads_owed, loads_passed, push_step, push_refused, close_step, close_refused, frame_step, frame_lacks, end_step, end_lacks, end_early, read_step, store_wish_step}
@@ -31,7 +31,7 @@ use Rattle.ring_steps.specs.declared.rule.Shape.{Shape}
 use Rattle.ring_steps.specs.Views.{Reading, reading, reads}
 use Rattle.ring_steps.specs.Shown.{page_word, page_before, AreWords, Homes, AreHomes, IsReading}
 use Rattle.ring_steps.specs.Seats.{Sat, kept_slots, IsSeatOfReader}
-use Rattle.ring_steps.specs.Taking.{ReadTold, SeatTold, IsWordInto}
+use Rattle.ring_steps.specs.Taking.{ReadReported, SeatReported, IsWordInto}
 use Rattle.ring_steps.proofs.Allowing.{IsShownBy, ReaderMoves}
 use Rattle.ring_steps.proofs.ReaderSteps.{reader_within}
 
@@ -122,9 +122,9 @@ reads_of n size c answer next (store_wish_step e a is) = absurd (cc)
 
 load_on : (n : ℕ) (c : Core) (answer : model.Answer) (next : Core) → cases.LoadHeadStep n c answer next → (reader : Reader) × (next ≡ gone_on c reader c.spare_link)
 load_on n c answer next (loads_header page fill at a is) = (record c.reader { phase = loading_done page fill; hint = fill }, is)
-load_on n c answer next (loads_update page lost at a is) = (record c.reader { phase = loading_link; hint = suc lost }, is)
-load_on n c answer next (loads_owed page at a is) = (record c.reader { phase = loading_link; hint = c.reader.hint }, is)
-load_on n c answer next (loads_passed page fill least at more sum a is) = (record c.reader { phase = loading_link; hint = least }, is)
+load_on n c answer next (loads_update page lost at a is) = (record c.reader { phase = loading_head; hint = suc lost }, is)
+load_on n c answer next (loads_owed page at a is) = (record c.reader { phase = loading_head; hint = c.reader.hint }, is)
+load_on n c answer next (loads_passed page fill least at more sum a is) = (record c.reader { phase = loading_head; hint = least }, is)
 
 pub link_fits : (n size start : ℕ) (c : Core) (f : ℕ) → n ≤ MAX_PAGES → IsRingKept n size start c → FitsWord (link_into n c.links f)
 link_fits n size start c f few k =
@@ -151,16 +151,16 @@ module _ (shape : Shape) (me : Sat) (c : Core) (ws : List ℕ) (homes : Homes) (
   word_into page fill is = ap (λ (p : ℕ). get_or ws (p + 3) 0) (is ∙ ap (λ (order : List ℕ). page_before shape.pages order fill) s.is_reading.order_is) ∙ s.are_words.links fill
 
 module _ (shape : Shape) (me : Sat) (c : Core) (ws : List ℕ) (homes : Homes) (s : IsShownBy shape c (reading me.0) ws homes) where
-  pub reads_on : (i : ℕ) (f : ℕ → ℕ) (tells : ℕ → Sat → Type 0) (sees : Core → Type 0) (b : Bool) (answer : model.Answer) (next : Core) (act : Act (Option Contents))
+  pub reads_on : (i : ℕ) (f : ℕ → ℕ) (reports : ℕ → Sat → Type 0) (sees : Core → Type 0) (b : Bool) (answer : model.Answer) (next : Core) (act : Act (Option Contents))
       → model.Step shape.pages shape.size c model.reads answer next
       → c.head ≤ next.head
       → sees c
       → Valid homes me.1 act
       → AreWords shape.pages next (slice_set ws i (f (slice_index ws i)))
       → AreHomes shape.pages shape.size next (part_of next b) (homes_after homes me.1 act)
-      → (ReadTold shape sees b me (reads (part_of next b), carried_after me.1 act) → tells (slice_index ws i) (reads (part_of next b), carried_after me.1 act))
-      → ReaderMoves shape c me ws homes i f tells
-  reads_on i f tells sees b answer next act step head_le seen valid words at_home tell =
+      → (ReadReported shape sees b me (reads (part_of next b), carried_after me.1 act) → reports (slice_index ws i) (reads (part_of next b), carried_after me.1 act))
+      → ReaderMoves shape c me ws homes i f reports
+  reads_on i f reports sees b answer next act step head_le seen valid words at_home report =
       let reached = reached_further shape.pages shape.size shape.start c model.reads answer next s.reached step in
       let stays = reader_leaves_writer shape.pages shape.size c model.reads answer next tt (cases_of step) in
       let is_reading : IsReading next (part_of next b) = record { order_is = refl; spare_is = refl; spare_link_is = refl; reader_is = refl; wish_is = refl; observed_is = refl } in record {
@@ -171,7 +171,7 @@ module _ (shape : Shape) (me : Sat) (c : Core) (ws : List ℕ) (homes : Homes) (
         shown = record { pages_fit = s.pages_fit; reached = reached; are_words = words; are_homes = at_home; is_reading = is_reading };
         writer_is = λ k. record { frames = stays.frames k; open_pages = stays.open_pages k; history = stays.history k; done = stays.done k; opened = stays.opened k };
         head_le = head_le;
-        told = tell record {
+        reported = report record {
           view = refl;
           within = reader_within shape next (part_of next b) (reached_kept shape.pages shape.size shape.start next reached) is_reading;
           keeps_is = refl;
@@ -184,51 +184,51 @@ module _ (shape : Shape) (me : Sat) (is : IsSeatOfReader me) (c : Core) (ws : Li
   loads_on : (i : ℕ) (sees : ℕ → Core → Type 0) (answer : model.Answer) (reader : Reader)
       → model.Step shape.pages shape.size c model.reads answer (gone_on c reader c.spare_link)
       → sees (slice_index ws i) c
-      → ReaderMoves shape c me ws homes i (λ k. k) (λ found after. SeatTold shape (sees found) (reading me.0).keeps_spare me after)
+      → ReaderMoves shape c me ws homes i (λ k. k) (λ found after. SeatReported shape (sees found) (reading me.0).keeps_spare me after)
   loads_on i sees answer reader step seen =
       let same = set-get_or ws i 0 in
       let b : Bool = (reading me.0).keeps_spare in
-      reads_on shape me c ws homes s i (λ k. k) (λ found after. SeatTold shape (sees found) b me after) (sees (slice_index ws i)) b answer (gone_on c reader c.spare_link) keeps step (omega arith) seen tt
+      reads_on shape me c ws homes s i (λ k. k) (λ found after. SeatReported shape (sees found) b me after) (sees (slice_index ws i)) b answer (gone_on c reader c.spare_link) keeps step (omega arith) seen tt
       (subst (AreWords shape.pages (gone_on c reader c.spare_link)) (sym same) (words_on shape.pages c ws reader s.are_words))
       (homes_on shape.pages shape.size c (reading me.0) homes reader c.spare_link b s.are_homes s.are_homes.spare)
-      (λ told. (record { view = refl; hand = is.hand ∙ ap (kept_slots b) s.is_reading.spare_is }, told))
+      (λ reported. (record { view = refl; hand = is.hand ∙ ap (kept_slots b) s.is_reading.spare_is }, reported))
 
   -- the number of closed fills is loaded
   pub load_done_moves : (page fill : ℕ) → (reading me.0).reader.phase ≡ loading_done page fill
-      → ReaderMoves shape c me ws homes 1 (λ k. k) (λ found after. SeatTold shape (λ core. core.done ≡ found) (reading me.0).keeps_spare me after)
+      → ReaderMoves shape c me ws homes 1 (λ k. k) (λ found after. SeatReported shape (λ core. core.done ≡ found) (reading me.0).keeps_spare me after)
   load_done_moves page fill at = let seen = sym s.are_words.done in
       dite (dec_le c.done fill)
-      (λ le. loads_on 1 (λ found core. core.done ≡ found) (model.empty c.done) (record c.reader { phase = loading_link; seen = c.done })
-      (step_in shape me c ws homes s (loading_done page fill) (model.empty c.done) (model.reader_saw c loading_link) at (cases.finds_none le refl refl)) seen)
-      (λ not. loads_on 1 (λ found core. core.done ≡ found) model.reading (record c.reader { phase = storing_link page fill; seen = c.done })
-      (step_in shape me c ws homes s (loading_done page fill) model.reading (model.reader_saw c (storing_link page fill)) at (cases.finds_closed (lt_of_not-le not) refl refl)) seen)
+      (λ le. loads_on 1 (λ found core. core.done ≡ found) (model.empty c.done) (record c.reader { phase = loading_head; seen = c.done })
+      (step_in shape me c ws homes s (loading_done page fill) (model.empty c.done) (model.reader_saw c loading_head) at (cases.finds_none le refl refl)) seen)
+      (λ not. loads_on 1 (λ found core. core.done ≡ found) model.reading (record c.reader { phase = storing_spare_link page fill; seen = c.done })
+      (step_in shape me c ws homes s (loading_done page fill) model.reading (model.reader_saw c (storing_spare_link page fill)) at (cases.finds_closed (lt_of_not-le not) refl refl)) seen)
 
   -- the link into the position of the hint is loaded, and the spare's slot is put home
-  pub load_link_moves : (page : ℕ) → (reading me.0).reader.phase ≡ loading_link → page ≡ page_before shape.pages (reading me.0).order (reading me.0).reader.hint
-      → ReaderMoves shape c me ws homes (page + 3) (λ k. k) (λ found after. SeatTold shape (IsWordInto shape (reading me.0).reader.hint found) false me after)
+  pub load_link_moves : (page : ℕ) → (reading me.0).reader.phase ≡ loading_head → page ≡ page_before shape.pages (reading me.0).order (reading me.0).reader.hint
+      → ReaderMoves shape c me ws homes (page + 3) (λ k. k) (λ found after. SeatReported shape (IsWordInto shape (reading me.0).reader.hint found) false me after)
   load_link_moves page at page_is =
       let k = kept shape me c ws homes s in let some_pages = some_position shape me c ws homes s in
       let hint : ℕ = (reading me.0).reader.hint in
       let b : Bool = (reading me.0).keeps_spare in
       let hand : me.1 ≡ kept_slots b c.spare = is.hand ∙ ap (kept_slots b) s.is_reading.spare_is in
       let (answer, behind, made) = each_event_is_a_step shape.pages shape.size shape.start c model.reads k tt in
-      let load = subst (λ (p : ReaderPhase). cases.ReadStep shape.pages c p answer behind) (sym (phase_in shape me c ws homes s loading_link at)) (reads_of shape.pages shape.size c answer behind (cases_of made)) in
+      let load = subst (λ (p : ReaderPhase). cases.ReadStep shape.pages c p answer behind) (sym (phase_in shape me c ws homes s loading_head at)) (reads_of shape.pages shape.size c answer behind (cases_of made)) in
       let (reader, on) = load_on shape.pages c answer behind load in
       let next : Core = gone_on c reader c.spare_link in
       let step : model.Step shape.pages shape.size c model.reads answer next = subst (λ (d : Core). model.Step shape.pages shape.size c model.reads answer d) on made in
-      reads_on shape me c ws homes s (page + 3) (λ k. k) (λ found after. SeatTold shape (IsWordInto shape hint found) false me after) (IsWordInto shape hint (slice_index ws (page + 3))) false answer next gives step (omega arith)
+      reads_on shape me c ws homes s (page + 3) (λ k. k) (λ found after. SeatReported shape (IsWordInto shape hint found) false me after) (IsWordInto shape hint (slice_index ws (page + 3))) false answer next gives step (omega arith)
       record { word_is = sym (word_into shape me c ws homes s page hint page_is); fits = link_fits shape.pages shape.size shape.start c hint s.pages_fit k }
       tt
       (subst (AreWords shape.pages next) (sym (set-get_or ws (page + 3) 0)) (words_on shape.pages c ws reader s.are_words))
       (subst (λ (l : List (ℕ × Option Contents)). AreHomes shape.pages shape.size next (part_of next false) (put_back homes l)) (sym hand)
       (homes_given shape.pages shape.size c (reading me.0) homes reader c.spare_link b some_pages k.links.apart s.are_homes s.are_homes.spare))
-      (λ told. (record { view = refl; hand = ap rest hand ∙ nothing_left b c.spare }, told))
+      (λ reported. (record { view = refl; hand = ap rest hand ∙ nothing_left b c.spare }, reported))
 
   -- the spare's link is stored, and its slot taken
-  pub store_moves : (page fill spare new : ℕ) (link : Link) → (reading me.0).reader.phase ≡ storing_link page fill → spare ≡ (reading me.0).spare → (reading me.0).keeps_spare ≡ false
+  pub store_moves : (page fill spare new : ℕ) (link : Link) → (reading me.0).reader.phase ≡ storing_spare_link page fill → spare ≡ (reading me.0).spare → (reading me.0).keeps_spare ≡ false
       → new ≡ word_of link
       → link ≡ header_link (page_at shape.pages (reading me.0).order (fill + 1)) (fill + 1)
-      → ReaderMoves shape c me ws homes (spare + 3) (λ _. new) (λ _ after. SeatTold shape (λ _. ⊤) true me after)
+      → ReaderMoves shape c me ws homes (spare + 3) (λ _. new) (λ _ after. SeatReported shape (λ _. ⊤) true me after)
   store_moves page fill spare new link at spare_is empty new_is link_is =
       let k = kept shape me c ws homes s in let some_pages = some_position shape me c ws homes s in
       let behind : Link = model.next_header shape.pages c fill in
@@ -238,11 +238,11 @@ module _ (shape : Shape) (me : Sat) (is : IsSeatOfReader me) (c : Core) (ws : Li
       let next : Core = gone_on c reader behind in
       let here : c.spare ≡ spare = sym (spare_is ∙ s.is_reading.spare_is) in
       let none : me.1 ≡ [] = is.hand ∙ ap (λ (b : Bool). kept_slots b (reading me.0).spare) empty in
-      reads_on shape me c ws homes s (spare + 3) (λ _. new) (λ _ after. SeatTold shape (λ _. ⊤) true me after) (λ _. ⊤) true model.reading next (takes c.spare None)
-      (step_in shape me c ws homes s (storing_link page fill) model.reading next at record { answer_is = refl; after_is = refl })
+      reads_on shape me c ws homes s (spare + 3) (λ _. new) (λ _ after. SeatReported shape (λ _. ⊤) true me after) (λ _. ⊤) true model.reading next (takes c.spare None)
+      (step_in shape me c ws homes s (storing_spare_link page fill) model.reading next at record { answer_is = refl; after_is = refl })
       (omega arith) tt
       (s.are_homes.spare empty)
       (subst (λ (w : ℕ). AreWords shape.pages next (slice_set ws (spare + 3) w)) (ap word_of (sym header) ∙ sym new_is)
       (subst (λ (p : ℕ). AreWords shape.pages next (slice_set ws (p + 3) (word_of behind))) here (words_set shape.pages c ws reader behind some_pages k.links.apart s.are_words)))
       (homes_set shape.pages shape.size c (reading me.0) homes reader behind true maybe.none some_pages k.links.apart s.are_homes (λ e. absurd (cc)))
-      (λ told. (record { view = refl; hand = ap (λ (l : List (ℕ × Option Contents)). (c.spare, None) ∷ l) none }, told))
+      (λ reported. (record { view = refl; hand = ap (λ (l : List (ℕ × Option Contents)). (c.spare, None) ∷ l) none }, reported))

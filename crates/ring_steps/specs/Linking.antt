@@ -3,10 +3,10 @@ use Rattle.std.specs.Prelude.{◌≡◌, ℕ, ◌+◌, ◌-◌, ◌<◌, ◌≤�
 use Rattle.trace_model.specs.Links.{word_of}
 use Rattle.trace_model.specs.Frames.{Role, looking_next, marking, Frame, noted_fill}
 use Rattle.trace_model.specs.Ring.{link_into, Core}
-use Rattle.trace_model.specs.Steps.{MayOpen, going, Answer}
+use Rattle.trace_model.specs.Steps.{MayContinue, going, Answer}
 use Rattle.ring_steps.specs.declared.rule.Shape.{Shape}
 use Rattle.ring_steps.specs.Views.{Writing, writing, passed}
-use Rattle.ring_steps.specs.Seats.{Sat, IsWriting, IsWriterStep, WriterTold}
+use Rattle.ring_steps.specs.Seats.{Sat, IsWriting, IsWriterStep, WriterReported}
 use Rattle.ring_steps.specs.Paging.{IsTopIn}
 
 -- the tail page, whose word is the link into the position of the fill to open
@@ -19,7 +19,7 @@ pub record LooksBehind (n : ℕ) (w : Writing) (page behind : ℕ) : Type 0 wher
   pub role : Role
   pub noted : ℕ
   pub phase : IsTopIn w.frames (looking_next role noted page)
-  pub goes_on : MayOpen role noted w.opened
+  pub goes_on : MayContinue role noted w.opened
   pub behind_is : behind + n ≡ noted + 1
 
 -- and it is about to set the HEADER there
@@ -27,7 +27,7 @@ pub record MarksBehind (n : ℕ) (w : Writing) (page next behind : ℕ) : Type 0
   pub role : Role
   pub noted : ℕ
   pub phase : IsTopIn w.frames (marking role noted page next)
-  pub goes_on : MayOpen role noted w.opened
+  pub goes_on : MayContinue role noted w.opened
   pub behind_is : behind + n ≡ noted + 1
 
 abbrev pub number_or_zero : Option ℕ → ℕ
@@ -50,17 +50,17 @@ SeesLink shape known fill found core =
     (known ≤ core.head) × (word_of (link_into shape.pages core.links fill) ≡ found)
 
 -- what a step on that word shows
-abbrev pub LinkTold : Shape → Writing → (known fill found : ℕ) → Sat → Type 0
-LinkTold shape now known fill found after =
-    WriterTold shape now known (SeesLink shape known fill found) going after
+abbrev pub LinkReported : Shape → Writing → (known fill found : ℕ) → Sat → Type 0
+LinkReported shape now known fill found after =
+    WriterReported shape now known (SeesLink shape known fill found) going after
 
 -- What a claim of the head shows besides: the fill that is lost for the next one is passed, by this claim or before.
-pub record ClaimTold (shape : Shape) (now : Writing) (known found : ℕ) (after : Sat) : Type 0 where
-  pub told : LinkTold shape now known now.opened found after
+pub record ClaimReported (shape : Shape) (now : Writing) (known found : ℕ) (after : Sat) : Type 0 where
+  pub reported : LinkReported shape now known now.opened found after
   pub lost : now.opened < passed after.0 + shape.pages
 
 -- what a load of the reader's wish shows
-pub record WishTold (shape : Shape) (now : Writing) (known found : ℕ) (after : Sat) : Type 0 where
+pub record WishReported (shape : Shape) (now : Writing) (known found : ℕ) (after : Sat) : Type 0 where
   pub seat : IsWriting after
   pub knows : known ≤ passed after.0
   pub answer : Answer

@@ -26,7 +26,7 @@ begun_answer [] = refused no_frame
 begun_answer (frame ∷ below) = begin_answer frame.kind frame.state below
 
 -- What the store that begins a fill shows: the writer has the page at its position, of the ring's size.
-pub record OpenTold (shape : Shape) (now : Writing) (known : ℕ) (after : Sat) : Type 0 where
+pub record OpenReported (shape : Shape) (now : Writing) (known : ℕ) (after : Sat) : Type 0 where
   pub view : after.0 ≡ writes (writing after.0) (passed after.0)
   pub knows : known ≤ passed after.0
   pub page : ℕ

@@ -3,7 +3,7 @@ use Rattle.std.specs.Prelude.{◌≡◌, ℕ, ◌+◌, ◌<◌, ◌≤◌, List,
 use Rattle.atomic_table.specs.Table.{Me}
 use Rattle.atomic_table.specs.Seated.{TableId}
 use Rattle.trace_model.specs.declared.limits.TheConstants.{MIN_PAGES, MAX_PAGES, LINK_FILLS}
-use Rattle.trace_model.specs.Ring.{storing_link, swapping, Core, AreApart}
+use Rattle.trace_model.specs.Ring.{storing_spare_link, swapping, Core, AreApart}
 use Rattle.trace_model.specs.Steps.{Event, steps, Answer, Exchange, Step}
 use Rattle.link_marks.specs.Reached.{IsReached}
 use Rattle.link_marks.specs.Seats.{IsOfReader, PrivateRun}
@@ -57,7 +57,7 @@ pub record IsReaderWithin (shape : Shape) (r : Reading) : Type 0 where
   pub apart : AreApart shape.pages r.order r.spare
   pub hint : r.reader.hint + shape.pages ≤ LINK_FILLS
   pub seen : r.reader.seen + shape.pages < LINK_FILLS
-  pub storing : (page fill : ℕ) → r.reader.phase ≡ storing_link page fill → fill + shape.pages < LINK_FILLS
+  pub storing : (page fill : ℕ) → r.reader.phase ≡ storing_spare_link page fill → fill + shape.pages < LINK_FILLS
   pub swaps : (page fill : ℕ) → r.reader.phase ≡ swapping page fill → fill + shape.pages < LINK_FILLS
 
 -- A step of the reader: from a state in which its part is the first, and of which this holds, to one in which it is the
@@ -75,7 +75,7 @@ pub record IsReaderStep (shape : Shape) (before : Reading) (sees : Core → Type
   pub after_is : IsReading next after
 
 -- what each step of the reader shows of its seat
-pub record ReaderTold (shape : Shape) (sees : Core → Type 0) (event : Event) (answer : Answer) (before after : Sat)
+pub record ReaderReported (shape : Shape) (sees : Core → Type 0) (event : Event) (answer : Answer) (before after : Sat)
     : Type 0 where
   pub seat : IsSeatOfReader after
   pub within : IsReaderWithin shape (reading after.0)
@@ -106,7 +106,7 @@ pub record IsWriterStep (shape : Shape) (before : Writing) (sees : Core → Type
 
 -- What each step of the writer shows of its seat; by now its part is this, and below the known number it knows all
 -- fills to be passed, as it does after the step.
-pub record WriterTold (shape : Shape) (now : Writing) (known : ℕ) (sees : Core → Type 0) (answer : Answer) (after : Sat)
+pub record WriterReported (shape : Shape) (now : Writing) (known : ℕ) (sees : Core → Type 0) (answer : Answer) (after : Sat)
     : Type 0 where
   pub seat : IsWriting after
   pub knows : known ≤ passed after.0

@@ -13,7 +13,7 @@ use Rattle.trace_model.specs.Steps.{contents_of}
 use Rattle.link_marks.specs.Reached.{IsReached}
 use Rattle.page_image.specs.Contents.{Contents}
 use Rattle.nested_writer.specs.Released.{IsWrittenPage}
-use Rattle.ring_steps.specs.Views.{Writing, writing_of, Reading, SeatView, laid, ArePlaced}
+use Rattle.ring_steps.specs.Views.{Writing, writing_of, Reading, SeatView, laid, AreSeated}
 
 -- ---- words
 
@@ -97,7 +97,7 @@ pub record Shows (n size start : ℕ) (s : State (Option Contents) SeatView) : T
   pub core : Core
   pub reader : Reading
   pub shown : IsShown n size start core reader s.words s.homes
-  pub seats : ArePlaced (writing_of core) reader core.head s.views
+  pub seats : AreSeated (writing_of core) reader core.head s.views
   pub tail : (w : Writing) (r : Reading)
       → s.views ≡ laid w r ∷ []
       → get_elem? s.homes (slice_index_or w.open_pages 0 0) ≡ some (some None)

@@ -3,7 +3,7 @@ use Rattle.std.specs.Prelude.{◌≡◌, ◌≢◌, ⊤, ℕ, ◌+◌, ◌-◌, 
 use Rattle.trace_model.specs.declared.limits.TheConstants.{LINK_FILLS}
 use Rattle.trace_model.specs.Record.{Record}
 use Rattle.trace_model.specs.Links.{word_of, header_link}
-use Rattle.trace_model.specs.Ring.{ReaderPhase, loading_link, loading_done, storing_link, swapping, Taken, link_into}
+use Rattle.trace_model.specs.Ring.{ReaderPhase, loading_head, loading_done, storing_spare_link, swapping, TakenFill, link_into}
 use Rattle.trace_model.specs.Steps as model
 use Rattle.link_marks.specs.KeptLinks.{Spot, spot}
 use Rattle.page_image.specs.Contents.{Contents, records_of_page}
@@ -11,7 +11,7 @@ use Rattle.nested_writer.specs.Released.{IsWrittenPage}
 use Rattle.ring_steps.specs.declared.rule.Shape.{Shape}
 use Rattle.ring_steps.specs.Views.{Reading, reading}
 use Rattle.ring_steps.specs.Seats.{Sat, IsReaderStep}
-use Rattle.ring_steps.specs.Taking.{ReadTold}
+use Rattle.ring_steps.specs.Taking.{ReadReported}
 
 -- The swap was done: this page as this fill was the head, and what was in its slot is the fill with all that it holds,
 -- as the model's answer states. The records that the reader observed are more by exactly those that were lost before
@@ -19,24 +19,24 @@ use Rattle.ring_steps.specs.Taking.{ReadTold}
 -- word.
 pub record HeadTaken (shape : Shape) (before : Reading) (page fill : ℕ) (taken : Contents) (after : Reading)
     : Type 0 where
-  pub told : Taken
-  pub fill_is : told.fill ≡ fill
-  pub written : IsWrittenPage shape.size fill told.held taken
+  pub reported : TakenFill
+  pub fill_is : reported.fill ≡ fill
+  pub written : IsWrittenPage shape.size fill reported.held taken
   pub step : IsReaderStep shape before (λ core. link_into shape.pages core.links fill ≡ header_link page fill)
-      model.reads (model.swapped told) after
+      model.reads (model.page_taken reported) after
   pub behind : before.reader.expected ≤ taken.first
-  pub skipped_is : told.skipped ≡ taken.first - before.reader.expected
+  pub skipped_is : reported.skipped ≡ taken.first - before.reader.expected
   pub lost : List Record
-  pub lost_are : length lost ≡ told.skipped
+  pub lost_are : length lost ≡ reported.skipped
   pub observed_is : after.observed ≡ before.observed ++ lost ++ records_of_page taken
   pub numbers_fit : 8 * (taken.first + taken.count) ≤ shape.size * LINK_FILLS
   pub reader_is : after.reader
       ≡ record {
-        phase = loading_link;
+        phase = loading_head;
         hint = fill + 1;
         seen = before.reader.seen;
         expected = taken.first + taken.count;
-        taken = before.reader.taken ++ told ∷ [];
+        taken = before.reader.taken ++ reported ∷ [];
       }
   pub order_is : after.order ≡ slice_set before.order (fill % shape.pages) before.spare
   pub spare_is : after.spare ≡ page
@@ -47,19 +47,19 @@ pub record HeadMissed (shape : Shape) (before : Reading) (page fill : ℕ) (afte
   pub step : IsReaderStep shape before (λ core. link_into shape.pages core.links fill ≢ header_link page fill)
       model.reads model.reading after
   pub after_is : after
-      ≡ record before { reader = record before.reader { phase = loading_link; hint = fill + 1 } }
+      ≡ record before { reader = record before.reader { phase = loading_head; hint = fill + 1 } }
 
 -- the fill that the reader is about to take, and its page
 abbrev pub head_to_take : ReaderPhase → Spot
-head_to_take loading_link = spot 0 0
+head_to_take loading_head = spot 0 0
 head_to_take (loading_done page fill) = spot 0 0
-head_to_take (storing_link page fill) = spot 0 0
+head_to_take (storing_spare_link page fill) = spot 0 0
 head_to_take (swapping page fill) = spot fill page
 
 -- What the compare and exchange shows of the seat, by the word that was found: if that was the head's, the head's
 -- page is in the slot that the seat has.
-pub record SwapTold (shape : Shape) (before : Sat) (head : Spot) (found : ℕ) (after : Sat) : Type 0 where
-  pub read : ReadTold shape (λ _. ⊤) true before after
+pub record SwapReported (shape : Shape) (before : Sat) (head : Spot) (found : ℕ) (after : Sat) : Type 0 where
+  pub read : ReadReported shape (λ _. ⊤) true before after
   pub took : found ≡ word_of (header_link head.page head.fill)
       → (taken : Contents)
       × (after.1 ≡ (head.page, Some taken) ∷ [])

@@ -1,26 +1,26 @@
 -- What the steps of the reader's take show.
 use Rattle.std.specs.Prelude.{◌≡◌, ⊤, ℕ, ◌≤◌, Bool, true, false}
 use Rattle.trace_model.specs.Links.{Link, word_of, FitsWord}
-use Rattle.trace_model.specs.Ring.{ReaderPhase, loading_link, loading_done, storing_link, swapping, Core, link_into}
+use Rattle.trace_model.specs.Ring.{ReaderPhase, loading_head, loading_done, storing_spare_link, swapping, Core, link_into}
 use Rattle.trace_model.specs.Steps as model
 use Rattle.ring_steps.specs.declared.rule.Shape.{Shape}
 use Rattle.ring_steps.specs.Views.{Reading, reads, reading}
 use Rattle.ring_steps.specs.Seats.{Sat, IsSeatOfReader, IsReaderWithin, IsReaderStep}
 
 -- A step of the reader's take, with the model's answer to it.
-abbrev pub IsRead : Shape → Reading → (Core → Type 0) → Reading → Type 0
-IsRead shape before sees after = (answer : model.Answer) × IsReaderStep shape before sees model.reads answer after
+abbrev pub IsReadStep : Shape → Reading → (Core → Type 0) → Reading → Type 0
+IsReadStep shape before sees after = (answer : model.Answer) × IsReaderStep shape before sees model.reads answer after
 
 -- what each step of a take shows of the seat's view, after which the reader keeps the spare's slot, or doesn't
-pub record ReadTold (shape : Shape) (sees : Core → Type 0) (keeps : Bool) (before after : Sat) : Type 0 where
+pub record ReadReported (shape : Shape) (sees : Core → Type 0) (keeps : Bool) (before after : Sat) : Type 0 where
   pub view : after.0 ≡ reads (reading after.0)
   pub within : IsReaderWithin shape (reading after.0)
   pub keeps_is : (reading after.0).keeps_spare ≡ keeps
-  pub step : IsRead shape (reading before.0) sees (reading after.0)
+  pub step : IsReadStep shape (reading before.0) sees (reading after.0)
 
 -- and that it has no more slots than that
-abbrev pub SeatTold : Shape → (Core → Type 0) → Bool → Sat → Sat → Type 0
-SeatTold shape sees keeps before after = IsSeatOfReader after × ReadTold shape sees keeps before after
+abbrev pub SeatReported : Shape → (Core → Type 0) → Bool → Sat → Sat → Type 0
+SeatReported shape sees keeps before after = IsSeatOfReader after × ReadReported shape sees keeps before after
 
 -- the word of the link into the position of this fill
 pub record IsWordInto (shape : Shape) (fill word : ℕ) (core : Core) : Type 0 where
@@ -31,15 +31,15 @@ pub record IsWordInto (shape : Shape) (fill word : ℕ) (core : Core) : Type 0 w
 
 -- the page of the head that a reader in this phase has found, and the fill as which it has
 abbrev pub page_in : ReaderPhase → ℕ
-page_in loading_link = 0
+page_in loading_head = 0
 page_in (loading_done page fill) = page
-page_in (storing_link page fill) = page
+page_in (storing_spare_link page fill) = page
 page_in (swapping page fill) = page
 
 abbrev pub fill_in : ReaderPhase → ℕ
-fill_in loading_link = 0
+fill_in loading_head = 0
 fill_in (loading_done page fill) = fill
-fill_in (storing_link page fill) = fill
+fill_in (storing_spare_link page fill) = fill
 fill_in (swapping page fill) = fill
 
 abbrev pub page_found : Reading → ℕ
@@ -54,7 +54,7 @@ abbrev pub IsLoadingDone : Reading → Type 0
 IsLoadingDone part = part.reader.phase ≡ loading_done (page_found part) (fill_found part)
 
 abbrev pub IsStoringLink : Reading → Type 0
-IsStoringLink part = part.reader.phase ≡ storing_link (page_found part) (fill_found part)
+IsStoringLink part = part.reader.phase ≡ storing_spare_link (page_found part) (fill_found part)
 
 -- The link into the position of the hint was loaded, with this answer of the model's: the reader goes on in this phase,
 -- with this hint, which is no lower, and has no slot. Nothing else of its part changes.

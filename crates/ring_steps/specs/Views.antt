@@ -91,8 +91,8 @@ reading spent = no_reading
 
 -- The views of a ring's seats: at first one knows both parts; then the writer's is the first and the reader's the
 -- second; at the end both are one again. What the writer knows to be passed is below the head.
-pub data ArePlaced (w : Writing) (r : Reading) (head : ℕ) : List SeatView → Type 0 where
-  begun : ArePlaced w r head (laid w r ∷ [])
-  made : ArePlaced w r head (whole w r ∷ [])
-  running : (passed : ℕ) → passed ≤ head → ArePlaced w r head (writes w passed ∷ reads r ∷ [])
-  settled : ArePlaced w r head (joined w r ∷ spent ∷ [])
+pub data AreSeated (w : Writing) (r : Reading) (head : ℕ) : List SeatView → Type 0 where
+  begun : AreSeated w r head (laid w r ∷ [])
+  made : AreSeated w r head (whole w r ∷ [])
+  running : (passed : ℕ) → passed ≤ head → AreSeated w r head (writes w passed ∷ reads r ∷ [])
+  settled : AreSeated w r head (joined w r ∷ spent ∷ [])

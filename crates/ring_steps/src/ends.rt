@@ -6,7 +6,7 @@ ghost use Rattle.ring_steps.specs.Seats.{IsTableOf, IsWriting, IsSeatOfReader, I
 ghost use Rattle.ring_steps.specs.Paging.{IsWriterReached};
 
 use crate::ghost_part::GhostPart;
-use crate::plays::Place;
+use crate::plays::TableSeat;
 use crate::rule::{Board, Shape};
 use std::fmt;
 use std::sync::Arc;
@@ -15,7 +15,7 @@ use std::sync::Arc;
 #[derive(Drop)]
 pub struct WriterSeat {
     pub(crate) board: Arc<Board>,
-    pub(crate) seat: Place,
+    pub(crate) seat: TableSeat,
     pub(crate) ghost_part: GhostPart,
     /// The shape of its ring.
     pub shape: Shape,
@@ -39,7 +39,7 @@ impl fmt::Debug for WriterSeat {
 #[derive(Drop)]
 pub struct ReaderSeat {
     pub(crate) board: Arc<Board>,
-    pub(crate) seat: Place,
+    pub(crate) seat: TableSeat,
     /// The shape of its ring.
     pub shape: Shape,
     ghost key_is: { (arc_value board).shared.key ≡ shape },

@@ -3,7 +3,7 @@ ghost use Rattle.std.specs.Prelude.{◌≡◌};
 ghost use Rattle.std.specs.Borrow.{ftrue};
 ghost use Rattle.ring_steps.specs.Views.{Writing, writing};
 
-use crate::plays::Place;
+use crate::plays::TableSeat;
 use crate::writer::ChosenPart;
 use std::marker::{Brand, Model};
 
@@ -31,8 +31,8 @@ pub(crate) fn ghost_part_of<J: ChosenPart, G>(given: &G) -> GhostPart
 
 /// The part that a seat knows: nothing was done in private since its last step on a word.
 #[inline(always)]
-pub(crate) fn ghost_part_at_rest(seat: &Place) -> GhostPart
+pub(crate) fn ghost_part_at_rest(seat: &TableSeat) -> GhostPart
     ensures { result.now ≡ writing seat.now.me.0 }
 {
-    ghost_part_of::<Brand, Place>(seat)
+    ghost_part_of::<Brand, TableSeat>(seat)
 }

@@ -9,7 +9,7 @@ ghost use Rattle.ring_steps.specs.Views.{laid};
 use crate::ends::{ReaderSeat, WriterSeat};
 use crate::ghost_part::ghost_part_at_rest;
 use crate::laying::{first_slots, first_words};
-use crate::plays::{Place, load};
+use crate::plays::{TableSeat, load};
 use crate::rule::{Board, Shape};
 use crate::views::View;
 use atomic_table::{Split, Table};
@@ -30,7 +30,7 @@ impl Split<View> for Ends {
 }
 
 /// The table of a new ring, and its first seat.
-fn table(alloc: Global, shape: Shape) -> Result<(Board, Place), NoMemory>
+fn table(alloc: Global, shape: Shape) -> Result<(Board, TableSeat), NoMemory>
     requires { IsShape shape }
     ensures key { IfOk result (λ made. made.0.shared.key ≡ shape) }
     ensures table { IfOk result (λ made. IsTableOf shape made.0.shared.table_id) }
@@ -46,7 +46,7 @@ fn table(alloc: Global, shape: Shape) -> Result<(Board, Place), NoMemory>
 }
 
 /// The first seat gets the slot of the first fill's page, whose page the writer keeps.
-fn take_tail(board: &Board, shape: Shape, seat: &mut Place)
+fn take_tail(board: &Board, shape: Shape, seat: &mut TableSeat)
     requires key { board.now.shared.key ≡ shape }
     requires table { IsTableOf shape board.now.shared.table_id }
     requires seated { seat.old.table_id ≡ board.now.shared.table_id }

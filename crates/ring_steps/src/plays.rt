@@ -12,56 +12,56 @@ use page_image::Page;
 use std::marker::{Brand, PhantomData};
 
 /// A seat at a ring's table.
-pub(crate) type Place = Seat<Option<Page>, View>;
+pub(crate) type TableSeat = Seat<Option<Page>, View>;
 
 /// What a step shows: of its seat before, of what it found (or stored), and of its seat after.
-pub(crate) trait Telling {
+pub(crate) trait StepReport {
     ghost use Rattle.std.specs.Prelude.{ℕ};
     ghost use Rattle.ring_steps.specs.Seats.{Sat};
 
-    ghost tells: { Sat → ℕ → Sat → Type 0 };
+    ghost reports: { Sat → ℕ → Sat → Type 0 };
 }
 
-impl Telling for Brand {
-    ghost tells = { λ _ _ _. Unit {0} };
+impl StepReport for Brand {
+    ghost reports = { λ _ _ _. Unit {0} };
 }
 
 /// A step that shows this.
-struct Told<J> {
+struct Reporting<J> {
     of: PhantomData<J>,
 }
 
-impl<J: Telling> Play<Option<Page>, View> for Told<J> {
-    ghost then = { λ _ before found after. J.tells before found after };
+impl<J: StepReport> Play<Option<Page>, View> for Reporting<J> {
+    ghost then = { λ _ before found after. J.reports before found after };
 }
 
 /// Loads a word. `given` is what the caller states to the proof; no code reads it.
 #[inline(always)]
-pub(crate) fn load<J: Telling, G>(
+pub(crate) fn load<J: StepReport, G>(
     board: &Board,
     shape: Shape,
-    seat: &mut Place,
+    seat: &mut TableSeat,
     word: usize,
     given: &G,
 ) -> u64
     requires at { SitsAt shape board.now.shared.key board.now.shared.table_id seat.old.table_id }
     requires word { word < board.now.shared.table_id.words }
     requires allowed { Allows (Shows shape.pages shape.size shape.start)
-        board.now.shared.table_id.slots seat.old.id seat.old.me word (λ n. n) (J.tells seat.old.me) }
+        board.now.shared.table_id.slots seat.old.id seat.old.me word (λ n. n) (J.reports seat.old.me) }
     ensures seated { (seat.new.table_id ≡ seat.old.table_id) × (seat.new.id ≡ seat.old.id) }
-    ensures told { J.tells seat.old.me result seat.new.me }
+    ensures reported { J.reports seat.old.me result seat.new.me }
 {
     let _shape = shape;
     let _given = given;
-    board.shared.load::<Told<J>>(seat, word)
+    board.shared.load::<Reporting<J>>(seat, word)
 }
 
 /// Stores a word. `given` is as for `load`.
 #[inline(always)]
-pub(crate) fn store<J: Telling, G>(
+pub(crate) fn store<J: StepReport, G>(
     board: &Board,
     shape: Shape,
-    seat: &mut Place,
+    seat: &mut TableSeat,
     word: usize,
     new: u64,
     given: &G,
@@ -69,21 +69,21 @@ pub(crate) fn store<J: Telling, G>(
     requires at { SitsAt shape board.now.shared.key board.now.shared.table_id seat.old.table_id }
     requires word { word < board.now.shared.table_id.words }
     requires allowed { Allows (Shows shape.pages shape.size shape.start)
-        board.now.shared.table_id.slots seat.old.id seat.old.me word (λ _. new) (λ _. J.tells seat.old.me new) }
+        board.now.shared.table_id.slots seat.old.id seat.old.me word (λ _. new) (λ _. J.reports seat.old.me new) }
     ensures seated { (seat.new.table_id ≡ seat.old.table_id) × (seat.new.id ≡ seat.old.id) }
-    ensures told { J.tells seat.old.me new seat.new.me }
+    ensures reported { J.reports seat.old.me new seat.new.me }
 {
     let _shape = shape;
     let _given = given;
-    board.shared.store::<Told<J>>(seat, word, new);
+    board.shared.store::<Reporting<J>>(seat, word, new);
 }
 
 /// Makes a word `to` if it is `from`, and answers what it was. `given` is as for `load`.
 #[inline(always)]
-pub(crate) fn exchange<J: Telling, G>(
+pub(crate) fn exchange<J: StepReport, G>(
     board: &Board,
     shape: Shape,
-    seat: &mut Place,
+    seat: &mut TableSeat,
     word: usize,
     from: u64,
     to: u64,
@@ -93,13 +93,13 @@ pub(crate) fn exchange<J: Telling, G>(
     requires word { word < board.now.shared.table_id.words }
     requires allowed { Allows (Shows shape.pages shape.size shape.start)
         board.now.shared.table_id.slots seat.old.id seat.old.me word (λ n. either (n == from) to n)
-        (J.tells seat.old.me) }
+        (J.reports seat.old.me) }
     ensures seated { (seat.new.table_id ≡ seat.old.table_id) × (seat.new.id ≡ seat.old.id) }
-    ensures told { J.tells seat.old.me result seat.new.me }
+    ensures reported { J.reports seat.old.me result seat.new.me }
 {
     let _shape = shape;
     let _given = given;
     board
         .shared
-        .compare_exchange::<Told<J>>(seat, word, from, to)
+        .compare_exchange::<Reporting<J>>(seat, word, from, to)
 }

@@ -1,7 +1,7 @@
 //! The reader's steps.
 ghost use Rattle.std.specs.Prelude.{◌≡◌, ◌≢◌, ◌+◌, ◌-◌, ◌<◌, ◌≤◌, ⊤, true, false};
 ghost use Rattle.trace_model.specs.Links.{FitsWord, header_link};
-ghost use Rattle.trace_model.specs.Ring.{loading_link, loading_done, storing_link, page_at};
+ghost use Rattle.trace_model.specs.Ring.{loading_head, loading_done, storing_spare_link, page_at};
 ghost use Rattle.trace_model.specs.Steps.{wishes, wished_for, reading, moving, empty};
 ghost use Rattle.link_marks.specs.ModelLinks.{link_of};
 ghost use Rattle.link_marks.specs.declared.link.Mark.TheVariants.{Normal, Header, Update};
@@ -44,10 +44,10 @@ impl ReaderSeat {
         ensures same { SameReaderSeat self.old self.new }
         ensures closed { fill_found (reading_in self.old) < result
             → DoneLoaded self.old.shape (reading_in self.old) result reading
-            (storing_link (page_found (reading_in self.old)) (fill_found (reading_in self.old)))
+            (storing_spare_link (page_found (reading_in self.old)) (fill_found (reading_in self.old)))
             (reading_in self.new) }
         ensures none { result ≤ fill_found (reading_in self.old)
-            → DoneLoaded self.old.shape (reading_in self.old) result (empty result) loading_link
+            → DoneLoaded self.old.shape (reading_in self.old) result (empty result) loading_head
             (reading_in self.new) }
         ensures all { result ≤ fill_found (reading_in self.old) → (reading_in self.old).reader.hint ≡ result }
         ensures spare { (reading_in self.new).keeps_spare ≡ (reading_in self.old).keeps_spare }
@@ -60,7 +60,7 @@ impl ReaderSeat {
     /// fill; at a NORMAL that has the hint as its fill it will be moved there; and at any other NORMAL the reader
     /// looks on, a round below the fill behind this one. A reader that keeps the spare's slot gives it back.
     pub fn load_head(&mut self, page: u16) -> Link
-        requires due { (reading_in self.old).reader.phase ≡ loading_link }
+        requires due { (reading_in self.old).reader.phase ≡ loading_head }
         requires page { page ≡ page_before self.old.shape.pages (reading_in self.old).order
             (reading_in self.old).reader.hint }
         ensures same { SameReaderSeat self.old self.new }
@@ -70,14 +70,14 @@ impl ReaderSeat {
             (loading_done result.page result.fill) result.fill (reading_in self.new) }
         ensures update { result.mark ≡ Update
             → LinkLoaded self.old.shape (reading_in self.old) (link_of result) (moving (result.fill + 1))
-            loading_link (result.fill + 1) (reading_in self.new) }
+            loading_head (result.fill + 1) (reading_in self.new) }
         ensures owed { result.mark ≡ Normal
             → result.fill ≡ (reading_in self.old).reader.hint
-            → LinkLoaded self.old.shape (reading_in self.old) (link_of result) (moving result.fill) loading_link
+            → LinkLoaded self.old.shape (reading_in self.old) (link_of result) (moving result.fill) loading_head
             result.fill (reading_in self.new) }
         ensures passed { result.mark ≡ Normal
             → result.fill ≢ (reading_in self.old).reader.hint
-            → LinkLoaded self.old.shape (reading_in self.old) (link_of result) reading loading_link
+            → LinkLoaded self.old.shape (reading_in self.old) (link_of result) reading loading_head
             (result.fill + 1 - self.old.shape.pages) (reading_in self.new) }
         ensures behind { result.mark ≡ Normal
             → result.fill ≢ (reading_in self.old).reader.hint

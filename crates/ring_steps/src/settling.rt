@@ -6,7 +6,7 @@ ghost use Rattle.ring_steps.specs.Seats.{Sat, IsTableOf, AreParts};
 ghost use Rattle.ring_steps.specs.Ends.{writing_in, reading_in, writer_table, reader_table};
 
 use crate::ends::{ReaderSeat, WriterSeat};
-use crate::plays::{Place, load};
+use crate::plays::{TableSeat, load};
 use crate::rule::{Board, DONE, Shape};
 use crate::views::View;
 use atomic_table::Join;
@@ -24,7 +24,7 @@ impl Join<View> for Both {
 }
 
 /// A load of the number of closed fills by both seats in one, which shows what they know.
-fn load_done_joined(board: &Board, shape: Shape, seat: &mut Place)
+fn load_done_joined(board: &Board, shape: Shape, seat: &mut TableSeat)
     requires key { board.now.shared.key ≡ shape }
     requires table { IsTableOf shape board.now.shared.table_id }
     requires seated { seat.old.table_id ≡ board.now.shared.table_id }

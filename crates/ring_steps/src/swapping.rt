@@ -10,7 +10,7 @@ ghost use Rattle.ring_steps.specs.Swapping.{HeadTaken, HeadMissed};
 
 use crate::ends::ReaderSeat;
 use crate::links::{header_word, normal_word};
-use crate::plays::{Place, exchange};
+use crate::plays::{TableSeat, exchange};
 use crate::rule::{Board, LINKS};
 use page_image::{Body, Page};
 use std::marker::Brand;
@@ -61,7 +61,7 @@ impl ReaderSeat {
 }
 
 /// Moves the page out of the slot of this number, the one that the seat took last.
-fn lift(board: &Board, seat: &mut Place, number: u16) -> Page
+fn lift(board: &Board, seat: &mut TableSeat, number: u16) -> Page
     requires seated { seat.old.table_id ≡ board.now.shared.table_id }
     requires slot { (page : Contents) × (seat.old.me.1 ≡ (number, Some page) ∷ rest seat.old.me.1) }
     ensures seated { seat.new.table_id ≡ seat.old.table_id }

@@ -16,7 +16,7 @@ use Rattle.world_model.proofs.Cuts.{is_cut, is_exact, page_of_one}
 use Rattle.run_audit.specs.declared.ledger.Ledger.{Ledger}
 use Rattle.run_audit.specs.Audit.{taken_of, taken_in, AreHeld, IsAudited}
 use Rattle.run_audit.specs.Order.{AreOwn}
-use Rattle.run_audit.specs.Headline.{AreOfRings, IsKept, IsUnknown, IsHeadline}
+use Rattle.run_audit.specs.Headline.{AreOfRings, IsKept, IsUnknown, IsAuditHeadline}
 use Rattle.run_audit.proofs.Flat.{of_all, in_own, in_none}
 
 -- what holds of each parcel holds of all
@@ -91,5 +91,5 @@ module _ (n size start : ℕ) (cores : ℕ → Core) (ledgers : List Ledger) (ri
           in_none ledgers own o.parcel (subst (λ (c : ℕ). length ledgers ≤ c) o.missing.cpu_is past) (contains_at (taken_in ledgers) o.index o.parcel o.at);
     }
 
-    pub headline : IsHeadline n size start cores kept ledgers
+    pub headline : IsAuditHeadline n size start cores kept ledgers
     headline = record { each = is_kept; no_others = nothing }

@@ -8,7 +8,7 @@ ghost use Rattle.trace_model.specs.declared.numbers.FillNo.{FillNo as FillSeen};
 ghost use Rattle.page_numbers.specs.Parcels.{as_parcels};
 ghost use Rattle.run_audit.specs.Audit.{taken_in, WereTaken, IsAudited, IsStray, IsLacking, IsLeast};
 ghost use Rattle.run_audit.specs.Least.{IsLeastFault};
-ghost use Rattle.run_audit.specs.Headline.{AreOfRings, IsHeadline};
+ghost use Rattle.run_audit.specs.Headline.{AreOfRings, IsAuditHeadline};
 ghost use Rattle.run_audit.specs.declared.fault.AuditFault.TheVariants.{Stray, Lacks};
 
 use crate::fault::{AuditFault, Audited};
@@ -78,7 +78,7 @@ pub fn audit(collector: &Collector, ledgers: &[Ledger]) -> Result<Audited, Audit
     ensures agree { OnOk result (Agree (taken_in ledgers.now)) }
     ensures headline { OnOk result ((n size start : ℕ) (cores : ℕ → Core)
         → AreOfRings n size start cores ledgers.now
-        → IsHeadline n size start cores collector.now ledgers.now) }
+        → IsAuditHeadline n size start cores collector.now ledgers.now) }
 {
     if let Some(key) = least_stray(collector.parcels(), ledgers) {
         return Err(AuditFault::Stray(key.cpu, key.fill));

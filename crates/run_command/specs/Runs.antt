@@ -16,7 +16,7 @@ pub record IsRunPrinting (script : Script) (bytes : List ℕ) : Type 0 where
   pub ran : Ran
   pub of_script : IsRan script ran
   pub shown : List AuditedShown
-  pub told : AllZip (IsAuditedPrintOf (taken_in ran.ledgers.items)) ran.collectors.items shown
+  pub reported : AllZip (IsAuditedPrintOf (taken_in ran.ledgers.items)) ran.collectors.items shown
   pub printed : bytes ≡ printed_run shown
 
 -- the printing of a run of the script, or the line that reports that a thread could not be started

@@ -52,7 +52,7 @@ one_audited : (taken kept : List Parcel) (number : ℕ) (shown other : AuditedSh
     → IsAuditedPrintOf taken kept other → printed_audited number shown ≡ printed_audited number other
 one_audited taken kept number shown other a b =
     ap (λ (text : List ℕ). text ++ printed_audit shown.verdict)
-    (one_text kept shown.collector other.collector number a.tells b.tells)
+    (one_text kept shown.collector other.collector number a.reports b.reports)
     ∙ ap (λ (verdict : Verdict). printed_collector number other.collector ++ printed_audit verdict)
     (one_verdict kept taken shown.verdict other.verdict a.verdict b.verdict)
 

@@ -29,7 +29,7 @@ pub record AuditedShown : Type 0 where
 
 -- It states exactly what the collector has and misses, and how its audit against these taken parcels ends.
 pub record IsAuditedPrintOf (taken kept : List Parcel) (shown : AuditedShown) : Type 0 where
-  pub tells : IsPrintOf kept shown.collector
+  pub reports : IsPrintOf kept shown.collector
   pub verdict : IsVerdict kept taken shown.verdict
 
 -- a collector of this number, and its audit

@@ -34,7 +34,7 @@ fn put_audited(
     span: Span,
 ) -> Result<Span, NoMemory>
     requires { IfSome before (λ b. StandsBetween b.now out.old.items span.start span.end) }
-    ensures told { OnOk result ((shown : AuditedShown)
+    ensures reported { OnOk result ((shown : AuditedShown)
         × IsAuditedPrintOf (taken_in ledgers.now) collector.now shown
         × (out.new.items ≡ out.old.items ++ printed_audited number shown)) }
     ensures below { IfOk result (λ own. StandsBetween collector.now out.new.items own.start own.end) }

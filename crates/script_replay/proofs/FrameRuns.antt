@@ -21,9 +21,9 @@ use Rattle.replay_log.specs.declared.line.LogLine.{LogLine}
 use Rattle.replay_log.specs.LogTypes.{shown_log}
 use Rattle.script_replay.specs.Value.{LaneValue}
 use Rattle.script_replay.specs.Lanes.{IsLane, Happens, MakesExchanges}
-use Rattle.script_replay.specs.Frames.{StepsOnce, FollowsFrame, IsAmid}
-use Rattle.script_replay.proofs.Logs.{told_one, told_more}
-use Rattle.script_replay.proofs.Told.{IsTold}
+use Rattle.script_replay.specs.Frames.{StepsOnce, FollowsFrame, HasMadeSteps}
+use Rattle.script_replay.proofs.Logs.{reported_one, reported_more}
+use Rattle.script_replay.proofs.Reports.{IsReported}
 use Rattle.script_replay.proofs.LaneValues.{depth_is}
 
 -- ---- one step more
@@ -60,11 +60,11 @@ top_fewer n size lane answer core step =
     (step_moves n size lane.core (event_on_top lane.core.frames lane.payloads) answer core
     (pushes_none lane.core.frames lane.payloads) (cases_of step))
 
-pub amid_none : (n size start cpu line depth : ℕ) (v : LaneValue) (lane : Lane) (log : List LogLine)
+pub part_way_none : (n size start cpu line depth : ℕ) (v : LaneValue) (lane : Lane) (log : List LogLine)
     → IsLane n size start cpu v lane
     → depth ≡ length v.core.stack.frames
-    → Happens (IsAmid depth 0) line cpu n size start lane log v log
-amid_none n size start cpu line depth v lane log is deep =
+    → Happens (HasMadeSteps depth 0) line cpu n size start lane log v log
+part_way_none n size start cpu line depth v lane log is deep =
     let same = depth_is n size start cpu v lane is in
     record {
       exchanges = [];
@@ -74,46 +74,46 @@ amid_none n size start cpu line depth v lane log is deep =
       log = sym (append-nil (shown_log log));
     }
 
-pub amid_more : (n size start cpu line depth count : ℕ) (before : Lane) (v new : LaneValue) (answer : Answer)
+pub part_way_more : (n size start cpu line depth count : ℕ) (before : Lane) (v new : LaneValue) (answer : Answer)
     (first log more : List LogLine)
-    → Happens (IsAmid depth count) line cpu n size start before first v log
+    → Happens (HasMadeSteps depth count) line cpu n size start before first v log
     → length v.core.stack.frames ≡ depth
     → StepsOnce v answer new
-    → IsTold line cpu answer log more
-    → Happens (IsAmid depth (count + 1)) line cpu n size start before first new more
-amid_more n size start cpu line depth count before v new answer first log more h deep once told =
+    → IsReported line cpu answer log more
+    → Happens (HasMadeSteps depth (count + 1)) line cpu n size start before first new more
+part_way_more n size start cpu line depth count before v new answer first log more h deep once reported =
     let s = once n size start cpu h.after h.is_lane in
-    let x : Exchange = record { event = event_on_top h.after.core.frames h.after.payloads; answer = s.told } in
+    let x : Exchange = record { event = event_on_top h.after.core.frames h.after.payloads; answer = s.reported } in
     let stands : length h.after.core.frames ≡ depth = sym (depth_is n size start cpu v h.after h.is_lane) ∙ deep in
-    let low = top_fewer n size h.after s.told s.core s.step in
+    let low = top_fewer n size h.after s.reported s.core s.step in
     let made = h.happened.made in
     record {
       exchanges = h.exchanges ++ x ∷ [];
       after = lane_behind h.after s.core;
       happened = record {
-        run = frame_more n size depth before h.after h.exchanges s.told s.core h.happened.run stands s.step;
+        run = frame_more n size depth before h.after h.exchanges s.reported s.core h.happened.run stands s.step;
         made = omega (arith, length-append h.exchanges (x ∷ []), made);
         few = omega (arith, low, stands);
       };
       is_lane = s.is_lane;
-      log = told_more line cpu h.exchanges (x ∷ []) (shown_log first) (shown_log log) (shown_log more) h.log
-          (told_one line cpu x (shown_log log) (shown_log more) (told size s.told s.tells));
+      log = reported_more line cpu h.exchanges (x ∷ []) (shown_log first) (shown_log log) (shown_log more) h.log
+          (reported_one line cpu x (shown_log log) (shown_log more) (reported size s.reported s.reports));
     }
 
 -- in each lane that the value was
-pub amid_turn : (line cpu depth count : ℕ) (old v new : LaneValue) (answer : Answer) (first log more : List LogLine)
-    → MakesExchanges (IsAmid depth count) line cpu old first v log
+pub part_way_turn : (line cpu depth count : ℕ) (old v new : LaneValue) (answer : Answer) (first log more : List LogLine)
+    → MakesExchanges (HasMadeSteps depth count) line cpu old first v log
     → length v.core.stack.frames ≡ depth
     → StepsOnce v answer new
-    → IsTold line cpu answer log more
-    → MakesExchanges (IsAmid depth (count + 1)) line cpu old first new more
-amid_turn line cpu depth count old v new answer first log more amid deep once told n size start lane is =
-    amid_more n size start cpu line depth count lane v new answer first log more (amid n size start lane is) deep once
-    told
+    → IsReported line cpu answer log more
+    → MakesExchanges (HasMadeSteps depth (count + 1)) line cpu old first new more
+part_way_turn line cpu depth count old v new answer first log more part_way deep once reported n size start lane is =
+    part_way_more n size start cpu line depth count lane v new answer first log more (part_way n size start lane is) deep once
+    reported
 
 -- `count` steps are made, or the frame is gone
 pub followed : (n size start cpu line depth made count : ℕ) (before : Lane) (v : LaneValue) (first log : List LogLine)
-    → Happens (IsAmid depth made) line cpu n size start before first v log
+    → Happens (HasMadeSteps depth made) line cpu n size start before first v log
     → depth ≡ length before.core.frames
     → made ≤ count
     → (count ≤ made) ⊎ (length v.core.stack.frames ≢ depth)
@@ -228,12 +228,12 @@ pub lacks_step : (n size start cpu line count : ℕ) (v : LaneValue) (lane : Lan
     → shown_log log ≡ shown_log first ++ text.refused line cpu no_frame ∷ []
     → Happens (λ n size before exchanges after. LineRun n size (step_frame cpu count) before exchanges after) line cpu n
     size start lane first v log
-lacks_step n size start cpu line count v lane first log is none told = record {
+lacks_step n size start cpu line count v lane first log is none reported = record {
   exchanges = record { event = steps; answer = refused no_frame } ∷ [];
   after = lane;
   happened = lacks_to_step (lacked n size start cpu v lane is none);
   is_lane = is;
-  log = told;
+  log = reported;
 }
 
 pub lacks_finish : (n size start cpu line : ℕ) (v : LaneValue) (lane : Lane) (first log : List LogLine)
@@ -242,10 +242,10 @@ pub lacks_finish : (n size start cpu line : ℕ) (v : LaneValue) (lane : Lane) (
     → shown_log log ≡ shown_log first ++ text.refused line cpu no_frame ∷ []
     → Happens (λ n size before exchanges after. LineRun n size (finish_frame cpu) before exchanges after) line cpu n
     size start lane first v log
-lacks_finish n size start cpu line v lane first log is none told = record {
+lacks_finish n size start cpu line v lane first log is none reported = record {
   exchanges = record { event = steps; answer = refused no_frame } ∷ [];
   after = lane;
   happened = lacks_to_finish (lacked n size start cpu v lane is none);
   is_lane = is;
-  log = told;
+  log = reported;
 }

@@ -25,7 +25,7 @@ use Rattle.ring_frames.specs.AreFrames.{ring_frames}
 use Rattle.ring_frames.proofs.Lent.{slot_keeps}
 use Rattle.ring_core.specs.IsCore.{HasStateOf, IsCore}
 use Rattle.ring_frames.specs.Answers.{top_bytes}
-use Rattle.ring_core.specs.Steps.{IsStep, Makes}
+use Rattle.ring_core.specs.Steps.{IsStep, MakesStep}
 use Rattle.ring_core.specs.Lending.{with_reserved, with_top, with_slot_payload, StaysRing, FitsFrame}
 use Rattle.script_replay.specs.Value.{LaneValue}
 use Rattle.script_replay.specs.Lanes.{IsLane}
@@ -49,7 +49,7 @@ steps_on_top (top ∷ frames) phase below payloads none = steps_in top.progress 
 
 pub asked_step : (old : LaneValue) (answer : Answer) (new : CoreValue)
     → ((slot : Slot) → IsTopSlot old.core.stack.frames slot → ⊥)
-    → Makes old.core steps answer new
+    → MakesStep old.core steps answer new
     → AsksTop old answer new
 asked_step old answer new none makes n size start cpu lane is =
     let k : HasStateOf n size start old.core lane.core = is.is_core.shows in
@@ -169,7 +169,7 @@ pub asked_end : (old : LaneValue) (slot : Slot) (payload part : List ℕ) (answe
     → top_bytes (with_slot old.core.stack slot part) old.core.stack.frames ≡ part)
     → IsFirst payload old.payloads
     → part ≡ payload ++ replicate (slot.place.len - length payload) 0
-    → Makes (with_slot_payload old.core slot part)
+    → MakesStep (with_slot_payload old.core slot part)
     (ends (top_bytes (with_slot old.core.stack slot part) (with_slot old.core.stack slot part).frames)) answer new
     → AsksTop old answer new
 asked_end old slot payload part answer new top fits stays long written front part_is makes n size start cpu lane is =

@@ -11,7 +11,7 @@ pub mod FrameTops
 pub mod PushedLanes
 -- takes
 pub mod Logs
-pub mod Told
+pub mod Reports
 pub mod TakesNumbers
 pub mod TakesNew
 pub mod TakesLanes

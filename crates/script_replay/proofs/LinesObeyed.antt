@@ -33,13 +33,13 @@ use Rattle.script_replay.specs.Lanes.{IsLaneOf, HasLine}
 use Rattle.script_replay.specs.Places.{lane_at, AreSameBut, IsLaneFrom, IsLaneAt}
 use Rattle.deliveries.specs.Deliveries.{AreRising, Adds}
 use Rattle.script_replay.specs.Collected.{IsFound, delivery_of, IsCollected, AreCollected}
-use Rattle.script_replay.specs.Replay.{cpu_of, IsOfRing, IsAmid, IsReady, LeadsOn}
+use Rattle.script_replay.specs.Replay.{cpu_of, IsOfRing, IsStateAfter, IsReady, LeadsOn}
 use Rattle.script_replay.proofs.Placed.{from_is_lane, first_world, new_at, obeys_ring, place_rises, found_taken, not_taken}
 
 -- ---- the log
 
-pub log_more : (log new : List LogLine) (line : LogLine) (told : model.LogLine) → new ≡ log ++ line ∷ [] → shown_log_line line ≡ told → shown_log new ≡ shown_log log ++ told ∷ []
-log_more log new line told more same = ap shown_log more ∙ map-append shown_log_line log (line ∷ []) ∙ ap (λ (l : model.LogLine). shown_log log ++ l ∷ []) same
+pub log_more : (log new : List LogLine) (line : LogLine) (reported : model.LogLine) → new ≡ log ++ line ∷ [] → shown_log_line line ≡ reported → shown_log new ≡ shown_log log ++ reported ∷ []
+log_more log new line reported more same = ap shown_log more ∙ map-append shown_log_line log (line ∷ []) ∙ ap (λ (l : model.LogLine). shown_log log ++ l ∷ []) same
 
 -- ---- before the first line
 
@@ -49,8 +49,8 @@ none_collected kept parcels none none' = subst (IsCollected kept) (none ∙ sym 
 pub element : {A : Type 0} (P : A → Type 0) (xs : List A) (k : ℕ) (x : A) → All P xs → slice_get xs k ≡ Some x → P x
 element P xs k x all at = subst P (get_or_from_slice_get xs k x x at) (all k x (slice_get_within xs k x at))
 
-pub first_amid : (script : Script) (state : ReplayState) → IsWithinLimits script → state.lanes.items ≡ [] → length state.collectors.items ≡ script.collectors → All (λ kept. kept ≡ []) state.collectors.items → state.log.items ≡ [] → IsAmid script [] state
-first_amid script state limits no_lanes count no_pages no_log =
+pub first_part_way : (script : Script) (state : ReplayState) → IsWithinLimits script → state.lanes.items ≡ [] → length state.collectors.items ≡ script.collectors → All (λ kept. kept ≡ []) state.collectors.items → state.log.items ≡ [] → IsStateAfter script [] state
+first_part_way script state limits no_lanes count no_pages no_log =
     let (w, new) = first_world script limits in
     record {
       world = w;
@@ -65,51 +65,51 @@ first_amid script state limits no_lanes count no_pages no_log =
 
 -- ---- between two lines
 
-module _ (script : Script) (lines : List (ℕ × Command)) (state : ReplayState) (limits : IsWithinLimits script) (amid : IsAmid script lines state) where
+module _ (script : Script) (lines : List (ℕ × Command)) (state : ReplayState) (limits : IsWithinLimits script) (part_way : IsStateAfter script lines state) where
   abbrev w : World
-  w = amid.world
+  w = part_way.world
 
-  kept : IsWorldKept script amid.world
-  kept = world_kept script lines amid.world limits amid.behind
+  kept : IsWorldKept script part_way.world
+  kept = world_kept script lines part_way.world limits part_way.behind
 
   pub is_lane_of : (cpu : ℕ) (v : LaneValue) → cpu < script.cpus → IsLaneFrom script (lane_at state.lanes.items cpu) v → IsLaneOf cpu v
   is_lane_of cpu v low from =
-      let (lane, at) = lane_of script amid.world kept cpu low in
-      (script.pages, script.size, script.start, lane, from_is_lane script cpu (lane_at state.lanes.items cpu) v lane limits low from (amid.lanes_are cpu lane at))
+      let (lane, at) = lane_of script part_way.world kept cpu low in
+      (script.pages, script.size, script.start, lane, from_is_lane script cpu (lane_at state.lanes.items cpu) v lane limits low from (part_way.lanes_are cpu lane at))
 
   pub rises : (cpu : ℕ) → cpu < script.cpus → IfSome (lane_at state.lanes.items cpu) (λ v. AreRising (as_parcels v.taken))
   rises cpu low =
-      let (lane, at) = lane_of script amid.world kept cpu low in
-      place_rises script amid.world kept cpu lane at (lane_at state.lanes.items cpu) (amid.lanes_are cpu lane at)
+      let (lane, at) = lane_of script part_way.world kept cpu low in
+      place_rises script part_way.world kept cpu lane at (lane_at state.lanes.items cpu) (part_way.lanes_are cpu lane at)
 
   pub collectors_count : length state.collectors.items ≡ script.collectors
-  collectors_count = amid.collectors_are.count ∙ kept.collectors
+  collectors_count = part_way.collectors_are.count ∙ kept.collectors
 
-  pub found_page : (cpu fill : ℕ) (parcel : Parcel) → cpu < script.cpus → IsFound (lane_at state.lanes.items cpu) fill parcel → Contains amid.world.taken parcel × IsFill cpu fill parcel
+  pub found_page : (cpu fill : ℕ) (parcel : Parcel) → cpu < script.cpus → IsFound (lane_at state.lanes.items cpu) fill parcel → Contains part_way.world.taken parcel × IsFill cpu fill parcel
   found_page cpu fill parcel low found =
-      let (lane, at) = lane_of script amid.world kept cpu low in
-      found_taken script amid.world kept cpu lane at (lane_at state.lanes.items cpu) fill parcel (amid.lanes_are cpu lane at) found
+      let (lane, at) = lane_of script part_way.world kept cpu low in
+      found_taken script part_way.world kept cpu lane at (lane_at state.lanes.items cpu) fill parcel (part_way.lanes_are cpu lane at) found
 
-  pub none_taken : (cpu fill : ℕ) → cpu < script.cpus → IfSome (lane_at state.lanes.items cpu) (λ v. All (λ parcel. parcel.fill ≢ fill) (as_parcels v.taken)) → All (λ parcel. IsFill cpu fill parcel → ⊥) amid.world.taken
+  pub none_taken : (cpu fill : ℕ) → cpu < script.cpus → IfSome (lane_at state.lanes.items cpu) (λ v. All (λ parcel. parcel.fill ≢ fill) (as_parcels v.taken)) → All (λ parcel. IsFill cpu fill parcel → ⊥) part_way.world.taken
   none_taken cpu fill low none =
-      let (lane, at) = lane_of script amid.world kept cpu low in
-      not_taken script amid.world kept cpu lane at (lane_at state.lanes.items cpu) fill (amid.lanes_are cpu lane at) none
+      let (lane, at) = lane_of script part_way.world kept cpu low in
+      not_taken script part_way.world kept cpu lane at (lane_at state.lanes.items cpu) fill (part_way.lanes_are cpu lane at) none
 
   -- what was delivered to a collector of these
-  pub delivered_to : (collector : ℕ) (pages : List Parcel) → slice_get state.collectors.items collector ≡ Some pages → (delivered : List Parcel) × (slice_get amid.world.delivered collector ≡ Some delivered) × IsCollected pages delivered
+  pub delivered_to : (collector : ℕ) (pages : List Parcel) → slice_get state.collectors.items collector ≡ Some pages → (delivered : List Parcel) × (slice_get part_way.world.delivered collector ≡ Some delivered) × IsCollected pages delivered
   delivered_to collector pages at =
       let low = slice_get_within state.collectors.items collector pages at in
-      let count = amid.collectors_are.count in
-      let there : slice_get amid.world.delivered collector ≡ Some (get_or amid.world.delivered collector []) = slice_get-get_or amid.world.delivered collector [] (omega arith) in
-      (get_or amid.world.delivered collector [], there, amid.collectors_are.each collector pages (get_or amid.world.delivered collector []) at there)
+      let count = part_way.collectors_are.count in
+      let there : slice_get part_way.world.delivered collector ≡ Some (get_or part_way.world.delivered collector []) = slice_get-get_or part_way.world.delivered collector [] (omega arith) in
+      (get_or part_way.world.delivered collector [], there, part_way.collectors_are.each collector pages (get_or part_way.world.delivered collector []) at there)
 
   pub may_add : (cpu fill collector : ℕ) (pages : List Parcel) (parcel : Parcel) → cpu < script.cpus → IsFound (lane_at state.lanes.items cpu) fill parcel → slice_get state.collectors.items collector ≡ Some pages → Agree (pages ++ parcel ∷ [])
   may_add cpu fill collector pages parcel low found at =
       let (delivered, delivered_at, collected) = delivered_to collector pages at in
-      let genuine = world_genuine script lines amid.world limits amid.behind in
-      taken_agree script amid.world (pages ++ parcel ∷ []) genuine
+      let genuine = world_genuine script lines part_way.world limits part_way.behind in
+      taken_agree script part_way.world (pages ++ parcel ∷ []) genuine
       (λ p has. ⊎_elim (λ old. genuine.delivered collector delivered p delivered_at (collected.among p old))
-      (λ is. subst (Contains amid.world.taken) is (found_page cpu fill parcel low found).0)
+      (λ is. subst (Contains part_way.world.taken) is (found_page cpu fill parcel low found).0)
       (Contains-push_cases pages parcel p has))
 
 -- ---- a line of a ring
@@ -125,32 +125,32 @@ module _ (script : Script) (line : ℕ) (command : Command) (cpu : ℕ) (old new
     (others : AreSameBut cpu new.lanes.items old.lanes.items)
     (collectors : new.collectors.items ≡ old.collectors.items) where
   pub ring_leads : LeadsOn script (line, command) old new
-  ring_leads = λ lines amid.
-      let kept : IsWorldKept script amid.world = world_kept script lines amid.world limits amid.behind in
-      let (lane, at) = lane_of script amid.world kept cpu low in
-      let is_lane = from_is_lane script cpu (lane_at old.lanes.items cpu) v lane limits low from (amid.lanes_are cpu lane at) in
+  ring_leads = λ lines part_way.
+      let kept : IsWorldKept script part_way.world = world_kept script lines part_way.world limits part_way.behind in
+      let (lane, at) = lane_of script part_way.world kept cpu low in
+      let is_lane = from_is_lane script cpu (lane_at old.lanes.items cpu) v lane limits low from (part_way.lanes_are cpu lane at) in
       let h = has script.pages script.size script.start lane is_lane in
       let w : World = record {
-        lanes = slice_set amid.world.lanes cpu h.after;
-        taken = amid.world.taken ++ parcels_of cpu h.exchanges;
-        delivered = amid.world.delivered;
-        log = amid.world.log ++ log_of line cpu h.exchanges;
+        lanes = slice_set part_way.world.lanes cpu h.after;
+        taken = part_way.world.taken ++ parcels_of cpu h.exchanges;
+        delivered = part_way.world.delivered;
+        log = part_way.world.log ++ log_of line cpu h.exchanges;
       } in
-      let runs : RunsLine script line command cpu amid.world w = record { lane = lane; lane_is = at; exchanges = h.exchanges; next = h.after; run = h.happened; after_is = refl } in
+      let runs : RunsLine script line command cpu part_way.world w = record { lane = lane; lane_is = at; exchanges = h.exchanges; next = h.after; run = h.happened; after_is = refl } in
       let here : IsLaneAt script cpu (lane_at new.lanes.items cpu) h.after = subst (λ (p : Option LaneValue). IsLaneAt script cpu p h.after) (sym placed) h.is_lane in
       record {
         world = w;
-        behind = behind_next script lines line command amid.world w amid.behind
-            (obeys_ring script line command amid.world w ring (subst (λ (j : ℕ). RunsLine script line command j amid.world w) named runs));
+        behind = behind_next script lines line command part_way.world w part_way.behind
+            (obeys_ring script line command part_way.world w ring (subst (λ (j : ℕ). RunsLine script line command j part_way.world w) named runs));
         lanes_are = λ other next next_at. dite (ℕ_discrete other cpu)
             (λ e. subst (λ (j : ℕ). IsLaneAt script j (lane_at new.lanes.items j) next) (sym e)
             (subst (IsLaneAt script cpu (lane_at new.lanes.items cpu))
-            (some_is h.after next (sym (get_set_here amid.world.lanes cpu h.after (slice_get_within amid.world.lanes cpu lane at)) ∙ subst (λ (j : ℕ). slice_get w.lanes j ≡ Some next) e next_at))
+            (some_is h.after next (sym (get_set_here part_way.world.lanes cpu h.after (slice_get_within part_way.world.lanes cpu lane at)) ∙ subst (λ (j : ℕ). slice_get w.lanes j ≡ Some next) e next_at))
             here))
             (λ apart. subst (λ (p : Option LaneValue). IsLaneAt script other p next) (sym (others other apart))
-            (amid.lanes_are other next (sym (get_set_other amid.world.lanes cpu other h.after apart) ∙ next_at)));
-        collectors_are = subst (λ (l : List (List Parcel)). AreCollected l amid.world.delivered) (sym collectors) amid.collectors_are;
-        log_is = h.log ∙ ap (λ (l : List model.LogLine). l ++ log_of line cpu h.exchanges) amid.log_is;
+            (part_way.lanes_are other next (sym (get_set_other part_way.world.lanes cpu other h.after apart) ∙ next_at)));
+        collectors_are = subst (λ (l : List (List Parcel)). AreCollected l part_way.world.delivered) (sym collectors) part_way.collectors_are;
+        log_is = h.log ∙ ap (λ (l : List model.LogLine). l ++ log_of line cpu h.exchanges) part_way.log_is;
       }
 
 -- ---- a delivery
@@ -175,20 +175,20 @@ module _ (script : Script) (line collector cpu fill : ℕ) (lines : List (ℕ ×
     (limits : IsWithinLimits script)
     (low : cpu < script.cpus)
     (lanes : new.lanes.items ≡ old.lanes.items)
-    (amid : IsAmid script lines old) where
+    (part_way : IsStateAfter script lines old) where
   pub untaken_line : IfSome (lane_at old.lanes.items cpu) (λ v. All (λ parcel. parcel.fill ≢ fill) (as_parcels v.taken))
       → new.collectors.items ≡ old.collectors.items
       → shown_log new.log.items ≡ shown_log old.log.items ++ delivery_line line collector cpu fill no_page ∷ []
-      → IsAmid script (lines ++ (line, deliver collector cpu fill) ∷ []) new
+      → IsStateAfter script (lines ++ (line, deliver collector cpu fill) ∷ []) new
   untaken_line none collectors log =
-      let after : World = record amid.world { log = amid.world.log ++ delivery_line line collector cpu fill no_page ∷ [] } in
-      let d : DeliversNothing line collector cpu fill amid.world after = record { not_taken = none_taken script lines old limits amid cpu fill low none; after_is = refl } in
+      let after : World = record part_way.world { log = part_way.world.log ++ delivery_line line collector cpu fill no_page ∷ [] } in
+      let d : DeliversNothing line collector cpu fill part_way.world after = record { not_taken = none_taken script lines old limits part_way cpu fill low none; after_is = refl } in
       record {
         world = after;
-        behind = behind_next script lines line (deliver collector cpu fill) amid.world after amid.behind (lacks d);
-        lanes_are = λ other lane at. rw lanes (amid.lanes_are other lane at);
-        collectors_are = subst (λ (l : List (List Parcel)). AreCollected l amid.world.delivered) (sym collectors) amid.collectors_are;
-        log_is = log ∙ ap (λ (l : List model.LogLine). l ++ delivery_line line collector cpu fill no_page ∷ []) amid.log_is;
+        behind = behind_next script lines line (deliver collector cpu fill) part_way.world after part_way.behind (lacks d);
+        lanes_are = λ other lane at. rw lanes (part_way.lanes_are other lane at);
+        collectors_are = subst (λ (l : List (List Parcel)). AreCollected l part_way.world.delivered) (sym collectors) part_way.collectors_are;
+        log_is = log ∙ ap (λ (l : List model.LogLine). l ++ delivery_line line collector cpu fill no_page ∷ []) part_way.log_is;
       }
 
   pub taken_line : (parcel : Parcel) (added : Added) (kept more : List Parcel)
@@ -197,16 +197,16 @@ module _ (script : Script) (line collector cpu fill : ℕ) (lines : List (ℕ ×
       → Adds added kept parcel more
       → new.collectors.items ≡ slice_set old.collectors.items collector more
       → shown_log new.log.items ≡ shown_log old.log.items ++ delivery_line line collector cpu fill (delivery_of added) ∷ []
-      → IsAmid script (lines ++ (line, deliver collector cpu fill) ∷ []) new
+      → IsStateAfter script (lines ++ (line, deliver collector cpu fill) ∷ []) new
   taken_line parcel added kept more found kept_at adds collectors log =
-      let (delivered, at, collected) = delivered_to script lines old limits amid collector kept kept_at in
-      let (was_taken, fill_is) = found_page script lines old limits amid cpu fill parcel low found in
+      let (delivered, at, collected) = delivered_to script lines old limits part_way collector kept kept_at in
+      let (was_taken, fill_is) = found_page script lines old limits part_way cpu fill parcel low found in
       let pages : List Parcel = delivered ++ parcel ∷ [] in
-      let after : World = record amid.world {
-        delivered = slice_set amid.world.delivered collector pages;
-        log = amid.world.log ++ delivery_line line collector cpu fill (delivery_of added) ∷ [];
+      let after : World = record part_way.world {
+        delivered = slice_set part_way.world.delivered collector pages;
+        log = part_way.world.log ++ delivery_line line collector cpu fill (delivery_of added) ∷ [];
       } in
-      let d : DeliversTaken line collector cpu fill amid.world after = record {
+      let d : DeliversTaken line collector cpu fill part_way.world after = record {
         parcel = parcel;
         was_taken = was_taken;
         fill_is = fill_is;
@@ -217,22 +217,22 @@ module _ (script : Script) (line collector cpu fill : ℕ) (lines : List (ℕ ×
         after_is = refl;
       } in
       let more_collected : IsCollected more pages = collected_more added kept delivered more parcel collected adds in
-      let each_collected : (k : ℕ) (one parcels : List Parcel) → slice_get (slice_set old.collectors.items collector more) k ≡ Some one → slice_get (slice_set amid.world.delivered collector pages) k ≡ Some parcels → IsCollected one parcels =
+      let each_collected : (k : ℕ) (one parcels : List Parcel) → slice_get (slice_set old.collectors.items collector more) k ≡ Some one → slice_get (slice_set part_way.world.delivered collector pages) k ≡ Some parcels → IsCollected one parcels =
       (λ k one parcels one_at parcels_at. dite (ℕ_discrete k collector)
       (λ e. let one_is : more ≡ one = some_is more one (sym (get_set_here old.collectors.items collector more (slice_get_within old.collectors.items collector kept kept_at)) ∙ subst (λ (j : ℕ). slice_get (slice_set old.collectors.items collector more) j ≡ Some one) e one_at) in
-      let parcels_are : pages ≡ parcels = some_is pages parcels (sym (get_set_here amid.world.delivered collector pages (slice_get_within amid.world.delivered collector delivered at)) ∙ subst (λ (j : ℕ). slice_get (slice_set amid.world.delivered collector pages) j ≡ Some parcels) e parcels_at) in
+      let parcels_are : pages ≡ parcels = some_is pages parcels (sym (get_set_here part_way.world.delivered collector pages (slice_get_within part_way.world.delivered collector delivered at)) ∙ subst (λ (j : ℕ). slice_get (slice_set part_way.world.delivered collector pages) j ≡ Some parcels) e parcels_at) in
       subst (λ (l : List Parcel). IsCollected l parcels) one_is (subst (IsCollected more) parcels_are more_collected))
-      (λ apart. amid.collectors_are.each k one parcels (sym (get_set_other old.collectors.items collector k more apart) ∙ one_at) (sym (get_set_other amid.world.delivered collector k pages apart) ∙ parcels_at))) in
-      let all_collected : AreCollected (slice_set old.collectors.items collector more) (slice_set amid.world.delivered collector pages) = record {
-        count = length-set old.collectors.items collector more ∙ amid.collectors_are.count ∙ sym (length-set amid.world.delivered collector pages);
+      (λ apart. part_way.collectors_are.each k one parcels (sym (get_set_other old.collectors.items collector k more apart) ∙ one_at) (sym (get_set_other part_way.world.delivered collector k pages apart) ∙ parcels_at))) in
+      let all_collected : AreCollected (slice_set old.collectors.items collector more) (slice_set part_way.world.delivered collector pages) = record {
+        count = length-set old.collectors.items collector more ∙ part_way.collectors_are.count ∙ sym (length-set part_way.world.delivered collector pages);
         each = each_collected;
       } in
       record {
         world = after;
-        behind = behind_next script lines line (deliver collector cpu fill) amid.world after amid.behind (delivers d);
-        lanes_are = λ other lane lane_is. rw lanes (amid.lanes_are other lane lane_is);
-        collectors_are = subst (λ (l : List (List Parcel)). AreCollected l (slice_set amid.world.delivered collector pages)) (sym collectors) all_collected;
-        log_is = log ∙ ap (λ (l : List model.LogLine). l ++ delivery_line line collector cpu fill (delivery_of added) ∷ []) amid.log_is;
+        behind = behind_next script lines line (deliver collector cpu fill) part_way.world after part_way.behind (delivers d);
+        lanes_are = λ other lane lane_is. rw lanes (part_way.lanes_are other lane lane_is);
+        collectors_are = subst (λ (l : List (List Parcel)). AreCollected l (slice_set part_way.world.delivered collector pages)) (sym collectors) all_collected;
+        log_is = log ∙ ap (λ (l : List model.LogLine). l ++ delivery_line line collector cpu fill (delivery_of added) ∷ []) part_way.log_is;
       }
 
 -- ---- one line more, of all
@@ -240,25 +240,25 @@ module _ (script : Script) (line collector cpu fill : ℕ) (lines : List (ℕ ×
 pub one_more : (script : Script) (commands : List (ℕ × Command)) (index : ℕ) (line : ℕ × Command) (old new : ReplayState)
     → slice_get commands index ≡ Some line
     → commands ≡ script.commands
-    → IsAmid script (take index script.commands) old
+    → IsStateAfter script (take index script.commands) old
     → LeadsOn script line old new
-    → IsAmid script (take (index + 1) script.commands) new
-one_more script commands index line old new at same amid leads =
+    → IsStateAfter script (take (index + 1) script.commands) new
+one_more script commands index line old new at same part_way leads =
     let there : slice_get script.commands index ≡ Some line = ap (λ (l : List (ℕ × Command)). slice_get l index) (sym same) ∙ at in
     let behind : take (index + 1) script.commands ≡ take index script.commands ++ line ∷ [] =
     take_more script.commands index line (slice_get_within script.commands index line there)
     ∙ ap (λ (l : ℕ × Command). take index script.commands ++ l ∷ []) (get_or_from_slice_get script.commands index line line there) in
-    subst (λ (l : List (ℕ × Command)). IsAmid script l new) (sym behind) (leads (take index script.commands) amid)
+    subst (λ (l : List (ℕ × Command)). IsStateAfter script l new) (sym behind) (leads (take index script.commands) part_way)
 
 pub may_obey : (script : Script) (commands : List (ℕ × Command)) (index : ℕ) (line : ℕ × Command) (state : ReplayState)
     → IsWithinLimits script
     → slice_get commands index ≡ Some line
     → commands ≡ script.commands
-    → IsAmid script (take index script.commands) state
+    → IsStateAfter script (take index script.commands) state
     → IsReady script line.1 state
-may_obey script commands index line state limits at same amid = record {
+may_obey script commands index line state limits at same part_way = record {
   limits = limits;
   within = element (λ (l : ℕ × Command). IsCommandWithin script.cpus script.collectors l.1) script.commands index line limits.each_command (ap (λ (l : List (ℕ × Command)). slice_get l index) (sym same) ∙ at);
   lines = take index script.commands;
-  amid = amid;
+  part_way = part_way;
 }

@@ -13,17 +13,17 @@ pub log_of_more : (line cpu : ℕ) (xs ys : List Exchange)
 log_of_more line cpu xs ys = flat_map-append (λ x. logged line cpu x.answer) xs ys
 
 -- one exchange was logged
-pub told_one : (line cpu : ℕ) (x : Exchange) (old new : List LogLine)
+pub reported_one : (line cpu : ℕ) (x : Exchange) (old new : List LogLine)
     → new ≡ old ++ logged line cpu x.answer
     → new ≡ old ++ log_of line cpu (x ∷ [])
-told_one line cpu x old new told = told ∙ ap (λ (l : List LogLine). old ++ l) (sym (log_of_one line cpu x))
+reported_one line cpu x old new reported = reported ∙ ap (λ (l : List LogLine). old ++ l) (sym (log_of_one line cpu x))
 
 -- some were logged, and then others
-pub told_more : (line cpu : ℕ) (xs ys : List Exchange) (old between new : List LogLine)
+pub reported_more : (line cpu : ℕ) (xs ys : List Exchange) (old between new : List LogLine)
     → between ≡ old ++ log_of line cpu xs
     → new ≡ between ++ log_of line cpu ys
     → new ≡ old ++ log_of line cpu (xs ++ ys)
-told_more line cpu xs ys old between new first then_told = then_told
+reported_more line cpu xs ys old between new first then_reported = then_reported
     ∙ ap (λ (l : List LogLine). l ++ log_of line cpu ys) first
     ∙ append_assoc old (log_of line cpu xs) (log_of line cpu ys)
     ∙ ap (λ (l : List LogLine). old ++ l) (sym (log_of_more line cpu xs ys))

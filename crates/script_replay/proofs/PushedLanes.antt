@@ -18,35 +18,35 @@ use Rattle.ring_frames.specs.declared.answer.Answer.TheVariants as answer
 use Rattle.ring_core.specs.Value.{CoreValue}
 use Rattle.nested_writer.specs.declared.stack.leave.Ended.TheVariants.{Pending, Full}
 use Rattle.ring_frames.specs.Answers.{IsAnswerOf}
-use Rattle.ring_frames.proofs.Told.{told_pushed}
+use Rattle.ring_frames.proofs.Reports.{reported_pushed}
 use Rattle.ring_core.specs.Answers.{event_of}
-use Rattle.ring_core.specs.Steps.{IsStep, Makes}
+use Rattle.ring_core.specs.Steps.{IsStep, MakesStep}
 use Rattle.replay_log.specs.declared.line.LogLine.{LogLine}
 use Rattle.replay_log.specs.LogTypes.{shown_log}
 use Rattle.script_replay.specs.Value.{LaneValue}
 use Rattle.script_replay.specs.Lanes.{IsLane, Happens}
 use Rattle.script_replay.specs.Frames.{IsPushOf, push_event, IsPushed, Pushes}
-use Rattle.script_replay.proofs.Logs.{told_one, told_more}
+use Rattle.script_replay.proofs.Logs.{reported_one, reported_more}
 use Rattle.script_replay.proofs.LaneValues.{moved_lane, taken_stay}
-use Rattle.script_replay.proofs.Told.{IsTold}
+use Rattle.script_replay.proofs.Reports.{IsReported}
 
 -- what a push makes of the frames
-pub data PushEnds (payload : List ℕ) (before : Core) (told : model.Answer) (after : Core) : Type 0 where
+pub data PushEnds (payload : List ℕ) (before : Core) (reported : model.Answer) (after : Core) : Type 0 where
   stands : (frame : Frame)
-      → told ≡ pushed
+      → reported ≡ pushed
       → after.frames ≡ frame ∷ before.frames
       → FitsKind frame.kind payload
-      → PushEnds payload before told after
-  fails : (why : Refusal) → told ≡ refused why → after.frames ≡ before.frames → PushEnds payload before told after
+      → PushEnds payload before reported after
+  fails : (why : Refusal) → reported ≡ refused why → after.frames ≡ before.frames → PushEnds payload before reported after
 
 len_same : (moment len moment' len' : ℕ) → pushes moment len ≡ pushes moment' len' → len ≡ len'
 len_same moment len moment' len' e = cc
 
-module _ (n size : ℕ) (payload : List ℕ) (c : Core) (told : model.Answer) (after : Core) where
+module _ (n size : ℕ) (payload : List ℕ) (c : Core) (reported : model.Answer) (after : Core) where
   record_ends : (moment len : ℕ)
       → length payload ≡ len
-      → StepCases n size c (pushes moment len) told after
-      → PushEnds payload c told after
+      → StepCases n size c (pushes moment len) reported after
+      → PushEnds payload c reported after
   record_ends moment len long (push_step moment' len' e few short early a is) =
       stands _ a (ap (λ (d : Core). d.frames) is) (long ∙ len_same moment len moment' len' e)
   record_ends moment len long (push_refused moment' len' why e refusal a is) =
@@ -62,7 +62,7 @@ module _ (n size : ℕ) (payload : List ℕ) (c : Core) (told : model.Answer) (a
   record_ends moment len long (read_step e step) = absurd (let z : ⊥ = cc in z)
   record_ends moment len long (store_wish_step e a is) = absurd (let z : ⊥ = cc in z)
 
-  close_ends : payload ≡ [] → StepCases n size c pushes_close told after → PushEnds payload c told after
+  close_ends : payload ≡ [] → StepCases n size c pushes_close reported after → PushEnds payload c reported after
   close_ends none (push_step moment' len' e few short early a is) = absurd (let z : ⊥ = cc in z)
   close_ends none (push_refused moment' len' why e refusal a is) = absurd (let z : ⊥ = cc in z)
   close_ends none (close_step e few a is) = stands _ a (ap (λ (d : Core). d.frames) is) none
@@ -78,8 +78,8 @@ module _ (n size : ℕ) (payload : List ℕ) (c : Core) (told : model.Answer) (a
 
   pub push_ends : (push : Event)
       → IsPushOf push payload
-      → Step n size c (push_event push) told after
-      → PushEnds payload c told after
+      → Step n size c (push_event push) reported after
+      → PushEnds payload c reported after
   push_ends (event.Push moment len) of step = record_ends moment len of (cases_of step)
   push_ends event.PushClose of step = close_ends of (cases_of step)
   push_ends event.Step of step = absurd of
@@ -95,14 +95,14 @@ not_of_reader event.End payload of reads = reads
 not_of_reader (event.Read body) payload of reads = reads
 not_of_reader event.Wish payload of reads = reads
 
-fits_behind : (payload : List ℕ) (lane : Lane) (told : model.Answer) (after : Core)
+fits_behind : (payload : List ℕ) (lane : Lane) (reported : model.Answer) (after : Core)
     → FitFrames lane.core.frames lane.payloads
-    → PushEnds payload lane.core told after
-    → FitFrames after.frames (payloads_with payload told lane.payloads)
-fits_behind payload lane told after fit (stands frame is frames fits) =
+    → PushEnds payload lane.core reported after
+    → FitFrames after.frames (payloads_with payload reported lane.payloads)
+fits_behind payload lane reported after fit (stands frame is frames fits) =
     subst (λ (a : model.Answer). FitFrames after.frames (payloads_with payload a lane.payloads)) (sym is)
     (subst (λ (fs : List Frame). FitFrames fs (payload ∷ lane.payloads)) (sym frames) (fits, fit))
-fits_behind payload lane told after fit (fails why is frames) =
+fits_behind payload lane reported after fit (fails why is frames) =
     subst (λ (a : model.Answer). FitFrames after.frames (payloads_with payload a lane.payloads)) (sym is)
     (subst (λ (fs : List Frame). FitFrames fs lane.payloads) (sym frames) fit)
 
@@ -115,10 +115,10 @@ pushed_lane : (n size start cpu : ℕ) (old new : LaneValue) (lane : Lane) (push
     → new ≡ record old { core = core; payloads = payloads_with payload s.answer old.payloads }
     → IsPushed n size start cpu lane (push_event push) payload answer new
 pushed_lane n size start cpu old new lane push payload answer core is of s new_is = record {
-  told = s.answer;
+  reported = s.answer;
   core = s.after;
   step = s.step;
-  tells = s.tells;
+  reports = s.reports;
   is_lane = subst (λ (v : LaneValue). IsLane n size start cpu v (lane_with lane payload s.answer s.after)) (sym new_is)
       (moved_lane is s.is_core (ap (payloads_with payload s.answer) is.payloads_are)
       (fits_behind payload lane s.answer s.after is.fit
@@ -141,97 +141,97 @@ event_is v event.Wish payload of = absurd of
 
 made_push : (old : LaneValue) (push : Event) (payload : List ℕ) (a : Answer) (core : CoreValue)
     → IsPushOf push payload
-    → Makes old.core (event_of old.core push) a core
-    → Makes old.core (push_event push) a core
+    → MakesStep old.core (event_of old.core push) a core
+    → MakesStep old.core (push_event push) a core
 made_push old push payload a core of makes =
-    subst (λ (e : model.Event). Makes old.core e a core) (event_is old.core push payload of) makes
+    subst (λ (e : model.Event). MakesStep old.core e a core) (event_is old.core push payload of) makes
 
 -- it is on top
 pub stands_pushed : (old : LaneValue) (push : Event) (payload : List ℕ) (a : Answer) (core : CoreValue)
     (payloads : List (List ℕ))
     → IsPushOf push payload
-    → Makes old.core (event_of old.core push) a core
+    → MakesStep old.core (event_of old.core push) a core
     → a ≡ answer.Pushed
     → payloads ≡ payload ∷ old.payloads
     → Pushes (push_event push) payload old a (record old { core = core; payloads = payloads })
 stands_pushed old push payload a core payloads of makes pushed_is is n size start cpu lane lane_is =
     let s = made_push old push payload a core of makes n size start lane.core lane_is.is_core in
-    let told : s.answer ≡ pushed = subst (λ (x : Answer). IsAnswerOf size x s.answer) pushed_is s.tells in
+    let reported : s.answer ≡ pushed = subst (λ (x : Answer). IsAnswerOf size x s.answer) pushed_is s.reports in
     pushed_lane n size start cpu old (record old { core = core; payloads = payloads }) lane push payload a core lane_is
     of s
     (ap (λ (p : List (List ℕ)). record old { core = core; payloads = p })
-    (is ∙ ap (λ (x : model.Answer). payloads_with payload x old.payloads) (sym told)))
+    (is ∙ ap (λ (x : model.Answer). payloads_with payload x old.payloads) (sym reported)))
 
-payloads_stay : (size : ℕ) (payload : List ℕ) (payloads : List (List ℕ)) (a : Answer) (told : model.Answer)
-    → IsAnswerOf size a told
+payloads_stay : (size : ℕ) (payload : List ℕ) (payloads : List (List ℕ)) (a : Answer) (reported : model.Answer)
+    → IsAnswerOf size a reported
     → a ≢ answer.Pushed
-    → payloads_with payload told payloads ≡ payloads
-payloads_stay size payload payloads answer.Pushed told t not = absurd (not refl)
-payloads_stay size payload payloads answer.Going told t not =
+    → payloads_with payload reported payloads ≡ payloads
+payloads_stay size payload payloads answer.Pushed reported t not = absurd (not refl)
+payloads_stay size payload payloads answer.Going reported t not =
     ap (λ (x : model.Answer). payloads_with payload x payloads) t
-payloads_stay size payload payloads (answer.Reserved number) told t not =
+payloads_stay size payload payloads (answer.Reserved number) reported t not =
     ap (λ (x : model.Answer). payloads_with payload x payloads) t
-payloads_stay size payload payloads (answer.Ended Pending) told t not =
+payloads_stay size payload payloads (answer.Ended Pending) reported t not =
     ap (λ (x : model.Answer). payloads_with payload x payloads) t
-payloads_stay size payload payloads (answer.Ended Full) told t not =
+payloads_stay size payload payloads (answer.Ended Full) reported t not =
     ap (λ (x : model.Answer). payloads_with payload x payloads) t
-payloads_stay size payload payloads answer.Gone told t not =
+payloads_stay size payload payloads answer.Gone reported t not =
     ap (λ (x : model.Answer). payloads_with payload x payloads) t
-payloads_stay size payload payloads (answer.Refused fault) told t not =
+payloads_stay size payload payloads (answer.Refused fault) reported t not =
     ap (λ (x : model.Answer). payloads_with payload x payloads) t
-payloads_stay size payload payloads (answer.Looking body) told t not =
+payloads_stay size payload payloads (answer.Looking body) reported t not =
     ap (λ (x : model.Answer). payloads_with payload x payloads) t
-payloads_stay size payload payloads (answer.Empty done body) told t not =
+payloads_stay size payload payloads (answer.Empty done body) reported t not =
     ap (λ (x : model.Answer). payloads_with payload x payloads) t
-payloads_stay size payload payloads (answer.Moving fill body) told t not =
+payloads_stay size payload payloads (answer.Moving fill body) reported t not =
     ap (λ (x : model.Answer). payloads_with payload x payloads) t
-payloads_stay size payload payloads (answer.Taken page missed) told t not =
+payloads_stay size payload payloads (answer.Taken page missed) reported t not =
     ap (λ (x : model.Answer). payloads_with payload x payloads) t.1
-payloads_stay size payload payloads (answer.Wished fill) told t not =
+payloads_stay size payload payloads (answer.Wished fill) reported t not =
     ap (λ (x : model.Answer). payloads_with payload x payloads) t
 
 -- it is refused
 pub fails_pushed : (old : LaneValue) (push : Event) (payload : List ℕ) (a : Answer) (core : CoreValue)
     → IsPushOf push payload
-    → Makes old.core (event_of old.core push) a core
+    → MakesStep old.core (event_of old.core push) a core
     → a ≢ answer.Pushed
     → Pushes (push_event push) payload old a (record old { core = core })
 fails_pushed old push payload a core of makes not n size start cpu lane lane_is =
     let s = made_push old push payload a core of makes n size start lane.core lane_is.is_core in
     pushed_lane n size start cpu old (record old { core = core }) lane push payload a core lane_is of s
     (ap (λ (p : List (List ℕ)). record old { core = core; payloads = p })
-    (sym (payloads_stay size payload old.payloads a s.answer s.tells not)))
+    (sym (payloads_stay size payload old.payloads a s.answer s.reports not)))
 
 -- ---- lines that push
 
 pub pushes_frame : (n size start cpu : ℕ) (lane : Lane) (push : model.Event) (payload : List ℕ) (a : Answer)
     (new : LaneValue)
     → (p : IsPushed n size start cpu lane push payload a new)
-    → PushesFrame n size push payload lane record { event = push; answer = p.told }
-    (lane_with lane payload p.told p.core)
+    → PushesFrame n size push payload lane record { event = push; answer = p.reported }
+    (lane_with lane payload p.reported p.core)
 pushes_frame n size start cpu lane push payload a new p =
     record { event_is = refl; core = p.core; step = p.step; after_is = refl }
 
 pub begun : (n size start cpu line moment : ℕ) (lane : Lane) (payload : List ℕ) (a : Answer) (new : LaneValue)
     (first log : List LogLine)
     → IsPushed n size start cpu lane (pushes moment (length payload)) payload a new
-    → IsTold line cpu a first log
+    → IsReported line cpu a first log
     → Happens (λ n size before exchanges after. LineRun n size (begin_frame cpu moment payload) before exchanges after)
     line cpu n size start lane first new log
-begun n size start cpu line moment lane payload a new first log p told =
-    let x : Exchange = record { event = pushes moment (length payload); answer = p.told } in
+begun n size start cpu line moment lane payload a new first log p reported =
+    let x : Exchange = record { event = pushes moment (length payload); answer = p.reported } in
     record {
       exchanges = x ∷ [];
-      after = lane_with lane payload p.told p.core;
+      after = lane_with lane payload p.reported p.core;
       happened = (x, refl, pushes_frame n size start cpu lane (pushes moment (length payload)) payload a new p);
       is_lane = p.is_lane;
-      log = told_one line cpu x (shown_log first) (shown_log log) (told size p.told p.tells);
+      log = reported_one line cpu x (shown_log first) (shown_log log) (reported size p.reported p.reports);
     }
 
 -- of a push that isn't refused nothing is logged
-pub untold : (line cpu : ℕ) (a : Answer) (log : List LogLine) → a ≡ answer.Pushed → IsTold line cpu a log log
-untold line cpu a log is size told tells =
-    let pushed_is : told ≡ pushed = subst (λ (y : Answer). IsAnswerOf size y told) is tells in
+pub unreported : (line cpu : ℕ) (a : Answer) (log : List LogLine) → a ≡ answer.Pushed → IsReported line cpu a log log
+unreported line cpu a log is size reported reports =
+    let pushed_is : reported ≡ pushed = subst (λ (y : Answer). IsAnswerOf size y reported) is reports in
     sym (append-nil (shown_log log)) ∙ ap (λ (x : model.Answer). shown_log log ++ logged line cpu x) (sym pushed_is)
 
 -- pushed, and finished
@@ -239,14 +239,14 @@ pub written : (n size start cpu line : ℕ) (lane : Lane) (push : model.Event) (
     (between new : LaneValue) (first log more : List LogLine)
     → (p : IsPushed n size start cpu lane push payload a between)
     → a ≡ answer.Pushed
-    → IsTold line cpu a first log
+    → IsReported line cpu a first log
     → Happens (λ n size before exchanges after. LineRun n size (finish_frame cpu) before exchanges after) line cpu n
-    size start (lane_with lane payload p.told p.core) log new more
+    size start (lane_with lane payload p.reported p.core) log new more
     → Happens (λ n size before exchanges after. WritesFrame n size push payload before exchanges after) line cpu n size
     start lane first new more
-written n size start cpu line lane push payload a between new first log more p is told h =
-    let x : Exchange = record { event = push; answer = p.told } in
-    let pushed_is : p.told ≡ pushed = subst (λ (y : Answer). IsAnswerOf size y p.told) is p.tells in
+written n size start cpu line lane push payload a between new first log more p is reported h =
+    let x : Exchange = record { event = push; answer = p.reported } in
+    let pushed_is : p.reported ≡ pushed = subst (λ (y : Answer). IsAnswerOf size y p.reported) is p.reports in
     record {
       exchanges = x ∷ h.exchanges;
       after = h.after;
@@ -254,25 +254,25 @@ written n size start cpu line lane push payload a between new first log more p i
         push = x;
         rest = h.exchanges;
         exchanges_are = refl;
-        between = lane_with lane payload p.told p.core;
+        between = lane_with lane payload p.reported p.core;
         pushes = pushes_frame n size start cpu lane push payload a between p;
         finishes = subst (λ (t : model.Answer).
-            FinishesPushed n size t (lane_with lane payload p.told p.core) h.exchanges h.after) (sym pushed_is)
+            FinishesPushed n size t (lane_with lane payload p.reported p.core) h.exchanges h.after) (sym pushed_is)
             h.happened;
       };
       is_lane = h.is_lane;
-      log = told_more line cpu (x ∷ []) h.exchanges (shown_log first) (shown_log log) (shown_log more)
-          (told_one line cpu x (shown_log first) (shown_log log) (told size p.told p.tells)) h.log;
+      log = reported_more line cpu (x ∷ []) h.exchanges (shown_log first) (shown_log log) (shown_log more)
+          (reported_one line cpu x (shown_log first) (shown_log log) (reported size p.reported p.reports)) h.log;
     }
 
 -- ---- a push that is refused
 
-none_follows : (n size : ℕ) (payload : List ℕ) (c : Core) (told : model.Answer) (after : Core) (lane : Lane)
-    → (told ≡ pushed → ⊥)
-    → PushEnds payload c told after
-    → FinishesPushed n size told lane [] lane
-none_follows n size payload c told after lane not (stands frame is frames fits) = absurd (not is)
-none_follows n size payload c told after lane not (fails why is frames) =
+none_follows : (n size : ℕ) (payload : List ℕ) (c : Core) (reported : model.Answer) (after : Core) (lane : Lane)
+    → (reported ≡ pushed → ⊥)
+    → PushEnds payload c reported after
+    → FinishesPushed n size reported lane [] lane
+none_follows n size payload c reported after lane not (stands frame is frames fits) = absurd (not is)
+none_follows n size payload c reported after lane not (fails why is frames) =
     subst (λ (t : model.Answer). FinishesPushed n size t lane [] lane) (sym is) (refl, refl)
 
 pub not_written : (n size start cpu line : ℕ) (lane : Lane) (push : Event) (payload : List ℕ) (a : Answer)
@@ -280,12 +280,12 @@ pub not_written : (n size start cpu line : ℕ) (lane : Lane) (push : Event) (pa
     → IsPushOf push payload
     → IsPushed n size start cpu lane (push_event push) payload a new
     → a ≢ answer.Pushed
-    → IsTold line cpu a first log
+    → IsReported line cpu a first log
     → Happens (λ n size before exchanges after. WritesFrame n size (push_event push) payload before exchanges after)
     line cpu n size start lane first new log
-not_written n size start cpu line lane push payload a new first log of p not told =
-    let x : Exchange = record { event = push_event push; answer = p.told } in
-    let behind : Lane = lane_with lane payload p.told p.core in
+not_written n size start cpu line lane push payload a new first log of p not reported =
+    let x : Exchange = record { event = push_event push; answer = p.reported } in
+    let behind : Lane = lane_with lane payload p.reported p.core in
     record {
       exchanges = x ∷ [];
       after = behind;
@@ -295,10 +295,10 @@ not_written n size start cpu line lane push payload a new first log of p not tol
         exchanges_are = refl;
         between = behind;
         pushes = pushes_frame n size start cpu lane (push_event push) payload a new p;
-        finishes = none_follows n size payload lane.core p.told p.core behind
-            (λ is. told_pushed size a p.told p.tells is not)
-            (push_ends n size payload lane.core p.told p.core push of p.step);
+        finishes = none_follows n size payload lane.core p.reported p.core behind
+            (λ is. reported_pushed size a p.reported p.reports is not)
+            (push_ends n size payload lane.core p.reported p.core push of p.step);
       };
       is_lane = p.is_lane;
-      log = told_one line cpu x (shown_log first) (shown_log log) (told size p.told p.tells);
+      log = reported_one line cpu x (shown_log first) (shown_log log) (reported size p.reported p.reports);
     }

@@ -6,7 +6,7 @@ use Rattle.std.proofs.lemmas.List.{map-append}
 use Rattle.trace_model.specs.Ring.{Core}
 use Rattle.trace_model.specs.Parcel.{Parcel}
 use Rattle.trace_model.specs.Steps as model
-use Rattle.trace_model.specs.Steps.{Event, pushes, pushes_close, steps, ends, reads, wishes, reading, empty, moving, swapped, Step, Exchange}
+use Rattle.trace_model.specs.Steps.{Event, pushes, pushes_close, steps, ends, reads, wishes, reading, empty, moving, page_taken, Step, Exchange}
 use Rattle.trace_model.proofs.steps.StepCases.{StepCases, push_step, push_refused, close_step, close_refused, frame_step, frame_lacks, end_step, end_lacks, end_early, read_step, store_wish_step}
 use Rattle.trace_model.proofs.steps.StepSound.{cases_of}
 use Rattle.link_marks.specs.Seats.{IsOfReader}
@@ -25,15 +25,15 @@ use Rattle.ring_core.specs.Value.{CoreValue}
 use Rattle.ring_core.specs.IsCore.{IsCore}
 use Rattle.ring_frames.specs.Answers.{IsAnswerOf}
 use Rattle.ring_core.specs.Answers.{GivesBack}
-use Rattle.ring_core.specs.Steps.{Makes}
+use Rattle.ring_core.specs.Steps.{MakesStep}
 use Rattle.replay_log.specs.declared.line.LogLine.{LogLine}
 use Rattle.replay_log.specs.LogTypes.{shown_log}
 use Rattle.script_replay.specs.Value.{LaneValue}
 use Rattle.script_replay.specs.Lanes.{IsLane, IsLaneOf, MakesExchanges}
 use Rattle.script_replay.specs.Takes.{ReadsOnce, MayKeep, Keeps}
 use Rattle.script_replay.proofs.LaneValues.{moved_lane}
-use Rattle.script_replay.proofs.Logs.{told_one}
-use Rattle.script_replay.proofs.Told.{IsTold}
+use Rattle.script_replay.proofs.Logs.{reported_one}
+use Rattle.script_replay.proofs.Reports.{IsReported}
 use Rattle.script_replay.proofs.TakesNumbers as numbers
 
 module _ (n size start cpu : ℕ) (v : LaneValue) (lane : Lane) (is : IsLane n size start cpu v lane)
@@ -101,11 +101,11 @@ brings_none n size cpu c event answer after wish (read_step e step) = absurd (su
 brings_none n size cpu c event answer after wish (store_wish_step e a is) = ap (parcels_in cpu) a
 
 pub wishes_of : (line cpu : ℕ) (v : LaneValue) (result : Answer) (new : LaneValue) (old_log new_log : List LogLine)
-    → Makes v.core wishes result new.core
+    → MakesStep v.core wishes result new.core
     → new ≡ record v { core = new.core }
-    → IsTold line cpu result old_log new_log
+    → IsReported line cpu result old_log new_log
     → MakesExchanges (λ n size before xs after. Wishes n size before xs after) line cpu v old_log new new_log
-wishes_of line cpu v result new old_log new_log makes same told = λ n size start lane is.
+wishes_of line cpu v result new old_log new_log makes same reported = λ n size start lane is.
     let s = makes n size start lane.core is.is_core in
     let x : Exchange = record { event = wishes; answer = s.answer } in
     record {
@@ -120,32 +120,32 @@ wishes_of line cpu v result new old_log new_log makes same told = λ n size star
           ∙ sym (append-nil (as_parcels v.taken))
           ∙ ap (λ (l : List Parcel). as_parcels v.taken ++ l)
           (sym (brings_none n size cpu lane.core wishes s.answer s.after tt (cases_of s.step))));
-      log = told_one line cpu x (shown_log old_log) (shown_log new_log) (told size s.answer s.tells);
+      log = reported_one line cpu x (shown_log old_log) (shown_log new_log) (reported size s.answer s.reports);
     }
 
 -- ---- a step of a take
 
 pub may_keep : (cpu : ℕ) (v : LaneValue) (result : Answer) (new : CoreValue) (body : List ℕ)
     → IsLaneOf cpu v
-    → Makes v.core reads result new
+    → MakesStep v.core reads result new
     → GivesBack body result
     → MayKeep cpu result
 may_keep cpu v result new body (n, size, start, lane, is) makes gives =
     let s = makes n size start lane.core is.is_core in
     numbers.may_keep n size start cpu lane.core reads body result s.answer s.after
-    (reached_kept n size start lane.core is.is_core.reached) is.large is.known s.step gives s.tells
+    (reached_kept n size start lane.core is.is_core.reached) is.large is.known s.step gives s.reports
 
 module _ (line cpu n size start : ℕ) (v : LaneValue) (lane : Lane) (is : IsLane n size start cpu v lane)
-    (core : CoreValue) (told : model.Answer) (after : Core) (step : Step n size lane.core reads told after)
+    (core : CoreValue) (reported : model.Answer) (after : Core) (step : Step n size lane.core reads reported after)
     (core_is : IsCore n size start core after) (body : List ℕ) (fits : length body ≡ size) (goes_on : Bool)
     (new : LaneValue) where
   abbrev Reads : Type 0
   Reads =
-      ReadsOnce goes_on n size lane (record { event = reads; answer = told } ∷ []) (lane_behind lane after)
+      ReadsOnce goes_on n size lane (record { event = reads; answer = reported } ∷ []) (lane_behind lane after)
       × IsLane n size start cpu new (lane_behind lane after)
 
   reads_to : (given : model.Answer)
-      → told ≡ given
+      → reported ≡ given
       → (goes_on ≡ true → given ≡ reading)
       → (goes_on ≡ false → given ≢ reading)
       → (w : LaneValue)
@@ -155,46 +155,46 @@ module _ (line cpu n size start : ℕ) (v : LaneValue) (lane : Lane) (is : IsLan
       → IfSome w.body (λ b. length b ≡ size)
       → as_parcels w.taken ≡ as_parcels v.taken ++ parcels_in cpu given
       → Reads
-  reads_to given told_is goes answers w new_is core_same payloads body_fits taken = (
+  reads_to given reported_is goes answers w new_is core_same payloads body_fits taken = (
     record {
-      answer = told;
+      answer = reported;
       exchanges_are = refl;
       core = after;
       step = step;
       after_is = refl;
-      goes = λ e. told_is ∙ goes e;
-      answers = λ e same. answers e (sym told_is ∙ same);
+      goes = λ e. reported_is ∙ goes e;
+      answers = λ e same. answers e (sym reported_is ∙ same);
     },
     subst (λ (u : LaneValue). IsLane n size start cpu u (lane_behind lane after)) (sym new_is)
-        (reader_behind n size start cpu v lane is reads told after tt step w
+        (reader_behind n size start cpu v lane is reads reported after tt step w
         (subst (λ (u : CoreValue). IsCore n size start u after) (sym core_same) core_is) payloads body_fits
-        (taken ∙ ap (λ (a : model.Answer). as_parcels v.taken ++ parcels_in cpu a) (sym told_is))),
+        (taken ∙ ap (λ (a : model.Answer). as_parcels v.taken ++ parcels_in cpu a) (sym reported_is))),
   )
 
   no_more : (given : model.Answer) → goes_on ≡ false → goes_on ≡ true → given ≡ reading
   no_more given stopped goes = absurd (false≢true (sym stopped ∙ goes))
 
   keeps_reads : (result : Answer)
-      → IsAnswerOf size result told
+      → IsAnswerOf size result reported
       → GivesBack body result
       → Keeps cpu result goes_on (record v { core = core; body = None }) new
       → Reads
-  keeps_reads Pushed tells gives keeps = absurd gives
-  keeps_reads Going tells gives keeps = absurd gives
-  keeps_reads (Reserved number) tells gives keeps = absurd gives
-  keeps_reads (Ended ended) tells gives keeps = absurd gives
-  keeps_reads Gone tells gives keeps = absurd gives
-  keeps_reads (Refused fault) tells gives keeps = absurd gives
-  keeps_reads (Looking back) tells gives (goes, is_new) =
-      reads_to reading tells (λ e. refl) (λ e. absurd (false≢true (sym e ∙ goes)))
+  keeps_reads Pushed reports gives keeps = absurd gives
+  keeps_reads Going reports gives keeps = absurd gives
+  keeps_reads (Reserved number) reports gives keeps = absurd gives
+  keeps_reads (Ended ended) reports gives keeps = absurd gives
+  keeps_reads Gone reports gives keeps = absurd gives
+  keeps_reads (Refused fault) reports gives keeps = absurd gives
+  keeps_reads (Looking back) reports gives (goes, is_new) =
+      reads_to reading reports (λ e. refl) (λ e. absurd (false≢true (sym e ∙ goes)))
       (record v { core = core; body = Some back }) is_new refl refl (ap length gives ∙ fits) (sym (append-nil (as_parcels v.taken)))
-  keeps_reads (Empty done back) tells gives (goes, is_new) =
-      reads_to (empty done) tells (no_more (empty done) goes) (λ e same. let z : ⊥ = cc in z)
+  keeps_reads (Empty done back) reports gives (goes, is_new) =
+      reads_to (empty done) reports (no_more (empty done) goes) (λ e same. let z : ⊥ = cc in z)
       (record v { core = core; body = Some back }) is_new refl refl (ap length gives ∙ fits) (sym (append-nil (as_parcels v.taken)))
-  keeps_reads (Moving fill back) tells gives (goes, is_new) =
-      reads_to (moving fill.0) tells (no_more (moving fill.0) goes) (λ e same. let z : ⊥ = cc in z)
+  keeps_reads (Moving fill back) reports gives (goes, is_new) =
+      reads_to (moving fill.0) reports (no_more (moving fill.0) goes) (λ e same. let z : ⊥ = cc in z)
       (record v { core = core; body = Some back }) is_new refl refl (ap length gives ∙ fits) (sym (append-nil (as_parcels v.taken)))
-  keeps_reads (Taken contents missed) (t, told_is, whole) gives (goes, (body, body_is, is_new)) =
+  keeps_reads (Taken contents missed) (t, reported_is, whole) gives (goes, (body, body_is, is_new)) =
       let kept = fitted_parcel cpu contents missed in
       let parcel_is : page.as_parcel kept ≡ parcel_of cpu t = (λ i. record {
         cpu = cpu;
@@ -203,32 +203,32 @@ module _ (line cpu n size start : ℕ) (v : LaneValue) (lane : Lane) (is : IsLan
         missed = whole.missed_is i;
         records = whole.written.records_are i;
       }) in
-      reads_to (swapped t) told_is (no_more (swapped t) goes) (λ e same. let z : ⊥ = cc in z)
+      reads_to (page_taken t) reported_is (no_more (page_taken t) goes) (λ e same. let z : ⊥ = cc in z)
       (record v { core = core; body = Some body; taken = v.taken ++ kept ∷ [] })
       is_new refl refl (body_is ∙ whole.written.size_is) (map-append page.as_parcel v.taken (kept ∷ []) ∙ ap (λ (p : Parcel). as_parcels v.taken ++ p ∷ []) parcel_is)
-  keeps_reads (Wished fill) tells gives keeps = absurd gives
+  keeps_reads (Wished fill) reports gives keeps = absurd gives
 
 pub reads_once : (line cpu : ℕ) (v between new : LaneValue) (body : List ℕ) (result : Answer) (goes_on : Bool)
     (old_log new_log : List LogLine)
     → length body ≡ v.core.stack.size
-    → Makes v.core reads result between.core
+    → MakesStep v.core reads result between.core
     → between ≡ record v { core = between.core; body = None }
     → GivesBack body result
-    → IsTold line cpu result old_log new_log
+    → IsReported line cpu result old_log new_log
     → Keeps cpu result goes_on between new
     → MakesExchanges (ReadsOnce goes_on) line cpu v old_log new new_log
-reads_once line cpu v between new body result goes_on old_log new_log body_is makes same gives told keeps =
+reads_once line cpu v between new body result goes_on old_log new_log body_is makes same gives reported keeps =
     λ n size start lane is.
     let s = makes n size start lane.core is.is_core in
     let x : Exchange = record { event = reads; answer = s.answer } in
     let (reads_so, is_lane) =
     keeps_reads line cpu n size start v lane is between.core s.answer s.after s.step s.is_core body
-    (body_is ∙ is.is_core.shows.frames.size_is) goes_on new result s.tells gives
+    (body_is ∙ is.is_core.shows.frames.size_is) goes_on new result s.reports gives
     (subst (λ (w : LaneValue). Keeps cpu result goes_on w new) same keeps) in
     record {
       exchanges = x ∷ [];
       after = lane_behind lane s.after;
       happened = reads_so;
       is_lane = is_lane;
-      log = told_one line cpu x (shown_log old_log) (shown_log new_log) (told size s.answer s.tells);
+      log = reported_one line cpu x (shown_log old_log) (shown_log new_log) (reported size s.answer s.reports);
     }

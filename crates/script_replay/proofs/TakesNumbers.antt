@@ -5,9 +5,9 @@ use Rattle.trace_model.specs.declared.limits.TheConstants.{MAX_SIZE, MAX_CPUS}
 use Rattle.trace_model.specs.Record.{Record}
 use Rattle.trace_model.specs.History.{as_record, reserved_records}
 use Rattle.trace_model.specs.Partition.{Piece, IsPartition, first_of}
-use Rattle.trace_model.specs.Ring.{Taken, Core}
+use Rattle.trace_model.specs.Ring.{TakenFill, Core}
 use Rattle.trace_model.specs.Steps as model
-use Rattle.trace_model.specs.Steps.{Event, swapped, Step}
+use Rattle.trace_model.specs.Steps.{Event, page_taken, Step}
 use Rattle.trace_model.proofs.collections.Elements.{some_is, get_behind}
 use Rattle.link_marks.specs.RingKept.{IsRingKept}
 use Rattle.link_marks.specs.KeptPartition.{piece_of, pieces_of, covered_total, PartitionAt}
@@ -17,7 +17,7 @@ use Rattle.link_marks.proofs.contents.RecordCounts.{numbers_fit}
 use Rattle.link_marks.proofs.partition.RingsKept.{ring_step}
 use Rattle.page_image.specs.Contents.{records_of_page}
 use Rattle.ring_frames.specs.declared.answer.Answer.{Answer}
-use Rattle.ring_frames.specs.declared.answer.Answer.TheVariants.{Pushed, Going, Reserved, Ended, Gone, Refused, Looking, Empty, Moving, Taken as IsTaken, Wished}
+use Rattle.ring_frames.specs.declared.answer.Answer.TheVariants.{Pushed, Going, Reserved, Ended, Gone, Refused, Looking, Empty, Moving, Taken, Wished}
 use Rattle.ring_frames.specs.Answers.{IsAnswerOf}
 use Rattle.ring_core.specs.Answers.{GivesBack}
 use Rattle.script_replay.specs.Takes.{MayKeep}
@@ -35,10 +35,10 @@ covered records (p ∷ pieces) (lost, behind, skips, cut, rest) =
     ∙ ap (λ (k : ℕ). length lost + k) (length-append p.records behind) in
     omega arith
 
-module _ (n size start : ℕ) (c : Core) (event : Event) (t : Taken) (after : Core) (kept : IsRingKept n size start c)
-    (step : Step n size c event (swapped t) after) where
+module _ (n size start : ℕ) (c : Core) (event : Event) (t : TakenFill) (after : Core) (kept : IsRingKept n size start c)
+    (step : Step n size c event (page_taken t) after) where
   abbrev after_kept : IsRingKept n size start after
-  after_kept = ring_step n size start c event (swapped t) after kept step
+  after_kept = ring_step n size start c event (page_taken t) after kept step
 
   abbrev pieces : List Piece
   pieces = pieces_of c.reader.taken
@@ -85,25 +85,25 @@ module _ (n size start : ℕ) (c : Core) (event : Event) (t : Taken) (after : Co
 
 -- so what the reader is answered may be kept
 pub may_keep : (n size start cpu : ℕ) (c : Core) (event : Event) (body : List ℕ) (result : Answer)
-    (told : model.Answer) (after : Core)
+    (reported : model.Answer) (after : Core)
     → IsRingKept n size start c
     → size ≤ MAX_SIZE
     → cpu < MAX_CPUS
-    → Step n size c event told after
+    → Step n size c event reported after
     → GivesBack body result
-    → IsAnswerOf size result told
+    → IsAnswerOf size result reported
     → MayKeep cpu result
-may_keep n size start cpu c event body Pushed told after kept large known step gives tells = absurd gives
-may_keep n size start cpu c event body Going told after kept large known step gives tells = absurd gives
-may_keep n size start cpu c event body (Reserved number) told after kept large known step gives tells = absurd gives
-may_keep n size start cpu c event body (Ended ended) told after kept large known step gives tells = absurd gives
-may_keep n size start cpu c event body Gone told after kept large known step gives tells = absurd gives
-may_keep n size start cpu c event body (Refused fault) told after kept large known step gives tells = absurd gives
-may_keep n size start cpu c event body (Looking back) told after kept large known step gives tells = tt
-may_keep n size start cpu c event body (Empty done back) told after kept large known step gives tells = tt
-may_keep n size start cpu c event body (Moving fill back) told after kept large known step gives tells = tt
-may_keep n size start cpu c event body (IsTaken page missed) told after kept large known step gives (t, is, whole) =
-    let taken : Step n size c event (swapped t) after =
+may_keep n size start cpu c event body Pushed reported after kept large known step gives reports = absurd gives
+may_keep n size start cpu c event body Going reported after kept large known step gives reports = absurd gives
+may_keep n size start cpu c event body (Reserved number) reported after kept large known step gives reports = absurd gives
+may_keep n size start cpu c event body (Ended ended) reported after kept large known step gives reports = absurd gives
+may_keep n size start cpu c event body Gone reported after kept large known step gives reports = absurd gives
+may_keep n size start cpu c event body (Refused fault) reported after kept large known step gives reports = absurd gives
+may_keep n size start cpu c event body (Looking back) reported after kept large known step gives reports = tt
+may_keep n size start cpu c event body (Empty done back) reported after kept large known step gives reports = tt
+may_keep n size start cpu c event body (Moving fill back) reported after kept large known step gives reports = tt
+may_keep n size start cpu c event body (Taken page missed) reported after kept large known step gives (t, is, whole) =
+    let taken : Step n size c event (page_taken t) after =
     subst (λ (a : model.Answer). Step n size c event a after) is step in
     let first = whole.written.first_is in
     let missed_is = whole.missed_is in
@@ -112,4 +112,4 @@ may_keep n size start cpu c event body (IsTaken page missed) told after kept lar
     let low = last_fits n size start c event t after kept taken large in
     let few = missed_fits n size start c event t after kept taken in
     (whole.written.page_reads, known, omega arith, omega arith)
-may_keep n size start cpu c event body (Wished fill) told after kept large known step gives tells = absurd gives
+may_keep n size start cpu c event body (Wished fill) reported after kept large known step gives reports = absurd gives

@@ -7,14 +7,14 @@ use Rattle.trace_model.specs.Ring.{Core}
 use Rattle.trace_model.specs.Steps.{reads, reading, Step, Exchange}
 use Rattle.text_model.specs.Script.{take_page}
 use Rattle.link_marks.specs.Ranks.{reader_limit}
-use Rattle.world_model.specs.Lanes.{Lane, lane_behind, ReaderRun, IsAnswered}
+use Rattle.world_model.specs.Lanes.{Lane, lane_behind, ReaderRun, HasTakeAnswer}
 use Rattle.world_model.proofs.LineEnds.{reader_runs_short}
 use Rattle.replay_log.specs.declared.line.LogLine.{LogLine}
 use Rattle.replay_log.specs.LogTypes.{shown_log}
 use Rattle.script_replay.specs.Value.{LaneValue}
 use Rattle.script_replay.specs.Lanes.{IsLaneOf, MakesExchanges, HasLine}
 use Rattle.script_replay.specs.Takes.{ReadsOnce, ReadsOn, IsReading}
-use Rattle.script_replay.proofs.Logs.{told_more}
+use Rattle.script_replay.proofs.Logs.{reported_more}
 
 abbrev AllReading : List Exchange → Type 0
 AllReading xs = All (λ (x : Exchange). x.answer ≡ reading) xs
@@ -41,7 +41,7 @@ run_more n size before between after (y ∷ ys) x (first, more, next, own, run) 
       event core step is,
 )
 
-answered_more : (xs : List Exchange) (x : Exchange) → x.answer ≢ reading → IsAnswered (xs ++ x ∷ [])
+answered_more : (xs : List Exchange) (x : Exchange) → x.answer ≢ reading → HasTakeAnswer (xs ++ x ∷ [])
 answered_more [] x ends = ends
 answered_more (y ∷ []) x ends = ends
 answered_more (y ∷ z ∷ ys) x ends = answered_more (z ∷ ys) x ends
@@ -77,7 +77,7 @@ read_more line cpu steps goes_on first between new log log_between new_log so_fa
       happened = reading_more steps n size goes_on lane h.after k.after h.exchanges k.exchanges h.happened k.happened;
       is_lane = k.is_lane;
       log =
-          told_more line cpu h.exchanges k.exchanges (shown_log log) (shown_log log_between) (shown_log new_log)
+          reported_more line cpu h.exchanges k.exchanges (shown_log log) (shown_log log_between) (shown_log new_log)
           h.log k.log;
     }
 
@@ -124,7 +124,7 @@ answer_read line cpu steps count v new log new_log few has = λ n size start lan
 -- ---- a whole take
 
 -- what isn't unanswered is answered
-answered_if : (xs : List Exchange) → ((IsAnswered xs → ⊥) → ⊥) → IsAnswered xs
+answered_if : (xs : List Exchange) → ((HasTakeAnswer xs → ⊥) → ⊥) → HasTakeAnswer xs
 answered_if [] not = absurd (not (λ e. e))
 answered_if (x ∷ []) not = λ e. not (λ ends. ends e)
 answered_if (x ∷ y ∷ xs) not = answered_if (y ∷ xs) not

@@ -24,10 +24,10 @@ AsksTop old answer new = (n size start cpu : ℕ) (lane : Lane)
 
 -- the frame on top of this lane makes its step, and the value is the lane after it
 pub record IsSteppedOnce (n size start cpu : ℕ) (lane : Lane) (answer : Answer) (new : LaneValue) : Type 0 where
-  pub told : model.Answer
+  pub reported : model.Answer
   pub core : Core
-  pub step : Step n size lane.core (event_on_top lane.core.frames lane.payloads) told core
-  pub tells : IsAnswerOf size answer told
+  pub step : Step n size lane.core (event_on_top lane.core.frames lane.payloads) reported core
+  pub reports : IsAnswerOf size answer reported
   pub is_lane : IsLane n size start cpu new (lane_behind lane core)
 
 abbrev pub StepsOnce : LaneValue → Answer → LaneValue → Type 0
@@ -42,7 +42,7 @@ FollowsFrame count n size before exchanges after =
     × IsStepped count (length before.core.frames) exchanges after
 
 -- Part of that: `steps` steps are made by the frame on top of a stack of `depth` frames.
-pub record IsAmid (depth steps n size : ℕ) (before : Lane) (exchanges : List Exchange) (after : Lane) : Type 0 where
+pub record HasMadeSteps (depth steps n size : ℕ) (before : Lane) (exchanges : List Exchange) (after : Lane) : Type 0 where
   pub run : FrameRun n size depth before exchanges after
   pub made : length exchanges ≡ steps
   pub few : length after.core.frames ≤ depth
@@ -71,11 +71,11 @@ push_event event.Wish = model.steps
 pub record IsPushed (n size start cpu : ℕ) (lane : Lane) (event : model.Event) (payload : List ℕ) (answer : Answer)
     (new : LaneValue)
     : Type 0 where
-  pub told : model.Answer
+  pub reported : model.Answer
   pub core : Core
-  pub step : Step n size lane.core event told core
-  pub tells : IsAnswerOf size answer told
-  pub is_lane : IsLane n size start cpu new (lane_with lane payload told core)
+  pub step : Step n size lane.core event reported core
+  pub reports : IsAnswerOf size answer reported
+  pub is_lane : IsLane n size start cpu new (lane_with lane payload reported core)
 
 abbrev pub Pushes : model.Event → List ℕ → LaneValue → Answer → LaneValue → Type 0
 Pushes event payload old answer new = (n size start cpu : ℕ) (lane : Lane)

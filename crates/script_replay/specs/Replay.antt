@@ -88,7 +88,7 @@ IsOfRing (deliver collector cpu fill) = ⊥
 
 -- After these lines: the lanes that were made, each at its CPU, the collectors and the log are those of the world
 -- there, and each lane that wasn't made is new.
-pub record IsAmid (script : Script) (lines : List (ℕ × Command)) (state : ReplayState) : Type 0 where
+pub record IsStateAfter (script : Script) (lines : List (ℕ × Command)) (state : ReplayState) : Type 0 where
   pub world : World
   pub behind : WorldBehind script lines world
   pub lanes_are : (cpu : ℕ) (lane : Lane)
@@ -102,10 +102,10 @@ pub record IsReady (script : Script) (command : Command) (state : ReplayState) :
   pub limits : IsWithinLimits script
   pub within : IsCommandWithin script.cpus script.collectors command
   pub lines : List (ℕ × Command)
-  pub amid : IsAmid script lines state
+  pub part_way : IsStateAfter script lines state
 
 -- one line more is obeyed, whichever were obeyed before
 abbrev pub LeadsOn : Script → ℕ × Command → ReplayState → ReplayState → Type 0
 LeadsOn script line old new = (lines : List (ℕ × Command))
-    → IsAmid script lines old
-    → IsAmid script (lines ++ line ∷ []) new
+    → IsStateAfter script lines old
+    → IsStateAfter script (lines ++ line ∷ []) new

@@ -4,7 +4,7 @@ use Rattle.trace_model.specs.declared.limits.TheConstants.{MAX_CPUS}
 use Rattle.trace_model.specs.Ring.{Core}
 use Rattle.trace_model.specs.Steps as model
 use Rattle.trace_model.specs.Steps.{reads, reading, Step, Exchange}
-use Rattle.world_model.specs.Lanes.{Lane, lane_behind, ReaderRun, IsAnswered, IsRead}
+use Rattle.world_model.specs.Lanes.{Lane, lane_behind, ReaderRun, HasTakeAnswer, IsRead}
 use Rattle.page_image.specs.Contents.{Contents, IsPage, records_of_page}
 use Rattle.page_numbers.specs.Parcels.{fitted_parcel}
 use Rattle.ring_frames.specs.declared.answer.Answer.{Answer}
@@ -33,7 +33,7 @@ pub record IsReading (steps : ℕ) (goes_on : Bool) (n size : ℕ) (before : Lan
   pub run : ReaderRun n size before exchanges after
   pub made : length exchanges ≡ steps
   pub goes : goes_on ≡ true → All (λ x. x.answer ≡ reading) exchanges
-  pub answers : goes_on ≡ false → IsAnswered exchanges
+  pub answers : goes_on ≡ false → HasTakeAnswer exchanges
 
 -- what an answer of the reader brings may be kept
 abbrev pub MayKeep : (cpu : ℕ) → Answer → Type 0

@@ -8,7 +8,7 @@ ghost use Rattle.trace_script.specs.ScriptTypes.{shown_command, shown_line};
 ghost use Rattle.replay_log.specs.LogTypes.{shown_log_line};
 ghost use Rattle.script_replay.specs.Lanes.{IsLaneOf, HasLine};
 ghost use Rattle.script_replay.specs.Collected.{delivery_of};
-ghost use Rattle.script_replay.specs.Replay.{cpu_of, IsOfRing, IsAmid, IsReady, LeadsOn, IsHeadline};
+ghost use Rattle.script_replay.specs.Replay.{cpu_of, IsOfRing, IsStateAfter, IsReady, LeadsOn, IsHeadline};
 ghost use Rattle.trace_script.specs.declared.replay_fault.ReplayFault.TheVariants.{NoMemory as no_memory};
 
 use crate::delivery::taken_page;
@@ -91,7 +91,7 @@ fn obey_ring<'a>(
 }
 
 /// What is logged of a page that was delivered.
-fn told_delivery(added: Added, line: u64, collector: usize, cpu: CpuId, fill: FillNo) -> LogLine
+fn reported_delivery(added: Added, line: u64, collector: usize, cpu: CpuId, fill: FillNo) -> LogLine
     ensures { shown_log_line result ≡ model.delivery_line line collector cpu.0 fill.0 (delivery_of added) }
 {
     match added {
@@ -135,7 +135,7 @@ fn deliver(
     let added = collect(&mut state.collectors[collector], parcel)?;
     state
         .log
-        .push(told_delivery(added, line, collector, cpu, fill))?;
+        .push(reported_delivery(added, line, collector, cpu, fill))?;
     Ok(())
 }
 
@@ -183,7 +183,7 @@ fn new_collectors(alloc: Global, count: usize) -> Result<Vec<Collector>, NoMemor
 /// All lines of the script.
 fn obey_all<'a>(alloc: Global, script: &'a Script) -> Result<ReplayState<'a>, NoMemory>
     ensures limits { OnOk result (IsWithinLimits script.now) }
-    ensures amid { IfOk result (λ state. IsAmid script.now script.now.commands state) }
+    ensures part_way { IfOk result (λ state. IsStateAfter script.now script.now.commands state) }
 {
     let mut state = ReplayState {
         lanes: Vec::new(alloc),

@@ -1,5 +1,5 @@
 //! The stack of a ring's nested writers, by itself.
-ghost use Rattle.nested_writer.specs.IsStack.{Stands};
+ghost use Rattle.nested_writer.specs.IsStack.{IsReachedStack};
 
 use nested_writer::{Allot, Ended, WriteFault, WriterStack};
 use page_image::{Body, Page, Place};
@@ -19,8 +19,8 @@ const WHOLE: Allot = Allot::Fits(Place { start: 4, len: 28 });
 
 /// Reserves a record at each of these moments, each amid the one before: the example of a loop at the crate's head.
 fn reserve_all(stack: &mut WriterStack, moments: &[u64]) -> Result<(), WriteFault>
-    requires stack { Stands stack.old }
-    ensures stack { Stands stack.new }
+    requires stack { IsReachedStack stack.old }
+    ensures stack { IsReachedStack stack.new }
 {
     for moment in moments {
         stack.begin(*moment, 4)?;
@@ -119,7 +119,7 @@ fn a_tail_is_closed_if_it_is_asked_for(rt: HostRuntime) -> Result<(), Fail> {
 }
 
 #[test]
-fn records_are_reserved_each_amid_the_one_before(rt: HostRuntime) -> Result<(), Fail> {
+fn records_are_reserved_each_part_way_the_one_before(rt: HostRuntime) -> Result<(), Fail> {
     let mut stack = WriterStack::new(rt.alloc(), 2, 32)?;
     reserve_all(&mut stack, &[1, 2, 3])?;
     assert!(rt; stack.depth() == 3);

@@ -45,8 +45,8 @@ pub reader_by_gate : {Gate : Type 0} (answers : Gate → Who → (cpu fill : ℕ
     → (fault ≡ GateShut → (fill : FillNo) × (stop ≡ Shut fill))
     → IsStop answers gate cpu stop
     → IsByGate answers w.gate fault
-reader_by_gate {Gate} answers v w gate cpu stop fault view same told is shut =
-    let (fill, e) = told shut in
+reader_by_gate {Gate} answers v w gate cpu stop fault view same reported is shut =
+    let (fill, e) = reported shut in
     let here : answers gate who.Reader cpu fill.0 false = subst (λ (s : Stop). IsStop answers gate cpu s) e is in
     (who.Reader, cpu, fill.0, subst (λ (g : Gate). answers g who.Reader cpu fill.0 false) (same ∙ ap (λ (r : RunningValue Gate). r.gate) view) here)
 

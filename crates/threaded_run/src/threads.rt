@@ -3,7 +3,7 @@ ghost use Rattle.std.specs.Prelude.{◌≡◌, ◌≢◌, ◌<◌, IfOk, IfErr};
 ghost use Rattle.trace_model.specs.declared.numbers.FillNo.{FillNo as FillSeen};
 ghost use Rattle.ring_steps.specs.NewRings.{first_writing};
 ghost use Rattle.trace_script.specs.declared.replay_fault.ReplayFault.TheVariants.{GateShut};
-ghost use Rattle.line_writer.specs.Obeying.{AreLinesOf, Obeys};
+ghost use Rattle.line_writer.specs.Obeying.{AreLinesOf, ObeysLines};
 ghost use Rattle.threaded_run.specs.Runs.{IsRunLedger};
 ghost use Rattle.threaded_run.specs.Taking.{HasTaken};
 ghost use Rattle.threaded_run.specs.declared.reading.Stop.TheVariants.{Shut};
@@ -92,7 +92,7 @@ fn start_writer<'s, E, G: Gate>(
     };
     let writes = move || -> Result<WriterEnd, FillNo>
         requires { (end.part ≡ first_writing end.shape) × AreLinesOf cpu.0 script.now.commands places.now }
-        ensures { Obeys G.answers gate.entry.now cpu.0 script.entry.now.commands end result }
+        ensures { ObeysLines G.answers gate.entry.now cpu.0 script.entry.now.commands end result }
     { write_lines(end, script, places, cpu, gate, over) };
     match scope.spawn_with(promise, writes) {
         Ok(handle) => Ok(handle),

@@ -1,7 +1,7 @@
 //! A writer's thread.
 ghost use Rattle.std.specs.Prelude.{◌≡◌};
 ghost use Rattle.ring_steps.specs.NewRings.{first_writing};
-ghost use Rattle.line_writer.specs.Obeying.{AreLinesOf, Obeys};
+ghost use Rattle.line_writer.specs.Obeying.{AreLinesOf, ObeysLines};
 
 use line_writer::{Gate, Places, WriterEnd, obey_lines};
 use std::snapshot::Snapshot;
@@ -20,7 +20,7 @@ pub(crate) struct Writes<'a, G: Gate> {
 }
 
 impl<'a, G: Gate> Promise<Result<WriterEnd, FillNo>> for Writes<'a, G> {
-    ghost kept_by = { λ p r. Obeys G.answers p.gate.now p.cpu.0 p.script.now.commands p.was.value r };
+    ghost kept_by = { λ p r. ObeysLines G.answers p.gate.now p.cpu.0 p.script.now.commands p.was.value r };
 }
 
 /// Obeys the lines of the CPU's writer. In every case the reader then finds that they are over.
@@ -34,7 +34,7 @@ pub(crate) fn write_lines<G: Gate>(
 ) -> Result<WriterEnd, FillNo>
     requires first { end.part ≡ first_writing end.shape }
     requires places { AreLinesOf cpu.0 script.now.commands places.now }
-    ensures { Obeys G.answers gate.now cpu.0 script.now.commands end result }
+    ensures { ObeysLines G.answers gate.now cpu.0 script.now.commands end result }
 {
     let wrote = obey_lines(end, script, places, cpu, gate);
     over.store(true, Ordering::SeqCst);

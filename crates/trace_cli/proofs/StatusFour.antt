@@ -42,11 +42,11 @@ module _ (source : SourceRun) (sink : SinkRun) (sound : AreSound source sink) wh
   too_long gives none (inr (inr (inl h))) = h.0.counted
   too_long gives none (inr (inr (inr h))) = absurd (none h.output.text h.bytes h.output.given)
 
-  pub replay_told : (asked : Bool) → IsCommandRun (ReplayGives asked) source sink END_FAILED → MAX_INPUT < source.count_after
-  replay_told asked h = too_long (ReplayGives asked) (no_replay asked) (h.end_fault refl)
+  pub replay_reported : (asked : Bool) → IsCommandRun (ReplayGives asked) source sink END_FAILED → MAX_INPUT < source.count_after
+  replay_reported asked h = too_long (ReplayGives asked) (no_replay asked) (h.end_fault refl)
 
-  pub dump_told : IsCommandRun DumpGives source sink END_FAILED → MAX_INPUT < source.count_after
-  dump_told h = too_long DumpGives no_dump (h.end_fault refl)
+  pub dump_reported : IsCommandRun DumpGives source sink END_FAILED → MAX_INPUT < source.count_after
+  dump_reported h = too_long DumpGives no_dump (h.end_fault refl)
 
   line_written : source.count_after ≤ MAX_INPUT → Causes RunGives source sink → Appends sink.contents sink.contents_after THREAD_LINE.now
   line_written short (inl h) = absurd (let is = sound.source_sound in cc)
@@ -55,5 +55,5 @@ module _ (source : SourceRun) (sink : SinkRun) (sound : AreSound source sink) wh
   line_written short (inr (inr (inr h))) =
       subst (λ (bytes : List ℕ). Appends sink.contents sink.contents_after bytes) (thread_line h.output.text h.bytes h.output.given) h.written
 
-  pub run_told : IsCommandRun RunGives source sink END_FAILED → source.count_after ≤ MAX_INPUT → Appends sink.contents sink.contents_after THREAD_LINE.now
-  run_told h short = line_written short (h.end_fault refl)
+  pub run_reported : IsCommandRun RunGives source sink END_FAILED → source.count_after ≤ MAX_INPUT → Appends sink.contents sink.contents_after THREAD_LINE.now
+  run_reported h short = line_written short (h.end_fault refl)

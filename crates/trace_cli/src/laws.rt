@@ -14,7 +14,7 @@ use trace_model::MAX_INPUT;
 /// A command that ends with the status 4, neither of whose ends failed: if it is `replay` or `dump`, the source has
 /// given more bytes than may be read, those before this run among them; if it is `run`, and the source hasn't, it wrote
 /// the line of a thread that could not be started.
-pub fn status_four_is_told()
+pub fn status_four_is_reported()
     ensures replay { (asked : Bool) (source : SourceRun) (sink : SinkRun) → AreSound source sink →
         IsCommandRun (ReplayGives asked) source sink END_FAILED → MAX_INPUT < source.count_after }
     ensures dump { (source : SourceRun) (sink : SinkRun) → AreSound source sink →

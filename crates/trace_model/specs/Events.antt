@@ -1,7 +1,7 @@
 -- What a ring is asked, step by step, what it answers, and what a step leads to.
 use Rattle.std.specs.Prelude.{ℕ, Bool, true, false, List, Option, None}
 use Rattle.trace_model.specs.Frames.{Refusal}
-use Rattle.trace_model.specs.Ring.{Taken, Core}
+use Rattle.trace_model.specs.Ring.{TakenFill, Core}
 
 -- A frame is pushed, for a record or for a close; the frame on top makes one step, or is ended with its
 -- payload, which takes the slot that the record has; the reader makes one step, which begins a take where
@@ -17,7 +17,7 @@ pub data Event : Type 0 where
 -- going: the frame is on the stack and hasn't reserved. reserved_as: its record has this number. pending, full:
 -- it was ended, with a frame below it or with none. gone: it has left the stack. reading: the take goes
 -- on. empty: no closed fill is unread, and this many are closed. moving: a head move is in progress, and
--- fills below this one are taken or lost. swapped: a fill is taken. wished_for: the reader wished for this fill.
+-- fills below this one are taken or lost. page_taken: a fill is taken. wished_for: the reader wished for this fill.
 pub data Answer : Type 0 where
   pushed : Answer
   going : Answer
@@ -29,7 +29,7 @@ pub data Answer : Type 0 where
   reading : Answer
   empty : (done : ℕ) → Answer
   moving : (fill : ℕ) → Answer
-  swapped : Taken → Answer
+  page_taken : TakenFill → Answer
   wished_for : (fill : ℕ) → Answer
 
 -- what a step answers, and the state after it; None: there is no such step

@@ -56,10 +56,10 @@ pub data Missed : Type 0 where
 
 -- The commit word and the bytes after the data state this of missed events. The count is right after the
 -- data, and bytes after it are ignored; bit 30 alone means nothing.
-abbrev pub TellsMissed : Commit → List ℕ → Missed → Type 0
-TellsMissed commit behind none = commit.is_missed ≡ false
-TellsMissed commit behind unknown = (commit.is_missed ≡ true) × (commit.is_stored ≡ false)
-TellsMissed commit behind (counted events) =
+abbrev pub ReportsMissed : Commit → List ℕ → Missed → Type 0
+ReportsMissed commit behind none = commit.is_missed ≡ false
+ReportsMissed commit behind unknown = (commit.is_missed ≡ true) × (commit.is_stored ≡ false)
+ReportsMissed commit behind (counted events) =
     (commit.is_missed ≡ true)
     × (commit.is_stored ≡ true)
     × (events < 2 ^ 64)
@@ -74,7 +74,7 @@ pub record DecodesImageWithin (limit : ℕ) (bytes : List ℕ) (time size : ℕ)
   pub behind : List ℕ
   pub parts : HasParts limit bytes time commit contents behind
   pub size_is : size ≡ commit.size
-  pub tells : TellsMissed commit behind missed
+  pub reports : ReportsMissed commit behind missed
   pub reads : Decodes contents time records
 
 -- the reading of an image that is short enough to be read
@@ -116,8 +116,8 @@ image_of time contents missed size =
     ++ filled contents (stored_count contents missed size) size)
 
 -- what that image states of this number of missed events
-abbrev pub missed_told : List ℕ → ℕ → ℕ → Missed
-missed_told contents missed size =
+abbrev pub missed_reported : List ℕ → ℕ → ℕ → Missed
+missed_reported contents missed size =
     if stores_count contents missed size then counted missed else (if nat_lt 0 missed then unknown else none)
 
 -- ---- what is wrong with an image
@@ -157,7 +157,7 @@ pub record HasBadWord (bytes : List ℕ) (cause : Cause) (at : ℕ) : Type 0 whe
   pub behind : List ℕ
   pub parts : HasParts MAX_IMAGE bytes time commit contents behind
   pub missed : Missed
-  pub tells : TellsMissed commit behind missed
+  pub reports : ReportsMissed commit behind missed
   pub fault : FirstFault contents time cause at
 
 -- The first fault of an image, the causes being looked at in this order.

@@ -39,20 +39,20 @@ AgreesWith (counted events) missed = (0 < missed) × (events ≡ missed)
 
 -- The bytes have the numbers of this parcel, its CPU is one, and the image after them reads as its records and
 -- states this of missed events.
-pub record HasImage (bytes : List ℕ) (parcel : Parcel) (told : Missed) : Type 0 where
+pub record HasImage (bytes : List ℕ) (parcel : Parcel) (reported : Missed) : Type 0 where
   pub image : List ℕ
   pub numbers : HasNumbers bytes parcel.cpu parcel.fill parcel.first parcel.missed image
   pub cpu_known : parcel.cpu < MAX_CPUS
   pub time : ℕ
   pub size : ℕ
-  pub reads : DecodesImage image time size told parcel.records
+  pub reads : DecodesImage image time size reported parcel.records
 
 -- The bytes read as this parcel.
 pub record DecodesParcel (bytes : List ℕ) (parcel : Parcel) : Type 0 where
-  pub told : Missed
-  pub image : HasImage bytes parcel told
+  pub reported : Missed
+  pub image : HasImage bytes parcel reported
   pub sound : IsParcel parcel
-  pub agrees : AgreesWith told parcel.missed
+  pub agrees : AgreesWith reported parcel.missed
 
 -- ---- what is wrong with a parcel's bytes
 
@@ -90,25 +90,25 @@ pub record HasBadImage (bytes : List ℕ) (cause : ImageCause) : Type 0 where
 -- the image is read, and the records' numbers don't fit
 pub record HasOverflow (bytes : List ℕ) : Type 0 where
   pub parcel : Parcel
-  pub told : Missed
-  pub image : HasImage bytes parcel told
+  pub reported : Missed
+  pub image : HasImage bytes parcel reported
   pub past : 2 ^ 64 ≤ parcel.first + length parcel.records
 
 -- they fit, and more are missing before the first one than there are
 pub record HasTooManyMissed (bytes : List ℕ) : Type 0 where
   pub parcel : Parcel
-  pub told : Missed
-  pub image : HasImage bytes parcel told
+  pub reported : Missed
+  pub image : HasImage bytes parcel reported
   pub numbers_fit : parcel.first + length parcel.records < 2 ^ 64
   pub past : parcel.first < parcel.missed
 
 -- all is well, but the image states otherwise of what is missing
 pub record HasOtherMissed (bytes : List ℕ) : Type 0 where
   pub parcel : Parcel
-  pub told : Missed
-  pub image : HasImage bytes parcel told
+  pub reported : Missed
+  pub image : HasImage bytes parcel reported
   pub sound : IsParcel parcel
-  pub differs : ¬ AgreesWith told parcel.missed
+  pub differs : ¬ AgreesWith reported parcel.missed
 
 -- The first fault of a parcel's bytes: that there are fewer than 48 of them, and then the causes in this order.
 abbrev pub FirstParcelFault : List ℕ → ParcelCause → Type 0

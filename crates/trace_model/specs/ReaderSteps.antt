@@ -2,8 +2,8 @@
 -- After kernel/trace/ring_buffer.c (rb_get_reader_page, rb_head_page_replace).
 use Rattle.std.specs.Prelude.{ℕ, suc, ◌+◌, ◌-◌, ◌%◌, if◌then◌else◌, ◌&&◌, ◌==◌, nat_lt, nat_le, [], ◌∷◌, ◌++◌, length, Some, slice_set}
 use Rattle.trace_model.specs.Links.{Mark, normal, header, update, Link, normal_link, header_link, same_link}
-use Rattle.trace_model.specs.Ring.{empty_page, Taken, Reader, ReaderPhase, loading_link, loading_done, storing_link, swapping, Core, link_into, links_with, page_at}
-use Rattle.trace_model.specs.Events.{reading, empty, moving, swapped, wished_for, Outcome, only_if}
+use Rattle.trace_model.specs.Ring.{empty_page, TakenFill, Reader, ReaderPhase, loading_head, loading_done, storing_spare_link, swapping, Core, link_into, links_with, page_at}
+use Rattle.trace_model.specs.Events.{reading, empty, moving, page_taken, wished_for, Outcome, only_if}
 use Rattle.trace_model.specs.WriterSteps.{contents_of}
 
 -- ---- looking: a load of the link into the position of the hint
@@ -15,11 +15,11 @@ reader_at c phase hint = record c { reader = record c.reader { phase = phase; hi
 -- the link is this one
 abbrev pub reads_link : (n : ℕ) → Core → Mark → (page fill : ℕ) → Outcome
 reads_link n c header page fill = Some (reading, reader_at c (loading_done page fill) fill)
-reads_link n c update page fill = Some (moving (suc fill), reader_at c loading_link (suc fill))
+reads_link n c update page fill = Some (moving (suc fill), reader_at c loading_head (suc fill))
 reads_link n c normal page fill =
-    if fill == c.reader.hint then Some (moving c.reader.hint, reader_at c loading_link c.reader.hint)
+    if fill == c.reader.hint then Some (moving c.reader.hint, reader_at c loading_head c.reader.hint)
     else only_if (nat_lt c.reader.hint fill && nat_le n (suc fill))
-    (Some (reading, reader_at c loading_link (suc fill - n)))
+    (Some (reading, reader_at c loading_head (suc fill - n)))
 
 abbrev pub load_head : (n : ℕ) → Core → Outcome
 load_head n c = let l : Link = link_into n c.links c.reader.hint in reads_link n c l.mark l.page l.fill
@@ -32,8 +32,8 @@ reader_saw c phase = record c { reader = record c.reader { phase = phase; seen =
 
 abbrev pub load_done : Core → (page fill : ℕ) → Outcome
 load_done c page fill =
-    if nat_le c.done fill then Some (empty c.done, reader_saw c loading_link)
-    else Some (reading, reader_saw c (storing_link page fill))
+    if nat_le c.done fill then Some (empty c.done, reader_saw c loading_head)
+    else Some (reading, reader_saw c (storing_spare_link page fill))
 
 -- ---- storing: a store of the spare's link
 
@@ -48,7 +48,7 @@ store_spare_link n c page fill =
 -- ---- swapping: a compare and exchange of the link to the head from HEADER to NORMAL
 
 -- what the reader takes with the page of a fill
-abbrev pub taken_fill : Core → ℕ → ℕ → Taken
+abbrev pub taken_fill : Core → ℕ → ℕ → TakenFill
 taken_fill c page fill = record {
   fill = fill;
   skipped = (contents_of c page).first - c.reader.expected;
@@ -58,7 +58,7 @@ taken_fill c page fill = record {
 -- the reader after a take of this fill
 abbrev pub reader_after : Core → ℕ → ℕ → Reader
 reader_after c page fill = record {
-  phase = loading_link;
+  phase = loading_head;
   hint = suc fill;
   seen = c.reader.seen;
   expected = (contents_of c page).first + length (contents_of c page).records;
@@ -81,8 +81,8 @@ after_swap n c page fill = record c {
 abbrev pub swap_head : (n : ℕ) → Core → (page fill : ℕ) → Outcome
 swap_head n c page fill =
     if same_link (link_into n c.links fill) (header_link page fill)
-    then Some (swapped (taken_fill c page fill), after_swap n c page fill)
-    else Some (reading, reader_at c loading_link (suc fill))
+    then Some (page_taken (taken_fill c page fill), after_swap n c page fill)
+    else Some (reading, reader_at c loading_head (suc fill))
 
 -- ---- any phase: a store of the wish
 

@@ -46,16 +46,16 @@ empty_page = record { first = 0; records = [] }
 
 -- A fill that the reader took: how many records were lost before it since the last one taken, and
 -- its own.
-pub record Taken : Type 0 where
+pub record TakenFill : Type 0 where
   pub fill : ℕ
   pub skipped : ℕ
   pub held : PageRecords
 
 -- How far the reader's take has come. fill: the head that it has seen, on this page.
 pub data ReaderPhase : Type 0 where
-  loading_link : ReaderPhase
+  loading_head : ReaderPhase
   loading_done : (page fill : ℕ) → ReaderPhase
-  storing_link : (page fill : ℕ) → ReaderPhase
+  storing_spare_link : (page fill : ℕ) → ReaderPhase
   swapping : (page fill : ℕ) → ReaderPhase
 
 -- hint: the least fill that the reader doesn't know to be taken or lost. seen: the greatest number of closed
@@ -66,7 +66,7 @@ pub record Reader : Type 0 where
   pub hint : ℕ
   pub seen : ℕ
   pub expected : ℕ
-  pub taken : List Taken
+  pub taken : List TakenFill
 
 -- Words of the ring: links, the link into each position; spare_link, that of the reader's page; done, opened and
 -- wish, of which the writer alone stores the first two, and the reader alone the last, as the number of closed
@@ -98,7 +98,7 @@ window_of c = record { head = c.head; done = c.done; opened = c.opened }
 
 -- the reader of a new ring whose first fill has this number
 abbrev pub first_reader : ℕ → Reader
-first_reader start = record { phase = loading_link; hint = start; seen = start; expected = 0; taken = [] }
+first_reader start = record { phase = loading_head; hint = start; seen = start; expected = 0; taken = [] }
 
 -- The state of a new ring of n positions whose first fill has this number: fill f is on page f % n, the
 -- head is the first fill and the tail, and the spare is page n.
@@ -136,7 +136,7 @@ pub record IsMoved (frames : List Frame) (f : ℕ) : Type 0 where
 -- The link into the position of a fill after the head states that fill; or it still states the fill that was
 -- lost there, which is so if and only if a frame has set this UPDATE and not yet cleared it.
 pub data IsBehindHead (n : ℕ) (c : Core) (f : ℕ) : Type 0 where
-  told : link_into n c.links f ≡ normal_link (page_at n c.order f) f
+  reported : link_into n c.links f ≡ normal_link (page_at n c.order f) f
       → ((k : ℕ) → Moves c.frames k f → ⊥)
       → IsBehindHead n c f
   moved : (lost : ℕ)
@@ -176,15 +176,15 @@ HoldsFill n start c f = slice_index_or c.held (page_at n c.order f) empty_page �
 
 -- A taken page is a fill of the history: its number is that fill's, it has all its records and no others, as
 -- they are in the history, from its first number on.
-pub record IsFillOf (start : ℕ) (history : List HistoryEvent) (t : Taken) : Type 0 where
+pub record IsFillOf (start : ℕ) (history : List HistoryEvent) (t : TakenFill) : Type 0 where
   pub from_start : start ≤ t.fill
   pub begun : t.fill < start + length (fills_of history)
   pub held : t.held ≡ fill_of history start t.fill
 
 -- What the reader took are such fills, and their numbers rise.
-pub record AreFillsOf (start : ℕ) (history : List HistoryEvent) (taken : List Taken) : Type 0 where
-  pub each : (k : ℕ) (t : Taken) → slice_get taken k ≡ Some t → IsFillOf start history t
-  pub rising : (j k : ℕ) (earlier later : Taken)
+pub record AreFillsOf (start : ℕ) (history : List HistoryEvent) (taken : List TakenFill) : Type 0 where
+  pub each : (k : ℕ) (t : TakenFill) → slice_get taken k ≡ Some t → IsFillOf start history t
+  pub rising : (j k : ℕ) (earlier later : TakenFill)
       → j < k
       → slice_get taken j ≡ Some earlier
       → slice_get taken k ≡ Some later
@@ -192,7 +192,7 @@ pub record AreFillsOf (start : ℕ) (history : List HistoryEvent) (taken : List 
 
 -- a fill that the reader took
 abbrev pub IsTaken : Core → ℕ → Type 0
-IsTaken c f = (k : ℕ) × (t : Taken) × (slice_get c.reader.taken k ≡ Some t) × (t.fill ≡ f)
+IsTaken c f = (k : ℕ) × (t : TakenFill) × (slice_get c.reader.taken k ≡ Some t) × (t.fill ≡ f)
 
 -- the records in the fills below this one, as they are by now
 abbrev pub records_before_fill : List HistoryEvent → ℕ → ℕ → List Record

@@ -8,9 +8,9 @@ use Rattle.trace_model.specs.Ring.{Core}
 use Rattle.trace_model.specs.WriterSteps.{new_reservation}
 
 -- a helper stops where another frame has begun a fill
-abbrev pub MayOpen : Role → ℕ → ℕ → Type 0
-MayOpen owner noted opened = Unit {0}
-MayOpen helper noted opened = noted ≡ opened
+abbrev pub MayContinue : Role → ℕ → ℕ → Type 0
+MayContinue owner noted opened = Unit {0}
+MayContinue helper noted opened = noted ≡ opened
 
 -- the frame needs a page: its record doesn't fit in the tail page, or it closes one that holds a record
 abbrev pub NeedsPage : ℕ → Core → Kind → Type 0

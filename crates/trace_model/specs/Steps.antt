@@ -3,17 +3,17 @@
 -- WriterSteps, HeadMove or ReaderSteps.
 use Rattle.std.specs.Prelude.{◌≡◌, ℕ, List, [], ◌∷◌, Some}
 use Rattle.trace_model.specs.Frames.{Phase, idle, looking, claiming, looking_next, marking, clearing, opening, releasing, wishing, Frame, no_frame}
-use Rattle.trace_model.specs.Ring.{ReaderPhase, loading_link, loading_done, storing_link, swapping, Core}
+use Rattle.trace_model.specs.Ring.{ReaderPhase, loading_head, loading_done, storing_spare_link, swapping, Core}
 use Rattle.trace_model.specs.Events.{Event, pushes, pushes_close, steps, ends, reads, wishes, Answer, refused, Outcome}
 use Rattle.trace_model.specs.WriterSteps.{push_record, push_close_frame, idle_step, load_link, open_fill, end_top, release_fill, load_wish}
 use Rattle.trace_model.specs.HeadMove.{claim_head, load_next, mark_head, clear_update}
 use Rattle.trace_model.specs.ReaderSteps.{load_head, load_done, store_spare_link, swap_head, store_wish}
 -- what is said of steps, by one name
-pub use Rattle.trace_model.specs.Events.{Event, pushes, pushes_close, steps, ends, reads, wishes, Answer, pushed, going, reserved_as, pending, full, gone, refused, reading, empty, moving, swapped, wished_for}
+pub use Rattle.trace_model.specs.Events.{Event, pushes, pushes_close, steps, ends, reads, wishes, Answer, pushed, going, reserved_as, pending, full, gone, refused, reading, empty, moving, page_taken, wished_for}
 pub use Rattle.trace_model.specs.WriterSteps.{with_history_event, in_phase, with_link, with_held, contents_of, tail_page, closing_phase, frames_after_leave, leave_answer, held_with_payload, own_number, after_leave, after_begin, begin_answer, with_frame, new_reservation, with_reservation, in_reserved, with_new_tail, end_answer, with_released}
 pub use Rattle.trace_model.specs.HeadMove.{with_head_claimed, after_next}
 pub use Rattle.trace_model.specs.ReaderSteps.{reader_at, reader_saw, next_header, taken_fill, reader_after, after_swap, with_wish}
-pub use Rattle.trace_model.specs.StepConditions.{MayOpen, NeedsPage, IsGranted, IsTooLong}
+pub use Rattle.trace_model.specs.StepConditions.{MayContinue, NeedsPage, IsGranted, IsTooLong}
 
 -- the step of the frame on top, in its phase
 abbrev pub frame_step_of : (n size : ℕ) → Core → Frame → List Frame → Phase → Outcome
@@ -33,9 +33,9 @@ top_step_of n size c (frame ∷ below) = frame_step_of n size c frame below fram
 
 -- the step of the reader, in its phase
 abbrev pub read_step_of : (n : ℕ) → Core → ReaderPhase → Outcome
-read_step_of n c loading_link = load_head n c
+read_step_of n c loading_head = load_head n c
 read_step_of n c (loading_done page fill) = load_done c page fill
-read_step_of n c (storing_link page fill) = store_spare_link n c page fill
+read_step_of n c (storing_spare_link page fill) = store_spare_link n c page fill
 read_step_of n c (swapping page fill) = swap_head n c page fill
 
 -- The step of a ring of n positions and pages of this size: its answer, and the state after it.

@@ -25,7 +25,7 @@ use Rattle.trace_script.specs.declared.fields.Fields.TheVariants.{One, Two, Thre
 use Rattle.trace_script.specs.declared.header.Header.{Header}
 use Rattle.trace_script.specs.declared.order.Order.{Order}
 use Rattle.trace_script.specs.Kept.{PutsCommand, PutsCommandAt, ReadAs, BeginAsCommands}
-use Rattle.trace_script.specs.ScriptFaults.{Fails, Gives, FailsAt, FailsAtLine, GivesAt, BeginsAsScript, TellsFirstFault, fault_at, reading_at}
+use Rattle.trace_script.specs.ScriptFaults.{Fails, Gives, FailsAt, FailsAtLine, GivesAt, BeginsAsScript, ReportsFirstFault, fault_at, reading_at}
 use Rattle.trace_script.specs.ScriptFields.{AreFields}
 use Rattle.trace_script.specs.ScriptTypes.{values_of, script_of}
 
@@ -290,7 +290,7 @@ read_within text passed rest header behind start left commands none whole settin
     (subst (λ (n : ℕ). script_from (end_line_after n rest) (significant_lines_after n rest) ≡ Ok (script_of header start commands)) none made) in
     ParsesScript-within text (script_of header start commands) ((script_reads text (script_of header start commands)).1 here)
 
-fault_of_reading : (text : List ℕ) (fault : script.ScriptFault) → FailsAt fault (script_in text) → (fault ≡ scripts.NoMemory → BeginsAsScript text) → TellsFirstFault text fault
+fault_of_reading : (text : List ℕ) (fault : script.ScriptFault) → FailsAt fault (script_in text) → (fault ≡ scripts.NoMemory → BeginsAsScript text) → ReportsFirstFault text fault
 fault_of_reading text (scripts.BadLine n) h memory = (fault_reads text n bad_line).1 h
 fault_of_reading text (scripts.BadNumber n) h memory = (fault_reads text n bad_number).1 h
 fault_of_reading text (scripts.BadHex n) h memory = (fault_reads text n bad_hex).1 h
@@ -301,6 +301,6 @@ pub script_found : (text : List ℕ) (r : Result model.Script script.ScriptFault
 script_found text (Ok s) h = (script_reads text s).1 h
 script_found text (Err fault) h = tt
 
-pub fault_found : (text : List ℕ) (r : Result model.Script script.ScriptFault) → GivesAt (λ s. s) r (script_in text) → (r ≡ Err scripts.NoMemory → BeginsAsScript text) → IfErr r (λ fault. TellsFirstFault text fault)
+pub fault_found : (text : List ℕ) (r : Result model.Script script.ScriptFault) → GivesAt (λ s. s) r (script_in text) → (r ≡ Err scripts.NoMemory → BeginsAsScript text) → IfErr r (λ fault. ReportsFirstFault text fault)
 fault_found text (Ok s) h memory = tt
 fault_found text (Err fault) h memory = fault_of_reading text fault h (λ is. memory (ap (λ (f : script.ScriptFault). let r : Result model.Script script.ScriptFault = Err f in r) is))

@@ -65,12 +65,12 @@ pub record BeginsAsScript (text : List ℕ) : Type 0 where
   pub some : 0 < length script.commands
 
 -- this is the first fault of the text; or memory ran out, at a line up to which the text has none
-abbrev pub TellsFirstFault : List ℕ → ScriptFault → Type 0
-TellsFirstFault text (script.BadLine number) = FirstScriptFault text number bad_line
-TellsFirstFault text (script.BadNumber number) = FirstScriptFault text number bad_number
-TellsFirstFault text (script.BadHex number) = FirstScriptFault text number bad_hex
-TellsFirstFault text (script.OutOfRange number) = FirstScriptFault text number out_of_range
-TellsFirstFault text script.NoMemory = BeginsAsScript text
+abbrev pub ReportsFirstFault : List ℕ → ScriptFault → Type 0
+ReportsFirstFault text (script.BadLine number) = FirstScriptFault text number bad_line
+ReportsFirstFault text (script.BadNumber number) = FirstScriptFault text number bad_number
+ReportsFirstFault text (script.BadHex number) = FirstScriptFault text number bad_hex
+ReportsFirstFault text (script.OutOfRange number) = FirstScriptFault text number out_of_range
+ReportsFirstFault text script.NoMemory = BeginsAsScript text
 
 -- how a fault is printed, without the end of the line
 abbrev pub script_fault_text : ScriptFault → List ℕ

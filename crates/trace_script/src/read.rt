@@ -4,7 +4,7 @@ ghost use Rattle.text_model.specs.HeaderReading.{numbered_reading, significant_l
 ghost use Rattle.text_model.specs.Script.{ParsesScript, command_in};
 ghost use Rattle.text_model.specs.ScriptReading.{commands_from, script_in};
 ghost use Rattle.trace_script.specs.Kept.{PutsCommandAt, PutsNext, BeginAsCommands, LeavesLess};
-ghost use Rattle.trace_script.specs.ScriptFaults.{GivesAt, BeginsAsScript, TellsFirstFault};
+ghost use Rattle.trace_script.specs.ScriptFaults.{GivesAt, BeginsAsScript, ReportsFirstFault};
 
 use crate::commands::Commands;
 use crate::fault::{ScriptFault, reading_at};
@@ -131,7 +131,7 @@ pub fn read_script(alloc: Global, text: &[u8]) -> Result<Script, ScriptFault>
     ensures script { IfOk result (λ script. ParsesScript text.now script) }
     // A fault is the text's first one. If memory was refused, the text begins with the lines of a header and at least
     // one command's, and none of these lines has a fault.
-    ensures fault { IfErr result (λ fault. TellsFirstFault text.now fault) }
+    ensures fault { IfErr result (λ fault. ReportsFirstFault text.now fault) }
 {
     script_in(alloc, text)
 }

@@ -103,7 +103,7 @@ fn cpu_number_cut(text: &[u8]) -> Option<NumberCut<'_>>
     number_cut(text, b' ')
 }
 
-/// The CPU, of so many, that the front of a text names, if a space ends the name. None says nothing of the text.
+/// The CPU, below this number, that a text begins with, if a space ends its name. None says nothing of the text.
 #[inline(always)]
 pub fn cpu_cut(cpus: u32, text: &[u8]) -> Option<NumberCut<'_>>
     ensures { IfSome result (λ cut. IsCpuCut cpus text.now cut) }

@@ -21,11 +21,11 @@ refused_so old moment payload code new fault code_is is = record {
 }
 
 -- the number of a take's answer fits its type
-pub takes_so : (old : ReaderEnd) (out : List ℕ) (was : Taken) (code : ℤ) (left : List ℕ) (told : Taken) (new : ReaderEnd) → TakesSo old out was code left told new → TakesSo old out was (to_z w32 (of_z w32 code)) left told new
-takes_so old out was code left told new (is_page page missed c t g d) = is_page page missed (ap (λ (n : ℤ). to_z w32 (of_z w32 n)) c) t g d
-takes_so old out was code left told new (is_empty done c e a o w) = is_empty done (ap (λ (n : ℤ). to_z w32 (of_z w32 n)) c) e a o w
-takes_so old out was code left told new (is_moving fill c m o w) = is_moving fill (ap (λ (n : ℤ). to_z w32 (of_z w32 n)) c) m o w
-takes_so old out was code left told new (has_no_room c s n o w) = has_no_room (ap (λ (k : ℤ). to_z w32 (of_z w32 k)) c) s n o w
+pub takes_so : (old : ReaderEnd) (out : List ℕ) (was : Taken) (code : ℤ) (left : List ℕ) (reported : Taken) (new : ReaderEnd) → TakesSo old out was code left reported new → TakesSo old out was (to_z w32 (of_z w32 code)) left reported new
+takes_so old out was code left reported new (is_page page missed c t g d) = is_page page missed (ap (λ (n : ℤ). to_z w32 (of_z w32 n)) c) t g d
+takes_so old out was code left reported new (is_empty done c e a o w) = is_empty done (ap (λ (n : ℤ). to_z w32 (of_z w32 n)) c) e a o w
+takes_so old out was code left reported new (is_moving fill c m o w) = is_moving fill (ap (λ (n : ℤ). to_z w32 (of_z w32 n)) c) m o w
+takes_so old out was code left reported new (has_no_room c s n o w) = has_no_room (ap (λ (k : ℤ). to_z w32 (of_z w32 k)) c) s n o w
 
 -- an end that was taken out is what the handle held
 pub held_is : {V B : Type 0} (value : B → V) (held : Option V) (result : Option B) (end : B) → result ≡ Some end → (held ≡ None → result ≡ None) → ((x : V) → held ≡ Some x → IsSomeAnd result (λ (b : B). value b ≡ x)) → held ≡ Some (value end)

@@ -67,53 +67,53 @@ pub record AreNumbersOf (page : Contents) (missed len : ℕ) (taken : Taken) : T
   pub len_is : taken.len ≡ len
 
 -- The page is given as parcel bytes, at the front of the buffer, with its numbers.
-pub record IsGiven (cpu : ℕ) (page : Contents) (missed : ℕ) (out left : List ℕ) (told : Taken) : Type 0 where
+pub record IsGiven (cpu : ℕ) (page : Contents) (missed : ℕ) (out left : List ℕ) (reported : Taken) : Type 0 where
   pub bytes : HasAtFront out (bytes_of_page cpu page missed) left
-  pub numbers : AreNumbersOf page missed (length (bytes_of_page cpu page missed)) told
+  pub numbers : AreNumbersOf page missed (length (bytes_of_page cpu page missed)) reported
 
 -- A page is taken and given, and the answer is 0; or nothing is taken and nothing is given: no closed page is unread,
 -- or a move of the head isn't finished, or the buffer is shorter than a parcel of the ring.
-pub data TakesSo (old : ReaderEnd) (out : List ℕ) (was : Taken) (code : ℤ) (left : List ℕ) (told : Taken)
+pub data TakesSo (old : ReaderEnd) (out : List ℕ) (was : Taken) (code : ℤ) (left : List ℕ) (reported : Taken)
     (new : ReaderEnd) : Type 0 where
   is_page : (page : Contents) (missed : ℕ)
       → code ≡ pos 0
       → IsPageTaken old.reader.shape old.reader.part page missed new.reader.part
-      → IsGiven old.cpu.0 page missed out left told
+      → IsGiven old.cpu.0 page missed out left reported
       → DecodesParcel (bytes_of_page old.cpu.0 page missed) (parcel_of old.cpu.0 page missed)
-      → TakesSo old out was code left told new
+      → TakesSo old out was code left reported new
   is_empty : (done : ℕ)
       → code ≡ pos 15
       → IsEmptyFound old.reader.shape old.reader.part done new.reader.part
       → new.reader.empty_at ≡ Some done
       → left ≡ out
-      → told ≡ was
-      → TakesSo old out was code left told new
+      → reported ≡ was
+      → TakesSo old out was code left reported new
   is_moving : (fill : FillNo)
       → code ≡ pos 16
       → IsSentAway old.reader.shape old.reader.part fill.0 new.reader.part
       → left ≡ out
-      → told ≡ was
-      → TakesSo old out was code left told new
+      → reported ≡ was
+      → TakesSo old out was code left reported new
   has_no_room : code ≡ pos 17
       → length out < 48 + old.reader.shape.size
       → new ≡ old
       → left ≡ out
-      → told ≡ was
-      → TakesSo old out was code left told new
+      → reported ≡ was
+      → TakesSo old out was code left reported new
 
 -- ---- both
 
 -- nothing is reported
-abbrev pub nothing_told : Taken
-nothing_told = record { fill = 0; first = 0; missed = 0; count = 0; len = 0 }
+abbrev pub nothing_reported : Taken
+nothing_reported = record { fill = 0; first = 0; missed = 0; count = 0; len = 0 }
 
 -- The page that no take has answered is given, if there is one, with nothing missing before it.
 abbrev pub IsLastGiven : ℕ → Option Contents → (out left : List ℕ) → Taken → Type 0
-IsLastGiven cpu None out left told = (left ≡ out) × (told ≡ nothing_told)
-IsLastGiven cpu (Some page) out left told = IsGiven cpu page 0 out left told
+IsLastGiven cpu None out left reported = (left ≡ out) × (reported ≡ nothing_reported)
+IsLastGiven cpu (Some page) out left reported = IsGiven cpu page 0 out left reported
 
 -- The two ends are joined, and what no take has answered is given.
-pub record SettlesSo (writer : WriterValue) (end : ReaderEnd) (out left : List ℕ) (told : Taken) : Type 0 where
+pub record SettlesSo (writer : WriterValue) (end : ReaderEnd) (out left : List ℕ) (reported : Taken) : Type 0 where
   pub settled : Settled
   pub is : IsSettled writer.shape writer.part end.reader.part settled
-  pub given : IsLastGiven end.cpu.0 (unread_page settled) out left told
+  pub given : IsLastGiven end.cpu.0 (unread_page settled) out left reported

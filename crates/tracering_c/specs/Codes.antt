@@ -3,7 +3,7 @@ use Rattle.std.specs.Prelude.{ℤ, pos, negsuc}
 use Rattle.nested_writer.specs.declared.fault.WriteFault.{WriteFault}
 use Rattle.nested_writer.specs.declared.fault.WriteFault.TheVariants.{TooDeep, TooLong, LateMoment, Crowded, Worn, NoFrame, NotReserved}
 use Rattle.ring_frames.specs.declared.answer.Answer.{Answer}
-use Rattle.ring_frames.specs.declared.answer.Answer.TheVariants.{Pushed, Going, Reserved, Ended, Gone, Refused, Looking, Empty, Moving, Taken as IsTaken, Wished}
+use Rattle.ring_frames.specs.declared.answer.Answer.TheVariants.{Pushed, Going, Reserved, Ended, Gone, Refused, Looking, Empty, Moving, Taken, Wished}
 
 -- the number of a refusal
 abbrev pub fault_code : WriteFault → ℤ
@@ -26,5 +26,5 @@ answer_code (Refused fault) = fault_code fault
 answer_code (Looking body) = pos 0
 answer_code (Empty done body) = pos 0
 answer_code (Moving fill body) = pos 0
-answer_code (IsTaken page missed) = pos 0
+answer_code (Taken page missed) = pos 0
 answer_code (Wished fill) = pos 0

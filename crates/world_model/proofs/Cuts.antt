@@ -14,7 +14,7 @@ use Rattle.trace_model.specs.Fitting.{IsRising}
 use Rattle.trace_model.specs.Partition.{Piece, IsPartition, covered_count, first_from, first_of}
 use Rattle.trace_model.specs.Parcel.{Parcel, IsMissingOf}
 use Rattle.trace_model.specs.Collection.{Has}
-use Rattle.trace_model.specs.Ring.{PageRecords, Taken, Core, window_of}
+use Rattle.trace_model.specs.Ring.{PageRecords, TakenFill, Core, window_of}
 use Rattle.trace_model.specs.Window.{RingEvent, first_window}
 use Rattle.trace_model.proofs.collections.Elements.{some_is}
 use Rattle.trace_model.proofs.packing.FillFirsts.{first_below, first_rises_to}
@@ -23,15 +23,15 @@ use Rattle.trace_model.proofs.collections.FirstNumbers.{own_records, own_or_skip
 use Rattle.link_marks.specs.KeptPartition.{piece_of, pieces_of}
 use Rattle.link_marks.specs.Reached.{IsReached}
 use Rattle.link_marks.specs.RingKept.{IsRingKept}
-use Rattle.link_marks.specs.ToldRuns.{fills_taken, fills_lost, numbers_of, IsToldBy}
+use Rattle.link_marks.specs.RunsAsEvents.{fills_taken, fills_lost, numbers_of, AreEventsOfRun}
 use Rattle.link_marks.proofs.partition.RingsKept.{ring_start, reached_kept, taken_partition}
 use Rattle.link_marks.proofs.contents.PackedRuns.{runs_packed}
 use Rattle.link_marks.proofs.contents.TakenHoldRecords.{taken_hold}
 use Rattle.link_marks.proofs.histories.WindowRuns.{passed_by, lost_closed}
 use Rattle.world_model.specs.World.{parcel_of}
 use Rattle.world_model.specs.Headline.{pieces_in, IsWholeFill, StandsIn, IsOverwrittenBefore, IsCut, IsOneOf, IsExact}
-use Rattle.world_model.specs.RunEvents.{IsRunToldBy}
-use Rattle.world_model.proofs.RunEvents.{run_events, run_tells}
+use Rattle.world_model.specs.RunEvents.{AreEventsOfSteps}
+use Rattle.world_model.proofs.RunEvents.{run_events, run_reports}
 use Rattle.world_model.proofs.Lookups.{element_at, contains_at, get_map, get_from_map}
 
 -- ---- first numbers
@@ -64,7 +64,7 @@ module _ (n size start : ℕ) (c : Core) (r : IsReached n size start c) where
   pub kept : IsRingKept n size start c
   kept = reached_kept n size start c r
 
-  abbrev taken : List Taken
+  abbrev taken : List TakenFill
   taken = c.reader.taken
 
   abbrev cuts : List ℕ
@@ -77,7 +77,7 @@ module _ (n size start : ℕ) (c : Core) (r : IsReached n size start c) where
   rising = kept.contents.rising
 
   -- what is known of a page that was taken, which isn't of the last fill
-  record IsPage (k : ℕ) (t : Taken) : Type 0 where
+  record IsPage (k : ℕ) (t : TakenFill) : Type 0 where
     from_start : start ≤ t.fill
     below : t.fill < c.head
     within : t.fill - start < length cuts
@@ -91,7 +91,7 @@ module _ (n size start : ℕ) (c : Core) (r : IsReached n size start c) where
   some_length [] some = absurd (some refl)
   some_length (x ∷ l) some = omega arith
 
-  page : (k : ℕ) (t : Taken) → slice_get taken k ≡ Some t → IsPage k t
+  page : (k : ℕ) (t : TakenFill) → slice_get taken k ≡ Some t → IsPage k t
   page k t at =
       let fill = kept.partition.fills.each k t at in let from = fill.from_start in let below = kept.partition.below k t at in
       let unread = kept.links.head_le in let behind = kept.links.done_lt in let count = kept.contents.begun in record {
@@ -106,7 +106,7 @@ module _ (n size start : ℕ) (c : Core) (r : IsReached n size start c) where
       }
 
   -- no number is one of a page's own and one that another skips
-  apart : (j k : ℕ) (u t : Taken) (number : ℕ) → slice_get taken j ≡ Some u → slice_get taken k ≡ Some t
+  apart : (j k : ℕ) (u t : TakenFill) (number : ℕ) → slice_get taken j ≡ Some u → slice_get taken k ≡ Some t
       → u.held.first ≤ number → number < u.held.first + length (map as_record u.held.records) → t.held.first ≤ number + t.skipped → number < t.held.first → ⊥
   apart j k u t number at_u at_t low high least below = let a = page j u at_u in let b = page k t at_t in
       own_or_skipped 0 (pieces_of taken) j k (piece_of u) (piece_of t) u.held.first t.held.first number a.piece_at b.piece_at a.first_at b.first_at low high least below
@@ -114,20 +114,20 @@ module _ (n size start : ℕ) (c : Core) (r : IsReached n size start c) where
   pub events : List RingEvent
   events = (run_events n size start r.from c r.exchanges (ring_start n size start r.from r.may_start r.is_new) r.run).0
 
-  pub run_of : IsRunToldBy n size r.from r.exchanges events c
+  pub run_of : AreEventsOfSteps n size r.from r.exchanges events c
   unfolding events
   run_of = (run_events n size start r.from c r.exchanges (ring_start n size start r.from r.may_start r.is_new) r.run).1
 
-  pub told : IsToldBy n start c events
-  told = run_tells n size start r.from c r.exchanges events r.is_new run_of
+  pub reported : AreEventsOfRun n start c events
+  reported = run_reports n size start r.from c r.exchanges events r.is_new run_of
 
   -- a fill that was taken has its page
-  page_of : (f : ℕ) → Contains (fills_taken start events) f → (k : ℕ) × (t : Taken) × (slice_get taken k ≡ Some t) × (t.fill ≡ f)
-  page_of f has = let (k, at) = element_at (numbers_of taken) f (subst (λ (l : List ℕ). Contains l f) told.took has) in
-      let (t, there, is) = get_from_map (λ (t : Taken). t.fill) taken k f at in (k, t, there, is)
+  page_of : (f : ℕ) → Contains (fills_taken start events) f → (k : ℕ) × (t : TakenFill) × (slice_get taken k ≡ Some t) × (t.fill ≡ f)
+  page_of f has = let (k, at) = element_at (numbers_of taken) f (subst (λ (l : List ℕ). Contains l f) reported.took has) in
+      let (t, there, is) = get_from_map (λ (t : TakenFill). t.fill) taken k f at in (k, t, there, is)
 
-  fill_of_page : (k : ℕ) (t : Taken) → slice_get taken k ≡ Some t → Contains (fills_taken start events) t.fill
-  fill_of_page k t at = subst (λ (l : List ℕ). Contains l t.fill) (sym told.took) (contains_at (numbers_of taken) k t.fill (get_map (λ (t : Taken). t.fill) taken k t at))
+  fill_of_page : (k : ℕ) (t : TakenFill) → slice_get taken k ≡ Some t → Contains (fills_taken start events) t.fill
+  fill_of_page k t at = subst (λ (l : List ℕ). Contains l t.fill) (sym reported.took) (contains_at (numbers_of taken) k t.fill (get_map (λ (t : TakenFill). t.fill) taken k t at))
 
   first_at_fill : (i : ℕ) → first_of_fill c.history start (start + i) ≡ get_or (0 ∷ cuts) i 0
   first_at_fill i = ap (λ (m : ℕ). get_or (0 ∷ cuts) m 0) (let e : start + i - start ≡ i = omega arith in e)
@@ -141,7 +141,7 @@ module _ (n size start : ℕ) (c : Core) (r : IsReached n size start c) where
 
   -- ---- what is missing was lost
 
-  module _ (k : ℕ) (t : Taken) (at : slice_get taken k ≡ Some t) (number : ℕ) (low : t.held.first ≤ number + t.skipped) (high : number < t.held.first) where
+  module _ (k : ℕ) (t : TakenFill) (at : slice_get taken k ≡ Some t) (number : ℕ) (low : t.held.first ≤ number + t.skipped) (high : number < t.held.first) where
     p : IsPage k t
     p = page k t at
 
@@ -171,12 +171,12 @@ module _ (n size start : ℕ) (c : Core) (r : IsReached n size start c) where
 
     lost : Contains (fills_lost start events) (start + j)
     lost = let less = earlier in let below = p.below in
-        ⊎_elim (λ has. absurd (not_taken has)) (λ has. has) (passed_by n [] (first_window start) (window_of c) events (start + j) told.window (omega arith) (omega arith))
+        ⊎_elim (λ has. absurd (not_taken has)) (λ has. has) (passed_by n [] (first_window start) (window_of c) events (start + j) reported.window (omega arith) (omega arith))
 
     behind : (f : ℕ) → Contains (fills_taken start events) f → f < t.fill → f < start + j
     behind f has before = dite (dec_le (suc f) (start + j)) (λ less. less) (λ more. absurd (by_page (page_of f has) (omega arith)))
       where
-        by_page : (i : ℕ) × (u : Taken) × (slice_get taken i ≡ Some u) × (u.fill ≡ f) → start + j ≤ f → ⊥
+        by_page : (i : ℕ) × (u : TakenFill) × (slice_get taken i ≡ Some u) × (u.fill ≡ f) → start + j ≤ f → ⊥
         by_page (i, u, at_u, is) le = let q = page i u at_u in let within = p.within in
             let first = q.first_is in let size = q.size_is in let some = q.some in let own = p.first_is in
             let begins = lies.first_le in let ends = lies.number_lt in
@@ -194,9 +194,9 @@ module _ (n size start : ℕ) (c : Core) (r : IsReached n size start c) where
 
   -- ---- what was lost is missing
 
-  module _ (t : Taken) (number : ℕ) (o : IsOverwrittenBefore c.history start events t.fill number) where
+  module _ (t : TakenFill) (number : ℕ) (o : IsOverwrittenBefore c.history start events t.fill number) where
     from_start : start ≤ o.lost
-    from_start = (lost_closed n [] (first_window start) (window_of c) events o.lost told.window o.was_lost).0
+    from_start = (lost_closed n [] (first_window start) (window_of c) events o.lost reported.window o.was_lost).0
 
     is_high : (k : ℕ) → slice_get taken k ≡ Some t → number < t.held.first
     is_high k at = let p = page k t at in let first = p.first_is in let within = p.within in let from = from_start in let before = o.before in let ends = o.stands.1 in
@@ -214,12 +214,12 @@ module _ (n size start : ℕ) (c : Core) (r : IsReached n size start c) where
 
   -- ---- the records of a fill
 
-  own_stands : (k : ℕ) (t : Taken) (number : ℕ) → slice_get taken k ≡ Some t → t.held.first ≤ number → number < t.held.first + length (map as_record t.held.records) → StandsIn c.history start t.fill number
+  own_stands : (k : ℕ) (t : TakenFill) (number : ℕ) → slice_get taken k ≡ Some t → t.held.first ≤ number → number < t.held.first + length (map as_record t.held.records) → StandsIn c.history start t.fill number
   own_stands k t number at low high = let p = page k t at in let first = p.first_is in let size = p.size_is in let within = p.within in let from = p.from_start in
       let next = ends_before cuts xs (t.fill - start) (suc (t.fill - start)) (omega arith) (omega arith) rising in
       let e = ap (λ (m : ℕ). get_or (0 ∷ cuts) m 0) (let s : suc t.fill - start ≡ suc (t.fill - start) = omega arith in s) in (omega arith, omega arith)
 
-  stands_own : (k : ℕ) (t : Taken) (number : ℕ) → slice_get taken k ≡ Some t → StandsIn c.history start t.fill number → (t.held.first ≤ number) × (number < t.held.first + length (map as_record t.held.records))
+  stands_own : (k : ℕ) (t : TakenFill) (number : ℕ) → slice_get taken k ≡ Some t → StandsIn c.history start t.fill number → (t.held.first ≤ number) × (number < t.held.first + length (map as_record t.held.records))
   stands_own k t number at (low, high) = let p = page k t at in let first = p.first_is in let size = p.size_is in let within = p.within in let from = p.from_start in
       let i : ℕ = t.fill - start in
       let e = ap (λ (m : ℕ). get_or (0 ∷ cuts) m 0) (let s : suc t.fill - start ≡ suc (t.fill - start) = omega arith in s) in
@@ -235,27 +235,27 @@ module _ (n size start : ℕ) (c : Core) (r : IsReached n size start c) where
     -- the parcel of a page that was taken
     pub record IsPageOf (parcel : Parcel) : Type 0 where
       pub index : ℕ
-      pub taken_page : Taken
+      pub taken_page : TakenFill
       pub page_at : slice_get taken index ≡ Some taken_page
       pub parcel_is : parcel_of cpu taken_page ≡ parcel
 
-    pub is_whole : (k : ℕ) (t : Taken) → slice_get taken k ≡ Some t → IsWholeFill c.history start (parcel_of cpu t)
+    pub is_whole : (k : ℕ) (t : TakenFill) → slice_get taken k ≡ Some t → IsWholeFill c.history start (parcel_of cpu t)
     is_whole k t at = let fill = kept.partition.fills.each k t at in record {
       first_is = ap (λ (h : PageRecords). h.first) fill.held;
       records_are = ap (λ (h : PageRecords). map as_record h.records) fill.held;
     }
 
-    pub is_missing : (k : ℕ) (t : Taken) (number : ℕ) → slice_get taken k ≡ Some t → IsMissingOf (parcel_of cpu t) cpu number ↔ IsOverwrittenBefore c.history start events t.fill number
+    pub is_missing : (k : ℕ) (t : TakenFill) (number : ℕ) → slice_get taken k ≡ Some t → IsMissingOf (parcel_of cpu t) cpu number ↔ IsOverwrittenBefore c.history start events t.fill number
     is_missing k t number at = (
       λ m. overwritten k t at number m.low m.high,
       λ o. record { cpu_is = refl; low = is_low t number o k at; high = is_high t number o k at },
     )
 
-    pub fills_same : (ts : List Taken) → numbers_of ts ≡ map (λ parcel. parcel.fill) (map (parcel_of cpu) ts)
+    pub fills_same : (ts : List TakenFill) → numbers_of ts ≡ map (λ parcel. parcel.fill) (map (parcel_of cpu) ts)
     fills_same [] = refl
     fills_same (t ∷ ts) = ap (λ (l : List ℕ). t.fill ∷ l) (fills_same ts)
 
-    pub pieces_same : (ts : List Taken) → pieces_of ts ≡ pieces_in (map (parcel_of cpu) ts)
+    pub pieces_same : (ts : List TakenFill) → pieces_of ts ≡ pieces_in (map (parcel_of cpu) ts)
     pieces_same [] = refl
     pieces_same (t ∷ ts) = ap (λ (l : List Piece). piece_of t ∷ l) (pieces_same ts)
 
@@ -276,8 +276,8 @@ module _ (n size start : ℕ) (c : Core) (r : IsReached n size start c) where
         exchanges = r.exchanges;
         events = events;
         run = run_of;
-        told = told;
-        took = told.took ∙ fills_same taken ∙ ap (map (λ (parcel : Parcel). parcel.fill)) (sym same);
+        reported = reported;
+        took = reported.took ∙ fills_same taken ∙ ap (map (λ (parcel : Parcel). parcel.fill)) (sym same);
         whole = λ parcel has. let p = page_of_one parcel has in subst (IsWholeFill c.history start) p.parcel_is (is_whole p.index p.taken_page p.page_at);
         rest = (taken_partition n size start c kept).0;
         partition = subst (λ (l : List Piece). IsPartition (committed_records c.history) l (taken_partition n size start c kept).0) (pieces_same taken ∙ ap pieces_in (sym same)) (taken_partition n size start c kept).1;
@@ -292,7 +292,7 @@ module _ (n size start : ℕ) (c : Core) (r : IsReached n size start c) where
       one_of k parcel at is = (contains_at parcels k parcel at, sym is)
 
       -- the record under a number of a page's own is the committed one
-      record_of : (k : ℕ) (t : Taken) (i : ℕ) (x : Record) → slice_get taken k ≡ Some t → slice_get (map as_record t.held.records) i ≡ Some x → slice_get (committed_records c.history) (t.held.first + i) ≡ Some x
+      record_of : (k : ℕ) (t : TakenFill) (i : ℕ) (x : Record) → slice_get taken k ≡ Some t → slice_get (map as_record t.held.records) i ≡ Some x → slice_get (committed_records c.history) (t.held.first + i) ≡ Some x
       record_of k t i x at there = let p = page k t at in
           own_records (committed_records c.history) (pieces_of taken) (taken_partition n size start c kept).0 k (piece_of t) t.held.first i x (taken_partition n size start c kept).1 p.piece_at p.first_at there
 

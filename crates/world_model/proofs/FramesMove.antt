@@ -1,7 +1,7 @@
 -- How a step changes the stack of frames: it pushes one, changes the one on top, which keeps its kind, or pops it.
 use Rattle.std.proofs.Common.{◌≡◌, ℕ, List, [], ◌∷◌, refl, sym, ap, ◌∙◌, subst}
 use Rattle.trace_model.specs.Frames.{Kind, for_record, for_close, FrameState, waiting, reserved, left, Role, Phase, idle, looking, claiming, looking_next, marking, clearing, opening, releasing, wishing, Frame}
-use Rattle.trace_model.specs.Ring.{ReaderPhase, loading_link, loading_done, storing_link, swapping, Core}
+use Rattle.trace_model.specs.Ring.{ReaderPhase, loading_head, loading_done, storing_spare_link, swapping, Core}
 use Rattle.trace_model.specs.Steps.{Event, pushes, pushes_close, steps, ends, reads, wishes, Answer, closing_phase, frames_after_leave, with_new_tail, after_begin}
 use Rattle.trace_model.proofs.steps.StepCases.{StepCases, BeginsAgain, ReserveStep, reserves, finds_nothing, is_crowded, is_worn, notes, LoadLinkStep, load_link_late, sees_free, sees_header, sees_update, ClaimHeadStep, claim_late, claims, claim_fails, LoadNextStep, load_next_late, sees_normal, sees_other, MarkHeadStep, mark_late, marks, mark_fails, ClearUpdateStep, clears, OpenFillStep, open_late, opens, ReleaseFillStep, releases, releases_last, LoadWishStep, grants, closes_more, goes_away, IdleStep, FrameStep, loads_header, loads_update, loads_owed, loads_passed, finds_none, finds_closed, swaps, swap_fails, ReadStep, push_step, push_refused, close_step, close_refused, frame_step, frame_lacks, end_step, end_lacks, end_early, read_step, store_wish_step}
 
@@ -93,13 +93,13 @@ module _ (n size : ℕ) (c : Core) (frame : Frame) (below : List Frame) (answer 
   frame_moves wishing step = load_wish_moves step
 
 pub reads_stay : (n : ℕ) (c : Core) (answer : Answer) (after : Core) (phase : ReaderPhase) → ReadStep n c phase answer after → after.frames ≡ c.frames
-reads_stay n c answer after loading_link (loads_header page fill at a is) = ap (λ (d : Core). d.frames) is
-reads_stay n c answer after loading_link (loads_update page lost at a is) = ap (λ (d : Core). d.frames) is
-reads_stay n c answer after loading_link (loads_owed page at a is) = ap (λ (d : Core). d.frames) is
-reads_stay n c answer after loading_link (loads_passed page fill least at more sum a is) = ap (λ (d : Core). d.frames) is
+reads_stay n c answer after loading_head (loads_header page fill at a is) = ap (λ (d : Core). d.frames) is
+reads_stay n c answer after loading_head (loads_update page lost at a is) = ap (λ (d : Core). d.frames) is
+reads_stay n c answer after loading_head (loads_owed page at a is) = ap (λ (d : Core). d.frames) is
+reads_stay n c answer after loading_head (loads_passed page fill least at more sum a is) = ap (λ (d : Core). d.frames) is
 reads_stay n c answer after (loading_done page fill) (finds_none le a is) = ap (λ (d : Core). d.frames) is
 reads_stay n c answer after (loading_done page fill) (finds_closed closed a is) = ap (λ (d : Core). d.frames) is
-reads_stay n c answer after (storing_link page fill) step = ap (λ (d : Core). d.frames) step.after_is
+reads_stay n c answer after (storing_spare_link page fill) step = ap (λ (d : Core). d.frames) step.after_is
 reads_stay n c answer after (swapping page fill) (swap_fails at a is) = ap (λ (d : Core). d.frames) is
 reads_stay n c answer after (swapping page fill) (swaps at a is) = ap (λ (d : Core). d.frames) is
 

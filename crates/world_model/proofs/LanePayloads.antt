@@ -3,7 +3,7 @@ use Rattle.std.proofs.Common.{◌≡◌, ℕ, zero, suc, ◌-◌, List, [], ◌�
 use Rattle.trace_model.specs.Words.{slot_len, padded}
 use Rattle.trace_model.specs.Frames.{Kind, for_record, FrameState, waiting, reserved, left, Frame}
 use Rattle.trace_model.specs.Ring.{Core}
-use Rattle.trace_model.specs.Steps.{Event, pushes, pushes_close, steps, ends, reads, wishes, Answer, pushed, going, reserved_as, pending, full, gone, refused, reading, empty, moving, swapped, wished_for, Step, Exchange}
+use Rattle.trace_model.specs.Steps.{Event, pushes, pushes_close, steps, ends, reads, wishes, Answer, pushed, going, reserved_as, pending, full, gone, refused, reading, empty, moving, page_taken, wished_for, Step, Exchange}
 use Rattle.trace_model.proofs.steps.StepCases.{StepCases, push_step, push_refused, close_step, close_refused, frame_step, frame_lacks, end_step, end_lacks, end_early, read_step, store_wish_step}
 use Rattle.text_model.specs.Script.{Command, begin_frame, step_frame, finish_frame, write, close, step_reader, take_page, wish, deliver}
 use Rattle.trace_model.proofs.words.Lengths.{slot_len-slot_len, length-padded}
@@ -146,7 +146,7 @@ module _ (n size : ℕ) where
   pushed_fit reading before after xs fit f = absurd f
   pushed_fit (empty done) before after xs fit f = absurd f
   pushed_fit (moving fill) before after xs fit f = absurd f
-  pushed_fit (swapped t) before after xs fit f = absurd f
+  pushed_fit (page_taken t) before after xs fit f = absurd f
   pushed_fit (wished_for fill) before after xs fit f = absurd f
 
   writes_fit : (event : Event) (payload : List ℕ) (before after : Lane) (xs : List Exchange) → IsPushOf event payload → HasPayloads before → WritesFrame n size event payload before xs after → HasPayloads after

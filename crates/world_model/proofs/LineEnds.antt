@@ -3,14 +3,14 @@ use Rattle.std.proofs.Common.{◌≡◌, ◌≢◌, ℕ, ◌+◌, ◌<◌, ◌�
 use Rattle.trace_model.specs.Words.{padded}
 use Rattle.trace_model.specs.Frames.{FrameState, waiting, reserved, left, number_of, Frame}
 use Rattle.trace_model.specs.Ring.{Core}
-use Rattle.trace_model.specs.Steps.{Event, reads, Answer, pushed, going, reserved_as, pending, full, gone, refused, reading, empty, moving, swapped, wished_for, Step, Exchange}
+use Rattle.trace_model.specs.Steps.{Event, reads, Answer, pushed, going, reserved_as, pending, full, gone, refused, reading, empty, moving, page_taken, wished_for, Step, Exchange}
 use Rattle.link_marks.specs.Reached.{IsReached}
 use Rattle.link_marks.specs.RingKept.{IsRingKept}
 use Rattle.link_marks.specs.Ranks.{frame_rank, reader_rank}
 use Rattle.link_marks.proofs.seats.FrameEnds.{steps_lower, ends_lower, frames_are_near}
 use Rattle.link_marks.proofs.seats.TakeEnds.{takes_lower, takes_are_near}
 use Rattle.link_marks.proofs.partition.RingsKept.{reached_kept}
-use Rattle.world_model.specs.Lanes.{Lane, lane_behind, event_in, event_on_top, FrameRun, ReaderRun, IsAnswered}
+use Rattle.world_model.specs.Lanes.{Lane, lane_behind, event_in, event_on_top, FrameRun, ReaderRun, HasTakeAnswer}
 use Rattle.world_model.specs.LineEnds.{FrameRunsAreShort, ReaderRunsAreShort}
 use Rattle.world_model.proofs.WorldsKept.{reached_on}
 
@@ -26,7 +26,7 @@ still_reading (refused why) not = absurd (not (λ e. cc))
 still_reading reading not = refl
 still_reading (empty done) not = absurd (not (λ e. cc))
 still_reading (moving fill) not = absurd (not (λ e. cc))
-still_reading (swapped t) not = absurd (not (λ e. cc))
+still_reading (page_taken t) not = absurd (not (λ e. cc))
 still_reading (wished_for fill) not = absurd (not (λ e. cc))
 
 module _ (n size start : ℕ) where
@@ -57,7 +57,7 @@ module _ (n size start : ℕ) where
 
   -- ---- the reader
 
-  takes_fall : (before after : Lane) (xs : List Exchange) → IsReached n size start before.core → ReaderRun n size before xs after → (IsAnswered xs → ⊥) → reader_rank n after.core + length xs ≤ reader_rank n before.core
+  takes_fall : (before after : Lane) (xs : List Exchange) → IsReached n size start before.core → ReaderRun n size before xs after → (HasTakeAnswer xs → ⊥) → reader_rank n after.core + length xs ≤ reader_rank n before.core
   takes_fall before after [] reached run goes = let same = ap (λ (l : Lane). reader_rank n l.core) run in omega arith
   takes_fall before after (x ∷ []) reached (event, more, core, step, run) goes =
       let on : x.answer ≡ reading = still_reading x.answer goes in

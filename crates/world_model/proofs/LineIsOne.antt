@@ -4,10 +4,10 @@ use Rattle.std.proofs.Common.{◌≡◌, ℕ, suc, ◌<◌, ⊎_elim, List, [], 
 use native.Mathlib.Decide.{dec_le}
 use mathlib.Core.Logic.{dite}
 use Rattle.trace_model.specs.Ring.{Core}
-use Rattle.trace_model.specs.Steps.{Event, reads, wishes, Answer, pushed, going, reserved_as, pending, full, gone, refused, reading, empty, moving, swapped, wished_for, Step, Exchange}
+use Rattle.trace_model.specs.Steps.{Event, reads, wishes, Answer, pushed, going, reserved_as, pending, full, gone, refused, reading, empty, moving, page_taken, wished_for, Step, Exchange}
 use Rattle.text_model.specs.Script.{Command, begin_frame, step_frame, finish_frame, write, close, step_reader, take_page, wish, deliver}
 use Rattle.link_marks.proofs.steps.StepsDetermined.{steps_are_determined}
-use Rattle.world_model.specs.Lanes.{Lane, lane_behind, lane_with, FrameRun, IsStepped, LacksFrame, StepsFrame, lacks_to_step, steps_on, FinishesFrame, lacks_to_finish, finishes, PushesFrame, FinishesPushed, WritesFrame, ReaderRun, IsAnswered, IsRead, Wishes, LineRun}
+use Rattle.world_model.specs.Lanes.{Lane, lane_behind, lane_with, FrameRun, IsStepped, LacksFrame, StepsFrame, lacks_to_step, steps_on, FinishesFrame, lacks_to_finish, finishes, PushesFrame, FinishesPushed, WritesFrame, ReaderRun, HasTakeAnswer, IsRead, Wishes, LineRun}
 
 -- both the exchanges and the state after them are the same
 abbrev pub SameLine : (xs ys : List Exchange) (one other : Lane) → Type 0
@@ -93,7 +93,7 @@ module _ (n size : ℕ) where
   pushed_one reading before one other xs ys f g = absurd f
   pushed_one (empty done) before one other xs ys f g = absurd f
   pushed_one (moving fill) before one other xs ys f g = absurd f
-  pushed_one (swapped t) before one other xs ys f g = absurd f
+  pushed_one (page_taken t) before one other xs ys f g = absurd f
   pushed_one (wished_for fill) before one other xs ys f g = absurd f
 
   writes_one : (event : Event) (payload : List ℕ) (before one other : Lane) (xs ys : List Exchange) → WritesFrame n size event payload before xs one → WritesFrame n size event payload before ys other → SameLine xs ys one other
@@ -115,7 +115,7 @@ module _ (n size : ℕ) where
       (longer x y xs ys (same_exchange x y (event ∙ sym event') answer) rest, last)
 
   -- a shorter run hasn't been answered
-  readers_shorter : (before one other : Lane) (xs ys : List Exchange) → length xs < length ys → ReaderRun n size before xs one → ReaderRun n size before ys other → IsAnswered xs → ⊥
+  readers_shorter : (before one other : Lane) (xs ys : List Exchange) → length xs < length ys → ReaderRun n size before xs one → ReaderRun n size before ys other → HasTakeAnswer xs → ⊥
   readers_shorter before one other [] ys low run run' answered = answered
   readers_shorter before one other (x ∷ xs) [] low run run' answered = absurd (omega arith)
   readers_shorter before one other (x ∷ []) (y ∷ []) low run run' answered = absurd (omega arith)
@@ -126,14 +126,14 @@ module _ (n size : ℕ) where
       let (answer, state) = steps_are_determined n size before.core reads x.answer y.answer core core' step step' in
       readers_shorter (lane_behind before core) one other (w ∷ xs) ys (omega arith) run (subst (λ (c : Core). ReaderRun n size (lane_behind before c) ys other) (sym state) run') answered
 
-  readers_one : (before one other : Lane) (xs ys : List Exchange) → ReaderRun n size before xs one → ReaderRun n size before ys other → (length xs < length ys → IsAnswered xs) → (length ys < length xs → IsAnswered ys) → SameLine xs ys one other
+  readers_one : (before one other : Lane) (xs ys : List Exchange) → ReaderRun n size before xs one → ReaderRun n size before ys other → (length xs < length ys → HasTakeAnswer xs) → (length ys < length xs → HasTakeAnswer ys) → SameLine xs ys one other
   readers_one before one other xs ys run run' ends ends' = dite (dec_le (suc (length xs)) (length ys))
       (λ low. absurd (readers_shorter before one other xs ys low run run' (ends low)))
       (λ high. dite (dec_le (suc (length ys)) (length xs))
       (λ low. absurd (readers_shorter before other one ys xs low run' run (ends' low)))
       (λ low. readers_same before one other xs ys (omega arith) run run'))
 
-  read_ends : (count : ℕ) (xs ys : List Exchange) → IsRead count xs → IsRead count ys → length xs < length ys → IsAnswered xs
+  read_ends : (count : ℕ) (xs ys : List Exchange) → IsRead count xs → IsRead count ys → length xs < length ys → HasTakeAnswer xs
   read_ends count xs ys (le, stop) (le', stop') low = ⊎_elim (λ e. absurd (let no : ⊥ = omega arith in no)) (λ answered. answered) stop
 
   wishes_one : (before one other : Lane) (xs ys : List Exchange) → Wishes n size before xs one → Wishes n size before ys other → SameLine xs ys one other

@@ -1,6 +1,6 @@
 -- What a line has with a ring is a run of it.
 use Rattle.std.proofs.Common.{ℕ, List, [], ◌∷◌, refl, sym, ap, subst}
-use Rattle.trace_model.specs.Steps.{Event, Answer, pushed, going, reserved_as, pending, full, gone, refused, reading, empty, moving, swapped, wished_for, Step, Exchange, Run}
+use Rattle.trace_model.specs.Steps.{Event, Answer, pushed, going, reserved_as, pending, full, gone, refused, reading, empty, moving, page_taken, wished_for, Step, Exchange, Run}
 use Rattle.trace_model.proofs.steps.StepCases.{frame_lacks}
 use Rattle.trace_model.proofs.steps.StepIs.{step_by}
 use Rattle.text_model.specs.Script.{Command, begin_frame, step_frame, finish_frame, write, close, step_reader, take_page, wish, deliver}
@@ -38,7 +38,7 @@ module _ (n size : ℕ) where
   pushed_run reading before after xs f = absurd f
   pushed_run (empty done) before after xs f = absurd f
   pushed_run (moving fill) before after xs f = absurd f
-  pushed_run (swapped t) before after xs f = absurd f
+  pushed_run (page_taken t) before after xs f = absurd f
   pushed_run (wished_for fill) before after xs f = absurd f
 
   writes_run : (event : Event) (payload : List ℕ) (before after : Lane) (xs : List Exchange) → WritesFrame n size event payload before xs after → Run n size before.core xs after.core

@@ -7,10 +7,10 @@ use Rattle.trace_model.specs.Frames.{Frame, no_frame, too_deep, too_long, late_m
 use Rattle.trace_model.specs.Ring.{Core}
 use Rattle.trace_model.specs.Events.{Outcome}
 use Rattle.trace_model.specs.WriterSteps.{is_full, is_too_long, push_record, push_close_frame}
-use Rattle.trace_model.specs.Steps.{Event, pushes, pushes_close, steps, reads, wishes, Answer, pushed, going, reserved_as, pending, full, gone, refused, reading, empty, moving, swapped, wished_for, step_of, Step, Exchange}
+use Rattle.trace_model.specs.Steps.{Event, pushes, pushes_close, steps, reads, wishes, Answer, pushed, going, reserved_as, pending, full, gone, refused, reading, empty, moving, page_taken, wished_for, step_of, Step, Exchange}
 use Rattle.trace_model.proofs.steps.StepSound.{cases_of}
 use Rattle.text_model.specs.Script.{Command, begin_frame, step_frame, finish_frame, write, close, step_reader, take_page, wish, deliver}
-use Rattle.world_model.specs.Lanes.{Lane, lane_behind, lane_with, event_on_top, FrameRun, IsGone, IsStepped, LacksFrame, StepsFrame, lacks_to_step, steps_on, FinishesFrame, lacks_to_finish, finishes, PushesFrame, FinishesPushed, WritesFrame, ReaderRun, IsAnswered, IsRead, Wishes, LineRun}
+use Rattle.world_model.specs.Lanes.{Lane, lane_behind, lane_with, event_on_top, FrameRun, IsGone, IsStepped, LacksFrame, StepsFrame, lacks_to_step, steps_on, FinishesFrame, lacks_to_finish, finishes, PushesFrame, FinishesPushed, WritesFrame, ReaderRun, HasTakeAnswer, IsRead, Wishes, LineRun}
 use Rattle.world_model.specs.LineMade.{Made, answered_first, after_step, steps_made, frame_made, is_reading, after_push, push_made, line_made, Makes}
 use Rattle.world_model.proofs.LanePayloads.{pushes_none}
 use Rattle.world_model.proofs.FramesMove.{Moves, stays, changes, pops, step_moves}
@@ -68,7 +68,7 @@ goes_on_reading (refused why) core e = absurd (let no : ⊥ = cc in no)
 goes_on_reading reading core e = refl
 goes_on_reading (empty done) core e = absurd (let no : ⊥ = cc in no)
 goes_on_reading (moving fill) core e = absurd (let no : ⊥ = cc in no)
-goes_on_reading (swapped t) core e = absurd (let no : ⊥ = cc in no)
+goes_on_reading (page_taken t) core e = absurd (let no : ⊥ = cc in no)
 goes_on_reading (wished_for fill) core e = absurd (let no : ⊥ = cc in no)
 
 module _ (n size : ℕ) where
@@ -108,7 +108,7 @@ module _ (n size : ℕ) where
   -- the same backwards
   record IsFrameRun (depth limit : ℕ) (before : Lane) (answers : List Answer) (after : Lane) : Type 0 where
     exchanges : List Exchange
-    told : answers_of exchanges ≡ answers
+    reported : answers_of exchanges ≡ answers
     run : FrameRun n size depth before exchanges after
     stop : IsStepped limit depth exchanges after
 
@@ -121,20 +121,20 @@ module _ (n size : ℕ) where
   goes_off before answer core step = no_deeper before.core.frames core.frames
       (step_moves n size before.core (on_top before) answer core (pushes_none before.core.frames before.payloads) (cases_of step))
 
-  frames_told : (depth limit : ℕ) (before after : Lane) (answers : List Answer) → length before.core.frames ≡ depth → steps_made n size on_top (stays_at depth) limit before ≡ Some (answers, after)
+  frames_reported : (depth limit : ℕ) (before after : Lane) (answers : List Answer) → length before.core.frames ≡ depth → steps_made n size on_top (stays_at depth) limit before ≡ Some (answers, after)
       → IsFrameRun depth limit before answers after
-  frames_told depth zero before after answers at e = let (none, same) = made_parts [] answers before after e in
-      record { exchanges = []; told = none; run = same; stop = (omega arith, inl refl) }
-  frames_told depth (suc limit) before after answers at e =
+  frames_reported depth zero before after answers at e = let (none, same) = made_parts [] answers before after e in
+      record { exchanges = []; reported = none; run = same; stop = (omega arith, inl refl) }
+  frames_reported depth (suc limit) before after answers at e =
       let f = first_of_made (step_of n size before.core (on_top before)) _ answers after e in
       let x : Exchange = record { event = on_top before; answer = f.answer } in
       let step : Step n size before.core (on_top before) f.answer f.core = record { is = f.step } in
       by_choice (stays_at depth f.answer f.core) (steps_made n size on_top (stays_at depth) limit (lane_behind before f.core)) (Some ([], lane_behind before f.core)) (Some (f.behind.rest, after))
       (λ yes made.
-      let r = frames_told depth limit (lane_behind before f.core) after f.behind.rest (eqb-true (length f.core.frames) depth yes) made in
+      let r = frames_reported depth limit (lane_behind before f.core) after f.behind.rest (eqb-true (length f.core.frames) depth yes) made in
       record {
         exchanges = x ∷ r.exchanges;
-        told = ap (λ (l : List Answer). f.answer ∷ l) r.told ∙ sym f.behind.all;
+        reported = ap (λ (l : List Answer). f.answer ∷ l) r.reported ∙ sym f.behind.all;
         run = (at, refl, f.core, step, r.run);
         stop = (let few = r.stop.0 in omega arith, ⊎_elim (λ all. inl (omega arith)) (λ off. inr off) r.stop.1);
       })
@@ -143,7 +143,7 @@ module _ (n size : ℕ) where
       let less : length f.core.frames < depth = (let most = goes_off before f.answer f.core step in below_depth (length f.core.frames) differs most) in
       record {
         exchanges = x ∷ [];
-        told = ap (λ (l : List Answer). f.answer ∷ l) none ∙ sym f.behind.all;
+        reported = ap (λ (l : List Answer). f.answer ∷ l) none ∙ sym f.behind.all;
         run = (at, refl, f.core, step, same);
         stop = (omega arith, inr (subst (IsGone depth) same less));
       })
@@ -169,31 +169,31 @@ module _ (n size : ℕ) where
       last differs [] more run = ap (λ (lane : Lane). let r : Made = Some ([], lane) in r) run
       last differs (y ∷ ys) more run = absurd (both_ways (is_reading x.answer core) differs (ap (λ (a : Answer). is_reading a core) (more (λ e. let none : ⊥ = cc in none))))
 
-      rest_read : is_reading x.answer core ≡ true → (ys : List Exchange) → (length (x ∷ ys) ≡ suc limit) ⊎ IsAnswered (x ∷ ys) → (length ys ≡ limit) ⊎ IsAnswered ys
+      rest_read : is_reading x.answer core ≡ true → (ys : List Exchange) → (length (x ∷ ys) ≡ suc limit) ⊎ HasTakeAnswer (x ∷ ys) → (length ys ≡ limit) ⊎ HasTakeAnswer ys
       rest_read goes ys (inl all) = inl (omega arith)
       rest_read goes [] (inr answered) = absurd (answered (goes_on_reading x.answer core goes))
       rest_read goes (y ∷ ys) (inr answered) = inr answered
 
   record IsReaderRun (limit : ℕ) (before : Lane) (answers : List Answer) (after : Lane) : Type 0 where
     exchanges : List Exchange
-    told : answers_of exchanges ≡ answers
+    reported : answers_of exchanges ≡ answers
     run : ReaderRun n size before exchanges after
     stop : IsRead limit exchanges
 
-  readers_told : (limit : ℕ) (before after : Lane) (answers : List Answer) → steps_made n size (λ lane. reads) is_reading limit before ≡ Some (answers, after)
+  readers_reported : (limit : ℕ) (before after : Lane) (answers : List Answer) → steps_made n size (λ lane. reads) is_reading limit before ≡ Some (answers, after)
       → IsReaderRun limit before answers after
-  readers_told zero before after answers e = let (none, same) = made_parts [] answers before after e in
-      record { exchanges = []; told = none; run = same; stop = (omega arith, inl refl) }
-  readers_told (suc limit) before after answers e =
+  readers_reported zero before after answers e = let (none, same) = made_parts [] answers before after e in
+      record { exchanges = []; reported = none; run = same; stop = (omega arith, inl refl) }
+  readers_reported (suc limit) before after answers e =
       let f = first_of_made (step_of n size before.core reads) _ answers after e in
       let x : Exchange = record { event = reads; answer = f.answer } in
       let step : Step n size before.core reads f.answer f.core = record { is = f.step } in
       by_choice (is_reading f.answer f.core) (steps_made n size (λ lane. reads) is_reading limit (lane_behind before f.core)) (Some ([], lane_behind before f.core)) (Some (f.behind.rest, after))
       (λ yes made.
-      let r = readers_told limit (lane_behind before f.core) after f.behind.rest made in
+      let r = readers_reported limit (lane_behind before f.core) after f.behind.rest made in
       record {
         exchanges = x ∷ r.exchanges;
-        told = ap (λ (l : List Answer). f.answer ∷ l) r.told ∙ sym f.behind.all;
+        reported = ap (λ (l : List Answer). f.answer ∷ l) r.reported ∙ sym f.behind.all;
         run = (refl, λ some. goes_on_reading f.answer f.core yes, f.core, step, r.run);
         stop = (let few = r.stop.0 in omega arith, ⊎_elim (λ all. inl (omega arith)) (λ answered. inr (longer x r.exchanges answered)) r.stop.1);
       })
@@ -201,13 +201,13 @@ module _ (n size : ℕ) where
       let (none, same) = made_parts [] f.behind.rest (lane_behind before f.core) after made in
       record {
         exchanges = x ∷ [];
-        told = ap (λ (l : List Answer). f.answer ∷ l) none ∙ sym f.behind.all;
+        reported = ap (λ (l : List Answer). f.answer ∷ l) none ∙ sym f.behind.all;
         run = (refl, λ some. absurd (some refl), f.core, step, same);
         stop = (omega arith, inr (λ is. both_ways (is_reading f.answer f.core) differs (ap (λ (a : Answer). is_reading a f.core) is)));
       })
       f.behind.is
     where
-      longer : (x : Exchange) (ys : List Exchange) → IsAnswered ys → IsAnswered (x ∷ ys)
+      longer : (x : Exchange) (ys : List Exchange) → HasTakeAnswer ys → HasTakeAnswer (x ∷ ys)
       longer x [] answered = absurd answered
       longer x (y ∷ ys) answered = answered
 
@@ -234,21 +234,21 @@ module _ (n size : ℕ) where
 
   record IsSteps (limit : ℕ) (before : Lane) (answers : List Answer) (after : Lane) : Type 0 where
     exchanges : List Exchange
-    told : answers_of exchanges ≡ answers
+    reported : answers_of exchanges ≡ answers
     steps_are : StepsFrame n size limit before exchanges after
 
-  stack_told : (limit : ℕ) (before after : Lane) (answers : List Answer) (stack : List Frame) → before.core.frames ≡ stack → frame_made n size limit before stack ≡ Some (answers, after)
+  stack_reported : (limit : ℕ) (before after : Lane) (answers : List Answer) (stack : List Frame) → before.core.frames ≡ stack → frame_made n size limit before stack ≡ Some (answers, after)
       → IsSteps limit before answers after
-  stack_told limit before after answers [] is made = let (told, same) = made_parts (refused no_frame ∷ []) answers before after made in record {
+  stack_reported limit before after answers [] is made = let (reported, same) = made_parts (refused no_frame ∷ []) answers before after made in record {
     exchanges = record { event = steps; answer = refused no_frame } ∷ [];
-    told = told;
+    reported = reported;
     steps_are = lacks_to_step record { none = is; exchanges_are = refl; stays = sym same };
   }
-  stack_told limit before after answers (top ∷ below) is made =
+  stack_reported limit before after answers (top ∷ below) is made =
       let depth : length before.core.frames ≡ suc (length below) = ap length is in
-      let r = frames_told (suc (length below)) limit before after answers depth made in record {
+      let r = frames_reported (suc (length below)) limit before after answers depth made in record {
         exchanges = r.exchanges;
-        told = r.told;
+        reported = r.reported;
         steps_are = steps_on (λ none. let no : ⊥ = (let e : (top ∷ below) ≡ [] = sym is ∙ none in cc) in no)
             (subst (λ (d : ℕ). FrameRun n size d before r.exchanges after) (sym depth) r.run)
             (subst (λ (d : ℕ). IsStepped limit d r.exchanges after) (sym depth) r.stop);
@@ -256,7 +256,7 @@ module _ (n size : ℕ) where
 
   record IsFinish (before : Lane) (answers : List Answer) (after : Lane) : Type 0 where
     exchanges : List Exchange
-    told : answers_of exchanges ≡ answers
+    reported : answers_of exchanges ≡ answers
     finish : FinishesFrame n size before exchanges after
 
   -- what one step more doesn't change is finished
@@ -264,21 +264,21 @@ module _ (n size : ℕ) where
   finished limit before after answers r s = by_both r.steps_are s.steps_are
     where
       by_both : StepsFrame n size limit before r.exchanges after → StepsFrame n size (suc limit) before s.exchanges after → IsFinish before answers after
-      by_both (lacks_to_step h) more = record { exchanges = r.exchanges; told = r.told; finish = lacks_to_finish h }
-      by_both (steps_on some run (few, inr off)) more = record { exchanges = r.exchanges; told = r.told; finish = finishes some run off }
-      by_both (steps_on some run (few, inl all)) (lacks_to_step h) = record { exchanges = s.exchanges; told = s.told; finish = lacks_to_finish h }
-      by_both (steps_on some run (few, inl all)) (steps_on some' run' (few', inr off)) = record { exchanges = s.exchanges; told = s.told; finish = finishes some' run' off }
+      by_both (lacks_to_step h) more = record { exchanges = r.exchanges; reported = r.reported; finish = lacks_to_finish h }
+      by_both (steps_on some run (few, inr off)) more = record { exchanges = r.exchanges; reported = r.reported; finish = finishes some run off }
+      by_both (steps_on some run (few, inl all)) (lacks_to_step h) = record { exchanges = s.exchanges; reported = s.reported; finish = lacks_to_finish h }
+      by_both (steps_on some run (few, inl all)) (steps_on some' run' (few', inr off)) = record { exchanges = s.exchanges; reported = s.reported; finish = finishes some' run' off }
       by_both (steps_on some run (few, inl all)) (steps_on some' run' (few', inl more)) = absurd (
-          let same : length (answers_of r.exchanges) ≡ length (answers_of s.exchanges) = ap length (r.told ∙ sym s.told) in
+          let same : length (answers_of r.exchanges) ≡ length (answers_of s.exchanges) = ap length (r.reported ∙ sym s.reported) in
           let here = length-map r.exchanges (λ (x : Exchange). x.answer) in
           let there = length-map s.exchanges (λ (x : Exchange). x.answer) in
           let no : ⊥ = omega (arith, same, here, there, all, more) in no)
 
-  finish_told : (enough : ℕ) (before after : Lane) (answers : List Answer) → ((limit : ℕ) → enough ≤ limit → frame_made n size limit before before.core.frames ≡ Some (answers, after))
+  finish_reported : (enough : ℕ) (before after : Lane) (answers : List Answer) → ((limit : ℕ) → enough ≤ limit → frame_made n size limit before before.core.frames ≡ Some (answers, after))
       → IsFinish before answers after
-  finish_told enough before after answers made = finished enough before after answers
-      (stack_told enough before after answers before.core.frames refl (made enough (omega arith)))
-      (stack_told (suc enough) before after answers before.core.frames refl (made (suc enough) (omega arith)))
+  finish_reported enough before after answers made = finished enough before after answers
+      (stack_reported enough before after answers before.core.frames refl (made enough (omega arith)))
+      (stack_reported (suc enough) before after answers before.core.frames refl (made (suc enough) (omega arith)))
 
   -- ---- a push
 
@@ -293,7 +293,7 @@ module _ (n size : ℕ) where
   begun payload lane reading core = refl
   begun payload lane (empty done) core = refl
   begun payload lane (moving fill) core = refl
-  begun payload lane (swapped t) core = refl
+  begun payload lane (page_taken t) core = refl
   begun payload lane (wished_for fill) core = refl
 
   push_is_made : (event : Event) (payload : List ℕ) (others : Lane → Made) (x : Exchange) (before between after : Lane) (rest : List Answer) (p : PushesFrame n size event payload before x between)
@@ -321,7 +321,7 @@ module _ (n size : ℕ) where
   pushed_on limit payload before after reading core xs few f = absurd f
   pushed_on limit payload before after (empty done) core xs few f = absurd f
   pushed_on limit payload before after (moving fill) core xs few f = absurd f
-  pushed_on limit payload before after (swapped t) core xs few f = absurd f
+  pushed_on limit payload before after (page_taken t) core xs few f = absurd f
   pushed_on limit payload before after (wished_for fill) core xs few f = absurd f
 
   writes_made : (limit : ℕ) (event : Event) (payload : List ℕ) (before after : Lane) (xs : List Exchange) → length xs ≤ limit → WritesFrame n size event payload before xs after
@@ -360,44 +360,44 @@ module _ (n size : ℕ) where
 
   record IsBegin (event : Event) (payload : List ℕ) (before : Lane) (answers : List Answer) (after : Lane) : Type 0 where
     exchange : Exchange
-    told : answers ≡ exchange.answer ∷ []
+    reported : answers ≡ exchange.answer ∷ []
     push : PushesFrame n size event payload before exchange after
 
-  begin_told : (event : Event) (payload : List ℕ) (before after : Lane) (answers : List Answer) → push_made n size event payload (λ l. Some ([], l)) before ≡ Some (answers, after)
+  begin_reported : (event : Event) (payload : List ℕ) (before after : Lane) (answers : List Answer) → push_made n size event payload (λ l. Some ([], l)) before ≡ Some (answers, after)
       → IsBegin event payload before answers after
-  begin_told event payload before after answers made =
+  begin_reported event payload before after answers made =
       let f = first_of_made (step_of n size before.core event) (after_push payload (λ l. Some ([], l)) before) answers after made in
       let (none, same) = made_parts [] f.behind.rest (lane_with before payload f.answer f.core) after (sym (begun payload before f.answer f.core) ∙ f.behind.is) in record {
         exchange = record { event = event; answer = f.answer };
-        told = f.behind.all ∙ ap (λ (l : List Answer). f.answer ∷ l) (sym none);
+        reported = f.behind.all ∙ ap (λ (l : List Answer). f.answer ∷ l) (sym none);
         push = record { event_is = refl; core = f.core; step = record { is = f.step }; after_is = sym same };
       }
 
   record IsPushed (payload : List ℕ) (before : Lane) (answer : Answer) (core : Core) (rest : List Answer) (after : Lane) : Type 0 where
     exchanges : List Exchange
-    told : answers_of exchanges ≡ rest
+    reported : answers_of exchanges ≡ rest
     finish : FinishesPushed n size answer (lane_with before payload answer core) exchanges after
 
-  pushed_told : (enough : ℕ) (payload : List ℕ) (before after : Lane) (answer : Answer) (core : Core) (rest : List Answer) → IsPushAnswer answer
+  pushed_reported : (enough : ℕ) (payload : List ℕ) (before after : Lane) (answer : Answer) (core : Core) (rest : List Answer) → IsPushAnswer answer
       → ((limit : ℕ) → enough ≤ limit → after_push payload (finishing limit) before answer core ≡ Some (rest, after))
       → IsPushed payload before answer core rest after
-  pushed_told enough payload before after pushed core rest is made = let r = finish_told enough (lane_with before payload pushed core) after rest made in record { exchanges = r.exchanges; told = r.told; finish = r.finish }
-  pushed_told enough payload before after going core rest is made = absurd is
-  pushed_told enough payload before after (reserved_as number) core rest is made = absurd is
-  pushed_told enough payload before after pending core rest is made = absurd is
-  pushed_told enough payload before after full core rest is made = absurd is
-  pushed_told enough payload before after gone core rest is made = absurd is
-  pushed_told enough payload before after (refused why) core rest is made = let (none, same) = made_parts [] rest (lane_with before payload (refused why) core) after (made enough (omega arith)) in
-      record { exchanges = []; told = none; finish = (refl, sym same) }
-  pushed_told enough payload before after reading core rest is made = absurd is
-  pushed_told enough payload before after (empty done) core rest is made = absurd is
-  pushed_told enough payload before after (moving fill) core rest is made = absurd is
-  pushed_told enough payload before after (swapped t) core rest is made = absurd is
-  pushed_told enough payload before after (wished_for fill) core rest is made = absurd is
+  pushed_reported enough payload before after pushed core rest is made = let r = finish_reported enough (lane_with before payload pushed core) after rest made in record { exchanges = r.exchanges; reported = r.reported; finish = r.finish }
+  pushed_reported enough payload before after going core rest is made = absurd is
+  pushed_reported enough payload before after (reserved_as number) core rest is made = absurd is
+  pushed_reported enough payload before after pending core rest is made = absurd is
+  pushed_reported enough payload before after full core rest is made = absurd is
+  pushed_reported enough payload before after gone core rest is made = absurd is
+  pushed_reported enough payload before after (refused why) core rest is made = let (none, same) = made_parts [] rest (lane_with before payload (refused why) core) after (made enough (omega arith)) in
+      record { exchanges = []; reported = none; finish = (refl, sym same) }
+  pushed_reported enough payload before after reading core rest is made = absurd is
+  pushed_reported enough payload before after (empty done) core rest is made = absurd is
+  pushed_reported enough payload before after (moving fill) core rest is made = absurd is
+  pushed_reported enough payload before after (page_taken t) core rest is made = absurd is
+  pushed_reported enough payload before after (wished_for fill) core rest is made = absurd is
 
   record IsWrite (event : Event) (payload : List ℕ) (before : Lane) (answers : List Answer) (after : Lane) : Type 0 where
     exchanges : List Exchange
-    told : answers_of exchanges ≡ answers
+    reported : answers_of exchanges ≡ answers
     write_is : WritesFrame n size event payload before exchanges after
 
   -- what is made by a step that answers so
@@ -408,12 +408,12 @@ module _ (n size : ℕ) where
   writes_behind enough event payload before after answers None step is made = absurd (let e = made enough (omega arith) in let no : ⊥ = cc in no)
   writes_behind enough event payload before after answers (Some first) step is made =
       let at_once = behind_answer first.0 (after_push payload (finishing enough) before first.0 first.1) answers after (made enough (omega arith)) in
-      let p = pushed_told enough payload before after first.0 first.1 at_once.rest (is first.0 first.1 refl)
+      let p = pushed_reported enough payload before after first.0 first.1 at_once.rest (is first.0 first.1 refl)
       (λ limit le. let b = behind_answer first.0 (after_push payload (finishing limit) before first.0 first.1) answers after (made limit le) in
       b.is ∙ ap (λ (l : List Answer). let r : Made = Some (l, after) in r) (same_rest first.0 b.rest at_once.rest (sym b.all ∙ at_once.all))) in
       let x : Exchange = record { event = event; answer = first.0 } in record {
         exchanges = x ∷ p.exchanges;
-        told = ap (λ (l : List Answer). first.0 ∷ l) p.told ∙ sym at_once.all;
+        reported = ap (λ (l : List Answer). first.0 ∷ l) p.reported ∙ sym at_once.all;
         write_is = record {
           push = x;
           rest = p.exchanges;
@@ -427,11 +427,11 @@ module _ (n size : ℕ) where
       same_rest : (answer : Answer) (one other : List Answer) → (answer ∷ one) ≡ (answer ∷ other) → one ≡ other
       same_rest answer one other e = cc
 
-  writes_told : (enough : ℕ) (event : Event) (payload : List ℕ) (before after : Lane) (answers : List Answer)
+  writes_reported : (enough : ℕ) (event : Event) (payload : List ℕ) (before after : Lane) (answers : List Answer)
       → ((answer : Answer) (core : Core) → step_of n size before.core event ≡ Some (answer, core) → IsPushAnswer answer)
       → ((limit : ℕ) → enough ≤ limit → push_made n size event payload (finishing limit) before ≡ Some (answers, after))
       → IsWrite event payload before answers after
-  writes_told enough event payload before after answers is made = writes_behind enough event payload before after answers (step_of n size before.core event) refl is made
+  writes_reported enough event payload before after answers is made = writes_behind enough event payload before after answers (step_of n size before.core event) refl is made
 
   -- ---- the wish
 
@@ -443,15 +443,15 @@ module _ (n size : ℕ) where
 
   record IsWish (before : Lane) (answers : List Answer) (after : Lane) : Type 0 where
     exchanges : List Exchange
-    told : answers_of exchanges ≡ answers
+    reported : answers_of exchanges ≡ answers
     wish_is : Wishes n size before exchanges after
 
-  wish_told : (before after : Lane) (answers : List Answer) → steps_made n size (λ lane. wishes) (λ answer core. false) 1 before ≡ Some (answers, after) → IsWish before answers after
-  wish_told before after answers made =
+  wish_reported : (before after : Lane) (answers : List Answer) → steps_made n size (λ lane. wishes) (λ answer core. false) 1 before ≡ Some (answers, after) → IsWish before answers after
+  wish_reported before after answers made =
       let f = first_of_made (step_of n size before.core wishes) (λ answer core. Some ([], lane_behind before core)) answers after made in
       let (none, same) = made_parts [] f.behind.rest (lane_behind before f.core) after f.behind.is in record {
         exchanges = record { event = wishes; answer = f.answer } ∷ [];
-        told = ap (λ (l : List Answer). f.answer ∷ l) none ∙ sym f.behind.all;
+        reported = ap (λ (l : List Answer). f.answer ∷ l) none ∙ sym f.behind.all;
         wish_is = record { answer = f.answer; exchanges_are = refl; core = f.core; step = record { is = f.step }; after_is = sym same };
       }
 
@@ -459,23 +459,23 @@ module _ (n size : ℕ) where
 
   record IsTake (before : Lane) (answers : List Answer) (after : Lane) : Type 0 where
     exchanges : List Exchange
-    told : answers_of exchanges ≡ answers
+    reported : answers_of exchanges ≡ answers
     run : ReaderRun n size before exchanges after
-    answered : IsAnswered exchanges
+    answered : HasTakeAnswer exchanges
 
-  take_told : (enough : ℕ) (before after : Lane) (answers : List Answer) → ((limit : ℕ) → enough ≤ limit → steps_made n size (λ lane. reads) is_reading limit before ≡ Some (answers, after))
+  take_reported : (enough : ℕ) (before after : Lane) (answers : List Answer) → ((limit : ℕ) → enough ≤ limit → steps_made n size (λ lane. reads) is_reading limit before ≡ Some (answers, after))
       → IsTake before answers after
-  take_told enough before after answers made =
-      let r = readers_told enough before after answers (made enough (omega arith)) in
-      let s = readers_told (suc enough) before after answers (made (suc enough) (omega arith)) in
+  take_reported enough before after answers made =
+      let r = readers_reported enough before after answers (made enough (omega arith)) in
+      let s = readers_reported (suc enough) before after answers (made (suc enough) (omega arith)) in
       ⊎_elim (λ all. ⊎_elim
       (λ more. absurd (
-      let same : length (answers_of r.exchanges) ≡ length (answers_of s.exchanges) = ap length (r.told ∙ sym s.told) in
+      let same : length (answers_of r.exchanges) ≡ length (answers_of s.exchanges) = ap length (r.reported ∙ sym s.reported) in
       let here = length-map r.exchanges (λ (x : Exchange). x.answer) in
       let there = length-map s.exchanges (λ (x : Exchange). x.answer) in
       let no : ⊥ = omega (arith, same, here, there, all, more) in no))
-      (λ answered. record { exchanges = s.exchanges; told = s.told; run = s.run; answered = answered }) s.stop.1)
-      (λ answered. record { exchanges = r.exchanges; told = r.told; run = r.run; answered = answered }) r.stop.1
+      (λ answered. record { exchanges = s.exchanges; reported = s.reported; run = s.run; answered = answered }) s.stop.1)
+      (λ answered. record { exchanges = r.exchanges; reported = r.reported; run = r.run; answered = answered }) r.stop.1
 
   -- ---- a line
 
@@ -496,27 +496,27 @@ module _ (n size : ℕ) where
   pub record IsLine (command : Command) (cpu : ℕ) (before : Lane) (answers : List Answer) (after : Lane) : Type 0 where
     pub cpu_is : cpu_of_line command ≡ cpu
     pub exchanges : List Exchange
-    pub told : answers_of exchanges ≡ answers
+    pub reported : answers_of exchanges ≡ answers
     pub run : LineRun n size command before exchanges after
 
   pub line_of : (command : Command) (cpu : ℕ) (before after : Lane) (answers : List Answer) → Makes n size command cpu before answers after → IsLine command cpu before answers after
-  line_of (begin_frame at moment payload) cpu before after answers (enough, made) = let m = made enough (omega arith) in let b = begin_told _ payload before after answers m.1 in
-      record { cpu_is = m.0; exchanges = b.exchange ∷ []; told = sym b.told; run = (b.exchange, refl, b.push) }
-  line_of (step_frame at count) cpu before after answers (enough, made) = let m = made enough (omega arith) in let r = stack_told count before after answers before.core.frames refl m.1 in
-      record { cpu_is = m.0; exchanges = r.exchanges; told = r.told; run = r.steps_are }
-  line_of (finish_frame at) cpu before after answers (enough, made) = let r = finish_told enough before after answers (λ limit le. (made limit le).1) in
-      record { cpu_is = (made enough (omega arith)).0; exchanges = r.exchanges; told = r.told; run = r.finish }
+  line_of (begin_frame at moment payload) cpu before after answers (enough, made) = let m = made enough (omega arith) in let b = begin_reported _ payload before after answers m.1 in
+      record { cpu_is = m.0; exchanges = b.exchange ∷ []; reported = sym b.reported; run = (b.exchange, refl, b.push) }
+  line_of (step_frame at count) cpu before after answers (enough, made) = let m = made enough (omega arith) in let r = stack_reported count before after answers before.core.frames refl m.1 in
+      record { cpu_is = m.0; exchanges = r.exchanges; reported = r.reported; run = r.steps_are }
+  line_of (finish_frame at) cpu before after answers (enough, made) = let r = finish_reported enough before after answers (λ limit le. (made limit le).1) in
+      record { cpu_is = (made enough (omega arith)).0; exchanges = r.exchanges; reported = r.reported; run = r.finish }
   line_of (write at moment payload) cpu before after answers (enough, made) =
-      let r = writes_told enough (pushes moment (length payload)) payload before after answers (λ answer core is. push_answers before.core moment (length payload) answer core is) (λ limit le. (made limit le).1) in
-      record { cpu_is = (made enough (omega arith)).0; exchanges = r.exchanges; told = r.told; run = r.write_is }
+      let r = writes_reported enough (pushes moment (length payload)) payload before after answers (λ answer core is. push_answers before.core moment (length payload) answer core is) (λ limit le. (made limit le).1) in
+      record { cpu_is = (made enough (omega arith)).0; exchanges = r.exchanges; reported = r.reported; run = r.write_is }
   line_of (close at) cpu before after answers (enough, made) =
-      let r = writes_told enough pushes_close [] before after answers (λ answer core is. close_answers before.core answer core is) (λ limit le. (made limit le).1) in
-      record { cpu_is = (made enough (omega arith)).0; exchanges = r.exchanges; told = r.told; run = r.write_is }
-  line_of (step_reader at count) cpu before after answers (enough, made) = let m = made enough (omega arith) in let r = readers_told count before after answers m.1 in
-      record { cpu_is = m.0; exchanges = r.exchanges; told = r.told; run = (r.run, r.stop) }
-  line_of (take_page at) cpu before after answers (enough, made) = let r = take_told enough before after answers (λ limit le. (made limit le).1) in
-      record { cpu_is = (made enough (omega arith)).0; exchanges = r.exchanges; told = r.told; run = (r.run, r.answered) }
-  line_of (wish at) cpu before after answers (enough, made) = let m = made enough (omega arith) in let r = wish_told before after answers m.1 in
-      record { cpu_is = m.0; exchanges = r.exchanges; told = r.told; run = r.wish_is }
+      let r = writes_reported enough pushes_close [] before after answers (λ answer core is. close_answers before.core answer core is) (λ limit le. (made limit le).1) in
+      record { cpu_is = (made enough (omega arith)).0; exchanges = r.exchanges; reported = r.reported; run = r.write_is }
+  line_of (step_reader at count) cpu before after answers (enough, made) = let m = made enough (omega arith) in let r = readers_reported count before after answers m.1 in
+      record { cpu_is = m.0; exchanges = r.exchanges; reported = r.reported; run = (r.run, r.stop) }
+  line_of (take_page at) cpu before after answers (enough, made) = let r = take_reported enough before after answers (λ limit le. (made limit le).1) in
+      record { cpu_is = (made enough (omega arith)).0; exchanges = r.exchanges; reported = r.reported; run = (r.run, r.answered) }
+  line_of (wish at) cpu before after answers (enough, made) = let m = made enough (omega arith) in let r = wish_reported before after answers m.1 in
+      record { cpu_is = m.0; exchanges = r.exchanges; reported = r.reported; run = r.wish_is }
   line_of (deliver collector at fill) cpu before after answers (enough, made) = let m = made enough (omega arith) in let (none, same) = made_parts [] answers before after m.1 in
-      record { cpu_is = m.0; exchanges = []; told = none; run = (refl, sym same) }
+      record { cpu_is = m.0; exchanges = []; reported = none; run = (refl, sym same) }

@@ -8,7 +8,7 @@ use Rattle.std.proofs.lemmas.List.{same_lists}
 use Rattle.std.proofs.lemmas.List.Elements.{All-contains}
 use mathlib.Core.Logic.{dite}
 use native.Mathlib.Decide.{dec_le}
-use Rattle.trace_model.specs.Ring.{Taken, Core, IsStart, AreFillsOf}
+use Rattle.trace_model.specs.Ring.{TakenFill, Core, IsStart, AreFillsOf}
 use Rattle.trace_model.specs.Parcel.{Parcel}
 use Rattle.trace_model.proofs.collections.Elements.{some_is}
 use Rattle.text_model.specs.Log.{Delivery, new_page, known_page, no_page, delivery_line}
@@ -48,7 +48,7 @@ module _ (script : Script) (w : World) (kept : IsWorldKept script w) where
   -- a parcel that was taken is a page that the reader of its CPU took
   pub record IsTakenBy (parcel : Parcel) (cpu : ℕ) (lane : Lane) : Type 0 where
     pub index : ℕ
-    pub page : Taken
+    pub page : TakenFill
     pub in_place : slice_get (parcels_from cpu w.taken) index ≡ Some parcel
     pub page_at : slice_get lane.core.reader.taken index ≡ Some page
     pub parcel_is : parcel_of cpu page ≡ parcel
@@ -63,7 +63,7 @@ module _ (script : Script) (w : World) (kept : IsWorldKept script w) where
   pub lane_of : (cpu : ℕ) → cpu < script.cpus → (lane : Lane) × (slice_get w.lanes cpu ≡ Some lane)
   lane_of cpu low = ⊎_elim (λ (lane, within, at, is). (lane, at)) (λ (past, none). let count = kept.cpus in absurd (let no : ⊥ = omega arith in no)) (slice_get_cases w.lanes cpu).1
 
-  one_fill : (start : ℕ) (c : Core) (j k : ℕ) (t u : Taken) → AreFillsOf start c.history c.reader.taken → slice_get c.reader.taken j ≡ Some t → slice_get c.reader.taken k ≡ Some u → t.fill ≡ u.fill → t ≡ u
+  one_fill : (start : ℕ) (c : Core) (j k : ℕ) (t u : TakenFill) → AreFillsOf start c.history c.reader.taken → slice_get c.reader.taken j ≡ Some t → slice_get c.reader.taken k ≡ Some u → t.fill ≡ u.fill → t ≡ u
   one_fill start c j k t u fills at_j at_k same = dite (dec_le (suc j) k)
       (λ low. absurd (let less = fills.rising j k t u low at_j at_k in let no : ⊥ = omega arith in no))
       (λ high. dite (dec_le (suc k) j)

@@ -8,14 +8,14 @@ use Rattle.trace_model.specs.Ring.{Reader, Core, IsStart, window_of}
 use Rattle.trace_model.specs.Steps.{Exchange, Run}
 use Rattle.trace_model.proofs.steps.StepSound.{cases_of}
 use Rattle.link_marks.specs.RingKept.{IsRingKept}
-use Rattle.link_marks.specs.ToldRuns.{fills_taken, numbers_of, IsToldBy}
+use Rattle.link_marks.specs.RunsAsEvents.{fills_taken, numbers_of, AreEventsOfRun}
 use Rattle.link_marks.proofs.partition.RingsKept.{ring_step}
-use Rattle.link_marks.proofs.histories.ToldSteps.{leads_step}
+use Rattle.link_marks.proofs.histories.StepsAsEvents.{leads_step}
 use Rattle.link_marks.proofs.histories.WindowRuns.{has_none, passed_by, lost_closed, history_events-append, run-append, taken-append}
-use Rattle.world_model.specs.RunEvents.{AreEventsOf, IsRunToldBy}
+use Rattle.world_model.specs.RunEvents.{AreEventsOf, AreEventsOfSteps}
 
 -- each step has its events
-pub run_events : (n size start : ℕ) (c after : Core) (exchanges : List Exchange) → IsRingKept n size start c → Run n size c exchanges after → (events : List RingEvent) × IsRunToldBy n size c exchanges events after
+pub run_events : (n size start : ℕ) (c after : Core) (exchanges : List Exchange) → IsRingKept n size start c → Run n size c exchanges after → (events : List RingEvent) × AreEventsOfSteps n size c exchanges events after
 run_events n size start c after [] r run = ([], (run, refl))
 run_events n size start c after (x ∷ exchanges) r (between, step, run) =
     let l = leads_step n size start c x.event x.answer between r.links r.stack r.history (cases_of step) in
@@ -35,13 +35,13 @@ no_events : (n : ℕ) (c : Core) → AreEventsOf n c [] c
 no_events n c = record { history_events = sym (append-nil c.history); window = refl; took = sym (append-nil (numbers_of c.reader.taken)) }
 
 -- those of all steps are those of the run
-run_has : (n size : ℕ) (c after : Core) (exchanges : List Exchange) (events : List RingEvent) → IsRunToldBy n size c exchanges events after → AreEventsOf n c events after
+run_has : (n size : ℕ) (c after : Core) (exchanges : List Exchange) (events : List RingEvent) → AreEventsOfSteps n size c exchanges events after → AreEventsOf n c events after
 run_has n size c after [] events (same, none) = subst (λ (ds : List RingEvent). AreEventsOf n c ds after) (sym none) (subst (AreEventsOf n c []) same (no_events n c))
 run_has n size c after (x ∷ exchanges) events (between, step, own, here, rest, all, more) =
     subst (λ (ds : List RingEvent). AreEventsOf n c ds after) (sym all) (events_on n c between after own rest here (run_has n size between after exchanges rest more))
 
-pub run_tells : (n size start : ℕ) (from c : Core) (exchanges : List Exchange) (events : List RingEvent) → IsStart n start from → IsRunToldBy n size from exchanges events c → IsToldBy n start c events
-run_tells n size start from c exchanges events s run = let d = run_has n size from c exchanges events run in
+pub run_reports : (n size start : ℕ) (from c : Core) (exchanges : List Exchange) (events : List RingEvent) → IsStart n start from → AreEventsOfSteps n size from exchanges events c → AreEventsOfRun n start c events
+run_reports n size start from c exchanges events s run = let d = run_has n size from c exchanges events run in
     let new : window_of from ≡ first_window start = λ i. record { head = s.head i; done = s.done i; opened = s.opened i } in
     let none : numbers_of from.reader.taken ≡ [] = ap (λ (r : Reader). numbers_of r.taken) s.reader in record {
       history_events = sym (d.history_events ∙ ap (λ (h : List HistoryEvent). h ++ history_events_of events) s.history);

@@ -85,9 +85,9 @@ module _ (script : Script) (line : ℕ) where
         run = l.run;
         after_is = c.after_is ∙ (λ i. record {
           lanes = slice_set before.lanes c.cpu c.next;
-          taken = before.taken ++ (ap (flat_map (parcels_in c.cpu)) (sym l.told) ∙ of_answers (parcels_in c.cpu) l.exchanges) i;
+          taken = before.taken ++ (ap (flat_map (parcels_in c.cpu)) (sym l.reported) ∙ of_answers (parcels_in c.cpu) l.exchanges) i;
           delivered = before.delivered;
-          log = before.log ++ (ap (flat_map (logged line c.cpu)) (sym l.told) ∙ of_answers (logged line c.cpu) l.exchanges) i;
+          log = before.log ++ (ap (flat_map (logged line c.cpu)) (sym l.reported) ∙ of_answers (logged line c.cpu) l.exchanges) i;
         });
       }
 

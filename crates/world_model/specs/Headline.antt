@@ -11,11 +11,11 @@ use Rattle.trace_model.specs.Collection.{Has, Misses, Agree}
 use Rattle.trace_model.specs.Ring.{Core, IsStart, fill_of}
 use Rattle.trace_model.specs.Steps.{Exchange}
 use Rattle.trace_model.specs.Window.{RingEvent}
-use Rattle.link_marks.specs.ToldRuns.{fills_taken, fills_lost, IsToldBy}
+use Rattle.link_marks.specs.RunsAsEvents.{fills_taken, fills_lost, AreEventsOfRun}
 use Rattle.text_model.specs.Script.{Script}
 use Rattle.world_model.specs.Lanes.{Lane}
 use Rattle.world_model.specs.World.{World}
-use Rattle.world_model.specs.RunEvents.{IsRunToldBy}
+use Rattle.world_model.specs.RunEvents.{AreEventsOfSteps}
 
 -- the parcels of a CPU, in their order
 abbrev pub parcels_from : ℕ → List Parcel → List Parcel
@@ -61,8 +61,8 @@ pub record IsCut (n size start : ℕ) (c : Core) (parcels : List Parcel) : Type 
   pub is_new : IsStart n start from
   pub exchanges : List Exchange
   pub events : List RingEvent
-  pub run : IsRunToldBy n size from exchanges events c
-  pub told : IsToldBy n start c events
+  pub run : AreEventsOfSteps n size from exchanges events c
+  pub reported : AreEventsOfRun n start c events
   pub took : fills_taken start events ≡ map (λ parcel. parcel.fill) parcels
   pub whole : (parcel : Parcel) → Contains parcels parcel → IsWholeFill c.history start parcel
   pub rest : List Record

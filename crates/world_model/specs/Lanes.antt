@@ -3,7 +3,7 @@ use Rattle.std.specs.Prelude.{◌≡◌, ◌≢◌, ℕ, ◌-◌, ◌<◌, ◌�
 use Rattle.trace_model.specs.Words.{padded}
 use Rattle.trace_model.specs.Frames.{Kind, for_record, for_close, FrameState, waiting, reserved, left, Frame, no_frame}
 use Rattle.trace_model.specs.Ring.{IsStart, Core}
-use Rattle.trace_model.specs.Steps.{Event, pushes, pushes_close, steps, ends, reads, wishes, Answer, pushed, going, reserved_as, pending, full, gone, refused, reading, empty, moving, swapped, wished_for, Step, Exchange}
+use Rattle.trace_model.specs.Steps.{Event, pushes, pushes_close, steps, ends, reads, wishes, Answer, pushed, going, reserved_as, pending, full, gone, refused, reading, empty, moving, page_taken, wished_for, Step, Exchange}
 use Rattle.text_model.specs.Script.{Command, begin_frame, step_frame, finish_frame, write, close, step_reader, take_page, wish, deliver}
 
 -- ---- a ring and what its frames are to write
@@ -37,7 +37,7 @@ payloads_with payload (refused why) payloads = payloads
 payloads_with payload reading payloads = payloads
 payloads_with payload (empty done) payloads = payloads
 payloads_with payload (moving fill) payloads = payloads
-payloads_with payload (swapped t) payloads = payloads
+payloads_with payload (page_taken t) payloads = payloads
 payloads_with payload (wished_for fill) payloads = payloads
 
 -- the ring after a frame was to be pushed, with this payload
@@ -136,7 +136,7 @@ FinishesPushed n size (refused why) before exchanges after = (exchanges ≡ []) 
 FinishesPushed n size reading before exchanges after = ⊥
 FinishesPushed n size (empty done) before exchanges after = ⊥
 FinishesPushed n size (moving fill) before exchanges after = ⊥
-FinishesPushed n size (swapped t) before exchanges after = ⊥
+FinishesPushed n size (page_taken t) before exchanges after = ⊥
 FinishesPushed n size (wished_for fill) before exchanges after = ⊥
 
 -- a frame is pushed and finished
@@ -163,14 +163,14 @@ ReaderRun n size before (x ∷ exchanges) after =
     × ReaderRun n size (lane_behind before core) exchanges after
 
 -- the last of these answers the take
-abbrev pub IsAnswered : List Exchange → Type 0
-IsAnswered [] = ⊥
-IsAnswered (x ∷ []) = x.answer ≢ reading
-IsAnswered (x ∷ next ∷ exchanges) = IsAnswered (next ∷ exchanges)
+abbrev pub HasTakeAnswer : List Exchange → Type 0
+HasTakeAnswer [] = ⊥
+HasTakeAnswer (x ∷ []) = x.answer ≢ reading
+HasTakeAnswer (x ∷ next ∷ exchanges) = HasTakeAnswer (next ∷ exchanges)
 
 -- this many steps were made, or the take was answered before
 abbrev pub IsRead : (count : ℕ) → List Exchange → Type 0
-IsRead count exchanges = (length exchanges ≤ count) × ((length exchanges ≡ count) ⊎ IsAnswered exchanges)
+IsRead count exchanges = (length exchanges ≤ count) × ((length exchanges ≡ count) ⊎ HasTakeAnswer exchanges)
 
 -- the reader's wish: one exchange
 pub record Wishes (n size : ℕ) (before : Lane) (exchanges : List Exchange) (after : Lane) : Type 0 where
@@ -194,6 +194,6 @@ LineRun n size (write cpu moment payload) before exchanges after =
 LineRun n size (close cpu) before exchanges after = WritesFrame n size pushes_close [] before exchanges after
 LineRun n size (step_reader cpu count) before exchanges after =
     ReaderRun n size before exchanges after × IsRead count exchanges
-LineRun n size (take_page cpu) before exchanges after = ReaderRun n size before exchanges after × IsAnswered exchanges
+LineRun n size (take_page cpu) before exchanges after = ReaderRun n size before exchanges after × HasTakeAnswer exchanges
 LineRun n size (wish cpu) before exchanges after = Wishes n size before exchanges after
 LineRun n size (deliver collector cpu fill) before exchanges after = (exchanges ≡ []) × (after ≡ before)

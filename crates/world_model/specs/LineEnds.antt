@@ -3,7 +3,7 @@ use Rattle.std.specs.Prelude.{◌≡◌, ℕ, ◌≤◌, List, length}
 use Rattle.trace_model.specs.Steps.{Exchange}
 use Rattle.link_marks.specs.Reached.{IsReached}
 use Rattle.link_marks.specs.Ranks.{frame_limit, reader_limit}
-use Rattle.world_model.specs.Lanes.{Lane, FrameRun, ReaderRun, IsAnswered}
+use Rattle.world_model.specs.Lanes.{Lane, FrameRun, ReaderRun, HasTakeAnswer}
 
 -- a frame that is still on the stack has made at most this many steps
 abbrev pub FrameRunsAreShort : Type 0
@@ -19,5 +19,5 @@ abbrev pub ReaderRunsAreShort : Type 0
 ReaderRunsAreShort = (n size start : ℕ) (before after : Lane) (exchanges : List Exchange)
     → IsReached n size start before.core
     → ReaderRun n size before exchanges after
-    → (IsAnswered exchanges → ⊥)
+    → (HasTakeAnswer exchanges → ⊥)
     → length exchanges ≤ reader_limit n

@@ -3,8 +3,8 @@
 use Rattle.std.specs.Prelude.{◌≡◌, ℕ, List, [], ◌∷◌, ◌++◌, length, map, flat_map, All, Contains, slice_set, Some}
 use Rattle.std.specs.List.{slice_get}
 use Rattle.trace_model.specs.History.{as_record}
-use Rattle.trace_model.specs.Ring.{Taken}
-use Rattle.trace_model.specs.Steps.{Answer, pushed, going, reserved_as, pending, full, gone, refused, reading, empty, moving, swapped, wished_for, Exchange}
+use Rattle.trace_model.specs.Ring.{TakenFill}
+use Rattle.trace_model.specs.Steps.{Answer, pushed, going, reserved_as, pending, full, gone, refused, reading, empty, moving, page_taken, wished_for, Exchange}
 use Rattle.trace_model.specs.Parcel.{Parcel}
 use Rattle.trace_model.specs.Collection.{IsBelow}
 use Rattle.text_model.specs.Log.{LogLine, Delivery, new_page, known_page, no_page, delivery_line}
@@ -32,7 +32,7 @@ pub record IsNewWorld (script : Script) (w : World) : Type 0 where
 -- ---- what is taken
 
 -- a page that was taken from the ring of a CPU
-abbrev pub parcel_of : (cpu : ℕ) → Taken → Parcel
+abbrev pub parcel_of : (cpu : ℕ) → TakenFill → Parcel
 parcel_of cpu t = record {
   cpu = cpu;
   fill = t.fill;
@@ -53,7 +53,7 @@ parcels_in cpu (refused why) = []
 parcels_in cpu reading = []
 parcels_in cpu (empty done) = []
 parcels_in cpu (moving fill) = []
-parcels_in cpu (swapped t) = parcel_of cpu t ∷ []
+parcels_in cpu (page_taken t) = parcel_of cpu t ∷ []
 parcels_in cpu (wished_for fill) = []
 
 -- the pages that a line's exchanges bring

@@ -6,13 +6,13 @@ ghost use Rattle.trace_model.specs.Steps.{Answer, Step, steps};
 ghost use Rattle.link_marks.specs.RingKept.{IsRingKept};
 ghost use Rattle.line_model.specs.Lines.{OpenFrame};
 ghost use Rattle.line_model.specs.LineParts.{CallsFinish, ClosesMake, LineCallsMake, LinesCallsGoOn, LinesCallsMake, PartsGoOn, PushesMake, RestCallsGoOn, RestCallsMake, StartIsBetweenLines, TopCallsGoOn, WriterMakesLines, WritesMake};
-ghost use Rattle.line_model.specs.CallEvents.{AreOpenFrames, CallsMakeEvents, Makes};
+ghost use Rattle.line_model.specs.CallEvents.{AreOpenFrames, CallsMakeEvents, CallMakes};
 
 /// One step of the top frame, whatever frames are below it, makes one of a few things.
 pub fn steps_make()
     ensures make { (n size start : ℕ) (c : Core) (frame : Frame) (below : List Frame) (answer : Answer) (after : Core) →
         IsRingKept n size start c → c.frames ≡ frame ∷ below → (frame.state ≡ waiting) ⊎ (frame.state ≡ left) →
-        Step n size c steps answer after → Makes n size c frame below after }
+        Step n size c steps answer after → CallMakes n size c frame below after }
 {}
 
 /// A state has as many frames as the ring that it agrees with.

@@ -3,7 +3,7 @@ use Rattle.std.proofs.Common.{◌≡◌, ℕ, ◌+◌, ◌-◌, ◌<◌, ◌≤�
 use Rattle.trace_model.specs.History.{HistoryEvent, push, push_close, open_fill, reserve, leave, wished, reserved_records, is_settled}
 use Rattle.trace_model.specs.Packing.{opens_of}
 use Rattle.trace_model.specs.Frames.{Kind, for_record, for_close, FrameState, waiting, reserved, left, Phase, idle, looking, claiming, looking_next, marking, clearing, opening, releasing, wishing, Frame}
-use Rattle.trace_model.specs.Ring.{ReaderPhase, loading_link, loading_done, storing_link, swapping, Core}
+use Rattle.trace_model.specs.Ring.{ReaderPhase, loading_head, loading_done, storing_spare_link, swapping, Core}
 use Rattle.trace_model.specs.Steps.{Event, Answer, with_new_tail, after_begin}
 use Rattle.trace_model.proofs.steps.StepCases.{StepCases, BeginsAgain, IdleStep, ReserveStep, reserves, finds_nothing, is_crowded, is_worn, notes, load_link_late, sees_free, sees_header, sees_update, claim_late, claims, claim_fails, load_next_late, sees_normal, sees_other, mark_late, marks, mark_fails, clears, open_late, opens, releases, releases_last, grants, closes_more, goes_away, FrameStep, push_step, push_refused, close_step, close_refused, frame_step, frame_lacks, end_step, end_lacks, end_early, read_step, store_wish_step, loads_header, loads_update, loads_owed, loads_passed, finds_none, finds_closed, swaps, swap_fails, ReadStep}
 use Rattle.trace_model.proofs.histories.NextEvent.{settled_at_rest}
@@ -85,13 +85,13 @@ module _ (n size start : ℕ) (c : Core) (frame : Frame) (below : List Frame) (k
   closed_frame wishing answer after same (goes_away alone none last a is) = subst (ClosedKept start) (sym is) z
 
 closed_read : (n start : ℕ) (c : Core) (phase : ReaderPhase) (answer : Answer) (after : Core) → ClosedKept start c → ReadStep n c phase answer after → ClosedKept start after
-closed_read n start c loading_link answer after z (loads_header page fill at a is) = subst (ClosedKept start) (sym is) z
-closed_read n start c loading_link answer after z (loads_update page lost at a is) = subst (ClosedKept start) (sym is) z
-closed_read n start c loading_link answer after z (loads_owed page at a is) = subst (ClosedKept start) (sym is) z
-closed_read n start c loading_link answer after z (loads_passed page fill least at more sum a is) = subst (ClosedKept start) (sym is) z
+closed_read n start c loading_head answer after z (loads_header page fill at a is) = subst (ClosedKept start) (sym is) z
+closed_read n start c loading_head answer after z (loads_update page lost at a is) = subst (ClosedKept start) (sym is) z
+closed_read n start c loading_head answer after z (loads_owed page at a is) = subst (ClosedKept start) (sym is) z
+closed_read n start c loading_head answer after z (loads_passed page fill least at more sum a is) = subst (ClosedKept start) (sym is) z
 closed_read n start c (loading_done page fill) answer after z (finds_none le a is) = subst (ClosedKept start) (sym is) z
 closed_read n start c (loading_done page fill) answer after z (finds_closed below a is) = subst (ClosedKept start) (sym is) z
-closed_read n start c (storing_link page fill) answer after z step = subst (ClosedKept start) (sym step.after_is) z
+closed_read n start c (storing_spare_link page fill) answer after z step = subst (ClosedKept start) (sym step.after_is) z
 closed_read n start c (swapping page fill) answer after z (swaps at a is) = subst (ClosedKept start) (sym is) z
 closed_read n start c (swapping page fill) answer after z (swap_fails at a is) = subst (ClosedKept start) (sym is) z
 

@@ -3,7 +3,7 @@ use Rattle.std.proofs.Common.{◌≡◌, ◌≢◌, ℕ, ◌+◌, ◌-◌, ◌�
 use Rattle.trace_model.specs.History.{HistoryEvent, push, push_close, open_fill, reserve, leave, wished, Reservation, writer_after, reserved_records, records_with_payload}
 use Rattle.trace_model.specs.Packing.{opens_of}
 use Rattle.trace_model.specs.Frames.{Kind, for_record, for_close, FrameState, waiting, reserved, left, Phase, idle, looking, claiming, looking_next, marking, clearing, opening, releasing, wishing, Frame, pushed_onto, pushed_frames}
-use Rattle.trace_model.specs.Ring.{PageRecords, ReaderPhase, loading_link, loading_done, storing_link, swapping, Core, page_at, AreApart}
+use Rattle.trace_model.specs.Ring.{PageRecords, ReaderPhase, loading_head, loading_done, storing_spare_link, swapping, Core, page_at, AreApart}
 use Rattle.trace_model.specs.Steps.{Event, Answer, tail_page, after_leave, held_with_payload, own_number, with_new_tail, after_begin, after_swap}
 use Rattle.trace_model.proofs.steps.StepCases.{StepCases, BeginsAgain, IdleStep, ReserveStep, reserves, finds_nothing, is_crowded, is_worn, notes, load_link_late, sees_free, sees_header, sees_update, claim_late, claims, claim_fails, load_next_late, sees_normal, sees_other, mark_late, marks, mark_fails, clears, OpenFillStep, open_late, opens, releases, releases_last, grants, closes_more, goes_away, FrameStep, push_step, push_refused, close_step, close_refused, frame_step, frame_lacks, end_step, end_lacks, end_early, read_step, store_wish_step, LoadHeadStep, loads_header, loads_update, loads_owed, loads_passed, LoadDoneStep, finds_none, finds_closed, SwapHeadStep, swaps, swap_fails, ReadStep}
 use Rattle.trace_model.proofs.histories.NextEvent.{opened_stack}
@@ -13,7 +13,7 @@ use Rattle.link_marks.specs.KeptLinks.{PhaseKept, LinksKept}
 use Rattle.link_marks.specs.KeptHistory.{HistoryKept}
 use Rattle.link_marks.specs.KeptStack.{StackKept}
 use Rattle.link_marks.specs.KeptContents.{PagesKept, ContentsKept, OpenPagesKept}
-use Rattle.link_marks.proofs.links.LinkFills.{header_tells, fill_at}
+use Rattle.link_marks.proofs.links.LinkFills.{header_reports, fill_at}
 use Rattle.link_marks.proofs.links.FrameChanges.{top_kept}
 use Rattle.link_marks.proofs.histories.HistorySteps.{top_stack}
 use Rattle.link_marks.proofs.contents.OpenPageSteps.{tail_page_is}
@@ -127,16 +127,16 @@ module _ (n start : ℕ) (c : Core) (k : LinksKept n c) (t : ContentsKept n star
   contents_swap : (page fill : ℕ) (answer : Answer) (after : Core) → SwapHeadStep n c page fill answer after → ContentsKept n start after
   contents_swap page fill answer after (swaps at a is) =
       let (g, low_g, high_g, same, link) = fill_at n c k fill in
-      let told = header_tells n c.links c.order c.head c.frames g page fill link (same ∙ at) in
-      let here : fill ≡ c.head = told.0 ∙ told.1 in let two = k.some_pages in
+      let reported = header_reports n c.links c.order c.head c.frames g page fill link (same ∙ at) in
+      let here : fill ≡ c.head = reported.0 ∙ reported.1 in let two = k.some_pages in
       subst (ContentsKept n start) (sym (is ∙ ap (after_swap n c page) here))
-      (pages_swapped n start c.order c.spare c.held (opens_of c.history) (reserved_records c.history) c.head c.opened (omega arith) k.apart t page two (told.2 ∙ ap (page_at n c.order) told.1) k.opened_le)
+      (pages_swapped n start c.order c.spare c.held (opens_of c.history) (reserved_records c.history) c.head c.opened (omega arith) k.apart t page two (reported.2 ∙ ap (page_at n c.order) reported.1) k.opened_le)
   contents_swap page fill answer after (swap_fails at a is) = subst (ContentsKept n start) (sym is) t
 
   contents_read : (phase : ReaderPhase) (answer : Answer) (after : Core) → ReadStep n c phase answer after → ContentsKept n start after
-  contents_read loading_link answer after step = contents_load answer after step
+  contents_read loading_head answer after step = contents_load answer after step
   contents_read (loading_done page fill) answer after step = contents_load_done page fill answer after step
-  contents_read (storing_link page fill) answer after step = subst (ContentsKept n start) (sym step.after_is) t
+  contents_read (storing_spare_link page fill) answer after step = subst (ContentsKept n start) (sym step.after_is) t
   contents_read (swapping page fill) answer after step = contents_swap page fill answer after step
 
 contents_pushed : (n start : ℕ) (c after : Core) (frames : List Frame) (history_event : HistoryEvent) → ContentsKept n start c → opens_of (c.history ++ history_event ∷ []) ≡ opens_of c.history → reserved_records (c.history ++ history_event ∷ []) ≡ reserved_records c.history

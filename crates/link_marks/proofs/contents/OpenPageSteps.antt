@@ -6,12 +6,12 @@ use Rattle.std.proofs.Math.Seq.{get_or-append_seam}
 use mathlib.Core.Logic.{dite}
 use native.Mathlib.Decide.{ℕ_discrete}
 use Rattle.trace_model.specs.Frames.{Kind, for_record, for_close, FrameState, waiting, reserved, left, Phase, idle, looking, claiming, looking_next, marking, clearing, opening, releasing, wishing, Frame}
-use Rattle.trace_model.specs.Ring.{ReaderPhase, loading_link, loading_done, storing_link, swapping, Core, page_at}
+use Rattle.trace_model.specs.Ring.{ReaderPhase, loading_head, loading_done, storing_spare_link, swapping, Core, page_at}
 use Rattle.trace_model.specs.Steps.{Event, Answer, tail_page, with_new_tail, after_begin, after_swap}
 use Rattle.trace_model.proofs.steps.StepCases.{StepCases, BeginsAgain, IdleStep, ReserveStep, reserves, finds_nothing, is_crowded, is_worn, notes, load_link_late, sees_free, sees_header, sees_update, claim_late, claims, claim_fails, load_next_late, sees_normal, sees_other, mark_late, marks, mark_fails, clears, open_late, opens, releases, releases_last, grants, closes_more, goes_away, FrameStep, push_step, push_refused, close_step, close_refused, frame_step, frame_lacks, end_step, end_lacks, end_early, read_step, store_wish_step, loads_header, loads_update, loads_owed, loads_passed, finds_none, finds_closed, swaps, swap_fails, ReadStep}
 use Rattle.link_marks.specs.KeptLinks.{PhaseKept, ReaderKept, LinksKept}
 use Rattle.link_marks.specs.KeptContents.{OpenPagesAt, OpenPagesKept}
-use Rattle.link_marks.proofs.links.LinkFills.{header_tells, fill_at}
+use Rattle.link_marks.proofs.links.LinkFills.{header_reports, fill_at}
 use Rattle.link_marks.proofs.links.FrameChanges.{top_kept}
 use Rattle.link_marks.proofs.links.Positions.{page_else}
 
@@ -98,17 +98,17 @@ module _ (n size : ℕ) (c : Core) (frame : Frame) (below : List Frame) (k : Lin
 -- ---- every step
 
 pages_read : (n : ℕ) (c : Core) (phase : ReaderPhase) (answer : Answer) (after : Core) → LinksKept n c → ReaderKept n c.links c.order c.spare_link c.head c.done c.reader.hint phase → OpenPagesKept n c → ReadStep n c phase answer after → OpenPagesKept n after
-pages_read n c loading_link answer after k facts o (loads_header page fill at a is) = subst (OpenPagesKept n) (sym is) o
-pages_read n c loading_link answer after k facts o (loads_update page lost at a is) = subst (OpenPagesKept n) (sym is) o
-pages_read n c loading_link answer after k facts o (loads_owed page at a is) = subst (OpenPagesKept n) (sym is) o
-pages_read n c loading_link answer after k facts o (loads_passed page fill least at more sum a is) = subst (OpenPagesKept n) (sym is) o
+pages_read n c loading_head answer after k facts o (loads_header page fill at a is) = subst (OpenPagesKept n) (sym is) o
+pages_read n c loading_head answer after k facts o (loads_update page lost at a is) = subst (OpenPagesKept n) (sym is) o
+pages_read n c loading_head answer after k facts o (loads_owed page at a is) = subst (OpenPagesKept n) (sym is) o
+pages_read n c loading_head answer after k facts o (loads_passed page fill least at more sum a is) = subst (OpenPagesKept n) (sym is) o
 pages_read n c (loading_done page fill) answer after k facts o (finds_none le a is) = subst (OpenPagesKept n) (sym is) o
 pages_read n c (loading_done page fill) answer after k facts o (finds_closed below a is) = subst (OpenPagesKept n) (sym is) o
-pages_read n c (storing_link page fill) answer after k facts o step = subst (OpenPagesKept n) (sym step.after_is) o
+pages_read n c (storing_spare_link page fill) answer after k facts o step = subst (OpenPagesKept n) (sym step.after_is) o
 pages_read n c (swapping page fill) answer after k facts o (swaps at a is) =
     let (g, low_g, high_g, same, link) = fill_at n c k fill in
-    let told = header_tells n c.links c.order c.head c.frames g page fill link (same ∙ at) in
-    let here : fill ≡ c.head = told.0 ∙ told.1 in let closed = facts.1 in
+    let reported = header_reports n c.links c.order c.head c.frames g page fill link (same ∙ at) in
+    let here : fill ≡ c.head = reported.0 ∙ reported.1 in let closed = facts.1 in
     subst (OpenPagesKept n) (sym (is ∙ ap (after_swap n c page) here)) (pages_kept n c.order c.open_pages c.done c.opened o c.head c.spare (omega arith) k.opened_le)
 pages_read n c (swapping page fill) answer after k facts o (swap_fails at a is) = subst (OpenPagesKept n) (sym is) o
 

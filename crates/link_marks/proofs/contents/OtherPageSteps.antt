@@ -11,7 +11,7 @@ use native.Mathlib.Decide.{ℕ_discrete, dec_le}
 use Rattle.trace_model.specs.History.{HistoryEvent, push, push_close, open_fill, reserve, leave, wished, Reservation, records_with_payload, reserved_records}
 use Rattle.trace_model.specs.Packing.{opens_of, cut_from}
 use Rattle.trace_model.specs.Frames.{Kind, for_record, for_close, FrameState, waiting, reserved, left, Phase, idle, looking, claiming, looking_next, marking, clearing, opening, releasing, wishing, Frame}
-use Rattle.trace_model.specs.Ring.{PageRecords, empty_page, ReaderPhase, loading_link, loading_done, storing_link, swapping, Core, IsStart}
+use Rattle.trace_model.specs.Ring.{PageRecords, empty_page, ReaderPhase, loading_head, loading_done, storing_spare_link, swapping, Core, IsStart}
 use Rattle.trace_model.specs.Steps.{Event, Answer, held_with_payload, own_number, with_new_tail, with_released, after_leave, after_begin}
 use Rattle.trace_model.proofs.steps.StepCases.{StepCases, BeginsAgain, IdleStep, reserves, finds_nothing, is_crowded, is_worn, notes, load_link_late, sees_free, sees_header, sees_update, claim_late, claims, claim_fails, load_next_late, sees_normal, sees_other, mark_late, marks, mark_fails, clears, open_late, opens, releases, releases_last, grants, closes_more, goes_away, FrameStep, push_step, push_refused, close_step, close_refused, frame_step, frame_lacks, end_step, end_lacks, end_early, read_step, store_wish_step, loads_header, loads_update, loads_owed, loads_passed, finds_none, finds_closed, swaps, swap_fails, ReadStep}
 use Rattle.trace_model.proofs.histories.NextEvent.{settled_at_rest}
@@ -170,13 +170,13 @@ module _ (n size start : ℕ) (c : Core) (frame : Frame) (below : List Frame) (a
 -- ---- every step
 
 others_read : (n : ℕ) (c : Core) (phase : ReaderPhase) (answer : Answer) (after : Core) → OtherPagesKept c → ReadStep n c phase answer after → OtherPagesKept after
-others_read n c loading_link answer after z (loads_header page fill at a is) = subst OtherPagesKept (sym is) z
-others_read n c loading_link answer after z (loads_update page lost at a is) = subst OtherPagesKept (sym is) z
-others_read n c loading_link answer after z (loads_owed page at a is) = subst OtherPagesKept (sym is) z
-others_read n c loading_link answer after z (loads_passed page fill least at more sum a is) = subst OtherPagesKept (sym is) z
+others_read n c loading_head answer after z (loads_header page fill at a is) = subst OtherPagesKept (sym is) z
+others_read n c loading_head answer after z (loads_update page lost at a is) = subst OtherPagesKept (sym is) z
+others_read n c loading_head answer after z (loads_owed page at a is) = subst OtherPagesKept (sym is) z
+others_read n c loading_head answer after z (loads_passed page fill least at more sum a is) = subst OtherPagesKept (sym is) z
 others_read n c (loading_done page fill) answer after z (finds_none le a is) = subst OtherPagesKept (sym is) z
 others_read n c (loading_done page fill) answer after z (finds_closed below a is) = subst OtherPagesKept (sym is) z
-others_read n c (storing_link page fill) answer after z step = subst OtherPagesKept (sym step.after_is) z
+others_read n c (storing_spare_link page fill) answer after z step = subst OtherPagesKept (sym step.after_is) z
 others_read n c (swapping page fill) answer after z (swaps at a is) = subst OtherPagesKept (sym is)
     (others_emptied c.history c.open_pages (set c.held c.spare empty_page) (others_emptied c.history c.open_pages c.held z c.spare) page)
 others_read n c (swapping page fill) answer after z (swap_fails at a is) = subst OtherPagesKept (sym is) z

@@ -11,7 +11,7 @@ use Rattle.trace_model.specs.History.{HistoryEvent, push, push_close, open_fill,
 use Rattle.trace_model.specs.Packing.{opens_of, FitsBehind, is_wished}
 use Rattle.trace_model.specs.Fitting.{tail_at, IsFit, FitsPage, NeedsFill}
 use Rattle.trace_model.specs.Frames.{Kind, for_record, for_close, FrameState, waiting, reserved, left, Role, owner, helper, Phase, idle, looking, claiming, looking_next, marking, clearing, opening, releasing, wishing, Frame, pushed_onto, pushed_frames, noted_fill}
-use Rattle.trace_model.specs.Ring.{ReaderPhase, loading_link, loading_done, storing_link, swapping, Core, IsStart}
+use Rattle.trace_model.specs.Ring.{ReaderPhase, loading_head, loading_done, storing_spare_link, swapping, Core, IsStart}
 use Rattle.trace_model.specs.Steps.{Event, Answer, IsTooLong, NeedsPage, closing_phase, in_phase, after_leave, after_next, frames_after_leave, own_number, with_new_tail, after_begin}
 use Rattle.trace_model.proofs.steps.StepCases.{StepCases, BeginsAgain, IdleStep, ReserveStep, reserves, finds_nothing, is_crowded, is_worn, notes, load_link_late, sees_free, sees_header, sees_update, claim_late, claims, claim_fails, load_next_late, sees_normal, sees_other, mark_late, marks, mark_fails, clears, OpenFillStep, open_late, opens, releases, releases_last, grants, closes_more, goes_away, FrameStep, push_step, push_refused, close_step, close_refused, frame_step, frame_lacks, end_step, end_lacks, end_early, read_step, store_wish_step, loads_header, loads_update, loads_owed, loads_passed, finds_none, finds_closed, swaps, swap_fails, ReadStep}
 use Rattle.trace_model.proofs.histories.NextEvent.{opened_stack}
@@ -210,13 +210,13 @@ module _ (n size start : ℕ) (c : Core) (frame : Frame) (below : List Frame) (k
 -- ---- every step
 
 packs_read : (n size : ℕ) (c : Core) (phase : ReaderPhase) (answer : Answer) (after : Core) → PackedKept size c → ReadStep n c phase answer after → PackedKept size after
-packs_read n size c loading_link answer after q (loads_header page fill at a is) = subst (PackedKept size) (sym is) q
-packs_read n size c loading_link answer after q (loads_update page lost at a is) = subst (PackedKept size) (sym is) q
-packs_read n size c loading_link answer after q (loads_owed page at a is) = subst (PackedKept size) (sym is) q
-packs_read n size c loading_link answer after q (loads_passed page fill least at more sum a is) = subst (PackedKept size) (sym is) q
+packs_read n size c loading_head answer after q (loads_header page fill at a is) = subst (PackedKept size) (sym is) q
+packs_read n size c loading_head answer after q (loads_update page lost at a is) = subst (PackedKept size) (sym is) q
+packs_read n size c loading_head answer after q (loads_owed page at a is) = subst (PackedKept size) (sym is) q
+packs_read n size c loading_head answer after q (loads_passed page fill least at more sum a is) = subst (PackedKept size) (sym is) q
 packs_read n size c (loading_done page fill) answer after q (finds_none le a is) = subst (PackedKept size) (sym is) q
 packs_read n size c (loading_done page fill) answer after q (finds_closed below a is) = subst (PackedKept size) (sym is) q
-packs_read n size c (storing_link page fill) answer after q step = subst (PackedKept size) (sym step.after_is) q
+packs_read n size c (storing_spare_link page fill) answer after q step = subst (PackedKept size) (sym step.after_is) q
 packs_read n size c (swapping page fill) answer after q (swaps at a is) = subst (PackedKept size) (sym is) q
 packs_read n size c (swapping page fill) answer after q (swap_fails at a is) = subst (PackedKept size) (sym is) q
 

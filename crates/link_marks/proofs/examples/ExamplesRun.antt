@@ -2,7 +2,7 @@
 use Rattle.std.proofs.Common.{◌≡◌, ℕ, zero, suc, ◌+◌, ◌%◌, ◌<◌, List, [], ◌∷◌, map, Option, Some, None, get_or, refl, arith, subst, ◌≤◌}
 use Rattle.trace_model.specs.Record.{Record}
 use Rattle.trace_model.specs.Links.{normal_link, header_link}
-use Rattle.trace_model.specs.Ring.{PageRecords, Core, IsStart, link_into, loading_link}
+use Rattle.trace_model.specs.Ring.{PageRecords, Core, IsStart, link_into, loading_head}
 use Rattle.trace_model.specs.History.{committed_records}
 use Rattle.trace_model.specs.Steps.{Exchange, Run}
 use Rattle.link_marks.specs.Examples.{at, all, four, IsExample, first_record, FirstRecord, nested_writer, NestedWriter, inner_reserves_first, InnerReservesFirst, halted_head_move, HaltedHeadMove, helpers_at_the_head, HelpersAtTheHead, late_swap, LateSwap, wish_answered, WishAnswered, wish_waits_for_the_outermost, WishWaitsForTheOutermost}
@@ -24,7 +24,7 @@ two_pages = record {
   wish = 0;
   frames = [];
   open_pages = 0 ∷ [];
-  reader = record { phase = loading_link; hint = 0; seen = 0; expected = 0; taken = [] };
+  reader = record { phase = loading_head; hint = 0; seen = 0; expected = 0; taken = [] };
   held = nothing ∷ nothing ∷ nothing ∷ [];
   history = [];
 }
@@ -41,7 +41,7 @@ four_pages = record {
   wish = 0;
   frames = [];
   open_pages = 0 ∷ [];
-  reader = record { phase = loading_link; hint = 0; seen = 0; expected = 0; taken = [] };
+  reader = record { phase = loading_head; hint = 0; seen = 0; expected = 0; taken = [] };
   held = nothing ∷ nothing ∷ nothing ∷ nothing ∷ nothing ∷ [];
   history = [];
 }

@@ -4,7 +4,7 @@ use Rattle.std.specs.List.{slice_get}
 use Rattle.trace_model.specs.declared.limits.TheConstants.{LINK_FILLS}
 use Rattle.trace_model.specs.Record.{Record}
 use Rattle.trace_model.specs.Links.{Link, normal_link, update_link, mark_code}
-use Rattle.trace_model.specs.Ring.{Taken, Core, link_into, page_at, IsStart, IsRing, IsBehindHead, told, moved, IsAtHead, marked, owed}
+use Rattle.trace_model.specs.Ring.{TakenFill, Core, link_into, page_at, IsStart, IsRing, IsBehindHead, reported, moved, IsAtHead, marked, owed}
 use Rattle.trace_model.specs.History.{wished}
 use Rattle.trace_model.specs.Packing.{IsPacked}
 use Rattle.trace_model.specs.Steps.{Exchange, with_history_event}
@@ -30,7 +30,7 @@ refused n size start exchanges wrong some fits is gives breaks =
 same_code : (a b : Link) → a ≡ b → mark_code a.mark ≡ mark_code b.mark
 same_code a b e = ap (λ (l : Link). mark_code l.mark) e
 
-none_taken : (k : ℕ) (t : Taken) → ◌≡◌ {A = Option Taken} (slice_get [] k) (Some t) → ⊥
+none_taken : (k : ℕ) (t : TakenFill) → ◌≡◌ {A = Option TakenFill} (slice_get [] k) (Some t) → ⊥
 none_taken k t at = none_some at
 
 pub loses_while_a_position_is_free : LosesWhileAPositionIsFree
@@ -47,7 +47,7 @@ cleared = with_update_cleared (last_from 2 32 two_pages to_helped_move)
 
 -- the frame below has still set that UPDATE
 cleared_breaks : IsBehindHead 2 cleared 2 → ⊥
-cleared_breaks (told e none) = none 1 (record { kind = for_record 3 28; state = waiting; phase = looking_next owner 2 0 }, refl, refl)
+cleared_breaks (reported e none) = none 1 (record { kind = for_record 3 28; state = waiting; phase = looking_next owner 2 0 }, refl, refl)
 cleared_breaks (moved lost sum e by) = let z : ◌≡◌ {A = ℕ} 0 2 = same_code (link_into 2 cleared.links 2) (update_link 0 lost) e in omega arith
 
 pub helper_clears_the_update : HelperClearsTheUpdate
@@ -57,7 +57,7 @@ abbrev second_head : Core
 second_head = with_second_head (last_from 4 32 four_pages to_passed_mark)
 
 second_head_breaks : IsBehindHead 4 second_head 5 → ⊥
-second_head_breaks (told e none) = let z : ◌≡◌ {A = ℕ} 1 0 = same_code (link_into 4 second_head.links 5) (normal_link (page_at 4 second_head.order 5) 5) e in omega arith
+second_head_breaks (reported e none) = let z : ◌≡◌ {A = ℕ} 1 0 = same_code (link_into 4 second_head.links 5) (normal_link (page_at 4 second_head.order 5) 5) e in omega arith
 second_head_breaks (moved lost sum e by) = let z : ◌≡◌ {A = ℕ} 1 2 = same_code (link_into 4 second_head.links 5) (update_link (page_at 4 second_head.order 5) lost) e in omega arith
 
 pub two_heads : TwoHeads

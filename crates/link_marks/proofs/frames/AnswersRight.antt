@@ -5,16 +5,16 @@ use native.Mathlib.Decide.{dec_le}
 use Rattle.trace_model.specs.declared.limits.TheConstants.{LINK_FILLS}
 use Rattle.trace_model.specs.Frames.{Kind, for_record, for_close, FrameState, waiting, reserved, left, Phase, idle, looking, claiming, looking_next, marking, clearing, opening, releasing, wishing, Frame, Refusal, too_deep, too_long, late_moment, crowded, worn, no_frame, not_reserved}
 use Rattle.trace_model.specs.Links.{Link, normal_link, update_link}
-use Rattle.trace_model.specs.Ring.{link_into, page_at, ReaderPhase, loading_link, loading_done, storing_link, swapping, Taken, Core}
-use Rattle.trace_model.specs.Steps.{Event, Answer, pushed, going, reserved_as, pending, full, gone, refused, reading, empty, moving, swapped, wished_for, leave_answer, begin_answer, end_answer, Step}
+use Rattle.trace_model.specs.Ring.{link_into, page_at, ReaderPhase, loading_head, loading_done, storing_spare_link, swapping, TakenFill, Core}
+use Rattle.trace_model.specs.Steps.{Event, Answer, pushed, going, reserved_as, pending, full, gone, refused, reading, empty, moving, page_taken, wished_for, leave_answer, begin_answer, end_answer, Step}
 use Rattle.trace_model.proofs.steps.StepCases.{StepCases, BeginsAgain, reserves, finds_nothing, is_crowded, is_worn, notes, load_link_late, sees_free, sees_header, sees_update, claim_late, claims, claim_fails, load_next_late, sees_normal, sees_other, mark_late, marks, mark_fails, clears, open_late, opens, releases, releases_last, grants, closes_more, goes_away, IdleStep, FrameStep, PushRefused, all_stand, has_no_room, comes_late, push_step, push_refused, close_step, close_refused, frame_step, frame_lacks, end_step, end_lacks, end_early, read_step, store_wish_step, loads_header, loads_update, loads_owed, loads_passed, finds_none, finds_closed, swaps, swap_fails, ReadStep}
 use Rattle.trace_model.proofs.steps.StepSound.{cases_of}
-use Rattle.link_marks.specs.KeptLinks.{Stands, LinkKept, is_normal, is_header, is_update, ReaderKept}
+use Rattle.link_marks.specs.KeptLinks.{HasMover, LinkKept, is_normal, is_header, is_update, ReaderKept}
 use Rattle.link_marks.specs.RingKept.{IsRingKept}
 use Rattle.link_marks.specs.AnswerLaws.{ArePassed, IsInTheWay}
 use Rattle.link_marks.proofs.links.Positions.{at_position, one_position}
 use Rattle.link_marks.proofs.links.FramePhases.{normal_ne_header, normal_ne_update}
-use Rattle.link_marks.proofs.links.LinkFills.{normal_tells, header_tells, update_tells, owned_by, fill_at}
+use Rattle.link_marks.proofs.links.LinkFills.{normal_reports, header_reports, update_reports, owned_by, fill_at}
 use Rattle.link_marks.proofs.partition.RingsKept.{stands_moved, is_ring}
 
 -- ---- of a frame
@@ -29,7 +29,7 @@ Refused n c no_frame = Unit {0}
 Refused n c not_reserved = Unit {0}
 
 -- what an answer says, of those that say something
-abbrev Says : (n : ℕ) (c : Core) (none : ℕ → Type 0) (way : ℕ → Type 0) (took : Taken → Type 0) → Answer → Type 0
+abbrev Says : (n : ℕ) (c : Core) (none : ℕ → Type 0) (way : ℕ → Type 0) (took : TakenFill → Type 0) → Answer → Type 0
 Says n c none way took pushed = Unit {0}
 Says n c none way took going = Unit {0}
 Says n c none way took (reserved_as number) = Unit {0}
@@ -40,10 +40,10 @@ Says n c none way took (refused why) = Refused n c why
 Says n c none way took reading = Unit {0}
 Says n c none way took (empty done) = none done
 Says n c none way took (moving fill) = way fill
-Says n c none way took (swapped t) = took t
+Says n c none way took (page_taken t) = took t
 Says n c none way took (wished_for fill) = Unit {0}
 
-module _ (n size : ℕ) (c : Core) (none : ℕ → Type 0) (way : ℕ → Type 0) (took : Taken → Type 0) where
+module _ (n size : ℕ) (c : Core) (none : ℕ → Type 0) (way : ℕ → Type 0) (took : TakenFill → Type 0) where
   abbrev IsTrueOf : Answer → Type 0
   IsTrueOf answer = Says n c none way took answer
 
@@ -121,14 +121,14 @@ module _ (n size : ℕ) (c : Core) (none : ℕ → Type 0) (way : ℕ → Type 0
 -- ---- of the reader
 
 read_any : (n : ℕ) (c : Core) (phase : ReaderPhase) (answer : Answer) (after : Core) → ReadStep n c phase answer after → Says n c (λ d. Unit {0}) (λ f. Unit {0}) (λ t. Unit {0}) answer
-read_any n c loading_link answer after (loads_header page fill at a is) = says n 0 c _ _ _ answer reading a tt
-read_any n c loading_link answer after (loads_update page lost at a is) = says n 0 c _ _ _ answer (moving (suc lost)) a tt
-read_any n c loading_link answer after (loads_owed page at a is) = says n 0 c _ _ _ answer (moving c.reader.hint) a tt
-read_any n c loading_link answer after (loads_passed page fill least at more sum a is) = says n 0 c _ _ _ answer reading a tt
+read_any n c loading_head answer after (loads_header page fill at a is) = says n 0 c _ _ _ answer reading a tt
+read_any n c loading_head answer after (loads_update page lost at a is) = says n 0 c _ _ _ answer (moving (suc lost)) a tt
+read_any n c loading_head answer after (loads_owed page at a is) = says n 0 c _ _ _ answer (moving c.reader.hint) a tt
+read_any n c loading_head answer after (loads_passed page fill least at more sum a is) = says n 0 c _ _ _ answer reading a tt
 read_any n c (loading_done page fill) answer after (finds_none le a is) = says n 0 c _ _ _ answer (empty c.done) a tt
 read_any n c (loading_done page fill) answer after (finds_closed below a is) = says n 0 c _ _ _ answer reading a tt
-read_any n c (storing_link page fill) answer after step = says n 0 c _ _ _ answer reading step.answer_is tt
-read_any n c (swapping page fill) answer after (swaps at a is) = says n 0 c _ _ _ answer (swapped _) a tt
+read_any n c (storing_spare_link page fill) answer after step = says n 0 c _ _ _ answer reading step.answer_is tt
+read_any n c (swapping page fill) answer after (swaps at a is) = says n 0 c _ _ _ answer (page_taken _) a tt
 read_any n c (swapping page fill) answer after (swap_fails at a is) = says n 0 c _ _ _ answer reading a tt
 
 pub refusal_true : (n size : ℕ) (c : Core) (event : Event) (answer : Answer) (after : Core) → Step n size c event answer after → Says n c (λ d. Unit {0}) (λ f. Unit {0}) (λ t. Unit {0}) answer
@@ -141,7 +141,7 @@ pub worn_right : (n size start : ℕ) (c : Core) (event : Event) (after : Core) 
 worn_right n size start c event after r step = let (last, some) = refusal_true n size c event (refused worn) after step in let fits = r.links.fits in (omega arith, some)
 
 -- the HEADER is still to be stored by a move of the head that is not finished
-owed_by : (n : ℕ) (links : List Link) (order : List ℕ) (head : ℕ) (frames : List Frame) (f page fill : ℕ) → LinkKept n links order head frames f → link_into n links f ≡ normal_link page fill → f ≡ head → (lost : ℕ) × (suc lost ≡ head) × Stands frames (lost + n)
+owed_by : (n : ℕ) (links : List Link) (order : List ℕ) (head : ℕ) (frames : List Frame) (f page fill : ℕ) → LinkKept n links order head frames f → link_into n links f ≡ normal_link page fill → f ≡ head → (lost : ℕ) × (suc lost ≡ head) × HasMover frames (lost + n)
 owed_by n links order head frames f page fill (is_normal e owed) at here = owed here
 owed_by n links order head frames f page fill (is_header e is) at here = absurd (normal_ne_header page fill (page_at n order f) f (sym at ∙ e))
 owed_by n links order head frames f page fill (is_update lost sum e st) at here = absurd (normal_ne_update page fill (page_at n order f) lost (sym at ∙ e))
@@ -151,7 +151,7 @@ module _ (n size start : ℕ) (c : Core) (r : IsRingKept n size start c) where
   passed_below f le g low high = (is_ring n size start c r).lost g low (omega arith)
 
   -- an unfinished move of the head is in the reader's way
-  in_the_way : (lost fill : ℕ) → Stands c.frames (lost + n) → fill ≤ c.head → c.reader.hint ≤ fill → IsInTheWay n start c fill
+  in_the_way : (lost fill : ℕ) → HasMover c.frames (lost + n) → fill ≤ c.head → c.reader.hint ≤ fill → IsInTheWay n start c fill
   in_the_way lost fill st le low = let (u, sum, below, open_yet, at) = owned_by n c r.links (lost + n) st in
       let same : u ≡ lost = omega arith in record {
         passed = passed_below fill le;
@@ -169,20 +169,20 @@ module _ (n size start : ℕ) (c : Core) (r : IsRingKept n size start c) where
       let some_pages = r.links.some_pages in let le = r.links.hint_le in let unread = r.links.head_le in
       let (g, low, high, position) = at_position c.head n (c.reader.hint % n) (mod-lt c.reader.hint (omega arith)) in
       let same : link_into n c.links g ≡ link_into n c.links c.reader.hint = ap (λ (i : ℕ). get_or c.links i (normal_link 0 0)) position in
-      let told = update_tells n c.links c.order c.head c.frames g page lost (r.links.each g low high) (same ∙ at) in
-      let sum = told.0 in
-      let (u, u_sum, below, open_yet, there) = owned_by n c r.links g told.2 in
+      let reported = update_reports n c.links c.order c.head c.frames g page lost (r.links.each g low high) (same ∙ at) in
+      let sum = reported.0 in
+      let (u, u_sum, below, open_yet, there) = owned_by n c r.links g reported.2 in
       let known : c.reader.hint ≤ lost = dite (dec_le c.reader.hint lost) (λ yes. yes)
       (λ no. let e = one_position c.reader.hint n g c.reader.hint (omega arith) (omega arith) (omega arith) (omega arith) position in absurd (omega arith)) in
-      in_the_way lost (suc lost) (subst (Stands c.frames) (sym sum) told.2) (omega arith) (omega arith)
+      in_the_way lost (suc lost) (subst (HasMover c.frames) (sym sum) reported.2) (omega arith) (omega arith)
 
   -- a HEADER that is owed
   finds_owed : (page : ℕ) → link_into n c.links c.reader.hint ≡ normal_link page c.reader.hint → IsInTheWay n start c c.reader.hint
   finds_owed page at =
       let le = r.links.hint_le in
       let (g, low, high, same, link) = fill_at n c r.links c.reader.hint in
-      let told = normal_tells n c.links c.order c.head c.frames g page c.reader.hint link (same ∙ at) in
-      let is = told.0 in
+      let reported = normal_reports n c.links c.order c.head c.frames g page c.reader.hint link (same ∙ at) in
+      let is = reported.0 in
       let (lost, next, st) = owed_by n c.links c.order c.head c.frames g page c.reader.hint link (same ∙ at) (omega arith) in
       in_the_way lost c.reader.hint st (omega arith) (omega arith)
 
@@ -192,23 +192,23 @@ module _ (n size start : ℕ) (c : Core) (r : IsRingKept n size start c) where
   abbrev WaySaid : Core → ℕ → Type 0
   WaySaid after f = IsInTheWay n start c f × (after.reader.taken ≡ c.reader.taken)
 
-  abbrev TookSaid : Core → Taken → Type 0
+  abbrev TookSaid : Core → TakenFill → Type 0
   TookSaid after t = (t.fill ≡ c.head) × (c.head < c.done) × (after.head ≡ c.head + 1) × (after.reader.taken ≡ c.reader.taken ++ t ∷ [])
 
   read_true : (phase : ReaderPhase) (answer : Answer) (after : Core) → ReaderKept n c.links c.order c.spare_link c.head c.done c.reader.hint phase → ReadStep n c phase answer after → Says n c (NoneSaid after) (WaySaid after) (TookSaid after) answer
-  read_true loading_link answer after facts (loads_header page fill at a is) = says n 0 c (NoneSaid after) (WaySaid after) (TookSaid after) answer reading a tt
-  read_true loading_link answer after facts (loads_update page lost at a is) = says n 0 c (NoneSaid after) (WaySaid after) (TookSaid after) answer (moving (suc lost)) a (finds_update page lost at, ap (λ (d : Core). d.reader.taken) is)
-  read_true loading_link answer after facts (loads_owed page at a is) = says n 0 c (NoneSaid after) (WaySaid after) (TookSaid after) answer (moving c.reader.hint) a (finds_owed page at, ap (λ (d : Core). d.reader.taken) is)
-  read_true loading_link answer after facts (loads_passed page fill least at more sum a is) = says n 0 c (NoneSaid after) (WaySaid after) (TookSaid after) answer reading a tt
+  read_true loading_head answer after facts (loads_header page fill at a is) = says n 0 c (NoneSaid after) (WaySaid after) (TookSaid after) answer reading a tt
+  read_true loading_head answer after facts (loads_update page lost at a is) = says n 0 c (NoneSaid after) (WaySaid after) (TookSaid after) answer (moving (suc lost)) a (finds_update page lost at, ap (λ (d : Core). d.reader.taken) is)
+  read_true loading_head answer after facts (loads_owed page at a is) = says n 0 c (NoneSaid after) (WaySaid after) (TookSaid after) answer (moving c.reader.hint) a (finds_owed page at, ap (λ (d : Core). d.reader.taken) is)
+  read_true loading_head answer after facts (loads_passed page fill least at more sum a is) = says n 0 c (NoneSaid after) (WaySaid after) (TookSaid after) answer reading a tt
   read_true (loading_done page fill) answer after facts (finds_none le a is) = let fill_is = facts.fill_is in let low = r.links.hint_le in let unread = r.links.head_le in
       says n 0 c (NoneSaid after) (WaySaid after) (TookSaid after) answer (empty c.done) a (omega arith, refl, ap (λ (d : Core). d.reader.taken) is, ap (λ (d : Core). d.reader.seen) is, ap (λ (d : Core). d.head) is)
   read_true (loading_done page fill) answer after facts (finds_closed below a is) = says n 0 c (NoneSaid after) (WaySaid after) (TookSaid after) answer reading a tt
-  read_true (storing_link page fill) answer after facts step = says n 0 c (NoneSaid after) (WaySaid after) (TookSaid after) answer reading step.answer_is tt
+  read_true (storing_spare_link page fill) answer after facts step = says n 0 c (NoneSaid after) (WaySaid after) (TookSaid after) answer reading step.answer_is tt
   read_true (swapping page fill) answer after facts (swaps at a is) =
       let (g, low_g, high_g, same, link) = fill_at n c r.links fill in
-      let told = header_tells n c.links c.order c.head c.frames g page fill link (same ∙ at) in
-      let here : fill ≡ c.head = told.0 ∙ told.1 in let closed = facts.1 in
-      says n 0 c (NoneSaid after) (WaySaid after) (TookSaid after) answer (swapped _) a (here, omega arith, ap (λ (d : Core). d.head) is, ap (λ (d : Core). d.reader.taken) is)
+      let reported = header_reports n c.links c.order c.head c.frames g page fill link (same ∙ at) in
+      let here : fill ≡ c.head = reported.0 ∙ reported.1 in let closed = facts.1 in
+      says n 0 c (NoneSaid after) (WaySaid after) (TookSaid after) answer (page_taken _) a (here, omega arith, ap (λ (d : Core). d.head) is, ap (λ (d : Core). d.reader.taken) is)
   read_true (swapping page fill) answer after facts (swap_fails at a is) = says n 0 c (NoneSaid after) (WaySaid after) (TookSaid after) answer reading a tt
 
   pub all_true : (event : Event) (answer : Answer) (after : Core) → Step n size c event answer after → Says n c (NoneSaid after) (WaySaid after) (TookSaid after) answer
@@ -221,5 +221,5 @@ empty_right n size start c event done after r step = let (a, b, same, seen, head
 pub moving_right : (n size start : ℕ) (c : Core) (event : Event) (fill : ℕ) (after : Core) → IsRingKept n size start c → Step n size c event (moving fill) after → IsInTheWay n start c fill × (after.reader.taken ≡ c.reader.taken)
 moving_right n size start c event fill after r step = all_true n size start c r event (moving fill) after step
 
-pub swapped_right : (n size start : ℕ) (c : Core) (event : Event) (t : Taken) (after : Core) → IsRingKept n size start c → Step n size c event (swapped t) after → (t.fill ≡ c.head) × (c.head < c.done) × (after.head ≡ c.head + 1) × (after.reader.taken ≡ c.reader.taken ++ t ∷ [])
-swapped_right n size start c event t after r step = all_true n size start c r event (swapped t) after step
+pub swapped_right : (n size start : ℕ) (c : Core) (event : Event) (t : TakenFill) (after : Core) → IsRingKept n size start c → Step n size c event (page_taken t) after → (t.fill ≡ c.head) × (c.head < c.done) × (after.head ≡ c.head + 1) × (after.reader.taken ≡ c.reader.taken ++ t ∷ [])
+swapped_right n size start c event t after r step = all_true n size start c r event (page_taken t) after step

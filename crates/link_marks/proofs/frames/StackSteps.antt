@@ -4,7 +4,7 @@ use Rattle.std.specs.Prelude.{◌==◌, slice_get}
 use Rattle.std.proofs.lemmas.Bool.{cond_both}
 use Rattle.trace_model.specs.declared.limits.TheConstants.{MAX_FRAMES}
 use Rattle.trace_model.specs.Frames.{Kind, for_record, for_close, FrameState, waiting, reserved, left, Role, owner, helper, Phase, idle, looking, claiming, looking_next, marking, clearing, opening, releasing, wishing, Frame}
-use Rattle.trace_model.specs.Ring.{ReaderPhase, loading_link, loading_done, storing_link, swapping, Core, IsStart}
+use Rattle.trace_model.specs.Ring.{ReaderPhase, loading_head, loading_done, storing_spare_link, swapping, Core, IsStart}
 use Rattle.trace_model.specs.Steps.{Event, Answer, closing_phase, after_leave, frames_after_leave, after_next, after_begin}
 use Rattle.trace_model.proofs.steps.StepCases.{StepCases, BeginsAgain, reserves, finds_nothing, is_crowded, is_worn, notes, load_link_late, sees_free, sees_header, sees_update, claim_late, claims, claim_fails, load_next_late, sees_normal, sees_other, mark_late, marks, mark_fails, clears, open_late, opens, releases, releases_last, grants, closes_more, goes_away, IdleStep, FrameStep, loads_header, loads_update, loads_owed, loads_passed, finds_none, finds_closed, swaps, swap_fails, ReadStep, push_step, push_refused, close_step, close_refused, frame_step, frame_lacks, end_step, end_lacks, end_early, read_step, store_wish_step}
 use Rattle.link_marks.specs.KeptStack.{IsForRecord, MayBeIn, FramesAgree, StackAt, StackKept}
@@ -127,13 +127,13 @@ module _ (n size : ℕ) (c : Core) (frame : Frame) (below : List Frame) (answer 
 -- ---- every step
 
 stack_read : (n : ℕ) (c : Core) (phase : ReaderPhase) (answer : Answer) (after : Core) → StackKept c → ReadStep n c phase answer after → StackKept after
-stack_read n c loading_link answer after q (loads_header page fill at a is) = subst StackKept (sym is) q
-stack_read n c loading_link answer after q (loads_update page lost at a is) = subst StackKept (sym is) q
-stack_read n c loading_link answer after q (loads_owed page at a is) = subst StackKept (sym is) q
-stack_read n c loading_link answer after q (loads_passed page fill least at more sum a is) = subst StackKept (sym is) q
+stack_read n c loading_head answer after q (loads_header page fill at a is) = subst StackKept (sym is) q
+stack_read n c loading_head answer after q (loads_update page lost at a is) = subst StackKept (sym is) q
+stack_read n c loading_head answer after q (loads_owed page at a is) = subst StackKept (sym is) q
+stack_read n c loading_head answer after q (loads_passed page fill least at more sum a is) = subst StackKept (sym is) q
 stack_read n c (loading_done page fill) answer after q (finds_none le a is) = subst StackKept (sym is) q
 stack_read n c (loading_done page fill) answer after q (finds_closed below a is) = subst StackKept (sym is) q
-stack_read n c (storing_link page fill) answer after q step = subst StackKept (sym step.after_is) q
+stack_read n c (storing_spare_link page fill) answer after q step = subst StackKept (sym step.after_is) q
 stack_read n c (swapping page fill) answer after q (swaps at a is) = subst StackKept (sym is) q
 stack_read n c (swapping page fill) answer after q (swap_fails at a is) = subst StackKept (sym is) q
 

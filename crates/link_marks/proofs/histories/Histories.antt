@@ -2,7 +2,7 @@
 use Rattle.std.proofs.Common.{◌≡◌, ℕ, zero, suc, ◌<◌, ◌≤◌, ◌⊎◌, List, [], ◌∷◌, ◌++◌, Some, None, refl, ap, ◌∙◌, inl, inr, ⊎_elim, arith}
 use Rattle.trace_model.specs.History.{PushedFrame, MayOpen, MayLeave}
 use Rattle.trace_model.specs.Frames.{Kind, for_record, for_close, FrameState, waiting, reserved, left, Frame, pushed_frame, pushed_onto, pushed_frames}
-use Rattle.trace_model.specs.Ring.{Taken, Core}
+use Rattle.trace_model.specs.Ring.{TakenFill, Core}
 use Rattle.trace_model.specs.Steps.{frames_after_leave}
 use Rattle.link_marks.specs.KeptLinks.{spot, passed_spot}
 use Rattle.link_marks.specs.KeptHistory.{Passing, TakenIn, WhyPassed}
@@ -35,17 +35,17 @@ stack_left c frame (next ∷ below) = refl
 
 -- ---- fills that were passed
 
-pub taken_more : (taken : List Taken) (t : Taken) (f : ℕ) → TakenIn taken f → TakenIn (taken ++ t ∷ []) f
+pub taken_more : (taken : List TakenFill) (t : TakenFill) (f : ℕ) → TakenIn taken f → TakenIn (taken ++ t ∷ []) f
 taken_more [] t f (k, u, at, is) = absurd (none_some at)
 taken_more (x ∷ taken) t f (zero, u, at, is) = (zero, u, at, is)
 taken_more (x ∷ taken) t f (suc k, u, at, is) = let (k', u', at', is') = taken_more taken t f (k, u, at, is) in (suc k', u', at', is')
 
-pub taken_last : (taken : List Taken) (t : Taken) → TakenIn (taken ++ t ∷ []) t.fill
+pub taken_last : (taken : List TakenFill) (t : TakenFill) → TakenIn (taken ++ t ∷ []) t.fill
 taken_last [] t = (0, t, refl, refl)
 taken_last (x ∷ taken) t = let (k, u, at, is) = taken_last taken t in (suc k, u, at, is)
 
 -- why a fill is passed stays so
-pub why_stays : (n : ℕ) (taken taken' : List Taken) (opened opened' : ℕ) (frames frames' : List Frame) (f : ℕ) → (TakenIn taken f → TakenIn taken' f) → opened ≤ opened'
+pub why_stays : (n : ℕ) (taken taken' : List TakenFill) (opened opened' : ℕ) (frames frames' : List Frame) (f : ℕ) → (TakenIn taken f → TakenIn taken' f) → opened ≤ opened'
     → (Passing frames opened → (opened < opened') ⊎ ((opened ≡ opened') × Passing frames' opened'))
     → WhyPassed n taken opened frames f
     → WhyPassed n taken' opened' frames' f

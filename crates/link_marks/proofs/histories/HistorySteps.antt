@@ -9,7 +9,7 @@ use Rattle.trace_model.proofs.histories.NextEvent.{writer_snoc, opened_stack, wi
 use Rattle.trace_model.specs.Links.{Link, header_link}
 use Rattle.trace_model.specs.Frames.{Kind, for_record, for_close, FrameState, waiting, reserved, left, Role, owner, helper, Phase, idle, looking, claiming, looking_next, marking, clearing, opening, releasing, wishing, Frame, pushed_frame, pushed_onto, pushed_frames}
 use Rattle.trace_model.specs.Window.{WindowEvent, opened_one, released_one, took_one, lost_one}
-use Rattle.trace_model.specs.Ring.{Taken, Reader, ReaderPhase, loading_link, loading_done, storing_link, swapping, Core, window_of}
+use Rattle.trace_model.specs.Ring.{TakenFill, Reader, ReaderPhase, loading_head, loading_done, storing_spare_link, swapping, Core, window_of}
 use Rattle.trace_model.specs.Steps.{Event, Answer, with_link, with_history_event, in_phase, closing_phase, after_leave, frames_after_leave, with_new_tail, after_begin, after_next, taken_fill}
 use Rattle.trace_model.proofs.steps.StepCases.{StepCases, BeginsAgain, ReserveStep, reserves, finds_nothing, is_crowded, is_worn, notes, LoadLinkStep, load_link_late, sees_free, sees_header, sees_update, ClaimHeadStep, claim_late, claims, claim_fails, LoadNextStep, load_next_late, sees_normal, sees_other, MarkHeadStep, mark_late, marks, mark_fails, ClearUpdateStep, clears, OpenFillStep, open_late, opens, ReleaseFillStep, releases, releases_last, LoadWishStep, grants, closes_more, goes_away, IdleStep, FrameStep, push_step, push_refused, close_step, close_refused, frame_step, frame_lacks, end_step, end_lacks, end_early, read_step, store_wish_step, LoadHeadStep, loads_header, loads_update, loads_owed, loads_passed, LoadDoneStep, finds_none, finds_closed, SwapHeadStep, swaps, swap_fails, ReadStep}
 use Rattle.trace_model.specs.Sublist.{IsPrefix}
@@ -18,7 +18,7 @@ use Rattle.link_marks.specs.KeptLinks.{spot, passed_spot, PhaseKept, ReaderKept,
 use Rattle.link_marks.specs.KeptStack.{MayBeIn, FramesAgree, StackKept}
 use Rattle.link_marks.specs.KeptHistory.{Passing, TakenIn, WhyPassed, HistoryKept}
 use Rattle.link_marks.proofs.links.FramePhases.{none_some, pair_is}
-use Rattle.link_marks.proofs.links.LinkFills.{header_inside, header_tells, fill_at}
+use Rattle.link_marks.proofs.links.LinkFills.{header_inside, header_reports, fill_at}
 use Rattle.link_marks.proofs.links.FrameChanges.{top_kept}
 use Rattle.link_marks.proofs.histories.Histories.{pushed_waiting, pushed_reserved, pushed_left, may_open, may_leave, stack_left, taken_more, taken_last, why_stays, passing_on, passing_left}
 
@@ -333,7 +333,7 @@ module _ (n start : ℕ) (c : Core) (k : LinksKept n c) (h : HistoryKept n start
   -- the reader goes on, and takes nothing
   reader_owed : (after : Core) (spare_link : Link) (reader : Reader) → reader.taken ≡ c.reader.taken → after ≡ record c { spare_link = spare_link; reader = reader } → Owed n start c after
   reader_owed after spare_link reader same is = subst (Owed n start c) (sym is) record {
-    kept = record { allowed = h.allowed; stack = h.stack; lost = λ f low high. subst (λ (taken : List Taken). WhyPassed n taken c.opened c.frames f) (sym same) (h.lost f low high) };
+    kept = record { allowed = h.allowed; stack = h.stack; lost = λ f low high. subst (λ (taken : List TakenFill). WhyPassed n taken c.opened c.frames f) (sym same) (h.lost f low high) };
     window = inl (refl, same);
   }
 
@@ -350,9 +350,9 @@ module _ (n start : ℕ) (c : Core) (k : LinksKept n c) (h : HistoryKept n start
   swap_head_owed : (page fill : ℕ) (answer : Answer) (after : Core) → fill < c.done → SwapHeadStep n c page fill answer after → Owed n start c after
   swap_head_owed page fill answer after closed (swaps at a is) =
       let (g, low_g, high_g, same, link) = fill_at n c k fill in
-      let told = header_tells n c.links c.order c.head c.frames g page fill link (same ∙ at) in
-      let here : fill ≡ c.head = told.0 ∙ told.1 in
-      let t : Taken = taken_fill c page fill in
+      let reported = header_reports n c.links c.order c.head c.frames g page fill link (same ∙ at) in
+      let here : fill ≡ c.head = reported.0 ∙ reported.1 in
+      let t : TakenFill = taken_fill c page fill in
       subst (Owed n start c) (sym is) record {
         kept = record {
           allowed = h.allowed;
@@ -366,9 +366,9 @@ module _ (n start : ℕ) (c : Core) (k : LinksKept n c) (h : HistoryKept n start
   swap_head_owed page fill answer after closed (swap_fails at a is) = reader_owed after c.spare_link _ refl is
 
   read_owed : (phase : ReaderPhase) (answer : Answer) (after : Core) → ReaderKept n c.links c.order c.spare_link c.head c.done c.reader.hint phase → ReadStep n c phase answer after → Owed n start c after
-  read_owed loading_link answer after facts step = load_head_owed answer after step
+  read_owed loading_head answer after facts step = load_head_owed answer after step
   read_owed (loading_done page fill) answer after facts step = load_done_owed page fill answer after step
-  read_owed (storing_link page fill) answer after facts step = reader_owed after _ _ refl step.after_is
+  read_owed (storing_spare_link page fill) answer after facts step = reader_owed after _ _ refl step.after_is
   read_owed (swapping page fill) answer after facts step = swap_head_owed page fill answer after facts.1 step
 
 -- ---- every step

@@ -3,8 +3,8 @@ use Rattle.std.proofs.Common.{◌≡◌, ◌≢◌, ℕ, ◌⊎◌, List, [], �
 use Rattle.trace_model.specs.History.{HistoryEvent, push, push_close, open_fill, reserve, leave, wished}
 use Rattle.trace_model.specs.Packing.{tail_of}
 use Rattle.trace_model.specs.Frames.{Kind, for_record, for_close, FrameState, waiting, reserved, left, number_of, Phase, idle, looking, claiming, looking_next, marking, clearing, opening, releasing, wishing, Role, owner, helper, noted_fill, owned_update, Frame, Refusal, too_deep, not_reserved, crowded, worn}
-use Rattle.trace_model.specs.Ring.{ReaderPhase, loading_link, loading_done, storing_link, swapping, Core}
-use Rattle.trace_model.specs.Steps.{Event, pushes, pushes_close, steps, ends, reads, wishes, Answer, going, reserved_as, gone, refused, MayOpen, IsGranted, with_new_tail, after_begin, begin_answer, leave_answer}
+use Rattle.trace_model.specs.Ring.{ReaderPhase, loading_head, loading_done, storing_spare_link, swapping, Core}
+use Rattle.trace_model.specs.Steps.{Event, pushes, pushes_close, steps, ends, reads, wishes, Answer, going, reserved_as, gone, refused, MayContinue, IsGranted, with_new_tail, after_begin, begin_answer, leave_answer}
 use Rattle.trace_model.proofs.steps.StepSound.{cases_of}
 use Rattle.trace_model.proofs.steps.StepCases.{StepCases, BeginsAgain, reserves, finds_nothing, is_crowded, is_worn, notes, IdleStep, load_link_late, sees_free, sees_header, sees_update, claim_late, claims, claim_fails, load_next_late, sees_normal, sees_other, mark_late, marks, mark_fails, clears, open_late, opens, releases, releases_last, grants, closes_more, goes_away, FrameStep, push_step, push_refused, close_step, close_refused, frame_step, frame_lacks, end_step, end_lacks, end_early, read_step, store_wish_step, loads_header, loads_update, loads_owed, loads_passed, finds_none, finds_closed, swaps, swap_fails, ReadStep}
 use Rattle.link_marks.specs.KeptStack.{MayBeIn}
@@ -41,8 +41,8 @@ owner_wants_on c phase noted owns (tail_is_empty at none) = none_some (sym (ap o
 owner_wants_on c phase noted owns (was_faster other is passed free) = none_some (sym free ∙ owns)
 
 module _ (n size : ℕ) (c : Core) (below : List Frame) (answer : Answer) (after : Core) where
-  abbrev Told : Kind → FrameState → Phase → Type 0
-  Told kind state phase = (history_events : List HistoryEvent) × (after.history ≡ c.history ++ history_events) × FrameAppends n c kind state phase below answer history_events
+  abbrev Reported : Kind → FrameState → Phase → Type 0
+  Reported kind state phase = (history_events : List HistoryEvent) × (after.history ≡ c.history ++ history_events) × FrameAppends n c kind state phase below answer history_events
 
   history_is : (next : Core) → after ≡ next → after.history ≡ next.history
   history_is next is = ap (λ (d : Core). d.history) is
@@ -51,14 +51,14 @@ module _ (n size : ℕ) (c : Core) (below : List Frame) (answer : Answer) (after
   nothing next is e = history_is next is ∙ e ∙ sym (append-nil c.history)
 
   -- it goes on, and appends nothing
-  stays : (kind : Kind) (state : FrameState) (phase : Phase) (next : Core) → MayBeIn kind state phase → phase ≢ idle → (IsOpening c phase → ⊥) → (HasWhatItWants c phase → ⊥) → (Grants n c phase → ⊥) → answer ≡ going → after ≡ next → next.history ≡ c.history → Told kind state phase
+  stays : (kind : Kind) (state : FrameState) (phase : Phase) (next : Core) → MayBeIn kind state phase → phase ≢ idle → (IsOpening c phase → ⊥) → (HasWhatItWants c phase → ⊥) → (Grants n c phase → ⊥) → answer ≡ going → after ≡ next → next.history ≡ c.history → Reported kind state phase
   stays (for_record moment len) waiting phase next may moves no_fill wants no_grant a is e = ([], nothing next is e, record_goes_on no_fill a refl)
   stays for_close waiting phase next may moves no_fill wants no_grant a is e = ([], nothing next is e, close_goes_on no_fill wants a refl)
   stays kind (reserved number) phase next may moves no_fill wants no_grant a is e = absurd (moves may.1)
   stays kind left phase next may moves no_fill wants no_grant a is e = ([], nothing next is e, left_stays no_fill no_grant (inl a) refl)
 
   -- another frame has begun the fill
-  late : (kind : Kind) (state : FrameState) (phase : Phase) (noted : ℕ) → MayBeIn kind state phase → noted_fill phase ≡ Some noted → owned_update phase ≡ None → BeginsAgain c (record { kind = kind; state = state; phase = phase }) below noted answer after → Told kind state phase
+  late : (kind : Kind) (state : FrameState) (phase : Phase) (noted : ℕ) → MayBeIn kind state phase → noted_fill phase ≡ Some noted → owned_update phase ≡ None → BeginsAgain c (record { kind = kind; state = state; phase = phase }) below noted answer after → Reported kind state phase
   late (for_record moment len) waiting phase noted may notes_it free step = ([], nothing _ step.after_is refl, record_goes_on (late_opens_none c phase noted notes_it step.passed) step.answer_is refl)
   late for_close waiting phase noted may notes_it free step = (leave None ∷ [], history_is _ step.after_is, close_leaves (was_faster noted notes_it step.passed free) step.answer_is refl)
   late kind (reserved number) phase noted may notes_it free step = absurd (none_some (sym (ap noted_fill may.1) ∙ notes_it))
@@ -67,44 +67,44 @@ module _ (n size : ℕ) (c : Core) (below : List Frame) (answer : Answer) (after
 
   -- it begins the fill
   begins : (kind : Kind) (state : FrameState) (noted page : ℕ) → MayBeIn kind state (opening noted page) → noted ≡ c.opened → answer ≡ begin_answer kind state below
-      → after ≡ after_begin kind state (with_new_tail c page) (record { kind = kind; state = state; phase = opening noted page }) below → Told kind state (opening noted page)
+      → after ≡ after_begin kind state (with_new_tail c page) (record { kind = kind; state = state; phase = opening noted page }) below → Reported kind state (opening noted page)
   begins (for_record moment len) waiting noted page may now a is = (open_fill ∷ [], history_is _ is, record_opens (page, ap (λ (f : ℕ). opening f page) now) a refl)
   begins for_close waiting noted page may now a is = (open_fill ∷ leave None ∷ [], history_is _ is ∙ append_assoc c.history (open_fill ∷ []) (leave None ∷ []), close_opens (page, ap (λ (f : ℕ). opening f page) now) a refl)
   begins kind (reserved number) noted page may now a is = absurd (none_some (sym (ap noted_fill may.1)))
   begins kind left noted page may now a is = (open_fill ∷ [], history_is _ is, left_opens (page, ap (λ (f : ℕ). opening f page) now) a refl)
 
   -- it rests
-  told_idle : (kind : Kind) (state : FrameState) → IdleStep n size c (record { kind = kind; state = state; phase = idle }) below state answer after → Told kind state idle
-  told_idle (for_record moment len) waiting (reserves m l r kind r_is fits a is) = (reserve ∷ [], history_is _ is, record_reserved a refl)
-  told_idle (for_record moment len) waiting (finds_nothing kind none a is) = absurd (cc)
-  told_idle (for_record moment len) waiting (is_crowded needs full a is) = (leave None ∷ [], history_is _ is, record_refused (inl a) refl)
-  told_idle (for_record moment len) waiting (is_worn needs room last a is) = (leave None ∷ [], history_is _ is, record_refused (inr a) refl)
-  told_idle (for_record moment len) waiting (notes needs room small a is) = ([], nothing _ is refl, record_goes_on (λ (page, at). cc) a refl)
-  told_idle for_close waiting (reserves m l r kind r_is fits a is) = absurd (cc)
-  told_idle for_close waiting (finds_nothing kind none a is) = (leave None ∷ [], history_is _ is, close_leaves (tail_is_empty refl none) a refl)
-  told_idle for_close waiting (is_crowded needs full a is) = (leave None ∷ [], history_is _ is, refused_close (inl a) refl)
-  told_idle for_close waiting (is_worn needs room last a is) = (leave None ∷ [], history_is _ is, refused_close (inr a) refl)
-  told_idle for_close waiting (notes needs room small a is) = ([], nothing _ is refl, close_goes_on (λ (page, at). cc) (needs_more needs) a refl)
+  reported_idle : (kind : Kind) (state : FrameState) → IdleStep n size c (record { kind = kind; state = state; phase = idle }) below state answer after → Reported kind state idle
+  reported_idle (for_record moment len) waiting (reserves m l r kind r_is fits a is) = (reserve ∷ [], history_is _ is, record_reserved a refl)
+  reported_idle (for_record moment len) waiting (finds_nothing kind none a is) = absurd (cc)
+  reported_idle (for_record moment len) waiting (is_crowded needs full a is) = (leave None ∷ [], history_is _ is, record_refused (inl a) refl)
+  reported_idle (for_record moment len) waiting (is_worn needs room last a is) = (leave None ∷ [], history_is _ is, record_refused (inr a) refl)
+  reported_idle (for_record moment len) waiting (notes needs room small a is) = ([], nothing _ is refl, record_goes_on (λ (page, at). cc) a refl)
+  reported_idle for_close waiting (reserves m l r kind r_is fits a is) = absurd (cc)
+  reported_idle for_close waiting (finds_nothing kind none a is) = (leave None ∷ [], history_is _ is, close_leaves (tail_is_empty refl none) a refl)
+  reported_idle for_close waiting (is_crowded needs full a is) = (leave None ∷ [], history_is _ is, refused_close (inl a) refl)
+  reported_idle for_close waiting (is_worn needs room last a is) = (leave None ∷ [], history_is _ is, refused_close (inr a) refl)
+  reported_idle for_close waiting (notes needs room small a is) = ([], nothing _ is refl, close_goes_on (λ (page, at). cc) (needs_more needs) a refl)
     where
       needs_more : (tail_of c.history ≢ []) → HasWhatItWants c idle → ⊥
       needs_more some (tail_is_empty at none) = some none
       needs_more some (was_faster noted is passed free) = none_some is
-  told_idle kind (reserved number) step = ([], nothing _ step.1 refl, (step.0, refl))
-  told_idle kind left step = absurd step
+  reported_idle kind (reserved number) step = ([], nothing _ step.1 refl, (step.0, refl))
+  reported_idle kind left step = absurd step
 
   -- it looks at a link, or tries to claim the head, for the fill that it noted
-  looks : (kind : Kind) (state : FrameState) (noted : ℕ) (next : Core) → MayBeIn kind state (looking noted) → noted ≡ c.opened → answer ≡ going → after ≡ next → next.history ≡ c.history → Told kind state (looking noted)
+  looks : (kind : Kind) (state : FrameState) (noted : ℕ) (next : Core) → MayBeIn kind state (looking noted) → noted ≡ c.opened → answer ≡ going → after ≡ next → next.history ≡ c.history → Reported kind state (looking noted)
   looks kind state noted next may now a is e = stays kind state (looking noted) next may (λ z. cc) (λ (p, z). cc) (still_wants c (looking noted) noted refl now) (λ (z, g). cc) a is e
 
-  tries : (kind : Kind) (state : FrameState) (noted page : ℕ) (next : Core) → MayBeIn kind state (claiming noted page) → noted ≡ c.opened → answer ≡ going → after ≡ next → next.history ≡ c.history → Told kind state (claiming noted page)
+  tries : (kind : Kind) (state : FrameState) (noted page : ℕ) (next : Core) → MayBeIn kind state (claiming noted page) → noted ≡ c.opened → answer ≡ going → after ≡ next → next.history ≡ c.history → Reported kind state (claiming noted page)
   tries kind state noted page next may now a is e = stays kind state (claiming noted page) next may (λ z. cc) (λ (p, z). cc) (still_wants c (claiming noted page) noted refl now) (λ (z, g). cc) a is e
 
   -- it looks at the next link, or tries to set it
-  looks_next : (kind : Kind) (state : FrameState) (role : Role) (noted page : ℕ) (next : Core) → MayBeIn kind state (looking_next role noted page) → MayOpen role noted c.opened → answer ≡ going → after ≡ next → next.history ≡ c.history → Told kind state (looking_next role noted page)
+  looks_next : (kind : Kind) (state : FrameState) (role : Role) (noted page : ℕ) (next : Core) → MayBeIn kind state (looking_next role noted page) → MayContinue role noted c.opened → answer ≡ going → after ≡ next → next.history ≡ c.history → Reported kind state (looking_next role noted page)
   looks_next kind state owner noted page next may on a is e = stays kind state (looking_next owner noted page) next may (λ z. cc) (λ (p, z). cc) (owner_wants_on c (looking_next owner noted page) noted refl) (λ (z, g). cc) a is e
   looks_next kind state helper noted page next may on a is e = stays kind state (looking_next helper noted page) next may (λ z. cc) (λ (p, z). cc) (still_wants c (looking_next helper noted page) noted refl on) (λ (z, g). cc) a is e
 
-  moves_on : (kind : Kind) (state : FrameState) (role : Role) (noted page second : ℕ) (next : Core) → MayBeIn kind state (marking role noted page second) → MayOpen role noted c.opened → answer ≡ going → after ≡ next → next.history ≡ c.history → Told kind state (marking role noted page second)
+  moves_on : (kind : Kind) (state : FrameState) (role : Role) (noted page second : ℕ) (next : Core) → MayBeIn kind state (marking role noted page second) → MayContinue role noted c.opened → answer ≡ going → after ≡ next → next.history ≡ c.history → Reported kind state (marking role noted page second)
   moves_on kind state owner noted page second next may on a is e = stays kind state (marking owner noted page second) next may (λ z. cc) (λ (p, z). cc) (owner_wants_on c (marking owner noted page second) noted refl) (λ (z, g). cc) a is e
   moves_on kind state helper noted page second next may on a is e = stays kind state (marking helper noted page second) next may (λ z. cc) (λ (p, z). cc) (still_wants c (marking helper noted page second) noted refl on) (λ (z, g). cc) a is e
 
@@ -113,43 +113,43 @@ module _ (n size : ℕ) (c : Core) (below : List Frame) (answer : Answer) (after
   no_opening phase (inl at) (page, opening_at) = none_some (sym (ap noted_fill at) ∙ ap noted_fill opening_at)
   no_opening phase (inr at) (page, opening_at) = none_some (sym (ap noted_fill at) ∙ ap noted_fill opening_at)
 
-  closes : (kind : Kind) (state : FrameState) (phase : Phase) (next : Core) → MayBeIn kind state phase → (phase ≡ releasing) ⊎ (phase ≡ wishing) → (Grants n c phase → ⊥) → (answer ≡ going) ⊎ (answer ≡ gone) → after ≡ next → next.history ≡ c.history → Told kind state phase
+  closes : (kind : Kind) (state : FrameState) (phase : Phase) (next : Core) → MayBeIn kind state phase → (phase ≡ releasing) ⊎ (phase ≡ wishing) → (Grants n c phase → ⊥) → (answer ≡ going) ⊎ (answer ≡ gone) → after ≡ next → next.history ≡ c.history → Reported kind state phase
   closes kind waiting phase next may (inl at) no_grant a is e = absurd (may.0 at)
   closes kind waiting phase next may (inr at) no_grant a is e = absurd (may.1 at)
   closes kind (reserved number) phase next may (inl at) no_grant a is e = absurd (let z : releasing ≡ idle = sym at ∙ may.1 in cc)
   closes kind (reserved number) phase next may (inr at) no_grant a is e = absurd (let z : wishing ≡ idle = sym at ∙ may.1 in cc)
   closes kind left phase next may at no_grant a is e = ([], nothing next is e, left_stays (no_opening phase at) no_grant a refl)
 
-  finds_wish : (kind : Kind) (state : FrameState) (next : Core) → MayBeIn kind state wishing → IsGranted n c → answer ≡ going → after ≡ next → next.history ≡ c.history ++ wished ∷ [] → Told kind state wishing
+  finds_wish : (kind : Kind) (state : FrameState) (next : Core) → MayBeIn kind state wishing → IsGranted n c → answer ≡ going → after ≡ next → next.history ≡ c.history ++ wished ∷ [] → Reported kind state wishing
   finds_wish kind waiting next may granted a is e = absurd (may.1 refl)
   finds_wish kind (reserved number) next may granted a is e = absurd (let z : wishing ≡ idle = may.1 in cc)
   finds_wish kind left next may granted a is e = (wished ∷ [], history_is next is ∙ e, left_grants (refl, granted) a refl)
 
   -- in its phase
-  told_frame : (kind : Kind) (state : FrameState) (phase : Phase) → MayBeIn kind state phase → FrameStep n size c (record { kind = kind; state = state; phase = phase }) below phase answer after → Told kind state phase
-  told_frame kind state idle may step = told_idle kind state step
-  told_frame kind state (looking noted) may (load_link_late step) = late kind state (looking noted) noted may refl refl step
-  told_frame kind state (looking noted) may (sees_free page now at a is) = looks kind state noted _ may now a is refl
-  told_frame kind state (looking noted) may (sees_header page lost now sum at a is) = looks kind state noted _ may now a is refl
-  told_frame kind state (looking noted) may (sees_update page lost now sum at a is) = looks kind state noted _ may now a is refl
-  told_frame kind state (claiming noted page) may (claim_late step) = late kind state (claiming noted page) noted may refl refl step
-  told_frame kind state (claiming noted page) may (claims lost now sum at a is) = tries kind state noted page _ may now a is refl
-  told_frame kind state (claiming noted page) may (claim_fails now none a is) = tries kind state noted page _ may now a is refl
-  told_frame kind state (looking_next role noted page) may (load_next_late helps step) = late kind state (looking_next role noted page) noted may refl (ap (λ (r : Role). owned_update (looking_next r noted page)) helps) step
-  told_frame kind state (looking_next role noted page) may (sees_normal lost next on sum at a is) = looks_next kind state role noted page _ may on a is refl
-  told_frame kind state (looking_next role noted page) may (sees_other lost on sum none a is) = looks_next kind state role noted page _ may on a is refl
-  told_frame kind state (marking role noted page next) may (mark_late helps step) = late kind state (marking role noted page next) noted may refl (ap (λ (r : Role). owned_update (marking r noted page next)) helps) step
-  told_frame kind state (marking role noted page next) may (marks lost on sum at a is) = moves_on kind state role noted page next _ may on a is refl
-  told_frame kind state (marking role noted page next) may (mark_fails lost on sum differ a is) = moves_on kind state role noted page next _ may on a is refl
-  told_frame kind state (clearing noted page) may (clears lost sum at a is) =
+  reported_frame : (kind : Kind) (state : FrameState) (phase : Phase) → MayBeIn kind state phase → FrameStep n size c (record { kind = kind; state = state; phase = phase }) below phase answer after → Reported kind state phase
+  reported_frame kind state idle may step = reported_idle kind state step
+  reported_frame kind state (looking noted) may (load_link_late step) = late kind state (looking noted) noted may refl refl step
+  reported_frame kind state (looking noted) may (sees_free page now at a is) = looks kind state noted _ may now a is refl
+  reported_frame kind state (looking noted) may (sees_header page lost now sum at a is) = looks kind state noted _ may now a is refl
+  reported_frame kind state (looking noted) may (sees_update page lost now sum at a is) = looks kind state noted _ may now a is refl
+  reported_frame kind state (claiming noted page) may (claim_late step) = late kind state (claiming noted page) noted may refl refl step
+  reported_frame kind state (claiming noted page) may (claims lost now sum at a is) = tries kind state noted page _ may now a is refl
+  reported_frame kind state (claiming noted page) may (claim_fails now none a is) = tries kind state noted page _ may now a is refl
+  reported_frame kind state (looking_next role noted page) may (load_next_late helps step) = late kind state (looking_next role noted page) noted may refl (ap (λ (r : Role). owned_update (looking_next r noted page)) helps) step
+  reported_frame kind state (looking_next role noted page) may (sees_normal lost next on sum at a is) = looks_next kind state role noted page _ may on a is refl
+  reported_frame kind state (looking_next role noted page) may (sees_other lost on sum none a is) = looks_next kind state role noted page _ may on a is refl
+  reported_frame kind state (marking role noted page next) may (mark_late helps step) = late kind state (marking role noted page next) noted may refl (ap (λ (r : Role). owned_update (marking r noted page next)) helps) step
+  reported_frame kind state (marking role noted page next) may (marks lost on sum at a is) = moves_on kind state role noted page next _ may on a is refl
+  reported_frame kind state (marking role noted page next) may (mark_fails lost on sum differ a is) = moves_on kind state role noted page next _ may on a is refl
+  reported_frame kind state (clearing noted page) may (clears lost sum at a is) =
       stays kind state (clearing noted page) _ may (λ e. cc) (λ (p, e). cc) (owner_wants_on c (clearing noted page) noted refl) (λ (e, g). cc) a is refl
-  told_frame kind state (opening noted page) may (open_late step) = late kind state (opening noted page) noted may refl refl step
-  told_frame kind state (opening noted page) may (opens now a is) = begins kind state noted page may now a is
-  told_frame kind state releasing may (releases alone more a is) = closes kind state releasing _ may (inl refl) (λ (e, g). cc) (inl a) is refl
-  told_frame kind state releasing may (releases_last alone last a is) = closes kind state releasing _ may (inl refl) (λ (e, g). cc) (inl a) is refl
-  told_frame kind state wishing may (grants alone granted a is) = finds_wish kind state _ may granted a is refl
-  told_frame kind state wishing may (closes_more alone denied more a is) = closes kind state wishing _ may (inr refl) (λ (e, g). denied g) (inl a) is refl
-  told_frame kind state wishing may (goes_away alone denied none a is) = closes kind state wishing _ may (inr refl) (λ (e, g). denied g) (inr a) is refl
+  reported_frame kind state (opening noted page) may (open_late step) = late kind state (opening noted page) noted may refl refl step
+  reported_frame kind state (opening noted page) may (opens now a is) = begins kind state noted page may now a is
+  reported_frame kind state releasing may (releases alone more a is) = closes kind state releasing _ may (inl refl) (λ (e, g). cc) (inl a) is refl
+  reported_frame kind state releasing may (releases_last alone last a is) = closes kind state releasing _ may (inl refl) (λ (e, g). cc) (inl a) is refl
+  reported_frame kind state wishing may (grants alone granted a is) = finds_wish kind state _ may granted a is refl
+  reported_frame kind state wishing may (closes_more alone denied more a is) = closes kind state wishing _ may (inr refl) (λ (e, g). denied g) (inl a) is refl
+  reported_frame kind state wishing may (goes_away alone denied none a is) = closes kind state wishing _ may (inr refl) (λ (e, g). denied g) (inr a) is refl
 
 -- ---- each event
 
@@ -158,19 +158,19 @@ read_same : (n : ℕ) (c after : Core) (phase : ReaderPhase) (answer : Answer) �
 read_same n c after phase answer step = by phase step ∙ sym (append-nil c.history)
   where
     by : (phase : ReaderPhase) → ReadStep n c phase answer after → after.history ≡ c.history
-    by loading_link (loads_header page fill at a is) = ap (λ (d : Core). d.history) is
-    by loading_link (loads_update page lost at a is) = ap (λ (d : Core). d.history) is
-    by loading_link (loads_owed page at a is) = ap (λ (d : Core). d.history) is
-    by loading_link (loads_passed page fill least at more sum a is) = ap (λ (d : Core). d.history) is
+    by loading_head (loads_header page fill at a is) = ap (λ (d : Core). d.history) is
+    by loading_head (loads_update page lost at a is) = ap (λ (d : Core). d.history) is
+    by loading_head (loads_owed page at a is) = ap (λ (d : Core). d.history) is
+    by loading_head (loads_passed page fill least at more sum a is) = ap (λ (d : Core). d.history) is
     by (loading_done page fill) (finds_none le a is) = ap (λ (d : Core). d.history) is
     by (loading_done page fill) (finds_closed below a is) = ap (λ (d : Core). d.history) is
-    by (storing_link page fill) stores = ap (λ (d : Core). d.history) stores.after_is
+    by (storing_spare_link page fill) stores = ap (λ (d : Core). d.history) stores.after_is
     by (swapping page fill) (swaps at a is) = ap (λ (d : Core). d.history) is
     by (swapping page fill) (swap_fails at a is) = ap (λ (d : Core). d.history) is
 
 -- the end of the frame on top
-told_end : (payload : List ℕ) (frame : Frame) (below : List Frame) (answer : Answer) → number_of frame.state ≡ None → answer ≡ refused not_reserved → EndAppends payload frame.state below answer []
-told_end payload frame below answer none a = by frame.state none
+reported_end : (payload : List ℕ) (frame : Frame) (below : List Frame) (answer : Answer) → number_of frame.state ≡ None → answer ≡ refused not_reserved → EndAppends payload frame.state below answer []
+reported_end payload frame below answer none a = by frame.state none
   where
     by : (state : FrameState) → number_of state ≡ None → EndAppends payload state below answer []
     by waiting e = (a, refl)
@@ -183,7 +183,7 @@ case_appends n size start c event answer after kept (push_refused moment len why
 case_appends n size start c event answer after kept (close_step e few a is) = (push_close ∷ [], ap (λ (d : Core). d.history) is, subst (λ (x : Event). Appends n c x answer (push_close ∷ [])) (sym e) (is_pushed a refl))
 case_appends n size start c event answer after kept (close_refused e many a is) = ([], same c after is, subst (λ (x : Event). Appends n c x answer []) (sym e) (isnt_pushed too_deep a refl))
 case_appends n size start c event answer after kept (frame_step frame below e top step) =
-    let (history_events, is, by) = told_frame n size c below answer after frame.kind frame.state frame.phase (top_agrees c frame below kept.stack top).0 step in
+    let (history_events, is, by) = reported_frame n size c below answer after frame.kind frame.state frame.phase (top_agrees c frame below kept.stack top).0 step in
     (history_events, is, subst (λ (x : Event). Appends n c x answer history_events) (sym e) (subst (λ (fs : List Frame). TopAppends n c fs answer history_events) (sym top) by))
 case_appends n size start c event answer after kept (frame_lacks e none a is) =
     ([], same c after is, subst (λ (x : Event). Appends n c x answer []) (sym e) (subst (λ (fs : List Frame). TopAppends n c fs answer []) (sym none) (a, refl)))
@@ -196,7 +196,7 @@ case_appends n size start c event answer after kept (end_step payload frame belo
 case_appends n size start c event answer after kept (end_lacks payload e none a is) =
     ([], same c after is, subst (λ (x : Event). Appends n c x answer []) (sym e) (subst (λ (fs : List Frame). TopEndAppends payload fs answer []) (sym none) (a, refl)))
 case_appends n size start c event answer after kept (end_early payload frame below e top none a is) =
-    ([], same c after is, subst (λ (x : Event). Appends n c x answer []) (sym e) (subst (λ (fs : List Frame). TopEndAppends payload fs answer []) (sym top) (told_end payload frame below answer none a)))
+    ([], same c after is, subst (λ (x : Event). Appends n c x answer []) (sym e) (subst (λ (fs : List Frame). TopEndAppends payload fs answer []) (sym top) (reported_end payload frame below answer none a)))
 case_appends n size start c event answer after kept (read_step e step) = ([], read_same n c after c.reader.phase answer step, subst (λ (x : Event). Appends n c x answer []) (sym e) refl)
 case_appends n size start c event answer after kept (store_wish_step e a is) = ([], ap (λ (d : Core). d.history) is ∙ sym (append-nil c.history), subst (λ (x : Event). Appends n c x answer []) (sym e) refl)
 

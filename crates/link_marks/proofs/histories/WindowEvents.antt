@@ -1,12 +1,12 @@
 -- What one step makes of a ring's window is one event.
 use Rattle.std.proofs.Common.{◌≡◌, ℕ, List, [], ◌∷◌, ◌++◌, length, refl, sym, ap, ◌∙◌, arith, length-append}
 use Rattle.trace_model.specs.Window.{Window, WindowEvent, opened_one, released_one, took_one, lost_one, window_after}
-use Rattle.trace_model.specs.Ring.{Taken, Reader, Core, window_of}
+use Rattle.trace_model.specs.Ring.{TakenFill, Reader, Core, window_of}
 use Rattle.link_marks.specs.WindowLaws.{MovesWindow}
 
 -- a list isn't longer than itself
-pushed : (xs ys : List Taken) (t : Taken) → ys ≡ xs ++ t ∷ [] → ys ≡ xs → ⊥
-pushed xs ys t more same = let long = ap (length {A = Taken}) more in let short = ap (length {A = Taken}) same in omega (arith, length-append xs (t ∷ []))
+pushed : (xs ys : List TakenFill) (t : TakenFill) → ys ≡ xs ++ t ∷ [] → ys ≡ xs → ⊥
+pushed xs ys t more same = let long = ap (length {A = TakenFill}) more in let short = ap (length {A = TakenFill}) same in omega (arith, length-append xs (t ∷ []))
 
 heads : (w v x : Window) → x ≡ w → x ≡ v → w.head ≡ v.head
 heads w v x a b = ap (λ (y : Window). y.head) (sym a ∙ b)

@@ -5,8 +5,8 @@ use mathlib.Core.Logic.{dite}
 use native.Mathlib.Decide.{ℕ_discrete}
 use Rattle.trace_model.specs.History.{HistoryEvent, push, push_close, open_fill, reserve, leave, wished}
 use Rattle.trace_model.specs.Window.{Window, released_one, took_one, lost_one, window_after, RingEvent, acts, closes, takes, loses, history_events_of, window_event_of, window_behind, WindowRunFrom}
-use Rattle.trace_model.specs.Ring.{Taken}
-use Rattle.link_marks.specs.ToldRuns.{fills_taken, fills_lost, numbers_of}
+use Rattle.trace_model.specs.Ring.{TakenFill}
+use Rattle.link_marks.specs.RunsAsEvents.{fills_taken, fills_lost, numbers_of}
 
 -- ---- the counts
 
@@ -130,6 +130,6 @@ taken-append n history w between (closes ∷ events) more run = taken-append n h
 taken-append n history w between (takes ∷ events) more run = ap (λ (l : List ℕ). w.head ∷ l) (taken-append n history (window_after w took_one) between events more run.1)
 taken-append n history w between (loses ∷ events) more run = taken-append n history (window_after w lost_one) between events more run.1
 
-pub numbers-push : (taken : List Taken) (t : Taken) → numbers_of (taken ++ t ∷ []) ≡ numbers_of taken ++ t.fill ∷ []
+pub numbers-push : (taken : List TakenFill) (t : TakenFill) → numbers_of (taken ++ t ∷ []) ≡ numbers_of taken ++ t.fill ∷ []
 numbers-push [] t = refl
 numbers-push (x ∷ taken) t = ap (λ (l : List ℕ). x.fill ∷ l) (numbers-push taken t)

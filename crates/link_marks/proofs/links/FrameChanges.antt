@@ -7,17 +7,17 @@ use Rattle.trace_model.specs.Links.{Link}
 use Rattle.trace_model.specs.Frames.{Kind, for_record, for_close, FrameState, waiting, reserved, left, Phase, idle, releasing, wishing, Frame, owned_update}
 use Rattle.trace_model.specs.Ring.{PageRecords, Core}
 use Rattle.trace_model.specs.Steps.{after_leave, after_begin, closing_phase, held_with_payload, own_number}
-use Rattle.link_marks.specs.KeptLinks.{Stands, MoversDiffer, PhaseKept, FramesKept, LinkKept, is_normal, is_header, is_update, LinksKept}
+use Rattle.link_marks.specs.KeptLinks.{HasMover, MoversDiffer, PhaseKept, FramesKept, LinkKept, is_normal, is_header, is_update, LinksKept}
 use Rattle.link_marks.proofs.links.FramePhases.{none_some, knows_idle, knows_releasing, knows_wishing}
 
-pub link_stays : (n : ℕ) (links : List Link) (order : List ℕ) (head : ℕ) (frames frames' : List Frame) (f : ℕ) → ((g : ℕ) → Stands frames g → Stands frames' g) → LinkKept n links order head frames f → LinkKept n links order head frames' f
+pub link_stays : (n : ℕ) (links : List Link) (order : List ℕ) (head : ℕ) (frames frames' : List Frame) (f : ℕ) → ((g : ℕ) → HasMover frames g → HasMover frames' g) → LinkKept n links order head frames f → LinkKept n links order head frames' f
 link_stays n links order head frames frames' f stays (is_normal e owed) = is_normal e (λ at. let (lost, is, st) = owed at in (lost, is, stays (lost + n) st))
 link_stays n links order head frames frames' f stays (is_header e here) = is_header e here
 link_stays n links order head frames frames' f stays (is_update lost sum e st) = is_update lost sum e (stays f st)
 
 -- other frames, which own the same UPDATEs
 pub restacked : (n : ℕ) (c : Core) (frames : List Frame) (held : List PageRecords) (history : List HistoryEvent) → LinksKept n c → FramesKept n c.links c.order c.head c.done c.opened frames → MoversDiffer frames
-    → ((f : ℕ) → Stands c.frames f → Stands frames f)
+    → ((f : ℕ) → HasMover c.frames f → HasMover frames f)
     → LinksKept n (record c { frames = frames; held = held; history = history })
 restacked n c frames held history k kept differ stays =
     assumption ((λ (f : ℕ) (low : c.head ≤ f) (high : f < c.head + n). link_stays n c.links c.order c.head c.frames frames f stays (k.each f low high)), kept, differ, k)
@@ -29,14 +29,14 @@ module _ (n : ℕ) (c : Core) (frame : Frame) (below : List Frame) (k : LinksKep
   pub below_kept : FramesKept n c.links c.order c.head c.done c.opened below
   below_kept = (subst (FramesKept n c.links c.order c.head c.done c.opened) top k.frames).1
 
-  pub top_alone : (f : ℕ) → owned_update frame.phase ≡ Some f → Stands below f → ⊥
+  pub top_alone : (f : ℕ) → owned_update frame.phase ≡ Some f → HasMover below f → ⊥
   top_alone = (subst MoversDiffer top k.movers).0
 
   pub below_differ : MoversDiffer below
   below_differ = (subst MoversDiffer top k.movers).1
 
-  pub stands_top : (f : ℕ) → Stands c.frames f → (owned_update frame.phase ≡ Some f) ⊎ Stands below f
-  stands_top f st = subst (λ (fs : List Frame). Stands fs f) top st
+  pub stands_top : (f : ℕ) → HasMover c.frames f → (owned_update frame.phase ≡ Some f) ⊎ HasMover below f
+  stands_top f st = subst (λ (fs : List Frame). HasMover fs f) top st
 
   -- the frame on top goes on, with the UPDATE that it had
   pub rephased : (next : Frame) (held : List PageRecords) (history : List HistoryEvent) → PhaseKept n c.links c.order c.head c.done c.opened next.phase → owned_update next.phase ≡ owned_update frame.phase

@@ -7,8 +7,8 @@ use native.Mathlib.Decide.{ℕ_discrete}
 use Rattle.trace_model.specs.declared.limits.TheConstants.{LINK_FILLS}
 use Rattle.trace_model.specs.Links.{normal, header, update, Link, normal_link, header_link, update_link}
 use Rattle.trace_model.specs.Frames.{Role, owner, helper, Phase, idle, looking, claiming, looking_next, marking, clearing, opening, releasing, wishing, Frame, noted_fill, owned_update}
-use Rattle.trace_model.specs.Ring.{link_into, links_with, page_at, ReaderPhase, loading_link, loading_done, storing_link, swapping}
-use Rattle.link_marks.specs.KeptLinks.{Spot, spot, Stands, HasSeen, ReaderKept, PhaseKept, FramesKept, passed_spot, marking_spot, clearing_fill}
+use Rattle.trace_model.specs.Ring.{link_into, links_with, page_at, ReaderPhase, loading_head, loading_done, storing_spare_link, swapping}
+use Rattle.link_marks.specs.KeptLinks.{Spot, spot, HasMover, HasSeen, ReaderKept, PhaseKept, FramesKept, passed_spot, marking_spot, clearing_fill}
 use Rattle.link_marks.proofs.links.Positions.{link_here}
 
 -- ---- constructors differ
@@ -204,7 +204,7 @@ map_frames n links links' order order' head head' done done' opened opened' (fra
 
 -- the same, if none of the frames has set the UPDATE at the position of fill f
 pub map_others : (n : ℕ) (links links' : List Link) (order order' : List ℕ) (head head' done done' opened opened' f : ℕ) (frames : List Frame)
-    → (Stands frames f → ⊥)
+    → (HasMover frames f → ⊥)
     → ((phase : Phase) → (owned_update phase ≡ Some f → ⊥) → PhaseKept n links order head done opened phase → PhaseKept n links' order' head' done' opened' phase)
     → FramesKept n links order head done opened frames
     → FramesKept n links' order' head' done' opened' frames
@@ -213,7 +213,7 @@ map_others n links links' order order' head head' done done' opened opened' f (f
     (step frame.phase (λ is. none (inl is)) k.0, map_others n links links' order order' head head' done done' opened opened' f below (λ st. none (inr st)) step k.1)
 
 -- an UPDATE that is set is one of the frames' own
-pub stands_owned : (n : ℕ) (links : List Link) (order : List ℕ) (head done opened : ℕ) (frames : List Frame) (f : ℕ) → FramesKept n links order head done opened frames → Stands frames f → Owned n links order head done f
+pub stands_owned : (n : ℕ) (links : List Link) (order : List ℕ) (head done opened : ℕ) (frames : List Frame) (f : ℕ) → FramesKept n links order head done opened frames → HasMover frames f → Owned n links order head done f
 stands_owned n links order head done opened [] f k st = absurd st
 stands_owned n links order head done opened (frame ∷ below) f k (inl is) = k.0.moves f is
 stands_owned n links order head done opened (frame ∷ below) f k (inr st) = stands_owned n links order head done opened below f k.1 st
@@ -223,7 +223,7 @@ pub map_reader : (n : ℕ) (links links' : List Link) (order : List ℕ) (spare_
     → ((page fill : ℕ) → HasSeen n links head hint page fill → HasSeen n links' head' hint page fill)
     → ReaderKept n links order spare_link head done hint phase
     → ReaderKept n links' order spare_link head' done' hint phase
-map_reader n links links' order spare_link head head' done done' hint loading_link le step k = tt
+map_reader n links links' order spare_link head head' done done' hint loading_head le step k = tt
 map_reader n links links' order spare_link head head' done done' hint (loading_done page fill) le step k = step page fill k
-map_reader n links links' order spare_link head head' done done' hint (storing_link page fill) le step k = (step page fill k.0, let below = k.1 in omega arith)
+map_reader n links links' order spare_link head head' done done' hint (storing_spare_link page fill) le step k = (step page fill k.0, let below = k.1 in omega arith)
 map_reader n links links' order spare_link head head' done done' hint (swapping page fill) le step k = (step page fill k.0, (let below = k.1 in omega arith), k.2)

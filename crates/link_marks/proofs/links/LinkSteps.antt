@@ -6,7 +6,7 @@ use Rattle.trace_model.specs.Frames.{Kind, for_record, for_close, FrameState, wa
 use Rattle.trace_model.specs.Ring.{Core, links_with}
 use Rattle.trace_model.specs.Steps.{Event, Answer, with_link, in_phase, after_leave, with_new_tail, after_next}
 use Rattle.trace_model.proofs.steps.StepCases.{StepCases, BeginsAgain, ReserveStep, reserves, finds_nothing, is_crowded, is_worn, notes, LoadLinkStep, load_link_late, sees_free, sees_header, sees_update, ClaimHeadStep, claim_late, claims, claim_fails, LoadNextStep, load_next_late, sees_normal, sees_other, MarkHeadStep, mark_late, marks, mark_fails, ClearUpdateStep, clears, OpenFillStep, open_late, opens, ReleaseFillStep, releases, releases_last, LoadWishStep, grants, closes_more, goes_away, IdleStep, FrameStep, push_step, push_refused, close_step, close_refused, frame_step, frame_lacks, end_step, end_lacks, end_early, read_step, store_wish_step}
-use Rattle.link_marks.specs.KeptLinks.{Stands, PhaseKept, FramesKept, LinksKept}
+use Rattle.link_marks.specs.KeptLinks.{HasMover, PhaseKept, FramesKept, LinksKept}
 use Rattle.link_marks.specs.KeptStack.{MayBeIn, FramesAgree, StackKept}
 use Rattle.link_marks.proofs.links.Positions.{link_here}
 use Rattle.link_marks.proofs.links.FramePhases.{none_some, normal_ne_header, Noted, Passed, IsSet, knows_idle, knows_looking, knows_claiming, knows_looking_next, knows_marking, knows_clearing, knows_opening, knows_releasing, knows_wishing}
@@ -123,8 +123,8 @@ module _ (n size : ℕ) (c : Core) (frame : Frame) (below : List Frame) (k : Lin
       subst (LinksKept n) (sym is) (after_begin_kept n (with_new_tail c page) frame.kind frame.state frame below (begun_kept n c page k (omega arith) (omega arith)) top (ap owned_update same))
 
   -- one that closes fills owns no UPDATE, and is alone
-  stands_none : below ≡ [] → frame.phase ≡ releasing → (f : ℕ) → Stands c.frames f → ⊥
-  stands_none alone same f st = ⊎_elim (λ e. none_some (sym (ap owned_update same) ∙ e)) (λ b. subst (λ (fs : List Frame). Stands fs f) alone b) (stands_top n c frame below k top f st)
+  stands_none : below ≡ [] → frame.phase ≡ releasing → (f : ℕ) → HasMover c.frames f → ⊥
+  stands_none alone same f st = ⊎_elim (λ e. none_some (sym (ap owned_update same) ∙ e)) (λ b. subst (λ (fs : List Frame). HasMover fs f) alone b) (stands_top n c frame below k top f st)
 
   release_fill_kept : (answer : Answer) (after : Core) → frame.phase ≡ releasing → ReleaseFillStep c frame below answer after → LinksKept n after
   release_fill_kept answer after same (releases alone more a is) =

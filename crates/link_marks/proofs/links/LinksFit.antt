@@ -31,5 +31,5 @@ module _ (n : ℕ) (c : Core) (k : LinksKept n c) (pages : n < LINK_PAGES) where
       subst (λ (j : ℕ). FitsWord (get_or c.links j (normal_link 0 0))) (mod-eq_of_lt (let low : i < n = omega arith in low)) (link_fits i))
 
 pub links_fit_words : LinksFitWords
-links_fit_words n size start c r pages = let told = r.links.spare_fits in
-    (links_fit n c r.links pages, record { page_fits = (let low = told.0 in omega arith); fill_fits = told.1 })
+links_fit_words n size start c r pages = let reported = r.links.spare_fits in
+    (links_fit n c r.links pages, record { page_fits = (let low = reported.0 in omega arith); fill_fits = reported.1 })

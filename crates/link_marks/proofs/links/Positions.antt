@@ -35,8 +35,8 @@ apart h n f g lf hf lg hg ne e = ne (one_position h n f g lf hf lg hg e)
 
 -- ---- links
 
-pub link_turn : (n : ℕ) (links : List Link) (f : ℕ) → link_into n links (f + n) ≡ link_into n links f
-link_turn n links f = ap (λ (k : ℕ). get_or links k (normal_link 0 0)) (add-mod_right f n)
+pub link_round : (n : ℕ) (links : List Link) (f : ℕ) → link_into n links (f + n) ≡ link_into n links f
+link_round n links f = ap (λ (k : ℕ). get_or links k (normal_link 0 0)) (add-mod_right f n)
 
 pub page_turn : (n : ℕ) (order : List ℕ) (f : ℕ) → page_at n order (f + n) ≡ page_at n order f
 page_turn n order f = ap (λ (k : ℕ). get_or order k 0) (add-mod_right f n)

@@ -5,13 +5,13 @@ use mathlib.Core.Logic.{dite}
 use native.Mathlib.Decide.{ℕ_discrete}
 use Rattle.trace_model.specs.Links.{Link, normal_link, header_link, update_link}
 use Rattle.trace_model.specs.Frames.{Frame, Phase}
-use Rattle.trace_model.specs.Ring.{ReaderPhase, loading_link, loading_done, storing_link, swapping, Reader, Core, link_into, links_with, page_at, AreApart}
+use Rattle.trace_model.specs.Ring.{ReaderPhase, loading_head, loading_done, storing_spare_link, swapping, Reader, Core, link_into, links_with, page_at, AreApart}
 use Rattle.trace_model.specs.Steps.{Answer, reader_at, reader_saw, with_wish, next_header, after_swap}
 use Rattle.trace_model.proofs.steps.StepCases.{LoadHeadStep, loads_header, loads_update, loads_owed, loads_passed, LoadDoneStep, finds_none, finds_closed, StoreSpareLinkStep, SwapHeadStep, swaps, swap_fails, ReadStep}
 use Rattle.link_marks.specs.KeptLinks.{PhaseKept, LinkKept, is_normal, is_header, is_update, HasSeen, ReaderKept, FitsRing, LinksKept}
-use Rattle.link_marks.proofs.links.Positions.{link_here, link_else, link_turn, page_turn, page_here, page_else}
+use Rattle.link_marks.proofs.links.Positions.{link_here, link_else, link_round, page_turn, page_here, page_else}
 use Rattle.link_marks.proofs.links.FramePhases.{normal_ne_update, normal_ne_header, header_ne_update, relink_phase, map_frames}
-use Rattle.link_marks.proofs.links.LinkFills.{normal_tells, header_tells, update_tells, owned_by, fill_at, behind_closed}
+use Rattle.link_marks.proofs.links.LinkFills.{normal_reports, header_reports, update_reports, owned_by, fill_at, behind_closed}
 
 -- the reader goes on; the spare's link may be set
 pub reader_kept : (n : ℕ) (c : Core) (spare_link : Link) (reader : Reader) → LinksKept n c → reader.hint ≤ c.head → reader.seen ≤ c.done → c.reader.seen ≤ reader.seen → FitsRing n spare_link → ReaderKept n c.links c.order spare_link c.head c.done reader.hint reader.phase → LinksKept n (record c { spare_link = spare_link; reader = reader })
@@ -27,24 +27,24 @@ wished_kept n c k = let wish_le : c.reader.seen + 1 ≤ c.reader.seen + 1 = omeg
 
 pub load_head_kept : (n : ℕ) (c after : Core) (answer : Answer) → LinksKept n c → LoadHeadStep n c answer after → LinksKept n after
 load_head_kept n c after answer k (loads_header page fill at a is) = let (g, low, high, same, link) = fill_at n c k c.reader.hint in
-    let told = header_tells n c.links c.order c.head c.frames g page fill link (same ∙ at) in let here = told.1 in let it = told.0 in
-    subst (LinksKept n) (sym is) (at_phase n c (loading_done page fill) fill k (omega arith) record { fill_is = refl; stays = λ e. ap (link_into n c.links) told.0 ∙ same ∙ at })
+    let reported = header_reports n c.links c.order c.head c.frames g page fill link (same ∙ at) in let here = reported.1 in let it = reported.0 in
+    subst (LinksKept n) (sym is) (at_phase n c (loading_done page fill) fill k (omega arith) record { fill_is = refl; stays = λ e. ap (link_into n c.links) reported.0 ∙ same ∙ at })
 load_head_kept n c after answer k (loads_update page lost at a is) = let (g, low, high, same, link) = fill_at n c k c.reader.hint in
-    let told = update_tells n c.links c.order c.head c.frames g page lost link (same ∙ at) in
-    let (u, sum, below, open_yet, there) = owned_by n c k g told.2 in let it = told.0 in
-    subst (LinksKept n) (sym is) (at_phase n c loading_link (suc lost) k (omega arith) tt)
-load_head_kept n c after answer k (loads_owed page at a is) = subst (LinksKept n) (sym is) (at_phase n c loading_link c.reader.hint k k.hint_le tt)
+    let reported = update_reports n c.links c.order c.head c.frames g page lost link (same ∙ at) in
+    let (u, sum, below, open_yet, there) = owned_by n c k g reported.2 in let it = reported.0 in
+    subst (LinksKept n) (sym is) (at_phase n c loading_head (suc lost) k (omega arith) tt)
+load_head_kept n c after answer k (loads_owed page at a is) = subst (LinksKept n) (sym is) (at_phase n c loading_head c.reader.hint k k.hint_le tt)
 load_head_kept n c after answer k (loads_passed page fill least at more sum a is) = let (g, low, high, same, link) = fill_at n c k c.reader.hint in
-    let told = normal_tells n c.links c.order c.head c.frames g page fill link (same ∙ at) in let it = told.0 in
-    subst (LinksKept n) (sym is) (at_phase n c loading_link least k (omega arith) tt)
+    let reported = normal_reports n c.links c.order c.head c.frames g page fill link (same ∙ at) in let it = reported.0 in
+    subst (LinksKept n) (sym is) (at_phase n c loading_head least k (omega arith) tt)
 
 -- the reader goes on, and has seen how many fills are closed
 saw_kept : (n : ℕ) (c : Core) (phase : ReaderPhase) → LinksKept n c → ReaderKept n c.links c.order c.spare_link c.head c.done c.reader.hint phase → LinksKept n (reader_saw c phase)
 saw_kept n c phase k facts = reader_kept n c c.spare_link (record c.reader { phase = phase; seen = c.done }) k k.hint_le (omega arith) k.seen_le k.spare_fits facts
 
 pub load_done_kept : (n : ℕ) (c after : Core) (page fill : ℕ) (answer : Answer) → LinksKept n c → HasSeen n c.links c.head c.reader.hint page fill → LoadDoneStep c page fill answer after → LinksKept n after
-load_done_kept n c after page fill answer k seen (finds_none le a is) = subst (LinksKept n) (sym is) (saw_kept n c loading_link k tt)
-load_done_kept n c after page fill answer k seen (finds_closed below a is) = subst (LinksKept n) (sym is) (saw_kept n c (storing_link page fill) k (seen, below))
+load_done_kept n c after page fill answer k seen (finds_none le a is) = subst (LinksKept n) (sym is) (saw_kept n c loading_head k tt)
+load_done_kept n c after page fill answer k seen (finds_closed below a is) = subst (LinksKept n) (sym is) (saw_kept n c (storing_spare_link page fill) k (seen, below))
 
 -- the link that leads to the fill after a closed one
 next_fits : (n : ℕ) (c : Core) (fill : ℕ) → LinksKept n c → fill < c.done → FitsRing n (next_header n c fill)
@@ -147,7 +147,7 @@ module _ (n : ℕ) (c : Core) (page : ℕ) (k : LinksKept n c) (closed : c.head 
       (λ e. is_normal
       (ap (link_into n links) e
       ∙ link_else (c.head + 1) n once (c.head + n) (suc c.head) c.spare_link (omega arith) (omega arith) (omega arith) (omega arith) (λ e'. ne (e ∙ e'))
-      ∙ link_turn n once c.head ∙ link_here n c.links c.head first (omega arith) wide
+      ∙ link_round n once c.head ∙ link_here n c.links c.head first (omega arith) wide
       ∙ ap (λ (p : ℕ). normal_link p (c.head + n)) (sym (page_turn n order c.head ∙ page_here n c.order c.head c.spare (omega arith) pages))
       ∙ ap (λ (g : ℕ). normal_link (page_at n order g) g) (sym e))
       (λ at_head. absurd (omega arith)))
@@ -165,10 +165,10 @@ module _ (n : ℕ) (c : Core) (page : ℕ) (k : LinksKept n c) (closed : c.head 
   pub swaps_kept : LinksKept n (after_swap n c page c.head)
   unfolding once
   swaps_kept = let some_pages = k.some_pages in let wide = k.positions in let within = k.opened_le in
-      let told = header_tells n c.links c.order c.head c.frames c.head page c.head (k.each c.head (omega arith) (omega arith)) at in record {
+      let reported = header_reports n c.links c.order c.head c.frames c.head page c.head (k.each c.head (omega arith) (omega arith)) at in record {
         some_pages = k.some_pages;
         positions = length-set once _ c.spare_link ∙ once_wide;
-        apart = swapped_apart n c.order c.spare (c.head % n) page k.apart (mod-lt c.head (omega arith)) told.2;
+        apart = swapped_apart n c.order c.spare (c.head % n) page k.apart (mod-lt c.head (omega arith)) reported.2;
         head_le = omega arith;
         done_lt = k.done_lt;
         opened_le = omega arith;
@@ -186,17 +186,17 @@ module _ (n : ℕ) (c : Core) (page : ℕ) (k : LinksKept n c) (closed : c.head 
 pub swap_head_kept : (n : ℕ) (c after : Core) (page fill : ℕ) (answer : Answer) → LinksKept n c → HasSeen n c.links c.head c.reader.hint page fill × (fill < c.done) × (c.spare_link ≡ header_link (page_at n c.order (suc fill)) (suc fill)) → SwapHeadStep n c page fill answer after → LinksKept n after
 swap_head_kept n c after page fill answer k (seen, below, ready) (swaps at a is) =
     let (g, low, high, same, link) = fill_at n c k fill in
-    let told = header_tells n c.links c.order c.head c.frames g page fill link (same ∙ at) in
-    let here : fill ≡ c.head = told.0 ∙ told.1 in
+    let reported = header_reports n c.links c.order c.head c.frames g page fill link (same ∙ at) in
+    let here : fill ≡ c.head = reported.0 ∙ reported.1 in
     subst (LinksKept n) (sym (is ∙ ap (after_swap n c page) here))
     (swaps_kept n c page k (omega arith) (ap (link_into n c.links) (sym here) ∙ at ∙ ap (header_link page) here) (ready ∙ ap (λ (f : ℕ). header_link (page_at n c.order (suc f)) (suc f)) here))
 swap_head_kept n c after page fill answer k (seen, below, ready) (swap_fails at a is) =
     let le = k.hint_le in let it = seen.fill_is in
     let passed : fill ≢ c.head = λ e. at (seen.stays e) in
-    subst (LinksKept n) (sym is) (at_phase n c loading_link (suc fill) k (omega arith) tt)
+    subst (LinksKept n) (sym is) (at_phase n c loading_head (suc fill) k (omega arith) tt)
 
 pub read_kept : (n : ℕ) (c after : Core) (phase : ReaderPhase) (answer : Answer) → LinksKept n c → ReaderKept n c.links c.order c.spare_link c.head c.done c.reader.hint phase → ReadStep n c phase answer after → LinksKept n after
-read_kept n c after loading_link answer k facts step = load_head_kept n c after answer k step
+read_kept n c after loading_head answer k facts step = load_head_kept n c after answer k step
 read_kept n c after (loading_done page fill) answer k facts step = load_done_kept n c after page fill answer k facts step
-read_kept n c after (storing_link page fill) answer k facts step = store_spare_link_kept n c after page fill answer k facts step
+read_kept n c after (storing_spare_link page fill) answer k facts step = store_spare_link_kept n c after page fill answer k facts step
 read_kept n c after (swapping page fill) answer k facts step = swap_head_kept n c after page fill answer k facts step

@@ -5,7 +5,7 @@ use mathlib.Core.Logic.{dite}
 use native.Mathlib.Decide.{ℕ_discrete}
 use Rattle.trace_model.specs.Links.{Link, normal_link, header_link, update_link}
 use Rattle.trace_model.specs.Frames.{Kind, for_record, for_close, FrameState, waiting, reserved, left, owner, Phase, idle, looking, claiming, looking_next, marking, clearing, opening, releasing, wishing, Frame, owned_update}
-use Rattle.trace_model.specs.Ring.{link_into, links_with, page_at, ReaderPhase, loading_link, loading_done, storing_link, swapping, Core}
+use Rattle.trace_model.specs.Ring.{link_into, links_with, page_at, ReaderPhase, loading_head, loading_done, storing_spare_link, swapping, Core}
 use Rattle.trace_model.specs.Steps.{Event, steps, reads, Answer, with_new_tail, after_begin, Step, Exchange, Run}
 use Rattle.trace_model.proofs.steps.StepCases.{StepCases, BeginsAgain, reserves, finds_nothing, is_crowded, is_worn, notes, load_link_late, sees_free, sees_header, sees_update, claim_late, claims, claim_fails, load_next_late, sees_normal, sees_other, mark_late, marks, mark_fails, clears, open_late, opens, releases, releases_last, grants, closes_more, goes_away, IdleStep, FrameStep, push_step, push_refused, close_step, close_refused, frame_step, frame_lacks, end_step, end_lacks, end_early, read_step, store_wish_step, loads_header, loads_update, loads_owed, loads_passed, finds_none, finds_closed, swaps, swap_fails, ReadStep}
 use Rattle.trace_model.proofs.steps.StepSound.{cases_of}
@@ -14,7 +14,7 @@ use Rattle.link_marks.specs.RingKept.{IsRingKept}
 use Rattle.link_marks.specs.LinkLaws.{age_of, IsHeaderSet, IsClaimed, IsCleared}
 use Rattle.link_marks.proofs.links.Positions.{at_position, link_here}
 use Rattle.link_marks.proofs.links.FramePhases.{normal_ne_header, normal_ne_update, header_ne_update, IsSet}
-use Rattle.link_marks.proofs.links.LinkFills.{header_inside, header_tells, next_inside, owned_by, fill_at, behind_closed}
+use Rattle.link_marks.proofs.links.LinkFills.{header_inside, header_reports, next_inside, owned_by, fill_at, behind_closed}
 use Rattle.link_marks.proofs.links.FrameChanges.{top_kept}
 use Rattle.link_marks.proofs.partition.RingsKept.{ring_step, ring_run}
 
@@ -104,17 +104,17 @@ module _ (n size : ℕ) (c : Core) (event : Event) (frame : Frame) (below : List
   relinks_frame wishing answer after same (goes_away alone denied last a is) = stays n c event after _ is refl
 
 relinks_read : (n : ℕ) (c : Core) (event : Event) (phase : ReaderPhase) (answer : Answer) (after : Core) → LinksKept n c → event ≡ reads → ReaderKept n c.links c.order c.spare_link c.head c.done c.reader.hint phase → ReadStep n c phase answer after → Relinks n c event after
-relinks_read n c event loading_link answer after k reads_is facts (loads_header page fill at a is) = stays n c event after _ is refl
-relinks_read n c event loading_link answer after k reads_is facts (loads_update page lost at a is) = stays n c event after _ is refl
-relinks_read n c event loading_link answer after k reads_is facts (loads_owed page at a is) = stays n c event after _ is refl
-relinks_read n c event loading_link answer after k reads_is facts (loads_passed page fill least at more sum a is) = stays n c event after _ is refl
+relinks_read n c event loading_head answer after k reads_is facts (loads_header page fill at a is) = stays n c event after _ is refl
+relinks_read n c event loading_head answer after k reads_is facts (loads_update page lost at a is) = stays n c event after _ is refl
+relinks_read n c event loading_head answer after k reads_is facts (loads_owed page at a is) = stays n c event after _ is refl
+relinks_read n c event loading_head answer after k reads_is facts (loads_passed page fill least at more sum a is) = stays n c event after _ is refl
 relinks_read n c event (loading_done page fill) answer after k reads_is facts (finds_none le a is) = stays n c event after _ is refl
 relinks_read n c event (loading_done page fill) answer after k reads_is facts (finds_closed below a is) = stays n c event after _ is refl
-relinks_read n c event (storing_link page fill) answer after k reads_is facts step = stays n c event after _ step.after_is refl
+relinks_read n c event (storing_spare_link page fill) answer after k reads_is facts step = stays n c event after _ step.after_is refl
 relinks_read n c event (swapping page fill) answer after k reads_is facts (swaps at a is) =
     let (g, low_g, high_g, same, link) = fill_at n c k fill in
-    let told = header_tells n c.links c.order c.head c.frames g page fill link (same ∙ at) in
-    let here : fill ≡ c.head = told.0 ∙ told.1 in let closed = facts.1 in
+    let reported = header_reports n c.links c.order c.head c.frames g page fill link (same ∙ at) in
+    let here : fill ≡ c.head = reported.0 ∙ reported.1 in let closed = facts.1 in
     swaps_head page (page_at n c.order (suc c.head)) reads_is (ap (λ (x : Core). x.head) is) (ap (link_into n c.links) (sym here) ∙ at ∙ ap (header_link page) here) (behind_closed n c k (omega arith))
     (ap (λ (x : Core). x.links) is
     ∙ ap (λ (l : Link). links_with n (links_with n c.links fill (normal_link c.spare (fill + n))) (suc fill) l) facts.2
@@ -146,30 +146,30 @@ set_else : (n : ℕ) (links : List Link) (f g : ℕ) (l : Link) → f % n ≢ g 
 set_else n links f g l ne = get_or-set_other links (g % n) (f % n) l (normal_link 0 0) ne
 
 -- what a step makes of the link into one position
-pub data Turn (n : ℕ) (c : Core) (event : Event) (after : Core) (f : ℕ) : Type 0 where
-  stands_still : link_into n after.links f ≡ link_into n c.links f → Turn n c event after f
-  to_update : (page lost : ℕ) → event ≡ steps → IsLost n c after (lost + n) lost → link_into n c.links f ≡ header_link page lost → link_into n after.links f ≡ update_link page lost → Turn n c event after f
+pub data LinkChange (n : ℕ) (c : Core) (event : Event) (after : Core) (f : ℕ) : Type 0 where
+  stands_still : link_into n after.links f ≡ link_into n c.links f → LinkChange n c event after f
+  to_update : (page lost : ℕ) → event ≡ steps → IsLost n c after (lost + n) lost → link_into n c.links f ≡ header_link page lost → link_into n after.links f ≡ update_link page lost → LinkChange n c event after f
   to_header : (page fill : ℕ) → link_into n c.links f ≡ normal_link page fill → link_into n after.links f ≡ header_link page fill → fill ≡ after.head
       → ((event ≡ steps) × (c.head ≡ fill) × (link_into n c.links c.head ≡ normal_link page fill)) ⊎ ((event ≡ reads) × (c.head + 1 ≡ fill))
-      → Turn n c event after f
+      → LinkChange n c event after f
   to_next : (frame : Frame) (below : List Frame) (page lost : ℕ) → event ≡ steps → c.frames ≡ frame ∷ below → owned_update frame.phase ≡ Some (lost + n) → IsSet n c.links c.order c.head c.done c.opened lost → link_into n c.links f ≡ update_link page lost
       → link_into n after.links f ≡ normal_link page (lost + n)
-      → Turn n c event after f
-  to_spare : (page other fill : ℕ) → link_into n c.links f ≡ header_link page fill → link_into n after.links f ≡ normal_link other (fill + n) → Turn n c event after f
+      → LinkChange n c event after f
+  to_spare : (page other fill : ℕ) → link_into n c.links f ≡ header_link page fill → link_into n after.links f ≡ normal_link other (fill + n) → LinkChange n c event after f
 
-turn_of : (n : ℕ) (c : Core) (event : Event) (after : Core) (f : ℕ) → 1 ≤ n → length c.links ≡ n → Relinks n c event after → Turn n c event after f
-turn_of n c event after f some wide (leaves_links same) = stands_still (ap (λ (l : List Link). link_into n l f) same)
-turn_of n c event after f some wide (claims_head noted page lost by lose at is) = dite (ℕ_discrete (f % n) (noted % n))
+change_of : (n : ℕ) (c : Core) (event : Event) (after : Core) (f : ℕ) → 1 ≤ n → length c.links ≡ n → Relinks n c event after → LinkChange n c event after f
+change_of n c event after f some wide (leaves_links same) = stands_still (ap (λ (l : List Link). link_into n l f) same)
+change_of n c event after f some wide (claims_head noted page lost by lose at is) = dite (ℕ_discrete (f % n) (noted % n))
     (λ e. to_update page lost by (subst (λ (o : ℕ). IsLost n c after o lost) (sym lose.sum) lose) (same_position n c.links f noted e ∙ at) (ap (λ (l : List Link). link_into n l f) is ∙ set_here n c.links f noted (update_link page lost) some wide e))
     (λ ne. stands_still (ap (λ (l : List Link). link_into n l f) is ∙ set_else n c.links f noted (update_link page lost) ne))
-turn_of n c event after f some wide (marks_head lost next by here head at is) = dite (ℕ_discrete (f % n) (suc lost % n))
+change_of n c event after f some wide (marks_head lost next by here head at is) = dite (ℕ_discrete (f % n) (suc lost % n))
     (λ e. to_header next (suc lost) (same_position n c.links f (suc lost) e ∙ at) (ap (λ (l : List Link). link_into n l f) is ∙ set_here n c.links f (suc lost) (header_link next (suc lost)) some wide e) (here ∙ sym head)
     (inl (by, sym here, ap (link_into n c.links) (sym here) ∙ at)))
     (λ ne. stands_still (ap (λ (l : List Link). link_into n l f) is ∙ set_else n c.links f (suc lost) (header_link next (suc lost)) ne))
-turn_of n c event after f some wide (clears_own frame below noted page lost by top own sum set at is) = dite (ℕ_discrete (f % n) (noted % n))
+change_of n c event after f some wide (clears_own frame below noted page lost by top own sum set at is) = dite (ℕ_discrete (f % n) (noted % n))
     (λ e. to_next frame below page lost by top (own ∙ ap Some (sym sum)) set (same_position n c.links f noted e ∙ at) (ap (λ (l : List Link). link_into n l f) is ∙ set_here n c.links f noted (normal_link page noted) some wide e ∙ ap (normal_link page) (sym sum)))
     (λ ne. stands_still (ap (λ (l : List Link). link_into n l f) is ∙ set_else n c.links f noted (normal_link page noted) ne))
-turn_of n c event after f some wide (swaps_head page next by head at behind is) =
+change_of n c event after f some wide (swaps_head page next by head at behind is) =
     let first : Link = normal_link c.spare (c.head + n) in
     let once : List Link = links_with n c.links c.head first in
     let once_wide : length once ≡ n = length-set c.links (c.head % n) first ∙ wide in
@@ -179,15 +179,15 @@ turn_of n c event after f some wide (swaps_head page next by head at behind is) 
     (λ e. to_spare page c.spare c.head (same_position n c.links f c.head e ∙ at) (outer ∙ set_here n c.links f c.head first some wide e))
     (λ ne'. stands_still (outer ∙ set_else n c.links f c.head first ne')))
 
-pub turn_step : (n size : ℕ) (c : Core) (event : Event) (answer : Answer) (after : Core) (f : ℕ) → LinksKept n c → Step n size c event answer after → Turn n c event after f
-turn_step n size c event answer after f k step = turn_of n c event after f (let two = k.some_pages in omega arith) k.positions (relinks_step n size c event answer after k (cases_of step))
+pub change_step : (n size : ℕ) (c : Core) (event : Event) (answer : Answer) (after : Core) (f : ℕ) → LinksKept n c → Step n size c event answer after → LinkChange n c event after f
+change_step n size c event answer after f k step = change_of n c event after f (let two = k.some_pages in omega arith) k.positions (relinks_step n size c event answer after k (cases_of step))
 
 -- ---- ages
 
 abbrev pub Rises : Link → Link → Type 0
 Rises l m = (m ≡ l) ⊎ (age_of l < age_of m)
 
-raised : (n : ℕ) (c : Core) (event : Event) (after : Core) (f : ℕ) → 1 ≤ n → Turn n c event after f → Rises (link_into n c.links f) (link_into n after.links f)
+raised : (n : ℕ) (c : Core) (event : Event) (after : Core) (f : ℕ) → 1 ≤ n → LinkChange n c event after f → Rises (link_into n c.links f) (link_into n after.links f)
 raised n c event after f some (stands_still same) = inl same
 raised n c event after f some (to_update page lost by lose was is) = let a = ap age_of was in let b = ap age_of is in inr (omega arith)
 raised n c event after f some (to_header page fill was is head by) = let a = ap age_of was in let b = ap age_of is in inr (omega arith)
@@ -195,7 +195,7 @@ raised n c event after f some (to_next frame below page lost by top own set was 
 raised n c event after f some (to_spare page other fill was is) = let a = ap age_of was in let b = ap age_of is in inr (omega arith)
 
 pub raised_step : (n size start : ℕ) (c : Core) (event : Event) (answer : Answer) (after : Core) (f : ℕ) → IsRingKept n size start c → Step n size c event answer after → Rises (link_into n c.links f) (link_into n after.links f)
-raised_step n size start c event answer after f r step = raised n c event after f (let two = r.links.some_pages in omega arith) (turn_step n size c event answer after f r.links step)
+raised_step n size start c event answer after f r step = raised n c event after f (let two = r.links.some_pages in omega arith) (change_step n size c event answer after f r.links step)
 
 rises_on : (l m o : Link) → Rises l m → Rises m o → Rises l o
 rises_on l m o (inl e) (inl e') = inl (e' ∙ e)
@@ -227,8 +227,8 @@ pub header_at : (n : ℕ) (c : Core) (k : LinksKept n c) (f page fill : ℕ) →
 header_at n c k f page fill at =
     let some_pages = k.some_pages in
     let (g, low, high, position) = at_position c.head n (f % n) (mod-lt f (omega arith)) in
-    let (told, here, page_is) = header_tells n c.links c.order c.head c.frames g page fill (k.each g low high) (ap (λ (i : ℕ). get_or c.links i (normal_link 0 0)) position ∙ at) in
-    (told ∙ here, page_is ∙ ap (page_at n c.order) here, ap (λ (i : ℕ). i % n) (sym here) ∙ position)
+    let (reported, here, page_is) = header_reports n c.links c.order c.head c.frames g page fill (k.each g low high) (ap (λ (i : ℕ). get_or c.links i (normal_link 0 0)) position ∙ at) in
+    (reported ∙ here, page_is ∙ ap (page_at n c.order) here, ap (λ (i : ℕ). i % n) (sym here) ∙ position)
 
 pub one_header : (n size start : ℕ) (c : Core) (f g page other_page fill other_fill : ℕ) → IsRingKept n size start c → link_into n c.links f ≡ header_link page fill → link_into n c.links g ≡ header_link other_page other_fill
     → (fill ≡ c.head) × (other_fill ≡ fill) × (other_page ≡ page) × (g % n ≡ f % n)
@@ -248,7 +248,7 @@ no_header : (n : ℕ) (c : Core) (k : LinksKept n c) (page fill : ℕ) → link_
 no_header n c k page fill waits g other_page other_fill at = let (a, p, position) = header_at n c k g other_page other_fill at in
     normal_ne_header page fill other_page other_fill (sym waits ∙ same_position n c.links c.head g position ∙ at)
 
-header_set : (n : ℕ) (c : Core) (event : Event) (after : Core) (f page fill : ℕ) → LinksKept n c → Turn n c event after f → link_into n c.links f ≢ header_link page fill → link_into n after.links f ≡ header_link page fill → IsHeaderSet n c event after f page fill
+header_set : (n : ℕ) (c : Core) (event : Event) (after : Core) (f page fill : ℕ) → LinksKept n c → LinkChange n c event after f → link_into n c.links f ≢ header_link page fill → link_into n after.links f ≡ header_link page fill → IsHeaderSet n c event after f page fill
 header_set n c event after f page fill k (stands_still same) ne is = absurd (ne (sym same ∙ is))
 header_set n c event after f page fill k (to_update p lost by lose was now) ne is = absurd (header_ne_update page fill p lost (sym is ∙ now))
 header_set n c event after f page fill k (to_header p g was now head by) ne is =
@@ -263,7 +263,7 @@ header_set n c event after f page fill k (to_spare p other g was now) ne is = ab
 
 pub headers_owed : (n size start : ℕ) (c : Core) (event : Event) (answer : Answer) (after : Core) (f page fill : ℕ) → IsRingKept n size start c → Step n size c event answer after → link_into n c.links f ≢ header_link page fill → link_into n after.links f ≡ header_link page fill
     → IsHeaderSet n c event after f page fill
-headers_owed n size start c event answer after f page fill r step ne is = header_set n c event after f page fill r.links (turn_step n size c event answer after f r.links step) ne is
+headers_owed n size start c event answer after f page fill r step ne is = header_set n c event after f page fill r.links (change_step n size c event answer after f r.links step) ne is
 
 too_old : (l m : Link) (page other_page fill : ℕ) → l ≡ header_link page fill → Rises l m → m ≢ normal_link other_page fill
 too_old l m page other_page fill at (inl e) is = normal_ne_header other_page fill page fill (sym is ∙ e ∙ at)
@@ -283,7 +283,7 @@ headers_once n size start c between exchanges event answer after f g page other_
 
 -- ---- the UPDATE
 
-claimed : (n : ℕ) (c : Core) (event : Event) (after : Core) (f page lost : ℕ) → Turn n c event after f → link_into n c.links f ≢ update_link page lost → link_into n after.links f ≡ update_link page lost → IsClaimed n c event after f page lost
+claimed : (n : ℕ) (c : Core) (event : Event) (after : Core) (f page lost : ℕ) → LinkChange n c event after f → link_into n c.links f ≢ update_link page lost → link_into n after.links f ≡ update_link page lost → IsClaimed n c event after f page lost
 claimed n c event after f page lost (stands_still same) ne is = absurd (ne (sym same ∙ is))
 claimed n c event after f page lost (to_update p u by lose was now) ne is =
     let pages : p ≡ page = page_of (update_link p u) (update_link page lost) (sym now ∙ is) in
@@ -306,7 +306,7 @@ claimed n c event after f page lost (to_spare p other g was now) ne is = absurd 
 
 pub updates_claimed : (n size start : ℕ) (c : Core) (event : Event) (answer : Answer) (after : Core) (f page lost : ℕ) → IsRingKept n size start c → Step n size c event answer after → link_into n c.links f ≢ update_link page lost → link_into n after.links f ≡ update_link page lost
     → IsClaimed n c event after f page lost
-updates_claimed n size start c event answer after f page lost r step ne is = claimed n c event after f page lost (turn_step n size c event answer after f r.links step) ne is
+updates_claimed n size start c event answer after f page lost r step ne is = claimed n c event after f page lost (change_step n size c event answer after f r.links step) ne is
 
 -- the head's link isn't NORMAL: so it is the HEADER
 head_marked : (n : ℕ) (c : Core) (k : LinksKept n c) → ((seen : ℕ) → link_into n c.links c.head ≢ normal_link seen c.head) → LinkKept n c.links c.order c.head c.frames c.head → link_into n c.links c.head ≡ header_link (page_at n c.order c.head) c.head
@@ -314,7 +314,7 @@ head_marked n c k set (is_normal e owed) = absurd (set (page_at n c.order c.head
 head_marked n c k set (is_header e here) = e
 head_marked n c k set (is_update lost sum e st) = let (u, u_sum, below, open_yet, at) = owned_by n c k c.head st in let unread = k.head_le in absurd (omega arith)
 
-cleared : (n : ℕ) (c : Core) (event : Event) (after : Core) (f page lost : ℕ) → LinksKept n c → Turn n c event after f → link_into n c.links f ≡ update_link page lost → link_into n after.links f ≢ update_link page lost → IsCleared n c event after f page lost
+cleared : (n : ℕ) (c : Core) (event : Event) (after : Core) (f page lost : ℕ) → LinksKept n c → LinkChange n c event after f → link_into n c.links f ≡ update_link page lost → link_into n after.links f ≢ update_link page lost → IsCleared n c event after f page lost
 cleared n c event after f page lost k (stands_still same) at ne = absurd (ne (same ∙ at))
 cleared n c event after f page lost k (to_update p u by lose was now) at ne = absurd (header_ne_update p u page lost (sym was ∙ at))
 cleared n c event after f page lost k (to_header p g was now head by) at ne = absurd (normal_ne_update p g page lost (sym was ∙ at))
@@ -337,4 +337,4 @@ cleared n c event after f page lost k (to_spare p other g was now) at ne = absur
 
 pub owners_clear : (n size start : ℕ) (c : Core) (event : Event) (answer : Answer) (after : Core) (f page lost : ℕ) → IsRingKept n size start c → Step n size c event answer after → link_into n c.links f ≡ update_link page lost → link_into n after.links f ≢ update_link page lost
     → IsCleared n c event after f page lost
-owners_clear n size start c event answer after f page lost r step at ne = cleared n c event after f page lost r.links (turn_step n size c event answer after f r.links step) at ne
+owners_clear n size start c event answer after f page lost r step at ne = cleared n c event after f page lost r.links (change_step n size c event answer after f r.links step) at ne

@@ -5,7 +5,7 @@ use native.Mathlib.Decide.{ℕ_discrete}
 use Rattle.trace_model.specs.declared.limits.TheConstants.{MAX_PAGES}
 use Rattle.trace_model.specs.Links.{Link, normal_link, header_link, update_link}
 use Rattle.trace_model.specs.Frames.{Kind, for_record, for_close, FrameState, waiting, reserved, left, Role, owner, helper, Phase, idle, looking, claiming, looking_next, marking, clearing, opening, releasing, wishing, Frame}
-use Rattle.trace_model.specs.Ring.{Core, link_into, page_at, links_with, ReaderPhase, loading_link, loading_done, storing_link, swapping}
+use Rattle.trace_model.specs.Ring.{Core, link_into, page_at, links_with, ReaderPhase, loading_head, loading_done, storing_spare_link, swapping}
 use Rattle.trace_model.specs.Steps.{Event, Answer, closing_phase, frames_after_leave, after_next, after_begin, with_new_tail, Exchange, Run}
 use Rattle.trace_model.proofs.steps.StepCases.{StepCases, BeginsAgain, IdleStep, reserves, finds_nothing, is_crowded, is_worn, notes, FrameStep, load_link_late, sees_free, sees_header, sees_update, claim_late, claims, claim_fails, load_next_late, sees_normal, sees_other, mark_late, marks, mark_fails, clears, open_late, opens, releases, releases_last, grants, closes_more, goes_away, ReadStep, loads_header, loads_update, loads_owed, loads_passed, finds_none, finds_closed, swaps, swap_fails, push_step, push_refused, close_step, close_refused, frame_step, frame_lacks, end_step, end_lacks, end_early, read_step, store_wish_step}
 use Rattle.trace_model.proofs.steps.StepSound.{cases_of}
@@ -101,12 +101,12 @@ module _ (n : ℕ) (c : Core) (k : LinksKept n c) where
   page_seen : (f : ℕ) (l : Link) → link_into n c.links f ≡ l → l.page < n + 1
   page_seen f l at = let some = k.some_pages in let (g, low, high, same, kept) = fill_at n c k f in
       let below = page_below n c.order c.spare g (omega arith) k.apart in
-      subst (λ (x : Link). x.page < n + 1) (same ∙ at) (page_told g below kept)
+      subst (λ (x : Link). x.page < n + 1) (same ∙ at) (page_reported g below kept)
     where
-      page_told : (g : ℕ) → page_at n c.order g < n + 1 → LinkKept n c.links c.order c.head c.frames g → (link_into n c.links g).page < n + 1
-      page_told g below (is_normal e owed) = subst (λ (x : Link). x.page < n + 1) (sym e) below
-      page_told g below (is_header e here) = subst (λ (x : Link). x.page < n + 1) (sym e) below
-      page_told g below (is_update lost sum e st) = subst (λ (x : Link). x.page < n + 1) (sym e) below
+      page_reported : (g : ℕ) → page_at n c.order g < n + 1 → LinkKept n c.links c.order c.head c.frames g → (link_into n c.links g).page < n + 1
+      page_reported g below (is_normal e owed) = subst (λ (x : Link). x.page < n + 1) (sym e) below
+      page_reported g below (is_header e here) = subst (λ (x : Link). x.page < n + 1) (sym e) below
+      page_reported g below (is_update lost sum e st) = subst (λ (x : Link). x.page < n + 1) (sym e) below
 
   module _ (size : ℕ) (frame : Frame) (below : List Frame) (top : c.frames ≡ frame ∷ below) (all : FramesSee n c) (answer : Answer) (after : Core) where
     rest : AllSee n c.links c.head below
@@ -156,13 +156,13 @@ module _ (n : ℕ) (c : Core) (k : LinksKept n c) where
     frame_sees wishing (goes_away alone denied last a is) = become n after _ is tt
 
   read_sees : (phase : ReaderPhase) (answer : Answer) (after : Core) → FramesSee n c → ReadStep n c phase answer after → FramesSee n after
-  read_sees loading_link answer after all (loads_header page fill at a is) = become n after _ is all
-  read_sees loading_link answer after all (loads_update page lost at a is) = become n after _ is all
-  read_sees loading_link answer after all (loads_owed page at a is) = become n after _ is all
-  read_sees loading_link answer after all (loads_passed page fill least at more sum a is) = become n after _ is all
+  read_sees loading_head answer after all (loads_header page fill at a is) = become n after _ is all
+  read_sees loading_head answer after all (loads_update page lost at a is) = become n after _ is all
+  read_sees loading_head answer after all (loads_owed page at a is) = become n after _ is all
+  read_sees loading_head answer after all (loads_passed page fill least at more sum a is) = become n after _ is all
   read_sees (loading_done page fill) answer after all (finds_none le a is) = become n after _ is all
   read_sees (loading_done page fill) answer after all (finds_closed below a is) = become n after _ is all
-  read_sees (storing_link page fill) answer after all step = become n after _ step.after_is all
+  read_sees (storing_spare_link page fill) answer after all step = become n after _ step.after_is all
   read_sees (swapping page fill) answer after all (swaps at a is) = become n after _ is (all_moved n c.links _ c.order c.head (c.head + 1) c.done c.opened (passes_head n c _ k) c.frames k.frames all)
   read_sees (swapping page fill) answer after all (swap_fails at a is) = become n after _ is all
 

@@ -7,7 +7,7 @@ use Rattle.trace_model.specs.Links.{Link, normal_link, header_link, update_link}
 use Rattle.trace_model.specs.Frames.{owner, Phase, looking_next, opening, Frame, owned_update}
 use Rattle.trace_model.specs.Ring.{Core, link_into, links_with, page_at}
 use Rattle.trace_model.specs.Steps.{with_link, with_new_tail, with_released}
-use Rattle.link_marks.specs.KeptLinks.{Stands, MoversDiffer, PhaseKept, FramesKept, LinkKept, is_normal, is_header, is_update, LinksKept}
+use Rattle.link_marks.specs.KeptLinks.{HasMover, MoversDiffer, PhaseKept, FramesKept, LinkKept, is_normal, is_header, is_update, LinksKept}
 use Rattle.link_marks.proofs.links.Positions.{link_here, link_else, page_turn}
 use Rattle.link_marks.proofs.links.FramePhases.{none_some, some_is, normal_ne_header, normal_ne_update, header_ne_update, Noted, Passed, Owned, knows_looking_next, relink_phase, map_frames, map_others, map_reader, after_set}
 use Rattle.link_marks.proofs.links.LinkFills.{header_inside, next_inside, owned_by}
@@ -15,7 +15,7 @@ use Rattle.link_marks.proofs.links.FrameChanges.{link_stays, below_kept, below_d
 
 -- ---- the claim: the head is lost
 
-lost_link : (n : ℕ) (links : List Link) (order : List ℕ) (head : ℕ) (frames frames' : List Frame) (f : ℕ) → head < f → Stands frames' (head + n) → ((g : ℕ) → Stands frames g → Stands frames' g)
+lost_link : (n : ℕ) (links : List Link) (order : List ℕ) (head : ℕ) (frames frames' : List Frame) (f : ℕ) → head < f → HasMover frames' (head + n) → ((g : ℕ) → HasMover frames g → HasMover frames' g)
     → LinkKept n links order head frames f
     → LinkKept n links order (head + 1) frames' f
 lost_link n links order head frames frames' f more st stays (is_normal e owed) = is_normal e (λ at. (head, omega arith, st))
@@ -37,8 +37,8 @@ claims_kept n c frame below noted page lost k top none facts now sum at =
     let (is, page_is, head_at) = header_inside n c k noted page lost (omega arith) (omega arith) sum at in
     let new : Link = update_link page lost in
     let frames : List Frame = record frame { phase = looking_next owner noted page } ∷ below in
-    let stands : Stands frames (c.head + n) = inl (ap Some (let e : noted ≡ c.head + n = omega arith in e)) in
-    let stays = λ (g : ℕ) (st : Stands c.frames g). let it : Stands frames g = ⊎_elim (λ e. absurd (none_some (sym none ∙ e))) (λ b. inr b) (stands_top n c frame below k top g st) in it in
+    let stands : HasMover frames (c.head + n) = inl (ap Some (let e : noted ≡ c.head + n = omega arith in e)) in
+    let stays = λ (g : ℕ) (st : HasMover c.frames g). let it : HasMover frames g = ⊎_elim (λ e. absurd (none_some (sym none ∙ e))) (λ b. inr b) (stands_top n c frame below k top g st) in it in
     let here : link_into n (links_with n c.links noted new) noted ≡ new = link_here n c.links noted new (omega arith) wide in
     let page_now : page ≡ page_at n c.order noted = page_is ∙ sym (ap (page_at n c.order) (let e : noted ≡ c.head + n = omega arith in e) ∙ page_turn n c.order c.head) in
     let owned : Owned n (links_with n c.links noted new) c.order (c.head + 1) c.done noted = (lost, sum, omega arith, open_yet, here ∙ ap (λ (p : ℕ). update_link p lost) page_now) in record {
@@ -63,7 +63,7 @@ claims_kept n c frame below noted page lost k top none facts now sum at =
             (below_kept n c frame below k top),
       );
       movers = (
-        λ f is_f st. let (u, u_sum, u_below, u_open, u_at) = owned_by n c k f (subst (λ (fs : List Frame). Stands fs f) (sym top) (inr st)) in
+        λ f is_f st. let (u, u_sum, u_below, u_open, u_at) = owned_by n c k f (subst (λ (fs : List Frame). HasMover fs f) (sym top) (inr st)) in
             let same : noted ≡ f = some_is noted f is_f in absurd (omega arith),
         below_differ n c frame below k top,
       );
@@ -113,7 +113,7 @@ marks_kept n c lost next k below_head open_yet at =
 -- ---- the clear: the UPDATE of the frame on top
 
 cleared_link : (n : ℕ) (links : List Link) (order : List ℕ) (head : ℕ) (frames frames' : List Frame) (lost f : ℕ) → f ≢ lost + n
-    → ((g : ℕ) → g ≢ lost + n → Stands frames g → Stands frames' g)
+    → ((g : ℕ) → g ≢ lost + n → HasMover frames g → HasMover frames' g)
     → (suc lost ≡ head → f ≡ head → (seen : ℕ) → link_into n links (suc lost) ≢ normal_link seen (suc lost))
     → LinkKept n links order head frames f
     → LinkKept n links order head frames' f
@@ -133,7 +133,7 @@ clears_kept n c frame below noted page lost k top own passed facts is_set sum at
     let new : Link = normal_link page noted in
     let frames : List Frame = record frame { phase = opening noted page } ∷ below in
     let here : link_into n (links_with n c.links noted new) noted ≡ new = link_here n c.links noted new (omega arith) wide in
-    let stays = λ (g : ℕ) (ne : g ≢ lost + n) (st : Stands c.frames g). let it : Stands frames g = ⊎_elim (λ e. absurd (ne (sym (some_is noted g (sym own ∙ e)) ∙ sym sum))) (λ b. inr b) (stands_top n c frame below k top g st) in it in record {
+    let stays = λ (g : ℕ) (ne : g ≢ lost + n) (st : HasMover c.frames g). let it : HasMover frames g = ⊎_elim (λ e. absurd (ne (sym (some_is noted g (sym own ∙ e)) ∙ sym sum))) (λ b. inr b) (stands_top n c frame below k top g st) in it in record {
       some_pages = k.some_pages;
       positions = length-set c.links _ new ∙ k.positions;
       apart = k.apart;
@@ -197,7 +197,7 @@ begun_kept n c page k room small = record {
 
 -- ---- the release of a fill: the frame is alone
 
-pub released_kept : (n : ℕ) (c : Core) (frames : List Frame) → LinksKept n c → c.done + 1 < c.opened → ((f : ℕ) → Stands c.frames f → ⊥) → FramesKept n c.links c.order c.head (c.done + 1) c.opened frames → MoversDiffer frames
+pub released_kept : (n : ℕ) (c : Core) (frames : List Frame) → LinksKept n c → c.done + 1 < c.opened → ((f : ℕ) → HasMover c.frames f → ⊥) → FramesKept n c.links c.order c.head (c.done + 1) c.opened frames → MoversDiffer frames
     → LinksKept n (record (with_released c) { frames = frames })
 released_kept n c frames k more none facts differ = record {
   some_pages = k.some_pages;

@@ -9,7 +9,7 @@ use Rattle.trace_model.specs.Record.{Record}
 use Rattle.trace_model.specs.History.{HistoryEvent, Reservation, PushedFrame, writer_after, reserved_records, as_record}
 use Rattle.trace_model.specs.Packing.{opens_of, cut_from, fills_of, first_of_fill}
 use Rattle.trace_model.specs.Partition.{Piece, IsPartition, first_of}
-use Rattle.trace_model.specs.Ring.{PageRecords, Taken, IsFillOf, AreFillsOf}
+use Rattle.trace_model.specs.Ring.{PageRecords, TakenFill, IsFillOf, AreFillsOf}
 use Rattle.trace_model.specs.Fitting.{IsRising}
 use Rattle.link_marks.specs.KeptPartition.{covered_total, piece_of, pieces_of, PartitionAt}
 use Rattle.trace_model.proofs.histories.NextRecords.{records_snoc}
@@ -43,7 +43,7 @@ fill_stays h a i low r done = ap (λ (l : List ℕ). get_or (cut_from 0 l (reser
 length-fills : (h : List HistoryEvent) → length (fills_of h) ≡ suc (length (opens_of h))
 length-fills h = length-cut_from 0 (opens_of h) (reserved_records h)
 
-taken_stays : (start : ℕ) (h : List HistoryEvent) (a : HistoryEvent) (t : Taken) → t.fill - start < length (opens_of h) → IsRising 0 (opens_of h) (length (reserved_records h)) → get_or (0 ∷ opens_of h) (suc (t.fill - start)) 0 ≤ committed_len h → IsFillOf start h t → IsFillOf start (h ++ a ∷ []) t
+taken_stays : (start : ℕ) (h : List HistoryEvent) (a : HistoryEvent) (t : TakenFill) → t.fill - start < length (opens_of h) → IsRising 0 (opens_of h) (length (reserved_records h)) → get_or (0 ∷ opens_of h) (suc (t.fill - start)) 0 ≤ committed_len h → IsFillOf start h t → IsFillOf start (h ++ a ∷ []) t
 taken_stays start h a t low r done f = record {
   from_start = f.from_start;
   begun = let count = length-fills (h ++ a ∷ []) in let more = ap (length {A = ℕ}) (opens_more [] h a) in let sum = length-append (opens_of h) (opens_at h a) in let from = f.from_start in omega arith;
@@ -53,7 +53,7 @@ taken_stays start h a t low r done f = record {
 }
 
 -- an event more
-pub partition_more : (start : ℕ) (h : List HistoryEvent) (a : HistoryEvent) (head expected : ℕ) (taken : List Taken) → head - start ≤ length (opens_of h) → IsRising 0 (opens_of h) (length (reserved_records h)) → first_of_fill h start head ≤ committed_len h → PartitionAt start h head expected taken
+pub partition_more : (start : ℕ) (h : List HistoryEvent) (a : HistoryEvent) (head expected : ℕ) (taken : List TakenFill) → head - start ≤ length (opens_of h) → IsRising 0 (opens_of h) (length (reserved_records h)) → first_of_fill h start head ≤ committed_len h → PartitionAt start h head expected taken
     → PartitionAt start (h ++ a ∷ []) head expected taken
 partition_more start h a head expected taken low r done p = record {
   expected_le = let le = p.expected_le in let e = first_stays h a (head - start) low in omega arith;
@@ -70,7 +70,7 @@ partition_more start h a head expected taken low r done p = record {
 }
 
 -- the head is lost
-pub partition_lost : (start : ℕ) (h : List HistoryEvent) (head expected : ℕ) (taken : List Taken) → start ≤ head → head - start < length (opens_of h) → IsRising 0 (opens_of h) (length (reserved_records h)) → PartitionAt start h head expected taken → PartitionAt start h (head + 1) expected taken
+pub partition_lost : (start : ℕ) (h : List HistoryEvent) (head expected : ℕ) (taken : List TakenFill) → start ≤ head → head - start < length (opens_of h) → IsRising 0 (opens_of h) (length (reserved_records h)) → PartitionAt start h head expected taken → PartitionAt start h (head + 1) expected taken
 partition_lost start h head expected taken from low r p = record {
   expected_le = let le = p.expected_le in let more = first_rises 0 (opens_of h) (length (reserved_records h)) (head - start) low r in
       let e = ap (λ (i : ℕ). get_or (0 ∷ opens_of h) i 0) (let s : (head + 1) - start ≡ suc (head - start) = omega arith in s) in omega arith;
@@ -82,13 +82,13 @@ partition_lost start h head expected taken from low r p = record {
 }
 
 -- what was taken, and the head after it
-fills_taken : (start : ℕ) (h : List HistoryEvent) (head : ℕ) (taken : List Taken) (t : Taken) → t.fill ≡ head → IsFillOf start h t → AreFillsOf start h taken → ((k : ℕ) (u : Taken) → slice_get taken k ≡ Some u → u.fill < head) → AreFillsOf start h (taken ++ t ∷ [])
+fills_taken : (start : ℕ) (h : List HistoryEvent) (head : ℕ) (taken : List TakenFill) (t : TakenFill) → t.fill ≡ head → IsFillOf start h t → AreFillsOf start h taken → ((k : ℕ) (u : TakenFill) → slice_get taken k ≡ Some u → u.fill < head) → AreFillsOf start h (taken ++ t ∷ [])
 fills_taken start h head taken t here f fs below = record {
   each = λ k u at. ⊎_elim (λ old. fs.each k u old) (λ (last, same). subst (IsFillOf start h) same f) (get_snoc taken t u k at);
   rising = λ j k a b less at_j at_k. ⊎_elim
       (λ old_k. ⊎_elim (λ old_j. fs.rising j k a b less old_j old_k) (λ (last, same). let within = slice_get_within taken k b old_k in absurd (omega arith)) (get_snoc taken t a j at_j))
       (λ (last_k, same_k). ⊎_elim
-      (λ old_j. let low = below j a old_j in let e = ap (λ (x : Taken). x.fill) same_k in omega arith)
+      (λ old_j. let low = below j a old_j in let e = ap (λ (x : TakenFill). x.fill) same_k in omega arith)
       (λ (last_j, same_j). absurd (omega arith))
       (get_snoc taken t a j at_j))
       (get_snoc taken t b k at_k);
@@ -105,15 +105,15 @@ records_taken xs fill records before lost first next count len up split same =
     ∙ ap (λ (m : ℕ). take m (map as_record xs)) (sym len)
 
 -- a partition up to that number, with the fill as one piece more
-partition_further : (xs fill : List Reservation) (before lost : List Record) (first next count : ℕ) (pieces : List Piece) (t : Taken) → count ≡ next → take next xs ≡ take first xs ++ fill → take first (map as_record xs) ≡ before ++ lost → t.held.records ≡ fill → length lost ≡ t.skipped
+partition_further : (xs fill : List Reservation) (before lost : List Record) (first next count : ℕ) (pieces : List Piece) (t : TakenFill) → count ≡ next → take next xs ≡ take first xs ++ fill → take first (map as_record xs) ≡ before ++ lost → t.held.records ≡ fill → length lost ≡ t.skipped
     → IsPartition before pieces []
     → IsPartition (take count (map as_record xs)) (pieces ++ piece_of t ∷ []) []
 partition_further xs fill before lost first next count pieces t len up split same missing partition =
     subst (λ (l : List Record). IsPartition l (pieces ++ piece_of t ∷ []) []) (records_taken xs fill t.held.records before lost first next count len up split same) (partition_snoc before pieces lost (piece_of t) partition missing)
 
 -- the head is taken, with its first number and its records
-pub partition_taken : (start : ℕ) (h : List HistoryEvent) (head expected : ℕ) (taken : List Taken) → start ≤ head → head - start < length (opens_of h) → IsRising 0 (opens_of h) (length (reserved_records h)) → first_of_fill h start head ≤ length (reserved_records h)
-    → (t : Taken) → t.fill ≡ head → t.held ≡ record { first = first_of_fill h start head; records = get_or (fills_of h) (head - start) [] } → t.skipped ≡ t.held.first - expected
+pub partition_taken : (start : ℕ) (h : List HistoryEvent) (head expected : ℕ) (taken : List TakenFill) → start ≤ head → head - start < length (opens_of h) → IsRising 0 (opens_of h) (length (reserved_records h)) → first_of_fill h start head ≤ length (reserved_records h)
+    → (t : TakenFill) → t.fill ≡ head → t.held ≡ record { first = first_of_fill h start head; records = get_or (fills_of h) (head - start) [] } → t.skipped ≡ t.held.first - expected
     → PartitionAt start h head expected taken
     → PartitionAt start h (head + 1) (t.held.first + length t.held.records) (taken ++ t ∷ [])
 partition_taken start h head expected taken from low r short t here held skipped p =
@@ -140,12 +140,12 @@ partition_taken start h head expected taken from low r short t here held skipped
           (λ old. ap (λ (l : List Piece). first_of l j) (map-append piece_of taken (t ∷ [])) ∙ first_old 0 (pieces_of taken) (piece_of t) j u.held.first (p.firsts j u old))
           (λ (last, same). ap (λ (l : List Piece). first_of l j) (map-append piece_of taken (t ∷ [])) ∙ ap (first_of (pieces_of taken ++ piece_of t ∷ [])) (last ∙ sym (length-map taken piece_of)) ∙ first_new 0 (pieces_of taken) (piece_of t)
           ∙ ap Some (let was = p.total in let le = p.expected_le in let e : 0 + covered_total (pieces_of taken) + t.skipped ≡ t.held.first = omega arith in e)
-          ∙ ap (λ (x : Taken). Some x.held.first) same)
+          ∙ ap (λ (x : TakenFill). Some x.held.first) same)
           (get_snoc taken t u j at);
       fills = fills_taken start h head taken t here record {
         from_start = omega arith;
         begun = let count = length-fills h in omega arith;
         held = held ∙ ap (λ (g : ℕ). let x : PageRecords = record { first = first_of_fill h start g; records = get_or (fills_of h) (g - start) [] } in x) (sym here);
       } p.fills p.below;
-      below = λ j u at. ⊎_elim (λ old. let high = p.below j u old in omega arith) (λ (last, same). let e = ap (λ (x : Taken). x.fill) same in omega arith) (get_snoc taken t u j at);
+      below = λ j u at. ⊎_elim (λ old. let high = p.below j u old in omega arith) (λ (last, same). let e = ap (λ (x : TakenFill). x.fill) same in omega arith) (get_snoc taken t u j at);
     }

@@ -2,7 +2,7 @@
 use Rattle.std.proofs.Common.{◌≡◌, ℕ, zero, suc, ◌+◌, ◌-◌, ◌≤◌, ◌⊎◌, inl, inr, ⊎_elim, List, [], ◌∷◌, ◌++◌, length, take, map, Some, refl, sym, ap, ◌∙◌, arith, length-take-le, append_assoc, append-nil}
 use Rattle.trace_model.specs.Record.{Record}
 use Rattle.trace_model.specs.Partition.{Piece, IsPartition, covered_count, first_from}
-use Rattle.trace_model.specs.Ring.{Taken}
+use Rattle.trace_model.specs.Ring.{TakenFill}
 use Rattle.link_marks.specs.KeptPartition.{covered_total}
 use Rattle.link_marks.proofs.links.FramePhases.{none_some}
 use Rattle.std.specs.List.{slice_get}
@@ -58,10 +58,10 @@ pub covered_total-snoc : (pieces : List Piece) (q : Piece) → covered_total (pi
 covered_total-snoc [] q = let e : covered_count q + 0 ≡ 0 + covered_count q = omega arith in e
 covered_total-snoc (p ∷ pieces) q = let rest = covered_total-snoc pieces q in omega arith
 
-pub get_snoc : (xs : List Taken) (x y : Taken) (k : ℕ) → slice_get (xs ++ x ∷ []) k ≡ Some y → (slice_get xs k ≡ Some y) ⊎ ((k ≡ length xs) × (x ≡ y))
+pub get_snoc : (xs : List TakenFill) (x y : TakenFill) (k : ℕ) → slice_get (xs ++ x ∷ []) k ≡ Some y → (slice_get xs k ≡ Some y) ⊎ ((k ≡ length xs) × (x ≡ y))
 get_snoc [] x y zero at = inr (refl, same_taken x y at)
   where
-    same_taken : (a b : Taken) → Some a ≡ Some b → a ≡ b
+    same_taken : (a b : TakenFill) → Some a ≡ Some b → a ≡ b
     same_taken a b e = cc
 get_snoc [] x y (suc k) at = absurd (none_some at)
 get_snoc (z ∷ xs) x y zero at = inl at

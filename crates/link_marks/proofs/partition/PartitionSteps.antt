@@ -4,7 +4,7 @@ use Rattle.trace_model.specs.History.{HistoryEvent, push, push_close, open_fill,
 use Rattle.trace_model.specs.Packing.{opens_of, first_of_fill}
 use Rattle.trace_model.specs.Fitting.{IsRising}
 use Rattle.trace_model.specs.Frames.{Kind, for_record, for_close, FrameState, waiting, reserved, left, Phase, idle, looking, claiming, looking_next, marking, clearing, opening, releasing, wishing, Frame}
-use Rattle.trace_model.specs.Ring.{ReaderPhase, loading_link, loading_done, storing_link, swapping, Core, page_at}
+use Rattle.trace_model.specs.Ring.{ReaderPhase, loading_head, loading_done, storing_spare_link, swapping, Core, page_at}
 use Rattle.trace_model.specs.Steps.{Event, Answer, with_new_tail, after_begin, taken_fill, contents_of}
 use Rattle.trace_model.proofs.steps.StepCases.{StepCases, BeginsAgain, reserves, finds_nothing, is_crowded, is_worn, notes, load_link_late, sees_free, sees_header, sees_update, claim_late, claims, claim_fails, load_next_late, sees_normal, sees_other, mark_late, marks, mark_fails, clears, open_late, opens, releases, releases_last, grants, closes_more, goes_away, IdleStep, FrameStep, push_step, push_refused, close_step, close_refused, frame_step, frame_lacks, end_step, end_lacks, end_early, read_step, store_wish_step, loads_header, loads_update, loads_owed, loads_passed, finds_none, finds_closed, swaps, swap_fails, ReadStep}
 use Rattle.link_marks.specs.KeptLinks.{PhaseKept, ReaderKept, LinksKept}
@@ -16,7 +16,7 @@ use Rattle.trace_model.proofs.histories.Committed.{committed_len, first_more}
 use Rattle.trace_model.proofs.packing.FillCuts.{IsRising-snoc, opens_of-open_fill}
 use Rattle.trace_model.proofs.packing.FillFirsts.{first_below, first_rises_to}
 use Rattle.link_marks.proofs.links.FrameChanges.{top_kept}
-use Rattle.link_marks.proofs.links.LinkFills.{header_inside, header_tells, fill_at}
+use Rattle.link_marks.proofs.links.LinkFills.{header_inside, header_reports, fill_at}
 use Rattle.link_marks.proofs.partition.PartitionChanges.{partition_more, partition_lost, partition_taken}
 
 module _ (n start : ℕ) (c : Core) (k : LinksKept n c) (t : ContentsKept n start c) (z : ClosedKept start c) (q : PartitionKept start c) where
@@ -99,22 +99,22 @@ module _ (n size start : ℕ) (c : Core) (frame : Frame) (below : List Frame) (k
   partition_frame wishing answer after same (goes_away alone denied last a is) = subst (PartitionKept start) (sym is) q
 
 partition_read : (n start : ℕ) (c : Core) (phase : ReaderPhase) (answer : Answer) (after : Core) → LinksKept n c → ContentsKept n start c → ReaderKept n c.links c.order c.spare_link c.head c.done c.reader.hint phase → PartitionKept start c → ReadStep n c phase answer after → PartitionKept start after
-partition_read n start c loading_link answer after k t facts q (loads_header page fill at a is) = subst (PartitionKept start) (sym is) q
-partition_read n start c loading_link answer after k t facts q (loads_update page lost at a is) = subst (PartitionKept start) (sym is) q
-partition_read n start c loading_link answer after k t facts q (loads_owed page at a is) = subst (PartitionKept start) (sym is) q
-partition_read n start c loading_link answer after k t facts q (loads_passed page fill least at more sum a is) = subst (PartitionKept start) (sym is) q
+partition_read n start c loading_head answer after k t facts q (loads_header page fill at a is) = subst (PartitionKept start) (sym is) q
+partition_read n start c loading_head answer after k t facts q (loads_update page lost at a is) = subst (PartitionKept start) (sym is) q
+partition_read n start c loading_head answer after k t facts q (loads_owed page at a is) = subst (PartitionKept start) (sym is) q
+partition_read n start c loading_head answer after k t facts q (loads_passed page fill least at more sum a is) = subst (PartitionKept start) (sym is) q
 partition_read n start c (loading_done page fill) answer after k t facts q (finds_none le a is) = subst (PartitionKept start) (sym is) q
 partition_read n start c (loading_done page fill) answer after k t facts q (finds_closed below a is) = subst (PartitionKept start) (sym is) q
-partition_read n start c (storing_link page fill) answer after k t facts q step = subst (PartitionKept start) (sym step.after_is) q
+partition_read n start c (storing_spare_link page fill) answer after k t facts q step = subst (PartitionKept start) (sym step.after_is) q
 partition_read n start c (swapping page fill) answer after k t facts q (swaps at a is) =
     let (g, low_g, high_g, same, link) = fill_at n c k fill in
-    let told = header_tells n c.links c.order c.head c.frames g page fill link (same ∙ at) in
-    let here : fill ≡ c.head = told.0 ∙ told.1 in let below = facts.1 in
+    let reported = header_reports n c.links c.order c.head c.frames g page fill link (same ∙ at) in
+    let here : fill ≡ c.head = reported.0 ∙ reported.1 in let below = facts.1 in
     let behind = k.done_lt in let count = t.begun in let from_start = t.from_start in
     subst (PartitionKept start) (sym is) (partition_taken start c.history c.head c.reader.expected c.reader.taken from_start (omega arith) t.rising
     (first_below 0 (opens_of c.history) (length (reserved_records c.history)) (c.head - start) (omega arith) t.rising)
     (taken_fill c page fill) here
-    (ap (contents_of c) (told.2 ∙ ap (page_at n c.order) told.1) ∙ t.each c.head (omega arith) (omega arith))
+    (ap (contents_of c) (reported.2 ∙ ap (page_at n c.order) reported.1) ∙ t.each c.head (omega arith) (omega arith))
     refl q)
 partition_read n start c (swapping page fill) answer after k t facts q (swap_fails at a is) = subst (PartitionKept start) (sym is) q
 

@@ -7,10 +7,10 @@ use Rattle.trace_model.specs.History.{HistoryEvent, Reservation, reserved_record
 use Rattle.trace_model.specs.Packing.{opens_of, fills_of, first_of_fill}
 use Rattle.trace_model.specs.Links.{Link}
 use Rattle.trace_model.specs.Frames.{Frame, owned_update}
-use Rattle.trace_model.specs.Ring.{PageRecords, ReaderPhase, loading_link, loading_done, storing_link, swapping, Reader, Core, IsStart, AreApart, IsRing, IsBehindHead, told, moved, IsAtHead, marked, owed, Moves, IsMoved, IsSwapReady, IsTaken, page_at}
+use Rattle.trace_model.specs.Ring.{PageRecords, ReaderPhase, loading_head, loading_done, storing_spare_link, swapping, Reader, Core, IsStart, AreApart, IsRing, IsBehindHead, reported, moved, IsAtHead, marked, owed, Moves, IsMoved, IsSwapReady, IsTaken, page_at}
 use Rattle.trace_model.specs.Steps.{Event, Answer, Step, Exchange, Run}
 use Rattle.trace_model.specs.Sublist.{IsPrefix}
-use Rattle.link_marks.specs.KeptLinks.{Stands, MoversDiffer, PhaseKept, FramesKept, LinkKept, is_normal, is_header, is_update, ReaderKept}
+use Rattle.link_marks.specs.KeptLinks.{HasMover, MoversDiffer, PhaseKept, FramesKept, LinkKept, is_normal, is_header, is_update, ReaderKept}
 use Rattle.link_marks.specs.KeptHistory.{Passing, WhyPassed}
 use Rattle.link_marks.specs.KeptContents.{PagesKept}
 use Rattle.link_marks.specs.RingKept.{IsRingKept}
@@ -41,12 +41,12 @@ use Rattle.link_marks.proofs.partition.NewRing.{start_kept, start_history, start
 some_frame : (a b : Frame) → Some a ≡ Some b → a ≡ b
 some_frame a b e = cc
 
-pub moves_stands : (frames : List Frame) (k f : ℕ) → Moves frames k f → Stands frames f
+pub moves_stands : (frames : List Frame) (k f : ℕ) → Moves frames k f → HasMover frames f
 moves_stands [] k f (frame, at, is) = absurd (none_some at)
 moves_stands (x ∷ frames) zero f (frame, at, is) = inl (ap (λ (y : Frame). owned_update y.phase) (some_frame x frame at) ∙ is)
 moves_stands (x ∷ frames) (suc k) f (frame, at, is) = inr (moves_stands frames k f (frame, at, is))
 
-pub stands_moved : (frames : List Frame) (f : ℕ) → MoversDiffer frames → Stands frames f → IsMoved frames f
+pub stands_moved : (frames : List Frame) (f : ℕ) → MoversDiffer frames → HasMover frames f → IsMoved frames f
 stands_moved [] f differ st = absurd st
 stands_moved (x ∷ frames) f differ (inl is) = record { by = 0; moves = (x, refl, is); alone = only }
   where
@@ -80,7 +80,7 @@ module _ (n size start : ℕ) (c : Core) (r : IsRingKept n size start c) where
   behind_head f low high = by_link (r.links.each f (omega arith) high)
     where
       by_link : LinkKept n c.links c.order c.head c.frames f → IsBehindHead n c f
-      by_link (is_normal e waits) = told e (λ k m. let (lost, sum, below, open_yet, at) = owned_by n c r.links f (moves_stands c.frames k f m) in normal_ne_update (page_at n c.order f) f (page_at n c.order f) lost (sym e ∙ at))
+      by_link (is_normal e waits) = reported e (λ k m. let (lost, sum, below, open_yet, at) = owned_by n c r.links f (moves_stands c.frames k f m) in normal_ne_update (page_at n c.order f) f (page_at n c.order f) lost (sym e ∙ at))
       by_link (is_header e here) = absurd (omega arith)
       by_link (is_update lost sum e st) = moved lost sum e (stands_moved c.frames f r.links.movers st)
 
@@ -116,9 +116,9 @@ module _ (n size start : ℕ) (c : Core) (r : IsRingKept n size start c) where
   why_lost_at_rest f none (inr (inr (sum, p))) = absurd (subst (λ (fs : List Frame). Passing fs c.opened) none p)
 
   ready : (phase : ReaderPhase) → ReaderKept n c.links c.order c.spare_link c.head c.done c.reader.hint phase → IsSwapReady n c phase
-  ready loading_link k = tt
+  ready loading_head k = tt
   ready (loading_done page fill) k = tt
-  ready (storing_link page fill) k = tt
+  ready (storing_spare_link page fill) k = tt
   ready (swapping page fill) k = k.2
 
   pub is_ring : IsRing n start c

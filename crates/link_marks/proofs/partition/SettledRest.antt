@@ -8,7 +8,7 @@ use Rattle.trace_model.specs.Record.{Record}
 use Rattle.trace_model.specs.History.{Reservation, reserved_records, as_record, committed_records}
 use Rattle.trace_model.specs.Packing.{opens_of, fills_of, tail_of, first_of_fill}
 use Rattle.trace_model.specs.Partition.{IsPartition, covered_count, first_from}
-use Rattle.trace_model.specs.Ring.{PageRecords, Taken, Core, IsTaken}
+use Rattle.trace_model.specs.Ring.{PageRecords, TakenFill, Core, IsTaken}
 use Rattle.trace_model.proofs.packing.FillCuts.{length-cut_from}
 use Rattle.trace_model.proofs.packing.FillFirsts.{first_below, fill_behind}
 use Rattle.link_marks.specs.KeptPartition.{piece_of, pieces_of, covered_total}
@@ -19,16 +19,16 @@ use Rattle.link_marks.proofs.partition.RingsKept.{is_ring}
 use Rattle.link_marks.proofs.partition.UnreadRest.{rest_is_unread}
 
 -- the records of a piece end no later than what all pieces cover
-piece_within : (number : ℕ) (taken : List Taken) (k first : ℕ) (t : Taken) → slice_get taken k ≡ Some t → first_from number (pieces_of taken) k ≡ Some first
+piece_within : (number : ℕ) (taken : List TakenFill) (k first : ℕ) (t : TakenFill) → slice_get taken k ≡ Some t → first_from number (pieces_of taken) k ≡ Some first
     → first + length t.held.records ≤ number + covered_total (pieces_of taken)
 piece_within number [] k first t at is = absurd (none_some at)
 piece_within number (x ∷ taken) zero first t at is =
     let same : x ≡ t = some_taken x t at in
     let number_is : number + x.skipped ≡ first = some_number (number + x.skipped) first is in
     let wide = length-map x.held.records as_record in
-    let records = ap (λ (u : Taken). length u.held.records) same in omega arith
+    let records = ap (λ (u : TakenFill). length u.held.records) same in omega arith
   where
-    some_taken : (a b : Taken) → Some a ≡ Some b → a ≡ b
+    some_taken : (a b : TakenFill) → Some a ≡ Some b → a ≡ b
     some_taken a b e = cc
 
     some_number : (a b : ℕ) → Some a ≡ Some b → a ≡ b
@@ -37,7 +37,7 @@ piece_within number (x ∷ taken) (suc k) first t at is =
     let rest = piece_within (number + covered_count (piece_of x)) taken k first t at is in omega arith
 
 -- what pieces and a rest cover
-partition_long : (records : List Record) (taken : List Taken) (rest : List Record) → IsPartition records (pieces_of taken) rest
+partition_long : (records : List Record) (taken : List TakenFill) (rest : List Record) → IsPartition records (pieces_of taken) rest
     → length records ≡ covered_total (pieces_of taken) + length rest
 partition_long records [] rest is = let same = ap (length {A = Record}) is in omega arith
 partition_long records (x ∷ taken) rest (lost, behind, skips, cut, more) =

@@ -21,7 +21,7 @@ use Rattle.link_marks.specs.KeptStack.{MayBeIn}
 use Rattle.link_marks.specs.KeptPacking.{PackedAt}
 use Rattle.link_marks.specs.RingKept.{IsRingKept}
 use Rattle.link_marks.specs.Ranks.{state_rank, late_rank, claim_rank, tail_rank, idle_rank, wish_rank, phase_rank, top_rank, frame_rank, StepsComeToAnEnd, EndsComeToAnEnd, FramesAreNearTheirEnd}
-use Rattle.link_marks.proofs.links.Positions.{link_turn}
+use Rattle.link_marks.proofs.links.Positions.{link_round}
 use Rattle.link_marks.proofs.histories.HistorySteps.{top_agrees, top_stack, wishing_left}
 
 -- ---- parts of a rank
@@ -129,14 +129,14 @@ claim_other l page other = by l.mark (l.page == page) refl refl
 -- a HEADER of the page at the position of the fill to open is the head's, and can be claimed
 claimable : (n : ℕ) (c : Core) (k : LinksKept n c) (noted page : ℕ) → c.head < noted → noted ≤ c.head + n → (link_into n c.links noted).mark ≡ header → (link_into n c.links noted).page ≡ page → (lost : ℕ) × (lost + n ≡ noted) × (link_into n c.links noted ≡ header_link page lost)
 claimable n c k noted page low high at is = let some_pages = k.some_pages in dite (ℕ_discrete noted (c.head + n))
-    (λ e. let turn = ap (link_into n c.links) e ∙ link_turn n c.links c.head in
-    (c.head, sym e, turn ∙ told c.head (k.each c.head (omega arith) (omega arith)) (sym (ap (λ (l : Link). l.mark) turn) ∙ at) ∙ ap (λ (p : ℕ). header_link p c.head) (page_is turn)))
+    (λ e. let turn = ap (link_into n c.links) e ∙ link_round n c.links c.head in
+    (c.head, sym e, turn ∙ reported c.head (k.each c.head (omega arith) (omega arith)) (sym (ap (λ (l : Link). l.mark) turn) ∙ at) ∙ ap (λ (p : ℕ). header_link p c.head) (page_is turn)))
     (λ ne. absurd (inside (k.each noted (omega arith) (omega arith))))
   where
-    told : (f : ℕ) → LinkKept n c.links c.order c.head c.frames f → (link_into n c.links f).mark ≡ header → link_into n c.links f ≡ header_link (link_into n c.links f).page f
-    told f (is_normal e owed) mark = absurd (let m : normal ≡ header = sym (ap (λ (l : Link). l.mark) e) ∙ mark in cc)
-    told f (is_header e here) mark = e ∙ ap (λ (p : ℕ). header_link p f) (sym (ap (λ (l : Link). l.page) e))
-    told f (is_update lost sum e st) mark = absurd (let m : update ≡ header = sym (ap (λ (l : Link). l.mark) e) ∙ mark in cc)
+    reported : (f : ℕ) → LinkKept n c.links c.order c.head c.frames f → (link_into n c.links f).mark ≡ header → link_into n c.links f ≡ header_link (link_into n c.links f).page f
+    reported f (is_normal e owed) mark = absurd (let m : normal ≡ header = sym (ap (λ (l : Link). l.mark) e) ∙ mark in cc)
+    reported f (is_header e here) mark = e ∙ ap (λ (p : ℕ). header_link p f) (sym (ap (λ (l : Link). l.page) e))
+    reported f (is_update lost sum e st) mark = absurd (let m : update ≡ header = sym (ap (λ (l : Link). l.mark) e) ∙ mark in cc)
 
     page_is : link_into n c.links noted ≡ link_into n c.links c.head → (link_into n c.links c.head).page ≡ page
     page_is turn = sym (ap (λ (l : Link). l.page) turn) ∙ is

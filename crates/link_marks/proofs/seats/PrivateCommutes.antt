@@ -4,8 +4,8 @@ use Rattle.std.proofs.lemmas.List.{get_or-set_other, map-set, set_comm}
 use Rattle.trace_model.specs.History.{HistoryEvent, Reservation}
 use Rattle.trace_model.specs.Links.{normal_link}
 use Rattle.trace_model.specs.Frames.{Frame}
-use Rattle.trace_model.specs.Ring.{PageRecords, empty_page, Taken, page_at, link_into, links_with, ReaderPhase, loading_link, loading_done, storing_link, swapping, Reader, Core}
-use Rattle.trace_model.specs.Steps.{Event, Answer, swapped, tail_page, held_with_payload, next_header, reader_after, after_swap, Step, Exchange}
+use Rattle.trace_model.specs.Ring.{PageRecords, empty_page, TakenFill, page_at, link_into, links_with, ReaderPhase, loading_head, loading_done, storing_spare_link, swapping, Reader, Core}
+use Rattle.trace_model.specs.Steps.{Event, Answer, page_taken, tail_page, held_with_payload, next_header, reader_after, after_swap, Step, Exchange}
 use Rattle.trace_model.proofs.steps.StepCases.{StepCases, ReadStep, loads_header, loads_update, loads_owed, loads_passed, finds_none, finds_closed, swaps, swap_fails, push_step, push_refused, close_step, close_refused, frame_step, frame_lacks, end_step, end_lacks, end_early, read_step, store_wish_step}
 use Rattle.trace_model.proofs.steps.StepSound.{cases_of}
 use Rattle.trace_model.proofs.steps.StepIs.{step_by}
@@ -81,13 +81,13 @@ module _ (n : ℕ) (c : Core) (answer : Answer) (after : Core) where
   }
 
   reads_alike : LinksKept n c → OpenPagesKept n c → (phase : ReaderPhase) → ReaderKept n c.links c.order c.spare_link c.head c.done c.reader.hint phase → ReadStep n c phase answer after → IsReading n c (ReadsOf phase) after
-  reads_alike k o loading_link facts (loads_header page fill at a is) = in_reader loading_link (record c.reader { phase = loading_done page fill; hint = fill }) is (λ frames history held. loads_header page fill at a refl)
-  reads_alike k o loading_link facts (loads_update page lost at a is) = in_reader loading_link (record c.reader { phase = loading_link; hint = suc lost }) is (λ frames history held. loads_update page lost at a refl)
-  reads_alike k o loading_link facts (loads_owed page at a is) = in_reader loading_link (record c.reader { phase = loading_link; hint = c.reader.hint }) is (λ frames history held. loads_owed page at a refl)
-  reads_alike k o loading_link facts (loads_passed page fill least at more sum a is) = in_reader loading_link (record c.reader { phase = loading_link; hint = least }) is (λ frames history held. loads_passed page fill least at more sum a refl)
-  reads_alike k o (loading_done page fill) facts (finds_none le a is) = in_reader (loading_done page fill) (record c.reader { phase = loading_link; seen = c.done }) is (λ frames history held. finds_none le a refl)
-  reads_alike k o (loading_done page fill) facts (finds_closed below a is) = in_reader (loading_done page fill) (record c.reader { phase = storing_link page fill; seen = c.done }) is (λ frames history held. finds_closed below a refl)
-  reads_alike k o (storing_link page fill) facts step = record {
+  reads_alike k o loading_head facts (loads_header page fill at a is) = in_reader loading_head (record c.reader { phase = loading_done page fill; hint = fill }) is (λ frames history held. loads_header page fill at a refl)
+  reads_alike k o loading_head facts (loads_update page lost at a is) = in_reader loading_head (record c.reader { phase = loading_head; hint = suc lost }) is (λ frames history held. loads_update page lost at a refl)
+  reads_alike k o loading_head facts (loads_owed page at a is) = in_reader loading_head (record c.reader { phase = loading_head; hint = c.reader.hint }) is (λ frames history held. loads_owed page at a refl)
+  reads_alike k o loading_head facts (loads_passed page fill least at more sum a is) = in_reader loading_head (record c.reader { phase = loading_head; hint = least }) is (λ frames history held. loads_passed page fill least at more sum a refl)
+  reads_alike k o (loading_done page fill) facts (finds_none le a is) = in_reader (loading_done page fill) (record c.reader { phase = loading_head; seen = c.done }) is (λ frames history held. finds_none le a refl)
+  reads_alike k o (loading_done page fill) facts (finds_closed below a is) = in_reader (loading_done page fill) (record c.reader { phase = storing_spare_link page fill; seen = c.done }) is (λ frames history held. finds_closed below a refl)
+  reads_alike k o (storing_spare_link page fill) facts step = record {
     words = record (reader_words c (record c.reader { phase = swapping page fill; hint = c.reader.hint })) { spare_link = next_header n c fill };
     turned = λ held. held;
     after_is = step.after_is;
@@ -111,11 +111,11 @@ module _ (n : ℕ) (c : Core) (answer : Answer) (after : Core) where
       swap_again : IsHeadTaken n c page fill → (frames : List Frame) (history : List HistoryEvent) (held : List PageRecords) → get_or held page empty_page ≡ get_or c.held page empty_page
           → ReadsOf (swapping page fill) (private_state c frames history held) (read_state (swap_words page fill) (swapped_pages page) (private_state c frames history held))
       swap_again head frames history held same =
-          let taken : PageRecords → Taken = λ h. record { fill = fill; skipped = h.first - c.reader.expected; held = h } in
+          let taken : PageRecords → TakenFill = λ h. record { fill = fill; skipped = h.first - c.reader.expected; held = h } in
           let there : Core = private_state c frames history held in
-          swaps at (a ∙ ap (λ (h : PageRecords). swapped (taken h)) (sym same))
-          (ap (λ (h : PageRecords). record (after_swap n there page fill) { reader = record { phase = loading_link; hint = suc fill; seen = c.reader.seen; expected = h.first + length h.records; taken = c.reader.taken ++ taken h ∷ [] } }) (sym same))
-  reads_alike k o (swapping page fill) facts (swap_fails at a is) = in_reader (swapping page fill) (record c.reader { phase = loading_link; hint = suc fill }) is (λ frames history held. swap_fails at a refl)
+          swaps at (a ∙ ap (λ (h : PageRecords). page_taken (taken h)) (sym same))
+          (ap (λ (h : PageRecords). record (after_swap n there page fill) { reader = record { phase = loading_head; hint = suc fill; seen = c.reader.seen; expected = h.first + length h.records; taken = c.reader.taken ++ taken h ∷ [] } }) (sym same))
+  reads_alike k o (swapping page fill) facts (swap_fails at a is) = in_reader (swapping page fill) (record c.reader { phase = loading_head; hint = suc fill }) is (λ frames history held. swap_fails at a refl)
 
 -- ---- one private step
 

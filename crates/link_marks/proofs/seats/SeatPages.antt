@@ -6,7 +6,7 @@ use Rattle.std.proofs.lemmas.Bool.{cond_both}
 use Rattle.std.proofs.lemmas.List.{get_or-set_other}
 use Rattle.trace_model.specs.History.{Reservation, PushedFrame, records_with_payload}
 use Rattle.trace_model.specs.Frames.{Kind, for_record, for_close, FrameState, waiting, reserved, left, Frame, pushed_onto, pushed_frames}
-use Rattle.trace_model.specs.Ring.{PageRecords, empty_page, page_at, link_into, ReaderPhase, loading_link, loading_done, storing_link, swapping, Core}
+use Rattle.trace_model.specs.Ring.{PageRecords, empty_page, page_at, link_into, ReaderPhase, loading_head, loading_done, storing_spare_link, swapping, Core}
 use Rattle.trace_model.specs.Links.{header_link}
 use Rattle.trace_model.specs.Steps.{Event, Answer, tail_page, held_with_payload, own_number, Step}
 use Rattle.trace_model.proofs.steps.StepCases.{StepCases, ReadStep, loads_header, loads_update, loads_owed, loads_passed, finds_none, finds_closed, swaps, swap_fails, push_step, push_refused, close_step, close_refused, frame_step, frame_lacks, end_step, end_lacks, end_early, read_step, store_wish_step}
@@ -17,7 +17,7 @@ use Rattle.link_marks.specs.KeptContents.{OpenPagesKept}
 use Rattle.link_marks.specs.RingKept.{IsRingKept}
 use Rattle.link_marks.specs.Seats.{IsOfReader, IsPrivate, OpenPagesHold, OtherPagesHold}
 use Rattle.link_marks.proofs.links.FramePhases.{none_some}
-use Rattle.link_marks.proofs.links.LinkFills.{header_tells, fill_at}
+use Rattle.link_marks.proofs.links.LinkFills.{header_reports, fill_at}
 use Rattle.link_marks.proofs.contents.PageChanges.{pages_differ}
 use Rattle.link_marks.proofs.contents.OtherPageSteps.{end_of, ended_at}
 use Rattle.link_marks.proofs.seats.PrivateSteps.{PrivateResult, stays, pushed_one, reserved_one, goes_on, leaves, private_result}
@@ -33,11 +33,11 @@ pub record IsHeadTaken (n : ℕ) (c : Core) (page fill : ℕ) : Type 0 where
 pub head_taken : (n : ℕ) (c : Core) (page fill : ℕ) → LinksKept n c → ReaderKept n c.links c.order c.spare_link c.head c.done c.reader.hint (swapping page fill) → link_into n c.links fill ≡ header_link page fill → IsHeadTaken n c page fill
 head_taken n c page fill k facts at =
     let (g, low, high, same, link) = fill_at n c k fill in
-    let told = header_tells n c.links c.order c.head c.frames g page fill link (same ∙ at) in
-    let here : fill ≡ c.head = told.0 ∙ told.1 in let closed = facts.1 in record {
+    let reported = header_reports n c.links c.order c.head c.frames g page fill link (same ∙ at) in
+    let here : fill ≡ c.head = reported.0 ∙ reported.1 in let closed = facts.1 in record {
       fill_is = here;
       closed = omega arith;
-      page_is = told.2 ∙ ap (page_at n c.order) told.1;
+      page_is = reported.2 ∙ ap (page_at n c.order) reported.1;
     }
 
 module _ (n : ℕ) (c : Core) (k : LinksKept n c) (o : OpenPagesKept n c) where
@@ -51,13 +51,13 @@ module _ (n : ℕ) (c : Core) (k : LinksKept n c) (o : OpenPagesKept n c) where
 
   -- a step of the reader empties the head's page and the spare at most
   read_pages : (phase : ReaderPhase) (answer : Answer) (after : Core) → ReaderKept n c.links c.order c.spare_link c.head c.done c.reader.hint phase → ReadStep n c phase answer after → OpenPagesHold c after
-  read_pages loading_link answer after facts (loads_header page fill at a is) = subst (OpenPagesHold c) (sym is) (λ i low. refl)
-  read_pages loading_link answer after facts (loads_update page lost at a is) = subst (OpenPagesHold c) (sym is) (λ i low. refl)
-  read_pages loading_link answer after facts (loads_owed page at a is) = subst (OpenPagesHold c) (sym is) (λ i low. refl)
-  read_pages loading_link answer after facts (loads_passed page fill least at more sum a is) = subst (OpenPagesHold c) (sym is) (λ i low. refl)
+  read_pages loading_head answer after facts (loads_header page fill at a is) = subst (OpenPagesHold c) (sym is) (λ i low. refl)
+  read_pages loading_head answer after facts (loads_update page lost at a is) = subst (OpenPagesHold c) (sym is) (λ i low. refl)
+  read_pages loading_head answer after facts (loads_owed page at a is) = subst (OpenPagesHold c) (sym is) (λ i low. refl)
+  read_pages loading_head answer after facts (loads_passed page fill least at more sum a is) = subst (OpenPagesHold c) (sym is) (λ i low. refl)
   read_pages (loading_done page fill) answer after facts (finds_none le a is) = subst (OpenPagesHold c) (sym is) (λ i low. refl)
   read_pages (loading_done page fill) answer after facts (finds_closed below a is) = subst (OpenPagesHold c) (sym is) (λ i low. refl)
-  read_pages (storing_link page fill) answer after facts step = subst (OpenPagesHold c) (sym step.after_is) (λ i low. refl)
+  read_pages (storing_spare_link page fill) answer after facts step = subst (OpenPagesHold c) (sym step.after_is) (λ i low. refl)
   read_pages (swapping page fill) answer after facts (swaps at a is) = let head = head_taken n c page fill k facts at in
       subst (OpenPagesHold c) (sym is) (λ i low.
       get_or-set_other (set c.held c.spare empty_page) page (get_or c.open_pages i 0) empty_page empty_page (λ e. open_not_head i low head.closed (e ∙ head.page_is))

@@ -2,7 +2,7 @@
 -- leaves it; a step of the reader leaves the writer's part; and a private step of the writer touches no word.
 use Rattle.std.proofs.Common.{◌≡◌, ℕ, List, [], ◌∷◌, Option, Some, None, refl, sym, ap, ◌∙◌, subst}
 use Rattle.trace_model.specs.Frames.{Kind, for_record, for_close, FrameState, waiting, reserved, left, Phase, idle, looking, claiming, looking_next, marking, clearing, opening, releasing, wishing, Frame, Refusal}
-use Rattle.trace_model.specs.Ring.{ReaderPhase, loading_link, loading_done, storing_link, swapping, Core}
+use Rattle.trace_model.specs.Ring.{ReaderPhase, loading_head, loading_done, storing_spare_link, swapping, Core}
 use Rattle.trace_model.specs.Steps.{Event, Answer, NeedsPage, with_new_tail, after_leave, after_begin, IsGranted, Step}
 use Rattle.trace_model.proofs.steps.StepCases.{StepCases, BeginsAgain, reserves, finds_nothing, is_crowded, is_worn, notes, load_link_late, sees_free, sees_header, sees_update, claim_late, claims, claim_fails, load_next_late, sees_normal, sees_other, mark_late, marks, mark_fails, clears, open_late, opens, releases, releases_last, grants, closes_more, goes_away, IdleStep, FrameStep, loads_header, loads_update, loads_owed, loads_passed, finds_none, finds_closed, swaps, swap_fails, ReadStep, PushRefused, all_stand, has_no_room, comes_late, push_step, push_refused, close_step, close_refused, frame_step, frame_lacks, end_step, end_lacks, end_early, read_step, store_wish_step}
 use Rattle.trace_model.proofs.steps.StepSound.{cases_of}
@@ -176,13 +176,13 @@ stays : (c next after : Core) → next.frames ≡ c.frames → next.open_pages �
 stays c next after frames open_pages history done opened is = subst (WriterStays c) (sym is) record { frames = frames; open_pages = open_pages; history = history; done = done; opened = opened }
 
 read_leaves : (n : ℕ) (c : Core) (phase : ReaderPhase) (answer : Answer) (after : Core) → ReadStep n c phase answer after → WriterStays c after
-read_leaves n c loading_link answer after (loads_header page fill at a is) = stays c _ after refl refl refl refl refl is
-read_leaves n c loading_link answer after (loads_update page lost at a is) = stays c _ after refl refl refl refl refl is
-read_leaves n c loading_link answer after (loads_owed page at a is) = stays c _ after refl refl refl refl refl is
-read_leaves n c loading_link answer after (loads_passed page fill least at more sum a is) = stays c _ after refl refl refl refl refl is
+read_leaves n c loading_head answer after (loads_header page fill at a is) = stays c _ after refl refl refl refl refl is
+read_leaves n c loading_head answer after (loads_update page lost at a is) = stays c _ after refl refl refl refl refl is
+read_leaves n c loading_head answer after (loads_owed page at a is) = stays c _ after refl refl refl refl refl is
+read_leaves n c loading_head answer after (loads_passed page fill least at more sum a is) = stays c _ after refl refl refl refl refl is
 read_leaves n c (loading_done page fill) answer after (finds_none le a is) = stays c _ after refl refl refl refl refl is
 read_leaves n c (loading_done page fill) answer after (finds_closed below a is) = stays c _ after refl refl refl refl refl is
-read_leaves n c (storing_link page fill) answer after step = stays c _ after refl refl refl refl refl step.after_is
+read_leaves n c (storing_spare_link page fill) answer after step = stays c _ after refl refl refl refl refl step.after_is
 read_leaves n c (swapping page fill) answer after (swaps at a is) = stays c _ after refl refl refl refl refl is
 read_leaves n c (swapping page fill) answer after (swap_fails at a is) = stays c _ after refl refl refl refl refl is
 
@@ -203,13 +203,13 @@ reader_leaves_writer n size c event answer after reads (store_wish_step e a is) 
 
 module _ (n : ℕ) (part : WriterPart) (c : Core) (answer : Answer) (after : Core) where
   read_beside : (phase : ReaderPhase) → ReadStep n c phase answer after → ReadStep n (written_by part c) phase answer (written_by part after)
-  read_beside loading_link (loads_header page fill at a is) = loads_header page fill at a (ap (written_by part) is)
-  read_beside loading_link (loads_update page lost at a is) = loads_update page lost at a (ap (written_by part) is)
-  read_beside loading_link (loads_owed page at a is) = loads_owed page at a (ap (written_by part) is)
-  read_beside loading_link (loads_passed page fill least at more sum a is) = loads_passed page fill least at more sum a (ap (written_by part) is)
+  read_beside loading_head (loads_header page fill at a is) = loads_header page fill at a (ap (written_by part) is)
+  read_beside loading_head (loads_update page lost at a is) = loads_update page lost at a (ap (written_by part) is)
+  read_beside loading_head (loads_owed page at a is) = loads_owed page at a (ap (written_by part) is)
+  read_beside loading_head (loads_passed page fill least at more sum a is) = loads_passed page fill least at more sum a (ap (written_by part) is)
   read_beside (loading_done page fill) (finds_none le a is) = finds_none le a (ap (written_by part) is)
   read_beside (loading_done page fill) (finds_closed below a is) = finds_closed below a (ap (written_by part) is)
-  read_beside (storing_link page fill) step = record { answer_is = step.answer_is; after_is = ap (written_by part) step.after_is }
+  read_beside (storing_spare_link page fill) step = record { answer_is = step.answer_is; after_is = ap (written_by part) step.after_is }
   read_beside (swapping page fill) (swaps at a is) = swaps at a (ap (written_by part) is)
   read_beside (swapping page fill) (swap_fails at a is) = swap_fails at a (ap (written_by part) is)
 

@@ -2,14 +2,14 @@
 use Rattle.std.proofs.Common.{◌≡◌, ℕ, ◌+◌, ◌⊎◌, IsTrue, List, ◌∷◌, refl, ap, ◌∙◌, inl, inr, ⊎_elim, arith}
 use Rattle.trace_model.specs.History.{is_settled}
 use Rattle.trace_model.specs.Frames.{Kind, for_record, for_close, FrameState, waiting, reserved, left, Role, Phase, idle, looking, claiming, looking_next, marking, clearing, opening, releasing, wishing, Frame}
-use Rattle.trace_model.specs.Ring.{ReaderPhase, loading_link, loading_done, storing_link, swapping, Core, window_of}
+use Rattle.trace_model.specs.Ring.{ReaderPhase, loading_head, loading_done, storing_spare_link, swapping, Core, window_of}
 use Rattle.trace_model.specs.Window.{Window, WindowEvent, opened_one, released_one, took_one, lost_one, WindowStep}
 use Rattle.trace_model.specs.Steps.{Event, Answer, with_new_tail, after_begin, taken_fill}
 use Rattle.trace_model.proofs.steps.StepCases.{StepCases, BeginsAgain, ReserveStep, reserves, finds_nothing, is_crowded, is_worn, notes, LoadLinkStep, load_link_late, sees_free, sees_header, sees_update, ClaimHeadStep, claim_late, claims, claim_fails, LoadNextStep, load_next_late, sees_normal, sees_other, MarkHeadStep, mark_late, marks, mark_fails, ClearUpdateStep, clears, OpenFillStep, open_late, opens, ReleaseFillStep, releases, releases_last, LoadWishStep, grants, closes_more, goes_away, IdleStep, FrameStep, loads_header, loads_update, loads_owed, loads_passed, finds_none, finds_closed, swaps, swap_fails, ReadStep, push_step, push_refused, close_step, close_refused, frame_step, frame_lacks, end_step, end_lacks, end_early, read_step, store_wish_step}
 use Rattle.trace_model.proofs.steps.StepSound.{cases_of}
 use Rattle.link_marks.specs.KeptLinks.{LinksKept}
 use Rattle.link_marks.specs.WindowLaws.{HeadIsTaken, HeadIsLost, LossesNeedAFullRing, ClosesNeedNoFrame}
-use Rattle.link_marks.proofs.links.LinkFills.{header_tells, header_inside, fill_at}
+use Rattle.link_marks.proofs.links.LinkFills.{header_reports, header_inside, fill_at}
 use Rattle.link_marks.proofs.histories.HistorySteps.{step_owed}
 
 after_begin_head : (kind : Kind) (state : FrameState) (c : Core) (frame : Frame) (below : List Frame) → (after_begin kind state c frame below).head ≡ c.head
@@ -101,18 +101,18 @@ module _ (n : ℕ) (c : Core) (answer : Answer) (after : Core) (k : LinksKept n 
   rests next same is = inl (ap (λ (s : Core). s.head) is ∙ same)
 
   read_moves : (phase : ReaderPhase) → ReadStep n c phase answer after → HeadMoves n c answer after
-  read_moves loading_link (loads_header page fill at a is) = rests _ refl is
-  read_moves loading_link (loads_update page lost at a is) = rests _ refl is
-  read_moves loading_link (loads_owed page at a is) = rests _ refl is
-  read_moves loading_link (loads_passed page fill least at more sum a is) = rests _ refl is
+  read_moves loading_head (loads_header page fill at a is) = rests _ refl is
+  read_moves loading_head (loads_update page lost at a is) = rests _ refl is
+  read_moves loading_head (loads_owed page at a is) = rests _ refl is
+  read_moves loading_head (loads_passed page fill least at more sum a is) = rests _ refl is
   read_moves (loading_done page fill) (finds_none le a is) = rests _ refl is
   read_moves (loading_done page fill) (finds_closed closed a is) = rests _ refl is
-  read_moves (storing_link page fill) step = rests _ refl step.after_is
+  read_moves (storing_spare_link page fill) step = rests _ refl step.after_is
   read_moves (swapping page fill) (swap_fails at a is) = rests _ refl is
   read_moves (swapping page fill) (swaps at a is) =
       let (g, low, high, same, link) = fill_at n c k fill in
-      let told = header_tells n c.links c.order c.head c.frames g page fill link (same ∙ at) in
-      inr (inl (taken_fill c page fill, a, told.0 ∙ told.1, ap (λ (s : Core). s.head) is))
+      let reported = header_reports n c.links c.order c.head c.frames g page fill link (same ∙ at) in
+      inr (inl (taken_fill c page fill, a, reported.0 ∙ reported.1, ap (λ (s : Core). s.head) is))
 
 moves : (n size : ℕ) (c : Core) (event : Event) (answer : Answer) (after : Core) → LinksKept n c → StepCases n size c event answer after → HeadMoves n c answer after
 moves n size c event answer after k (push_step moment len e few short early a is) = rests n c answer after k _ refl is

@@ -6,14 +6,14 @@ use mathlib.Core.Logic.{dite}
 use native.Mathlib.Decide.{ℕ_discrete}
 use Rattle.trace_model.specs.Links.{Link, normal_link, header_link, update_link}
 use Rattle.trace_model.specs.Frames.{Kind, for_record, for_close, FrameState, waiting, reserved, left, Role, owner, helper, Phase, idle, looking, claiming, looking_next, marking, clearing, opening, releasing, wishing, Frame}
-use Rattle.trace_model.specs.Ring.{ReaderPhase, loading_link, loading_done, storing_link, swapping, Core, IsStart, link_into, links_with, page_at}
+use Rattle.trace_model.specs.Ring.{ReaderPhase, loading_head, loading_done, storing_spare_link, swapping, Core, IsStart, link_into, links_with, page_at}
 use Rattle.trace_model.specs.Steps.{Event, Answer, in_phase, closing_phase, after_leave, after_begin, with_new_tail, after_next}
 use Rattle.trace_model.proofs.steps.StepCases.{StepCases, BeginsAgain, ReserveStep, reserves, finds_nothing, is_crowded, is_worn, notes, LoadLinkStep, load_link_late, sees_free, sees_header, sees_update, ClaimHeadStep, claim_late, claims, claim_fails, LoadNextStep, load_next_late, sees_normal, sees_other, MarkHeadStep, mark_late, marks, mark_fails, ClearUpdateStep, clears, OpenFillStep, open_late, opens, ReleaseFillStep, releases, releases_last, LoadWishStep, grants, closes_more, goes_away, IdleStep, FrameStep, LoadHeadStep, loads_header, loads_update, loads_owed, loads_passed, LoadDoneStep, finds_none, finds_closed, SwapHeadStep, swaps, swap_fails, ReadStep, push_step, push_refused, close_step, close_refused, frame_step, frame_lacks, end_step, end_lacks, end_early, read_step, store_wish_step}
 use Rattle.link_marks.specs.KeptLinks.{PhaseKept, LinkKept, is_normal, is_header, is_update, ReaderKept, LinksKept}
 use Rattle.link_marks.specs.KeptProgress.{IsMarked, PhaseAdvances, FramesAdvance, ProgressKept}
 use Rattle.link_marks.proofs.links.Positions.{link_here}
 use Rattle.link_marks.proofs.links.FramePhases.{normal_ne_header, normal_ne_update, before_set}
-use Rattle.link_marks.proofs.links.LinkFills.{header_tells, owned_by, normal_inside, header_inside, next_inside, fill_at}
+use Rattle.link_marks.proofs.links.LinkFills.{header_reports, owned_by, normal_inside, header_inside, next_inside, fill_at}
 use Rattle.link_marks.proofs.links.FrameChanges.{top_kept}
 
 -- ---- a link is set
@@ -224,8 +224,8 @@ module _ (n : ℕ) (c : Core) (k : LinksKept n c) (r : ProgressKept n c) where
   swap_head_advances page fill answer after ready (swaps l a is) =
       let some_pages = k.some_pages in
       let (g, low, high, same, link) = fill_at n c k fill in
-      let told = header_tells n c.links c.order c.head c.frames g page fill link (same ∙ l) in
-      let here : fill ≡ c.head = told.0 ∙ told.1 in
+      let reported = header_reports n c.links c.order c.head c.frames g page fill link (same ∙ l) in
+      let here : fill ≡ c.head = reported.0 ∙ reported.1 in
       let first : Link = normal_link c.spare (fill + n) in
       let once : List Link = links_with n c.links fill first in
       let once_wide : length once ≡ n = length-set c.links _ first ∙ k.positions in
@@ -237,9 +237,9 @@ module _ (n : ℕ) (c : Core) (k : LinksKept n c) (r : ProgressKept n c) where
       }
 
   read_advances : (phase : ReaderPhase) (answer : Answer) (after : Core) → ReaderKept n c.links c.order c.spare_link c.head c.done c.reader.hint phase → ReadStep n c phase answer after → ProgressKept n after
-  read_advances loading_link answer after facts step = load_head_advances answer after step
+  read_advances loading_head answer after facts step = load_head_advances answer after step
   read_advances (loading_done page fill) answer after facts step = load_done_advances page fill answer after step
-  read_advances (storing_link page fill) answer after facts step = subst (ProgressKept n) (sym step.after_is) r
+  read_advances (storing_spare_link page fill) answer after facts step = subst (ProgressKept n) (sym step.after_is) r
   read_advances (swapping page fill) answer after facts step = swap_head_advances page fill answer after facts.2 step
 
 -- ---- the whole

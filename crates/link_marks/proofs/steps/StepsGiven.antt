@@ -7,7 +7,7 @@ use Rattle.trace_model.specs.declared.limits.TheConstants.{MOMENT_LIMIT, LINK_FI
 use Rattle.trace_model.specs.Words.{slot_len}
 use Rattle.trace_model.specs.Links.{Mark, normal, header, update, normal_link, header_link, update_link}
 use Rattle.trace_model.specs.Frames.{Kind, for_record, for_close, FrameState, waiting, reserved, left, number_of, Role, owner, helper, Phase, idle, looking, claiming, looking_next, marking, clearing, opening, releasing, wishing, Frame}
-use Rattle.trace_model.specs.Ring.{ReaderPhase, loading_link, loading_done, storing_link, swapping, Core, link_into}
+use Rattle.trace_model.specs.Ring.{ReaderPhase, loading_head, loading_done, storing_spare_link, swapping, Core, link_into}
 use Rattle.trace_model.specs.Links.{same_link}
 use Rattle.trace_model.specs.Events.{Event, pushes, pushes_close, steps, ends, reads, wishes, Answer, Outcome, only_if}
 use Rattle.trace_model.specs.WriterSteps.{unless_begun, new_reservation, tail_holds, is_full, is_too_long, push_record, push_close_frame, fits_in_tail, needs_page, reserve, sees_link, load_link, open_fill, idle_step, end_frame, end_top, release_fill, is_granted, load_wish}
@@ -19,8 +19,8 @@ use Rattle.link_marks.specs.KeptLinks.{PhaseKept, LinksKept}
 use Rattle.link_marks.specs.KeptStack.{IsForRecord, MayBeIn, StackKept}
 use Rattle.link_marks.specs.KeptProgress.{PhaseAdvances, FramesAdvance, ProgressKept}
 use Rattle.link_marks.specs.RingLaws.{MayAsk, EachEventIsAStep}
-use Rattle.link_marks.proofs.links.Positions.{at_position, link_turn}
-use Rattle.link_marks.proofs.links.LinkFills.{normal_tells, header_tells, update_tells, owned_by}
+use Rattle.link_marks.proofs.links.Positions.{at_position, link_round}
+use Rattle.link_marks.proofs.links.LinkFills.{normal_reports, header_reports, update_reports, owned_by}
 use Rattle.link_marks.proofs.links.FrameChanges.{top_kept}
 use Rattle.link_marks.proofs.frames.StackSteps.{top_agrees, releasing_left, wishing_left}
 
@@ -59,27 +59,27 @@ module _ (n size : ℕ) (c : Core) (frame : Frame) (below : List Frame) (k : Lin
       fill_is : fill ≡ noted
       fill_is = let some_pages = k.some_pages in let unread = k.head_le in let behind = k.done_lt in let within = k.opened_le in
           dite (ℕ_discrete noted (c.head + n))
-          (λ e. let here = sym (link_turn n c.links c.head) ∙ ap (link_into n c.links) (sym e) ∙ at in
-          let told = normal_tells n c.links c.order c.head c.frames c.head page fill (k.each c.head (omega arith) (omega arith)) here in
-          let more = r.room page (here ∙ ap (normal_link page) told.0) in absurd (omega arith))
-          (λ ne. (normal_tells n c.links c.order c.head c.frames noted page fill (k.each noted (omega arith) (omega arith)) at).0)
+          (λ e. let here = sym (link_round n c.links c.head) ∙ ap (link_into n c.links) (sym e) ∙ at in
+          let reported = normal_reports n c.links c.order c.head c.frames c.head page fill (k.each c.head (omega arith) (omega arith)) here in
+          let more = r.room page (here ∙ ap (normal_link page) reported.0) in absurd (omega arith))
+          (λ ne. (normal_reports n c.links c.order c.head c.frames noted page fill (k.each noted (omega arith) (omega arith)) at).0)
   sees_link_given noted header page fill now at = given_only (fill + n == noted) _ (λ e. eqb-false (fill + n) noted e fill_is) tt
     where
       fill_is : fill + n ≡ noted
       fill_is = let some_pages = k.some_pages in let unread = k.head_le in let behind = k.done_lt in let within = k.opened_le in
           dite (ℕ_discrete noted (c.head + n))
-          (λ e. let here = sym (link_turn n c.links c.head) ∙ ap (link_into n c.links) (sym e) ∙ at in
-          let told = header_tells n c.links c.order c.head c.frames c.head page fill (k.each c.head (omega arith) (omega arith)) here in let it = told.0 in omega arith)
-          (λ ne. let told = header_tells n c.links c.order c.head c.frames noted page fill (k.each noted (omega arith) (omega arith)) at in let it = told.1 in absurd (omega arith))
+          (λ e. let here = sym (link_round n c.links c.head) ∙ ap (link_into n c.links) (sym e) ∙ at in
+          let reported = header_reports n c.links c.order c.head c.frames c.head page fill (k.each c.head (omega arith) (omega arith)) here in let it = reported.0 in omega arith)
+          (λ ne. let reported = header_reports n c.links c.order c.head c.frames noted page fill (k.each noted (omega arith) (omega arith)) at in let it = reported.1 in absurd (omega arith))
   sees_link_given noted update page fill now at = given_only (fill + n == noted) _ (λ e. eqb-false (fill + n) noted e fill_is) tt
     where
       fill_is : fill + n ≡ noted
       fill_is = let some_pages = k.some_pages in let unread = k.head_le in let behind = k.done_lt in let within = k.opened_le in
           dite (ℕ_discrete noted (c.head + n))
-          (λ e. let here = sym (link_turn n c.links c.head) ∙ ap (link_into n c.links) (sym e) ∙ at in
-          let told = update_tells n c.links c.order c.head c.frames c.head page fill (k.each c.head (omega arith) (omega arith)) here in
-          let (u, sum, low, open_yet, there) = owned_by n c k c.head told.2 in absurd (omega arith))
-          (λ ne. (update_tells n c.links c.order c.head c.frames noted page fill (k.each noted (omega arith) (omega arith)) at).0)
+          (λ e. let here = sym (link_round n c.links c.head) ∙ ap (link_into n c.links) (sym e) ∙ at in
+          let reported = update_reports n c.links c.order c.head c.frames c.head page fill (k.each c.head (omega arith) (omega arith)) here in
+          let (u, sum, low, open_yet, there) = owned_by n c k c.head reported.2 in absurd (omega arith))
+          (λ ne. (update_reports n c.links c.order c.head c.frames noted page fill (k.each noted (omega arith) (omega arith)) at).0)
 
   load_link_given : (noted : ℕ) → Given (load_link n c frame below noted)
   load_link_given noted = let l = link_into n c.links noted in begun_given noted _ (λ now. sees_link_given noted l.mark l.page l.fill now refl)
@@ -160,8 +160,8 @@ module _ (n : ℕ) (c : Core) (k : LinksKept n c) where
       behind = let some_pages = k.some_pages in let hint = k.hint_le in
           let (g, low, high, position) = at_position c.head n (c.reader.hint % n) (mod-lt c.reader.hint (omega arith)) in
           let there = ap (λ (i : ℕ). get_or c.links i (normal_link 0 0)) position ∙ at in
-          let told = (normal_tells n c.links c.order c.head c.frames g page fill (k.each g low high) there).0 in
-          (omega arith, λ first. told ∙ sym (mod-eq_of_lt (let x : g < n = omega arith in x)) ∙ position ∙ mod-eq_of_lt (let x : c.reader.hint < n = omega arith in x))
+          let reported = (normal_reports n c.links c.order c.head c.frames g page fill (k.each g low high) there).0 in
+          (omega arith, λ first. reported ∙ sym (mod-eq_of_lt (let x : g < n = omega arith in x)) ∙ position ∙ mod-eq_of_lt (let x : c.reader.hint < n = omega arith in x))
 
       over : fill ≢ c.reader.hint → c.reader.hint ≤ fill → c.reader.hint < fill
       over ne low = dite (dec_lt c.reader.hint fill) (λ more. more) (λ none. absurd (ne (omega arith)))
@@ -170,9 +170,9 @@ module _ (n : ℕ) (c : Core) (k : LinksKept n c) where
       whole ne turn = dite (dec_lt fill n) (λ less. absurd (ne (turn less))) (λ more. omega arith)
 
   read_given : (phase : ReaderPhase) → Given (read_step_of n c phase)
-  read_given loading_link = let l = link_into n c.links c.reader.hint in reads_link_given l.mark l.page l.fill refl
+  read_given loading_head = let l = link_into n c.links c.reader.hint in reads_link_given l.mark l.page l.fill refl
   read_given (loading_done page fill) = given_if (nat_le c.done fill) _ _ (λ e. tt) (λ e. tt)
-  read_given (storing_link page fill) = tt
+  read_given (storing_spare_link page fill) = tt
   read_given (swapping page fill) = given_if (same_link (link_into n c.links fill) (header_link page fill)) _ _ (λ e. tt) (λ e. tt)
 
 -- ---- the whole

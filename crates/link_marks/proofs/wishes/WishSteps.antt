@@ -6,7 +6,7 @@ use Rattle.trace_model.specs.declared.limits.TheConstants.{LINK_FILLS}
 use Rattle.trace_model.specs.History.{HistoryEvent, Reservation}
 use Rattle.trace_model.specs.Packing.{tail_of}
 use Rattle.trace_model.specs.Frames.{Kind, for_record, for_close, FrameState, waiting, reserved, left, Phase, idle, looking, claiming, looking_next, marking, clearing, opening, releasing, wishing, Frame}
-use Rattle.trace_model.specs.Ring.{ReaderPhase, loading_link, loading_done, storing_link, swapping, Core, window_of}
+use Rattle.trace_model.specs.Ring.{ReaderPhase, loading_head, loading_done, storing_spare_link, swapping, Core, window_of}
 use Rattle.trace_model.specs.Steps.{Event, Answer, gone, empty, IsGranted, with_new_tail, frames_after_leave, after_begin, Step, Exchange, Run}
 use Rattle.trace_model.proofs.steps.EventSteps.{reader_wishes}
 use Rattle.trace_model.proofs.steps.StepCases.{StepCases, BeginsAgain, reserves, finds_nothing, is_crowded, is_worn, notes, load_link_late, sees_free, sees_header, sees_update, claim_late, claims, claim_fails, load_next_late, sees_normal, sees_other, mark_late, marks, mark_fails, clears, open_late, opens, releases, releases_last, grants, closes_more, goes_away, IdleStep, FrameStep, loads_header, loads_update, loads_owed, loads_passed, finds_none, finds_closed, swaps, swap_fails, ReadStep, push_step, push_refused, close_step, close_refused, frame_step, frame_lacks, end_step, end_lacks, end_early, read_step, store_wish_step}
@@ -14,7 +14,7 @@ use Rattle.trace_model.proofs.steps.StepSound.{cases_of}
 use Rattle.link_marks.specs.RingKept.{IsRingKept}
 use Rattle.link_marks.specs.WishLaws.{WishesAreHeld, GoneHasLooked, WishesAreAnswered, WishedTailsAreClosed, WishBehindEmptyLosesNone}
 use Rattle.link_marks.proofs.partition.RingsKept.{run_snoc, ring_step, ring_run}
-use Rattle.link_marks.proofs.histories.ToldSteps.{leads_run, counts_rise}
+use Rattle.link_marks.proofs.histories.StepsAsEvents.{leads_run, counts_rise}
 use Rattle.link_marks.proofs.frames.AnswersRight.{empty_right}
 use Rattle.link_marks.proofs.wishes.Tails.{tail_over}
 
@@ -93,13 +93,13 @@ same_top : (frame other : Frame) (below under : List Frame) → ◌≡◌ {A = L
 same_top frame other below under e = (cc, cc)
 
 read_stays : (n : ℕ) (c : Core) (phase : ReaderPhase) (answer : Answer) (after : Core) → ReadStep n c phase answer after → (after.frames ≡ c.frames) × (after.wish ≡ c.wish)
-read_stays n c loading_link answer after (loads_header page fill at a is) = (ap (λ (x : Core). x.frames) is, ap (λ (x : Core). x.wish) is)
-read_stays n c loading_link answer after (loads_update page lost at a is) = (ap (λ (x : Core). x.frames) is, ap (λ (x : Core). x.wish) is)
-read_stays n c loading_link answer after (loads_owed page at a is) = (ap (λ (x : Core). x.frames) is, ap (λ (x : Core). x.wish) is)
-read_stays n c loading_link answer after (loads_passed page fill least at more sum a is) = (ap (λ (x : Core). x.frames) is, ap (λ (x : Core). x.wish) is)
+read_stays n c loading_head answer after (loads_header page fill at a is) = (ap (λ (x : Core). x.frames) is, ap (λ (x : Core). x.wish) is)
+read_stays n c loading_head answer after (loads_update page lost at a is) = (ap (λ (x : Core). x.frames) is, ap (λ (x : Core). x.wish) is)
+read_stays n c loading_head answer after (loads_owed page at a is) = (ap (λ (x : Core). x.frames) is, ap (λ (x : Core). x.wish) is)
+read_stays n c loading_head answer after (loads_passed page fill least at more sum a is) = (ap (λ (x : Core). x.frames) is, ap (λ (x : Core). x.wish) is)
 read_stays n c (loading_done page fill) answer after (finds_none le a is) = (ap (λ (x : Core). x.frames) is, ap (λ (x : Core). x.wish) is)
 read_stays n c (loading_done page fill) answer after (finds_closed below a is) = (ap (λ (x : Core). x.frames) is, ap (λ (x : Core). x.wish) is)
-read_stays n c (storing_link page fill) answer after step = (ap (λ (x : Core). x.frames) step.after_is, ap (λ (x : Core). x.wish) step.after_is)
+read_stays n c (storing_spare_link page fill) answer after step = (ap (λ (x : Core). x.frames) step.after_is, ap (λ (x : Core). x.wish) step.after_is)
 read_stays n c (swapping page fill) answer after (swaps at a is) = (ap (λ (x : Core). x.frames) is, ap (λ (x : Core). x.wish) is)
 read_stays n c (swapping page fill) answer after (swap_fails at a is) = (ap (λ (x : Core). x.frames) is, ap (λ (x : Core). x.wish) is)
 

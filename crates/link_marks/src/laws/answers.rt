@@ -1,5 +1,5 @@
 //! Laws of a ring's answers: when a frame is refused, and what the reader's answers say.
-ghost use Rattle.link_marks.specs.AnswerLaws.{CrowdedIsRight, EmptyIsRight, MovingIsRight, RefusalsAreDue, SwappedIsRight, WornIsRight};
+ghost use Rattle.link_marks.specs.AnswerLaws.{CrowdedIsRight, EmptyIsRight, MovingIsRight, RefusalsAreDue, PageTakenIsRight, WornIsRight};
 
 /// A frame is refused as crowded only where no page is released, and as worn only where the tail is the last
 /// fill that may be begun; and there a frame that needs a page is refused.
@@ -14,5 +14,5 @@ pub fn refusals_are_right()
 pub fn reader_answers_are_right()
     ensures none { EmptyIsRight }
     ensures moves { MovingIsRight }
-    ensures takes { SwappedIsRight }
+    ensures takes { PageTakenIsRight }
 {}

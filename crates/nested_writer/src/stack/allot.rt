@@ -23,9 +23,9 @@ impl WriterStack {
     ghost use Rattle.nested_writer.specs.Kept.{SameFills, SamePages};
     ghost use Rattle.nested_writer.specs.Next.{IsReadyForPage, IsAllottedTo, IsSameFrame, IsRefusedTo};
     ghost use Rattle.nested_writer.specs.PlainTop.{IsPlainTop};
-    ghost use Rattle.nested_writer.specs.IsStack.{IsStack, Stands};
-    ghost use Rattle.nested_writer.specs.Allotted.{IsAllotted, HasActed};
-    ghost use Rattle.nested_writer.specs.Answered.{IsAnswered};
+    ghost use Rattle.nested_writer.specs.IsStack.{IsStack, IsReachedStack};
+    ghost use Rattle.nested_writer.specs.Allotted.{IsAllotted, HasEvents};
+    ghost use Rattle.nested_writer.specs.Answered.{IsAllotAnswer};
     ghost use Rattle.nested_writer.specs.Promises.{Allots};
     ghost use Rattle.record_words.specs.declared.put.Place.{Place};
     ghost use Rattle.nested_writer.specs.declared.frame.Slot.{Slot};
@@ -71,7 +71,7 @@ impl WriterStack {
     /// Whether a page is needed for the frame on top, which has no record.
     #[inline(always)]
     fn wants_page(&self, top: Frame) -> bool
-        requires stack { Stands self.now }
+        requires stack { IsReachedStack self.now }
         requires top { (below : List Frame) × IsTop self.now top below }
         ensures { IsTrue result ↔ WantsPage self.now top.purpose top.progress }
     {
@@ -102,7 +102,7 @@ impl WriterStack {
         ensures after { IsAllotted self.old self.old.frames result self.new }
         ensures answered { (start : ℕ) (history : List HistoryEvent)
             → IsStack start history self.old
-            → IsAnswered self.old history self.old.frames result }
+            → IsAllotAnswer self.old history self.old.frames result }
         ensures kept { SameFills self.old self.new }
         ensures page { result ≡ Ok Allot.NeedsPage → IsReadyForPage self.old self.new }
         ensures next { IfOk result (λ allot. IsAllottedTo self.old self.new allot) }
@@ -125,14 +125,14 @@ impl WriterStack {
     /// Reserves the record of the frame on top, which fits in the tail, and whose moment is raised to `raised`.
     #[inline(always)]
     fn reserve_any(&mut self, moment: u64, raised: u64, len: usize) -> Place
-        requires stack { Stands self.old }
+        requires stack { IsReachedStack self.old }
         requires top { (top : Frame) × (below : List Frame) × (noted : Option ℕ) × IsTop self.old top below
             × (top.purpose ≡ Record moment len) × (top.progress ≡ Waiting noted) }
         requires raised { raised ≡ max moment self.old.last_moment }
         requires room { HasRecordRoom self.old moment len }
         ensures reserved { (top : Frame) (below : List Frame) → IsTop self.old top below
             → ReservesRecord self.old top below moment len result self.new }
-        ensures stack { HasActed self.old (reserve ∷ []) self.new }
+        ensures stack { HasEvents self.old (reserve ∷ []) self.new }
     {
         let number = self.tail.first_number().0 + self.tail.count();
         let fill = self.tail.fill_number().0;
@@ -152,7 +152,7 @@ impl WriterStack {
     /// record. `None` may be the answer for one that is near the end too.
     #[inline(always)]
     pub fn plain_top(&self) -> Option<Pushed>
-        requires stack { Stands self.now }
+        requires stack { IsReachedStack self.now }
         ensures { IfSome result (λ pushed. IsPlainTop self.now pushed) }
     {
         let pushed = self.top.waiting()?;
@@ -168,11 +168,11 @@ impl WriterStack {
     /// Reserves the record of the frame on top, which `plain_top` answered.
     #[inline(always)]
     fn hold_plain(&mut self, pushed: Pushed) -> Slot
-        requires stack { Stands self.old }
+        requires stack { IsReachedStack self.old }
         requires plain { IsPlainTop self.old pushed }
         ensures reserved { (top : Frame) (below : List Frame) → IsTop self.old top below
             → ReservesRecord self.old top below pushed.moment pushed.len result.place self.new }
-        ensures stack { HasActed self.old (reserve ∷ []) self.new }
+        ensures stack { HasEvents self.old (reserve ∷ []) self.new }
         ensures number { result.number ≡ next_number self.old }
         ensures slot { IsTopSlot self.new.frames result }
     {
@@ -195,15 +195,15 @@ impl WriterStack {
     /// with it.
     #[inline(always)]
     pub fn reserve_plain(&mut self, pushed: Pushed) -> u64
-        requires stack { Stands self.old }
+        requires stack { IsReachedStack self.old }
         requires plain { IsPlainTop self.old pushed }
         ensures number { result ≡ next_number self.old }
         ensures slot { (slot : Slot) × IsTopSlot self.new.frames slot × (slot.number ≡ result) }
         ensures after { (place : Place) × IsAllotted self.old self.old.frames (Ok (Allot.Fits place)) self.new }
-        ensures stays { Stands self.new }
+        ensures stays { IsReachedStack self.new }
         ensures answered { (start : ℕ) (history : List HistoryEvent)
             → IsStack start history self.old
-            → (place : Place) × IsAnswered self.old history self.old.frames (Ok (Allot.Fits place)) }
+            → (place : Place) × IsAllotAnswer self.old history self.old.frames (Ok (Allot.Fits place)) }
         ensures kept { SameFills self.old self.new }
         ensures may_end { MayEndTop self.new.frames }
     {
@@ -213,7 +213,7 @@ impl WriterStack {
     /// `allot`, however far the frame on top has come.
     #[inline(never)]
     fn allot_any(&mut self) -> Result<Allot, WriteFault>
-        requires stack { Stands self.old }
+        requires stack { IsReachedStack self.old }
         ensures { Allots self.old result self.new }
     {
         let Some((pushed, noted)) = self.top.trying() else {
@@ -234,7 +234,7 @@ impl WriterStack {
     /// `allot`, for any frame on top, or for none.
     #[inline(never)]
     fn allot_again(&mut self) -> Result<Allot, WriteFault>
-        requires stack { Stands self.old }
+        requires stack { IsReachedStack self.old }
         ensures { Allots self.old result self.new }
     {
         let Some(top) = self.top.get() else {
@@ -268,7 +268,7 @@ impl WriterStack {
     /// `Crowded` or `Worn` leaves without a record.
     #[inline(always)]
     pub fn allot(&mut self) -> Result<Allot, WriteFault>
-        requires stack { Stands self.old }
+        requires stack { IsReachedStack self.old }
         ensures { Allots self.old result self.new }
     {
         let Some(pushed) = self.plain_top() else {

@@ -18,15 +18,15 @@ impl WriterStack {
     ghost use Rattle.trace_model.specs.Packing.{tail_of};
     ghost use Rattle.nested_writer.specs.Stack.{opened};
     ghost use Rattle.nested_writer.specs.Calls.{with_bottom, IsAtBottom, MayAddPage};
-    ghost use Rattle.nested_writer.specs.Allotted.{HasActed};
+    ghost use Rattle.nested_writer.specs.Allotted.{HasEvents};
     ghost use Rattle.nested_writer.specs.Promises.{EndsTop};
     ghost use Rattle.nested_writer.specs.Kept.{SamePages};
-    ghost use Rattle.nested_writer.specs.IsStack.{IsStack, Stands};
+    ghost use Rattle.nested_writer.specs.IsStack.{IsStack, IsReachedStack};
 
     /// `end`, however far the frame on top has come.
     #[inline(never)]
     fn end_any(&mut self) -> Result<Ended, WriteFault>
-        requires stack { Stands self.old }
+        requires stack { IsReachedStack self.old }
         ensures { EndsTop self.old result self.new }
     {
         let Some(top) = self.top.get() else {
@@ -48,7 +48,7 @@ impl WriterStack {
     /// Ends the frame on top, whose record is reserved, or which is a close frame that needs no page.
     #[inline(always)]
     pub fn end(&mut self) -> Result<Ended, WriteFault>
-        requires stack { Stands self.old }
+        requires stack { IsReachedStack self.old }
         ensures { EndsTop self.old result self.new }
     {
         if self.top.holds_record() && self.below.is_empty() {
@@ -67,8 +67,8 @@ impl WriterStack {
             → IsStack start history self.old
             → (IsTrue result ↔ tail_of history ≢ []) }
         ensures yes { IsTrue result → self.new ≡ with_bottom self.old (Some (opened self.old)) }
-        ensures wished { IsTrue result → HasActed self.old (wished ∷ []) self.new }
-        ensures stays { Stands self.old → Stands self.new }
+        ensures wished { IsTrue result → HasEvents self.old (wished ∷ []) self.new }
+        ensures stays { IsReachedStack self.old → IsReachedStack self.new }
         ensures no { self.old.tail.bytes ≡ [] → self.new ≡ self.old }
         ensures kept { SamePages self.old self.new }
         ensures bottom { IsAtBottom self.new.frames }
@@ -93,8 +93,8 @@ impl WriterStack {
         requires bottom { IsAtBottom self.old.frames }
         requires released { self.old.older ≡ [] }
         ensures popped { self.new ≡ record self.old { frames = [] } }
-        ensures stack { HasActed self.old [] self.new }
-        ensures stays { Stands self.old → Stands self.new }
+        ensures stack { HasEvents self.old [] self.new }
+        ensures stays { IsReachedStack self.old → IsReachedStack self.new }
         ensures kept { SamePages self.old self.new }
         ensures none { self.new.frames ≡ [] }
     {

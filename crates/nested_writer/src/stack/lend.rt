@@ -13,7 +13,7 @@ impl WriterStack {
     ghost use Rattle.nested_writer.specs.declared.frame.Slot.{Slot};
     ghost use Rattle.nested_writer.specs.Calls.{IsTopSlot, LacksSlot};
     ghost use Rattle.nested_writer.specs.Next.{pushed_len, top_place};
-    ghost use Rattle.nested_writer.specs.IsStack.{IsStack, Stands};
+    ghost use Rattle.nested_writer.specs.IsStack.{IsStack, IsReachedStack};
     ghost use Rattle.nested_writer.specs.Lent.{Lent, lent_bytes, with_bytes};
     ghost use Rattle.nested_writer.specs.Lending.{LendsTop, IsLent, with_top};
 
@@ -49,7 +49,7 @@ impl WriterStack {
     /// it is, and what is written there leaves the stack that of its history.
     #[inline(always)]
     pub fn top_mut(&mut self) -> Result<&mut Payload, WriteFault>
-        requires stack { Stands self.old }
+        requires stack { IsReachedStack self.old }
         ensures* lends { sem 𝓛 (LendsTop self.entry result) }
         ensures no_frame { result ≡ Err WriteFault.NoFrame ↔ self.old.frames ≡ [] }
         ensures not_reserved { result ≡ Err WriteFault.NotReserved ↔ LacksSlot self.old.frames }
@@ -78,7 +78,7 @@ impl WriterStack {
             → IsStack start history (with_top self.old (with_bytes payload.now part))) }
         ensures stays { IfOk result (λ payload. (part : List ℕ)
             → length part ≡ length (lent_bytes payload.now)
-            → Stands (with_top self.old (with_bytes payload.now part))) }
+            → IsReachedStack (with_top self.old (with_bytes payload.now part))) }
     {
         let slot = self.top_slot()?;
         if slot.fill == self.tail.fill_number().0 {

@@ -17,15 +17,15 @@ impl WriterStack {
     ghost use Rattle.page_image.specs.Contents.{IsPage};
     ghost use Rattle.nested_writer.specs.Stack.{opened, next_number, blank_page};
     ghost use Rattle.nested_writer.specs.Calls.{with_tail, MayAddPage, IsAtBottom};
-    ghost use Rattle.nested_writer.specs.Allotted.{HasActed};
+    ghost use Rattle.nested_writer.specs.Allotted.{HasEvents};
     ghost use Rattle.nested_writer.specs.Released.{IsWrittenPage, AreCommitted};
     ghost use Rattle.nested_writer.specs.Kept.{SameShape};
-    ghost use Rattle.nested_writer.specs.IsStack.{IsStack, Stands};
+    ghost use Rattle.nested_writer.specs.IsStack.{IsStack, IsReachedStack};
 
     /// Begins the next fill in this body, for the frame on top, which got the answer that it needs a page, or which was
     /// asked to close the tail; no page was added since.
     pub fn add_page(&mut self, body: Body)
-        requires stack { Stands self.old }
+        requires stack { IsReachedStack self.old }
         requires size { length body ≡ self.old.size }
         requires room { length self.old.older + 1 < self.old.pages }
         requires fills { opened self.old + self.old.pages < LINK_FILLS }
@@ -35,8 +35,8 @@ impl WriterStack {
         ensures numbered { (start : ℕ) (history : List HistoryEvent)
             → IsStack start history self.old
             → next_number self.old ≡ length (reserved_records history) }
-        ensures stack { HasActed self.old (open_fill ∷ []) self.new }
-        ensures stays { Stands self.new }
+        ensures stack { HasEvents self.old (open_fill ∷ []) self.new }
+        ensures stays { IsReachedStack self.new }
         ensures kept { SameShape self.old self.new }
         ensures frames { self.new.frames ≡ self.old.frames }
         ensures done { self.new.done ≡ self.old.done }
@@ -56,16 +56,16 @@ impl WriterStack {
         requires bottom { IsAtBottom self.old.frames }
         ensures oldest { self.old.older ≡ result ∷ self.new.older }
         ensures released { self.new ≡ record self.old { done = self.old.done + 1; older = self.new.older } }
-        ensures stack { HasActed self.old [] self.new }
-        ensures stays { Stands self.old → Stands self.new }
+        ensures stack { HasEvents self.old [] self.new }
+        ensures stays { IsReachedStack self.old → IsReachedStack self.new }
         ensures written { (start : ℕ) (history : List HistoryEvent)
             → IsStack start history self.old
             → IsWrittenPage self.old.size self.old.done (fill_of history start self.old.done) result }
         ensures committed { (start : ℕ) (history : List HistoryEvent)
             → IsStack start history self.old
             → AreCommitted history result }
-        ensures page { Stands self.old → IsPage result }
-        ensures size { Stands self.old → result.size ≡ self.old.size }
+        ensures page { IsReachedStack self.old → IsPage result }
+        ensures size { IsReachedStack self.old → result.size ≡ self.old.size }
         ensures holds_some { (start : ℕ) (history : List HistoryEvent)
             → IsStack start history self.old
             → 0 < result.count }
@@ -93,8 +93,8 @@ impl WriterStack {
         requires none { self.frames ≡ [] }
         ensures tail { result ≡ self.tail }
         ensures alone { self.older ≡ [] }
-        ensures page { Stands self → IsPage result }
-        ensures size { Stands self → result.size ≡ self.size }
+        ensures page { IsReachedStack self → IsPage result }
+        ensures size { IsReachedStack self → result.size ≡ self.size }
         ensures written { (start : ℕ) (history : List HistoryEvent)
             → IsStack start history self
             → IsWrittenPage self.size self.done (fill_of history start self.done) result }

@@ -32,7 +32,7 @@ impl WriterStack {
     ghost use Rattle.nested_writer.specs.Kept.{SamePages};
     ghost use Rattle.nested_writer.specs.Next.{IsPushedOn};
     ghost use Rattle.nested_writer.specs.Promises.{Begins};
-    ghost use Rattle.nested_writer.specs.IsStack.{IsStack, Stands};
+    ghost use Rattle.nested_writer.specs.IsStack.{IsStack, IsReachedStack};
     ghost use Rattle.nested_writer.specs.declared.frame.Purpose.TheVariants.{Record, Close};
     ghost use Rattle.nested_writer.specs.declared.frame.Progress.TheVariants.{Waiting};
 
@@ -112,7 +112,7 @@ impl WriterStack {
         ensures ok { OnOk result
             (self.new ≡ with_frame self.old (record { purpose = Close; progress = Waiting None })) }
         ensures err { OnErr result (self.new ≡ self.old) }
-        ensures stays { Stands self.old → Stands self.new }
+        ensures stays { IsReachedStack self.old → IsReachedStack self.new }
         ensures pushed { OnOk result ((start : ℕ) (history : List HistoryEvent)
             → IsStack start history self.old
             → IsStack start (history ++ push_close ∷ []) self.new) }

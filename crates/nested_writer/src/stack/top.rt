@@ -47,13 +47,13 @@ pub(crate) struct Top {
 impl Model for Top {
     ghost use Rattle.std.specs.Prelude.{Option};
     ghost use Rattle.nested_writer.specs.declared.frame.Frame.{Frame};
-    ghost use Rattle.nested_writer.specs.OnTop.{frame_on_top, IsTold};
+    ghost use Rattle.nested_writer.specs.OnTop.{frame_on_top, IsReported};
 
     ghost Value = { Option Frame };
 
     ghost view = { frame_on_top };
 
-    ghost invariant = { IsTold };
+    ghost invariant = { IsReported };
 }
 
 impl Top {

@@ -19,24 +19,24 @@ impl WriterStack {
     ghost use Rattle.trace_model.specs.History.{push, reserve, leave};
     ghost use Rattle.trace_model.specs.Words.{padded};
     ghost use Rattle.page_image.specs.Contents.{records_of_page};
-    ghost use Rattle.nested_writer.specs.Allotted.{HasActed};
+    ghost use Rattle.nested_writer.specs.Allotted.{HasEvents};
     ghost use Rattle.nested_writer.specs.AtOnce.{MayStand, FitsAtOnce, with_written, with_record, IsPlain};
     ghost use Rattle.nested_writer.specs.Promises.{WritesWhatFits, StandsAgain};
     ghost use Rattle.nested_writer.specs.Calls.{IsAtBottom};
-    ghost use Rattle.nested_writer.specs.IsStack.{Stands};
+    ghost use Rattle.nested_writer.specs.IsStack.{IsReachedStack};
 
     /// Writes a record whose moment is raised to `raised`.
     #[inline(always)]
     fn put_record(&mut self, moment: u64, raised: u64, payload: &[u8])
-        requires stack { Stands self.old }
+        requires stack { IsReachedStack self.old }
         requires fits { FitsAtOnce self.old moment (length payload.now) }
         requires raised { raised ≡ max moment self.old.last_moment }
         ensures written { self.new ≡ with_written self.old moment payload.now }
         ensures records { records_of_page self.new.tail
             ≡ records_of_page self.old.tail ++ record { moment = raised; bytes = padded payload.now } ∷ [] }
-        ensures stack { HasActed self.old (push moment (length payload.now) ∷ reserve ∷ leave (Some payload.now) ∷ [])
+        ensures stack { HasEvents self.old (push moment (length payload.now) ∷ reserve ∷ leave (Some payload.now) ∷ [])
             self.new }
-        ensures stays { Stands self.new }
+        ensures stays { IsReachedStack self.new }
     {
         let prev = self.last_moment;
         self.last_moment = raised;
@@ -46,7 +46,7 @@ impl WriterStack {
     /// `write_alone`, whatever the record.
     #[inline(never)]
     fn write_any(&mut self, moment: u64, payload: &[u8]) -> Wrote
-        requires stack { Stands self.old }
+        requires stack { IsReachedStack self.old }
         ensures at_once { WritesWhatFits moment payload.now self.old result self.new }
         ensures written { result ≡ Wrote.Record → self.new ≡ with_written self.old moment payload.now }
         ensures frames { self.new.frames ≡ self.old.frames }
@@ -71,7 +71,7 @@ impl WriterStack {
     /// `write_alone`, for a record as nearly all are.
     #[inline(always)]
     fn write_plain(&mut self, moment: u64, payload: &[u8]) -> Wrote
-        requires stack { Stands self.old }
+        requires stack { IsReachedStack self.old }
         requires plain { IsPlain self.old moment (length payload.now) }
         ensures at_once { WritesWhatFits moment payload.now self.old result self.new }
         ensures written { result ≡ Wrote.Record → self.new ≡ with_written self.old moment payload.now }
@@ -90,7 +90,7 @@ impl WriterStack {
     /// after it. Otherwise, and if `begin` would refuse it, nothing changes.
     #[inline(always)]
     pub fn write_alone(&mut self, moment: u64, payload: &[u8]) -> Wrote
-        requires stack { Stands self.old }
+        requires stack { IsReachedStack self.old }
         ensures at_once { WritesWhatFits moment payload.now self.old result self.new }
         ensures written { result ≡ Wrote.Record → self.new ≡ with_written self.old moment payload.now }
         ensures frames { self.new.frames ≡ self.old.frames }
@@ -140,7 +140,7 @@ impl WriterStack {
     /// for `pop_bottom`. Otherwise, and if `begin` would refuse it, nothing changes.
     #[inline(always)]
     pub fn write(&mut self, moment: u64, payload: &[u8]) -> Wrote
-        requires stack { Stands self.old }
+        requires stack { IsReachedStack self.old }
         ensures at_once { WritesWhatFits moment payload.now self.old result self.new }
         ensures with_record { result ≡ Wrote.Record → self.new ≡ with_record self.old moment payload.now }
         ensures bottom { result ≡ Wrote.Record → IsAtBottom self.new.frames }

@@ -1,6 +1,6 @@
 //! What comes before the data of an image, and the count after it.
 ghost use Rattle.std.specs.Prelude.{◌≡◌, ◌≢◌, ℕ, ◌+◌, ◌≤◌, ◌<◌, List, length, drop, IfOk, IfErr};
-ghost use Rattle.trace_model.specs.Image.{from_le64, commit_word, commit_of as commit_written, TellsMissed};
+ghost use Rattle.trace_model.specs.Image.{from_le64, commit_word, commit_of as commit_written, ReportsMissed};
 ghost use Rattle.trace_model.specs.declared.limits.TheConstants.{MAX_SIZE};
 ghost use Rattle.page_image.specs.Images.{missed_of, commit_with, IsCommitWord, HasPartsOf, LacksCount, IsImageFault};
 
@@ -114,8 +114,8 @@ pub(crate) fn read_header(bytes: &[u8]) -> Result<Header, ImageFault>
 
 /// What is stated of missed events, if these bytes are those after the records.
 pub(crate) fn read_missed(commit: Commit, behind: &[u8]) -> Result<Missed, ImageFault>
-    ensures told { IfOk result (λ missed. (ignored : ℕ)
-        → TellsMissed (commit_with commit ignored) behind.now (missed_of missed)) }
+    ensures reported { IfOk result (λ missed. (ignored : ℕ)
+        → ReportsMissed (commit_with commit ignored) behind.now (missed_of missed)) }
     ensures fault { IfErr result (λ f. f ≡ ImageFault.BadCount) }
     ensures lacks { IfErr result (λ f. LacksCount commit behind.now) }
 {

@@ -7,7 +7,7 @@ use trace_model::NoMemory;
 impl Page {
     ghost use Rattle.std.specs.Prelude.{◌≡◌, ◌+◌, ◌-◌, ◌≤◌, ◌++◌, length, drop, replicate, IfOk};
     ghost use Rattle.trace_model.specs.declared.limits.TheConstants.{MAX_IMAGE};
-    ghost use Rattle.trace_model.specs.Image.{DecodesImage, image_of, missed_told, stored_count};
+    ghost use Rattle.trace_model.specs.Image.{DecodesImage, image_of, missed_reported, stored_count};
     ghost use Rattle.page_image.specs.Contents.{IsPage, records_of_page};
 
     /// The page as an image: a header of 16 bytes, the data, the count of missed events if there were any and eight
@@ -23,7 +23,7 @@ impl Page {
             - length (stored_count self.now.bytes missed self.now.size)) 0) }
         ensures reads { IfOk result (λ image. IsPage self.now
             → DecodesImage image.items self.now.time (length self.now.bytes)
-            (missed_told self.now.bytes missed self.now.size) (records_of_page self.now)) }
+            (missed_reported self.now.bytes missed self.now.size) (records_of_page self.now)) }
     {
         let size = HEADER + self.body.len();
         let commit = Commit::written(self.end, missed, self.body.len());

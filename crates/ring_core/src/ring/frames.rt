@@ -1,22 +1,22 @@
 //! Frames that come and go, and the steps that they make in private.
 use crate::event::Answer;
 use crate::ring::Core;
-use ring_frames::{Phase, Turned};
+use ring_frames::{Phase, StepAnswer};
 
 impl Core {
     ghost use Rattle.std.specs.Prelude.{◌≡◌, ◌≢◌, []};
     ghost use Rattle.trace_model.specs.Steps as model;
     ghost use Rattle.ring_frames.specs.declared.phase.Phase.TheVariants.{Idle};
-    ghost use Rattle.ring_frames.specs.declared.phase.Turned.TheVariants.{Going};
+    ghost use Rattle.ring_frames.specs.declared.phase.StepAnswer.TheVariants.{Going};
     ghost use Rattle.ring_frames.specs.Answers.{top_bytes, EndsPayload, KeepsPayloads, ZerosSlot};
-    ghost use Rattle.ring_frames.specs.Phases.{told};
-    ghost use Rattle.ring_core.specs.Steps.{Makes, IsReachedCore, IsLate};
+    ghost use Rattle.ring_frames.specs.Phases.{as_answer};
+    ghost use Rattle.ring_core.specs.Steps.{MakesStep, IsReachedCore, IsLate};
 
     /// A frame is pushed for a record of this moment and of a payload of `len` bytes.
     #[inline(always)]
     pub(crate) fn push(&mut self, moment: u64, len: usize) -> Answer
         requires ring { IsReachedCore self.old }
-        ensures makes { Makes self.old (model.pushes moment len) result self.new }
+        ensures makes { MakesStep self.old (model.pushes moment len) result self.new }
         ensures payloads { KeepsPayloads self.old.stack self.new.stack }
     {
         self.frames.push(moment, len)
@@ -25,7 +25,7 @@ impl Core {
     /// A frame is pushed that leaves the tail page.
     pub(crate) fn push_close(&mut self) -> Answer
         requires ring { IsReachedCore self.old }
-        ensures makes { Makes self.old model.pushes_close result self.new }
+        ensures makes { MakesStep self.old model.pushes_close result self.new }
         ensures payloads { KeepsPayloads self.old.stack self.new.stack }
     {
         self.frames.push_close()
@@ -35,7 +35,7 @@ impl Core {
     #[inline(always)]
     pub(crate) fn end(&mut self) -> Answer
         requires ring { IsReachedCore self.old }
-        ensures makes { Makes self.old (model.ends (top_bytes self.old.stack self.old.stack.frames)) result self.new }
+        ensures makes { MakesStep self.old (model.ends (top_bytes self.old.stack self.old.stack.frames)) result self.new }
         ensures payloads { EndsPayload self.old.stack self.new.stack }
     {
         self.frames.end()
@@ -48,7 +48,7 @@ impl Core {
         requires ring { IsReachedCore self.old }
         requires top { self.old.stack.frames ≢ [] }
         requires phase { self.old.phase ≡ Idle }
-        ensures makes { Makes self.old model.steps result self.new }
+        ensures makes { MakesStep self.old model.steps result self.new }
         ensures payloads { KeepsPayloads self.old.stack self.new.stack }
         ensures zeros { ZerosSlot self.old.stack result self.new.stack }
     {
@@ -57,11 +57,11 @@ impl Core {
 
     /// Another frame has begun a fill since the frame on top noted what to open.
     #[inline(always)]
-    pub(crate) fn begin_again(&mut self) -> Turned
+    pub(crate) fn begin_again(&mut self) -> StepAnswer
         requires ring { IsReachedCore self.old }
         requires top { self.old.stack.frames ≢ [] }
         requires late { IsLate self.old }
-        ensures makes { Makes self.old model.steps (told result) self.new }
+        ensures makes { MakesStep self.old model.steps (as_answer result) self.new }
         ensures payloads { KeepsPayloads self.old.stack self.new.stack }
     {
         self.frames.begin_again()
@@ -69,7 +69,7 @@ impl Core {
 
     /// The frame on top continues in this phase.
     #[inline(always)]
-    pub(crate) fn go_on(&mut self, phase: Phase) -> Turned
+    pub(crate) fn go_on(&mut self, phase: Phase) -> StepAnswer
         ensures answer { result ≡ Going }
         ensures phase { self.new ≡ record self.old { phase = phase } }
     {

@@ -2,25 +2,25 @@
 //! if there is none.
 use crate::ring::Core;
 use link_marks::{Mark, header, normal, update};
-use ring_frames::{Phase, Role, Turned};
+use ring_frames::{Phase, Role, StepAnswer};
 
 impl Core {
     ghost use Rattle.std.specs.Prelude.{◌≡◌, ◌≢◌, ℕ, true, false, []};
     ghost use Rattle.trace_model.specs.Steps as model;
     ghost use Rattle.ring_frames.specs.declared.phase.Phase.TheVariants.{Looking, Claiming, LookingNext, Marking, Clearing};
     ghost use Rattle.ring_core.specs.Heads.{HasHeader, ClaimsHead};
-    ghost use Rattle.ring_frames.specs.Phases.{told};
+    ghost use Rattle.ring_frames.specs.Phases.{as_answer};
     ghost use Rattle.ring_frames.specs.Answers.{KeepsPayloads};
-    ghost use Rattle.ring_core.specs.Steps.{Makes, IsReachedCore};
+    ghost use Rattle.ring_core.specs.Steps.{MakesStep, IsReachedCore};
 
     /// A load of the link into the position of the fill to open: it is free, or its page is the head, or a frame below
     /// is moving the head.
     #[inline(never)]
-    pub(crate) fn load_link(&mut self, noted: u64) -> Turned
+    pub(crate) fn load_link(&mut self, noted: u64) -> StepAnswer
         requires ring { IsReachedCore self.old }
         requires top { self.old.stack.frames ≢ [] }
         requires phase { self.old.phase ≡ Looking noted }
-        ensures makes { Makes self.old model.steps (told result) self.new }
+        ensures makes { MakesStep self.old model.steps (as_answer result) self.new }
         ensures payloads { KeepsPayloads self.old.stack self.new.stack }
     {
         if noted != self.frames.opened() {
@@ -42,11 +42,11 @@ impl Core {
 
     /// A compare and exchange of that link from HEADER to UPDATE, by which the head is lost.
     #[inline(never)]
-    pub(crate) fn claim_head(&mut self, noted: u64, page: u16) -> Turned
+    pub(crate) fn claim_head(&mut self, noted: u64, page: u16) -> StepAnswer
         requires ring { IsReachedCore self.old }
         requires top { self.old.stack.frames ≢ [] }
         requires phase { self.old.phase ≡ Claiming noted page }
-        ensures makes { Makes self.old model.steps (told result) self.new }
+        ensures makes { MakesStep self.old model.steps (as_answer result) self.new }
         ensures payloads { KeepsPayloads self.old.stack self.new.stack }
     {
         if noted != self.frames.opened() {
@@ -78,11 +78,11 @@ impl Core {
 
     /// A load of the next link: does it still wait for the HEADER?
     #[inline(never)]
-    pub(crate) fn load_next(&mut self, role: Role, noted: u64, page: u16) -> Turned
+    pub(crate) fn load_next(&mut self, role: Role, noted: u64, page: u16) -> StepAnswer
         requires ring { IsReachedCore self.old }
         requires top { self.old.stack.frames ≢ [] }
         requires phase { self.old.phase ≡ LookingNext role noted page }
-        ensures makes { Makes self.old model.steps (told result) self.new }
+        ensures makes { MakesStep self.old model.steps (as_answer result) self.new }
         ensures payloads { KeepsPayloads self.old.stack self.new.stack }
     {
         if self.frames.stops(role, noted) {
@@ -104,11 +104,11 @@ impl Core {
 
     /// A compare and exchange of the next link from NORMAL to HEADER.
     #[inline(never)]
-    pub(crate) fn mark_head(&mut self, role: Role, noted: u64, page: u16, next: u16) -> Turned
+    pub(crate) fn mark_head(&mut self, role: Role, noted: u64, page: u16, next: u16) -> StepAnswer
         requires ring { IsReachedCore self.old }
         requires top { self.old.stack.frames ≢ [] }
         requires phase { self.old.phase ≡ Marking role noted page next }
-        ensures makes { Makes self.old model.steps (told result) self.new }
+        ensures makes { MakesStep self.old model.steps (as_answer result) self.new }
         ensures payloads { KeepsPayloads self.old.stack self.new.stack }
     {
         if self.frames.stops(role, noted) {
@@ -121,11 +121,11 @@ impl Core {
 
     /// A store of that link, from the frame's own UPDATE to NORMAL.
     #[inline(never)]
-    pub(crate) fn clear_update(&mut self, noted: u64, page: u16) -> Turned
+    pub(crate) fn clear_update(&mut self, noted: u64, page: u16) -> StepAnswer
         requires ring { IsReachedCore self.old }
         requires top { self.old.stack.frames ≢ [] }
         requires phase { self.old.phase ≡ Clearing noted page }
-        ensures makes { Makes self.old model.steps (told result) self.new }
+        ensures makes { MakesStep self.old model.steps (as_answer result) self.new }
         ensures payloads { KeepsPayloads self.old.stack self.new.stack }
     {
         self.set_link(noted, normal(page, noted));

@@ -33,7 +33,7 @@ impl Core {
             homes,
             wish: 0,
             reader: Reader {
-                phase: ReaderPhase::LoadingLink,
+                phase: ReaderPhase::LoadingHead,
                 hint: start,
                 seen: start,
                 expected: 0,

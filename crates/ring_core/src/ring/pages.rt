@@ -1,25 +1,25 @@
 //! The steps by which the writer gets and gives up pages: a fill is begun, fills are closed, and the reader's wish is
 //! looked for.
 use crate::ring::Core;
-use ring_frames::Turned;
+use ring_frames::StepAnswer;
 
 impl Core {
     ghost use Rattle.std.specs.Prelude.{◌≡◌, ◌≢◌, []};
     ghost use Rattle.trace_model.specs.Steps as model;
     ghost use Rattle.nested_writer.specs.Stack.{opened};
     ghost use Rattle.ring_frames.specs.declared.phase.Phase.TheVariants.{Opening, Releasing, Wishing};
-    ghost use Rattle.ring_frames.specs.Phases.{told};
+    ghost use Rattle.ring_frames.specs.Phases.{as_answer};
     ghost use Rattle.ring_frames.specs.declared.answer.Answer.TheVariants.{Going};
     ghost use Rattle.ring_frames.specs.Answers.{KeepsPayloads};
-    ghost use Rattle.ring_core.specs.Steps.{Makes, IsReachedCore};
+    ghost use Rattle.ring_core.specs.Steps.{MakesStep, IsReachedCore};
 
     /// The page to open is taken from its home and is the tail from now on, unless another frame has begun the fill.
     #[inline(never)]
-    pub(crate) fn open_fill(&mut self, noted: u64, page: u16) -> Turned
+    pub(crate) fn open_fill(&mut self, noted: u64, page: u16) -> StepAnswer
         requires ring { IsReachedCore self.old }
         requires top { self.old.stack.frames ≢ [] }
         requires phase { self.old.phase ≡ Opening noted page }
-        ensures makes { Makes self.old model.steps (told result) self.new }
+        ensures makes { MakesStep self.old model.steps (as_answer result) self.new }
         ensures payloads { KeepsPayloads self.old.stack self.new.stack }
     {
         if noted != self.frames.opened() {
@@ -29,11 +29,11 @@ impl Core {
     }
 
     /// The next fill is begun on the page of this number.
-    fn begin_fill(&mut self, page: u16) -> Turned
+    fn begin_fill(&mut self, page: u16) -> StepAnswer
         requires ring { IsReachedCore self.old }
         requires top { self.old.stack.frames ≢ [] }
         requires phase { self.old.phase ≡ Opening (opened self.old.stack) page }
-        ensures makes { Makes self.old model.steps (told result) self.new }
+        ensures makes { MakesStep self.old model.steps (as_answer result) self.new }
         ensures payloads { KeepsPayloads self.old.stack self.new.stack }
     {
         match self.homes[page as usize].take() {
@@ -44,26 +44,26 @@ impl Core {
 
     /// The oldest fill that isn't closed is closed: its page goes home.
     #[inline(never)]
-    pub(crate) fn release_fill(&mut self) -> Turned
+    pub(crate) fn release_fill(&mut self) -> StepAnswer
         requires ring { IsReachedCore self.old }
         requires top { self.old.stack.frames ≢ [] }
         requires phase { self.old.phase ≡ Releasing }
-        ensures makes { Makes self.old model.steps (told result) self.new }
+        ensures makes { MakesStep self.old model.steps (as_answer result) self.new }
         ensures payloads { KeepsPayloads self.old.stack self.new.stack }
     {
         let page = self.page_at(self.frames.done());
         self.homes[page as usize] = Some(self.frames.release_fill());
-        Turned::Going
+        StepAnswer::Going
     }
 
     /// A load of the reader's wish: if it is for the tail, and the tail holds a record and isn't the last fill, the
     /// frame closes it; else it closes what was begun meanwhile, or is gone.
     #[inline(always)]
-    pub(crate) fn load_wish(&mut self) -> Turned
+    pub(crate) fn load_wish(&mut self) -> StepAnswer
         requires ring { IsReachedCore self.old }
         requires top { self.old.stack.frames ≢ [] }
         requires phase { self.old.phase ≡ Wishing }
-        ensures makes { Makes self.old model.steps (told result) self.new }
+        ensures makes { MakesStep self.old model.steps (as_answer result) self.new }
         ensures payloads { KeepsPayloads self.old.stack self.new.stack }
     {
         self.frames.load_wish(self.wish)

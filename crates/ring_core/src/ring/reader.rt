@@ -10,9 +10,9 @@ impl Core {
     ghost use Rattle.std.specs.Prelude.{◌≡◌, ◌+◌, ◌-◌, ◌^◌, ◌<◌, ◌≤◌, length, Some, None, slice_get, slice_set};
     ghost use Rattle.trace_model.specs.declared.limits.TheConstants.{LINK_FILLS};
     ghost use Rattle.trace_model.specs.Steps as model;
-    ghost use Rattle.ring_frames.specs.declared.reader.ReaderPhase.TheVariants.{LoadingLink, LoadingDone, StoringLink, Swapping};
+    ghost use Rattle.ring_frames.specs.declared.reader.ReaderPhase.TheVariants.{LoadingHead, LoadingDone, StoringSpareLink, Swapping};
     ghost use Rattle.ring_frames.specs.declared.answer.Answer.TheVariants.{Taken};
-    ghost use Rattle.ring_core.specs.Steps.{Makes, MakesRead, IsReachedCore};
+    ghost use Rattle.ring_core.specs.Steps.{MakesStep, MakesRead, IsReachedCore};
     ghost use Rattle.ring_core.specs.Taking.{with_spare_home, with_head_taken};
 
     /// The reader makes one step. It keeps the body only if it takes a page.
@@ -23,9 +23,9 @@ impl Core {
         ensures { MakesRead self.old body result self.new }
     {
         match self.reader.phase {
-            ReaderPhase::LoadingLink => self.load_head(body),
+            ReaderPhase::LoadingHead => self.load_head(body),
             ReaderPhase::LoadingDone { page, fill } => self.load_done(page, fill, body),
-            ReaderPhase::StoringLink { page, fill } => self.store_spare_link(page, fill, body),
+            ReaderPhase::StoringSpareLink { page, fill } => self.store_spare_link(page, fill, body),
             ReaderPhase::Swapping { page, fill } => self.swap_head(page, fill, body),
         }
     }
@@ -44,7 +44,7 @@ impl Core {
     /// A load of the link into the position of the hint.
     fn load_head(&mut self, body: Body) -> Answer
         requires ring { IsReachedCore self.old }
-        requires phase { self.old.reader.phase ≡ LoadingLink }
+        requires phase { self.old.reader.phase ≡ LoadingHead }
         ensures { MakesRead self.old body result self.new }
     {
         let hint = self.reader.hint;
@@ -56,14 +56,14 @@ impl Core {
                 Answer::Looking(body)
             }
             Mark::Update => {
-                self.reader_at(ReaderPhase::LoadingLink, fill + 1);
+                self.reader_at(ReaderPhase::LoadingHead, fill + 1);
                 Answer::Moving(FillNo(fill + 1), body)
             }
             Mark::Normal => {
                 if fill == hint {
                     return Answer::Moving(FillNo(hint), body);
                 }
-                self.reader_at(ReaderPhase::LoadingLink, fill + 1 - self.positions());
+                self.reader_at(ReaderPhase::LoadingHead, fill + 1 - self.positions());
                 Answer::Looking(body)
             }
         }
@@ -78,17 +78,17 @@ impl Core {
         let done = self.frames.done();
         self.reader.seen = done;
         if done <= fill {
-            self.reader.phase = ReaderPhase::LoadingLink;
+            self.reader.phase = ReaderPhase::LoadingHead;
             return Answer::Empty(done, body);
         }
-        self.reader.phase = ReaderPhase::StoringLink { page, fill };
+        self.reader.phase = ReaderPhase::StoringSpareLink { page, fill };
         Answer::Looking(body)
     }
 
     /// A store of the link of the reader's page: it will lead to the fill after the one that is taken.
     fn store_spare_link(&mut self, page: u16, fill: u64, body: Body) -> Answer
         requires ring { IsReachedCore self.old }
-        requires phase { self.old.reader.phase ≡ StoringLink page fill }
+        requires phase { self.old.reader.phase ≡ StoringSpareLink page fill }
         ensures { MakesRead self.old body result self.new }
     {
         self.spare_link = header(self.page_at(fill + 1), fill + 1);
@@ -105,7 +105,7 @@ impl Core {
     {
         let behind = normal(self.spare, fill + self.positions());
         if !self.exchange(fill, header(page, fill), behind) {
-            self.reader_at(ReaderPhase::LoadingLink, fill + 1);
+            self.reader_at(ReaderPhase::LoadingHead, fill + 1);
             return Answer::Looking(body);
         }
         match self.bring_home(page, body) {
@@ -145,7 +145,7 @@ impl Core {
         let first = taken.first().0;
         let missed = first - self.reader.expected;
         self.reader = Reader {
-            phase: ReaderPhase::LoadingLink,
+            phase: ReaderPhase::LoadingHead,
             hint: fill + 1,
             seen: self.reader.seen,
             expected: first + taken.count(),
@@ -156,7 +156,7 @@ impl Core {
     /// The reader wishes for the fill after those that it knows to be closed.
     pub(crate) fn store_wish(&mut self) -> Answer
         requires ring { IsReachedCore self.old }
-        ensures step { Makes self.old model.wishes result self.new }
+        ensures step { MakesStep self.old model.wishes result self.new }
         ensures stack { self.new.stack ≡ self.old.stack }
     {
         self.wish = self.reader.seen + 1;

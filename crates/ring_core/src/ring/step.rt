@@ -9,7 +9,7 @@ impl Core {
     ghost use Rattle.std.specs.Prelude.{◌≡◌};
     ghost use Rattle.ring_frames.specs.Answers.{KeepsPayloads, ZerosSlot};
     ghost use Rattle.ring_core.specs.Answers.{HasWholePage};
-    ghost use Rattle.ring_core.specs.Steps.{Makes, Obeys, IsReachedCore, HasItsSize};
+    ghost use Rattle.ring_core.specs.Steps.{MakesStep, MakesEvent, IsReachedCore, HasItsSize};
 
     /// One event, which is one step of the ring's model: its answer means the model's, and the ring is in the state
     /// after it. The body of a `Read` is returned with every answer but `Taken`.
@@ -17,7 +17,7 @@ impl Core {
     pub fn step(&mut self, event: Event) -> Answer
         requires ring { IsReachedCore self.old }
         requires size { HasItsSize self.old event }
-        ensures obeys { Obeys event self.old result self.new }
+        ensures obeys { MakesEvent event self.old result self.new }
         ensures ring { IsReachedCore self.new }
         ensures size { self.new.stack.size ≡ self.old.stack.size }
         ensures page { HasWholePage self.old.stack.size result }
@@ -30,7 +30,7 @@ impl Core {
     fn obey(&mut self, event: Event) -> Answer
         requires ring { IsReachedCore self.old }
         requires size { HasItsSize self.old event }
-        ensures { Obeys event self.old result self.new }
+        ensures { MakesEvent event self.old result self.new }
     {
         match event {
             Event::Push { moment, len } => self.push(moment, len),
@@ -46,7 +46,7 @@ impl Core {
     #[inline(always)]
     fn step_top(&mut self) -> Answer
         requires ring { IsReachedCore self.old }
-        ensures makes { Makes self.old model.steps result self.new }
+        ensures makes { MakesStep self.old model.steps result self.new }
         ensures payloads { KeepsPayloads self.old.stack self.new.stack }
         ensures zeros { ZerosSlot self.old.stack result self.new.stack }
     {

@@ -1,7 +1,7 @@
 //! The halves of those steps by which the writer gets and gives up pages, and of the look for the reader's wish, that
 //! are made in the frames.
 use crate::frames::Frames;
-use crate::phase::{Phase, Turned};
+use crate::phase::{Phase, StepAnswer};
 use page_image::{Body, Page};
 use trace_model::LINK_FILLS;
 
@@ -15,18 +15,18 @@ impl Frames {
     ghost use Rattle.ring_frames.specs.declared.phase.Phase.TheVariants.{Opening, Releasing};
     ghost use Rattle.ring_frames.specs.declared.answer.Answer.TheVariants.{Going};
     ghost use Rattle.ring_frames.specs.Answers.{KeepsPayloads};
-    ghost use Rattle.ring_frames.specs.Phases.{told};
+    ghost use Rattle.ring_frames.specs.Phases.{as_answer};
     ghost use Rattle.ring_frames.specs.Steps.{IsFrames};
     ghost use Rattle.ring_frames.specs.Fills.{OpensFill, Releases, IsWishing, LooksForWish, GrantsNone};
 
     /// The next fill, which the frame on top noted, is begun in this body, and the frame begins again.
     #[inline(always)]
-    pub fn open_fill(&mut self, body: Body) -> Turned
+    pub fn open_fill(&mut self, body: Body) -> StepAnswer
         requires frames { IsFrames self.old }
         requires top { self.old.stack.frames ≢ [] }
         requires phase { (page : ℕ) × (self.old.phase ≡ Opening (opened self.old.stack) page) }
         requires size { length body ≡ self.old.stack.size }
-        ensures opens { OpensFill self.old (told result) self.new }
+        ensures opens { OpensFill self.old (as_answer result) self.new }
         ensures payloads { KeepsPayloads self.old.stack self.new.stack }
     {
         self.stack.add_page(body);
@@ -61,37 +61,37 @@ impl Frames {
     /// What is made of the reader's wish: if it is for the tail, and the tail holds a record and isn't the last fill,
     /// the frame on top notes the next fill; else it closes what was begun meanwhile, or is gone.
     #[inline(always)]
-    pub fn load_wish(&mut self, wish: u64) -> Turned
+    pub fn load_wish(&mut self, wish: u64) -> StepAnswer
         requires { IsWishing self.old }
-        ensures looks { LooksForWish self.old wish (told result) self.new }
+        ensures looks { LooksForWish self.old wish (as_answer result) self.new }
         ensures payloads { KeepsPayloads self.old.stack self.new.stack }
     {
         if wish.wrapping_sub(1) != self.stack.done()
             && self.stack.opened() == self.stack.done() + 1
         {
             self.stack.pop_bottom();
-            return Turned::Gone;
+            return StepAnswer::Gone;
         }
         self.load_wish_any(wish)
     }
 
     /// `load_wish`, whatever the wish and the fills.
     #[inline(never)]
-    fn load_wish_any(&mut self, wish: u64) -> Turned
+    fn load_wish_any(&mut self, wish: u64) -> StepAnswer
         requires { IsWishing self.old }
-        ensures looks { LooksForWish self.old wish (told result) self.new }
+        ensures looks { LooksForWish self.old wish (as_answer result) self.new }
         ensures payloads { KeepsPayloads self.old.stack self.new.stack }
     {
         if self.grant_wish(wish) {
-            return Turned::Going;
+            return StepAnswer::Going;
         }
         let opened = self.stack.opened();
         if self.stack.done() + 1 < opened {
             self.phase.close();
-            return Turned::Going;
+            return StepAnswer::Going;
         }
         self.stack.pop_bottom();
-        Turned::Gone
+        StepAnswer::Gone
     }
 
     /// Whether the reader's wish is for the tail, which holds a record and isn't the last fill: then the frame notes

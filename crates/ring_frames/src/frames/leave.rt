@@ -1,7 +1,7 @@
 //! Frames that leave.
 use crate::answer::Answer;
 use crate::frames::Frames;
-use crate::phase::Turned;
+use crate::phase::StepAnswer;
 use nested_writer::Ended;
 
 impl Frames {
@@ -9,7 +9,7 @@ impl Frames {
     ghost use Rattle.trace_model.specs.Steps as model;
     ghost use Rattle.ring_frames.specs.Answers.{top_bytes, EndsPayload};
     ghost use Rattle.ring_frames.specs.Steps.{MakesPrivate, AreSomeFrames};
-    ghost use Rattle.ring_frames.specs.Phases.{with_left_phase, left_answer, told, closing_phase};
+    ghost use Rattle.ring_frames.specs.Phases.{with_left_phase, left_answer, as_answer, closing_phase};
 
     /// The frame on top ends with the payload that is in its slot.
     #[inline(always)]
@@ -34,16 +34,16 @@ impl Frames {
 
     /// The frame on top has left the stack: one with a frame below it is gone, and the bottom one stays.
     #[inline(always)]
-    pub(crate) fn pop_phase(&mut self) -> Turned
-        ensures answer { told result ≡ left_answer self.old.below }
+    pub(crate) fn pop_phase(&mut self) -> StepAnswer
+        ensures answer { as_answer result ≡ left_answer self.old.below }
         ensures phase { self.new ≡ with_left_phase self.old }
     {
         if self.below.is_empty() {
             self.start_closing();
-            Turned::Going
+            StepAnswer::Going
         } else {
             self.uncover_phase();
-            Turned::Gone
+            StepAnswer::Gone
         }
     }
 

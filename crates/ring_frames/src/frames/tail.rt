@@ -1,7 +1,7 @@
 //! The steps of a frame at the tail: it reserves, and tries again once a fill was begun.
 use crate::answer::Answer;
 use crate::frames::Frames;
-use crate::phase::{Phase, Turned};
+use crate::phase::{Phase, StepAnswer};
 use nested_writer::Allot;
 use nested_writer::frame::{Progress, Purpose, Pushed};
 use trace_model::RecordNo;
@@ -16,11 +16,11 @@ impl Frames {
     ghost use Rattle.nested_writer.specs.Ends.{MayEndTop, IsEnd};
     ghost use Rattle.nested_writer.specs.IsStack.{IsStack};
     ghost use Rattle.nested_writer.specs.PlainTop.{IsPlainTop};
-    ghost use Rattle.ring_frames.specs.declared.phase.Turned.TheVariants.{Going};
+    ghost use Rattle.ring_frames.specs.declared.phase.StepAnswer.TheVariants.{Going};
     ghost use Rattle.ring_frames.specs.declared.phase.Phase.TheVariants.{Idle};
     ghost use Rattle.ring_frames.specs.Value.{phase_of};
     ghost use Rattle.ring_frames.specs.Answers.{KeepsPayloads, ZerosSlot};
-    ghost use Rattle.ring_frames.specs.Phases.{with_left_phase, left_answer, told};
+    ghost use Rattle.ring_frames.specs.Phases.{with_left_phase, left_answer, as_answer};
     ghost use Rattle.ring_frames.specs.Steps.{MakesPrivate, IsFrames, AreSomeFrames, GoesOnIn, IsNotedIn, BeginsAgain, LeavesWithout, IsCloseTop};
 
     /// What the frame on top was pushed with, if it is a record frame that tried nothing yet, and its record is one as
@@ -76,10 +76,10 @@ impl Frames {
 
     /// The close frame on top, for which no page is needed, leaves.
     #[inline(never)]
-    fn end_close(&mut self) -> Turned
+    fn end_close(&mut self) -> StepAnswer
         requires stack { (start : ℕ) × (history : List HistoryEvent) × IsStack start history self.old.stack }
         requires through { MayEndTop self.old.stack.frames }
-        ensures answer { told result ≡ left_answer self.old.below }
+        ensures answer { as_answer result ≡ left_answer self.old.below }
         ensures left { IsEnd self.old.stack self.old.stack.frames self.new.stack }
         ensures phase { self.new ≡ with_left_phase (record self.old { stack = self.new.stack }) }
     {
@@ -93,14 +93,14 @@ impl Frames {
     /// it wanted and leaves, and one that has left continues to close fills. If another frame has begun the fill, that
     /// is a step by itself.
     #[inline(always)]
-    pub fn begin_again(&mut self) -> Turned
+    pub fn begin_again(&mut self) -> StepAnswer
         requires shown { AreSomeFrames self.old }
         requires top { self.old.stack.frames ≢ [] }
         requires passed { (noted : ℕ) × (noted_fill (phase_of self.old.phase) ≡ Some noted)
             × (noted ≢ opened self.old.stack) }
-        ensures again { BeginsAgain self.old (told result) self.new }
+        ensures again { BeginsAgain self.old (as_answer result) self.new }
         ensures late { PhaseIsPrivate (phase_of self.old.phase) (opened self.old.stack)
-            → MakesPrivate self.old model.steps (told result) self.new }
+            → MakesPrivate self.old model.steps (as_answer result) self.new }
         ensures payloads { KeepsPayloads self.old.stack self.new.stack }
     {
         self.again()
@@ -108,12 +108,12 @@ impl Frames {
 
     /// The frame on top begins again, by what it is.
     #[inline(always)]
-    fn again(&mut self) -> Turned
+    fn again(&mut self) -> StepAnswer
         requires shown { AreSomeFrames self.old }
         requires top { self.old.stack.frames ≢ [] }
         requires passed { (noted : ℕ) × (noted_fill (phase_of self.old.phase) ≡ Some noted)
             × (noted ≢ opened self.old.stack) }
-        ensures again { BeginsAgain self.old (told result) self.new }
+        ensures again { BeginsAgain self.old (as_answer result) self.new }
         ensures payloads { KeepsPayloads self.old.stack self.new.stack }
     {
         let Some(top) = self.stack.top() else {
@@ -126,7 +126,7 @@ impl Frames {
             },
             Progress::Left(_) => {
                 self.start_closing();
-                Turned::Going
+                StepAnswer::Going
             }
             Progress::Through(_) | Progress::Reserved(_) => self.go_on(Phase::Idle),
         }
@@ -134,21 +134,21 @@ impl Frames {
 
     /// The frame on top continues in this phase.
     #[inline(always)]
-    pub fn go_on(&mut self, phase: Phase) -> Turned
+    pub fn go_on(&mut self, phase: Phase) -> StepAnswer
         ensures answer { result ≡ Going }
         ensures phase { self.new ≡ record self.old { phase = phase } }
         ensures goes_on { (noted : ℕ) → IsNotedIn self.old.phase phase noted → GoesOnIn self.old phase self.new }
         ensures payloads { KeepsPayloads self.old.stack self.new.stack }
     {
         self.phase.put(phase);
-        Turned::Going
+        StepAnswer::Going
     }
 
     /// The close frame on top leaves, since the tail that it was to close is closed.
-    fn leave_closed(&mut self) -> Turned
+    fn leave_closed(&mut self) -> StepAnswer
         requires shown { AreSomeFrames self.old }
         requires close { (noted : ℕ) × IsCloseTop self.old noted × (noted ≢ opened self.old.stack) }
-        ensures without { LeavesWithout self.old (told result) self.new }
+        ensures without { LeavesWithout self.old (as_answer result) self.new }
         ensures payloads { KeepsPayloads self.old.stack self.new.stack }
     {
         match self.stack.allot() {

@@ -1,6 +1,6 @@
 //! A record that is written at once.
 use crate::frames::Frames;
-use crate::phase::Turned;
+use crate::phase::StepAnswer;
 use nested_writer::Wrote;
 
 impl Frames {
@@ -9,7 +9,7 @@ impl Frames {
     ghost use Rattle.ring_frames.specs.declared.phase.Phase.TheVariants.{Wishing};
     ghost use Rattle.ring_frames.specs.declared.answer.Answer.TheVariants.{Gone};
     ghost use Rattle.ring_frames.specs.Answers.{KeepsPayloads};
-    ghost use Rattle.ring_frames.specs.Phases.{closing_phase, told};
+    ghost use Rattle.ring_frames.specs.Phases.{closing_phase, as_answer};
     ghost use Rattle.ring_frames.specs.Steps.{IsFrames};
     ghost use Rattle.ring_frames.specs.Fills.{LooksForWish};
     ghost use Rattle.ring_frames.specs.AtOnce.{with_left_frame, WritesAtOnce, IsWrittenAlone};
@@ -47,12 +47,12 @@ impl Frames {
     /// The frame of a record of this moment and of `len` bytes, which was written at once and has left, is put at the
     /// bottom of the stack, and looks for this wish.
     #[inline(never)]
-    pub fn stay(&mut self, moment: u64, len: usize, wish: u64) -> Turned
+    pub fn stay(&mut self, moment: u64, len: usize, wish: u64) -> StepAnswer
         requires none { self.old.stack.frames ≡ [] }
         requires below { self.old.below ≡ [] }
         requires frames { IsFrames (with_left_frame self.old moment len) }
         requires closed { closing_phase self.old.stack ≡ Wishing }
-        ensures looks { LooksForWish (with_left_frame self.old moment len) wish (told result) self.new }
+        ensures looks { LooksForWish (with_left_frame self.old moment len) wish (as_answer result) self.new }
         ensures payloads { KeepsPayloads self.old.stack self.new.stack }
     {
         self.stack.stand_again(moment, len);

@@ -24,7 +24,7 @@ impl Reader {
             order,
             spare: shape.pages as u16,
             at: Progress {
-                phase: ReaderPhase::LoadingLink,
+                phase: ReaderPhase::LoadingHead,
                 hint: shape.start,
                 seen: shape.start,
                 expected: 0,

@@ -1,6 +1,6 @@
 //! The steps of a take, each on one word.
 use crate::reader::Reader;
-use crate::take::{Take, Turn};
+use crate::take::{Take, TakeStep};
 use link_marks::{Link, Mark, header};
 use page_image::Body;
 use ring_frames::ReaderPhase;
@@ -19,19 +19,19 @@ enum Found {
 impl Reader {
     ghost use Rattle.std.specs.Prelude.{◌≡◌, length};
     ghost use Rattle.trace_model.specs.Ring.{page_at};
-    ghost use Rattle.ring_frames.specs.declared.reader.ReaderPhase.TheVariants.{LoadingLink, LoadingDone, StoringLink, Swapping};
-    ghost use Rattle.ring_shared.specs.Takes.{IsReader, IsTaking, MakesTurn};
+    ghost use Rattle.ring_frames.specs.declared.reader.ReaderPhase.TheVariants.{LoadingHead, LoadingDone, StoringSpareLink, Swapping};
+    ghost use Rattle.ring_shared.specs.Takes.{IsReader, KeepsNoEmpty, MakesTakeStep};
 
     /// One step of a take.
-    pub(crate) fn step(&mut self, body: Body) -> Turn
-        requires taking { IsTaking self.old }
+    pub(crate) fn step(&mut self, body: Body) -> TakeStep
+        requires taking { KeepsNoEmpty self.old }
         requires size { length body ≡ self.old.shape.size }
-        ensures { MakesTurn self.old body result self.new }
+        ensures { MakesTakeStep self.old body result self.new }
     {
         match self.at.phase {
-            ReaderPhase::LoadingLink => self.load_head(body),
+            ReaderPhase::LoadingHead => self.load_head(body),
             ReaderPhase::LoadingDone { page, fill } => self.load_done(page, fill, body),
-            ReaderPhase::StoringLink { page, fill } => self.store_spare_link(page, fill, body),
+            ReaderPhase::StoringSpareLink { page, fill } => self.store_spare_link(page, fill, body),
             ReaderPhase::Swapping { page, fill } => self.swap_head(page, fill, body),
         }
     }
@@ -45,10 +45,10 @@ impl Reader {
     }
 
     /// A load of the link into the position of the hint.
-    fn load_head(&mut self, body: Body) -> Turn
-        requires taking { IsTaking self.old }
-        requires phase { self.old.at.phase ≡ LoadingLink }
-        ensures { MakesTurn self.old body result self.new }
+    fn load_head(&mut self, body: Body) -> TakeStep
+        requires taking { KeepsNoEmpty self.old }
+        requires phase { self.old.at.phase ≡ LoadingHead }
+        ensures { MakesTakeStep self.old body result self.new }
     {
         let hint = self.at.hint;
         let pages = self.order.len() as u64;
@@ -58,60 +58,60 @@ impl Reader {
             Found::Head { page, fill } => {
                 self.at.phase = ReaderPhase::LoadingDone { page, fill };
                 self.at.hint = fill;
-                Turn::Looking(body)
+                TakeStep::Looking(body)
             }
             Found::Moved { fill } => {
                 self.at.hint = fill;
-                Turn::Done(Take::Moving(FillNo(fill), body))
+                TakeStep::Done(Take::Moving(FillNo(fill), body))
             }
             Found::Passed { fill } => {
                 self.at.hint = fill;
-                Turn::Looking(body)
+                TakeStep::Looking(body)
             }
         }
     }
 
     /// A load of the number of closed fills: the head, which is this fill, is closed, or no closed fill is unread.
-    fn load_done(&mut self, page: u16, fill: u64, body: Body) -> Turn
-        requires taking { IsTaking self.old }
+    fn load_done(&mut self, page: u16, fill: u64, body: Body) -> TakeStep
+        requires taking { KeepsNoEmpty self.old }
         requires phase { self.old.at.phase ≡ LoadingDone page fill }
-        ensures { MakesTurn self.old body result self.new }
+        ensures { MakesTakeStep self.old body result self.new }
     {
         let done = self.seat.load_done();
         self.at.seen = done;
         if done <= fill {
-            self.at.phase = ReaderPhase::LoadingLink;
-            return Turn::Done(Take::Empty(done, body));
+            self.at.phase = ReaderPhase::LoadingHead;
+            return TakeStep::Done(Take::Empty(done, body));
         }
-        self.at.phase = ReaderPhase::StoringLink { page, fill };
-        Turn::Looking(body)
+        self.at.phase = ReaderPhase::StoringSpareLink { page, fill };
+        TakeStep::Looking(body)
     }
 
     /// A store of the link of the reader's page: it will lead to the fill after the one that is taken.
-    fn store_spare_link(&mut self, page: u16, fill: u64, body: Body) -> Turn
-        requires taking { IsTaking self.old }
-        requires phase { self.old.at.phase ≡ StoringLink page fill }
-        ensures { MakesTurn self.old body result self.new }
+    fn store_spare_link(&mut self, page: u16, fill: u64, body: Body) -> TakeStep
+        requires taking { KeepsNoEmpty self.old }
+        requires phase { self.old.at.phase ≡ StoringSpareLink page fill }
+        ensures { MakesTakeStep self.old body result self.new }
     {
         let behind = header(self.page_at(fill + 1), fill + 1);
         self.seat.store_spare_link(self.spare, behind);
         self.at.phase = ReaderPhase::Swapping { page, fill };
-        Turn::Looking(body)
+        TakeStep::Looking(body)
     }
 
     /// A compare and exchange of the link to the head, this page as this fill, from HEADER to NORMAL: the swap.
-    fn swap_head(&mut self, page: u16, fill: u64, body: Body) -> Turn
-        requires taking { IsTaking self.old }
+    fn swap_head(&mut self, page: u16, fill: u64, body: Body) -> TakeStep
+        requires taking { KeepsNoEmpty self.old }
         requires size { length body ≡ self.old.shape.size }
         requires phase { self.old.at.phase ≡ Swapping page fill }
-        ensures { MakesTurn self.old body result self.new }
+        ensures { MakesTakeStep self.old body result self.new }
     {
         let pages = self.order.len() as u64;
         let front = self.page_at(fill + pages - 1);
         let swapped = self
             .seat
             .swap_head(front, page, FillNo(fill), self.spare, body);
-        self.at.phase = ReaderPhase::LoadingLink;
+        self.at.phase = ReaderPhase::LoadingHead;
         self.at.hint = fill + 1;
         match swapped {
             Ok(taken) => {
@@ -120,9 +120,9 @@ impl Reader {
                 let first = taken.first().0;
                 let missed = first - self.at.expected;
                 self.at.expected = first + taken.count();
-                Turn::Done(Take::Page(taken, missed))
+                TakeStep::Done(Take::Page(taken, missed))
             }
-            Err(back) => Turn::Looking(back),
+            Err(back) => TakeStep::Looking(back),
         }
     }
 }

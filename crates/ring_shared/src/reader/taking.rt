@@ -1,6 +1,6 @@
 //! The take, and what else a reader is asked.
 use crate::reader::Reader;
-use crate::take::{Take, Turn};
+use crate::take::{Take, TakeStep};
 use page_image::{Body, Page};
 use trace_model::FillNo;
 
@@ -8,8 +8,8 @@ impl Reader {
     ghost use Rattle.std.specs.Prelude.{◌≡◌, ◌+◌, ⊤, length};
     ghost use Rattle.trace_model.specs.Steps.{wishes, wished_for};
     ghost use Rattle.ring_steps.specs.Seats.{IsReaderStep};
-    ghost use Rattle.ring_shared.specs.declared.take.Turn.TheVariants.{Done};
-    ghost use Rattle.ring_shared.specs.Takes.{IsReader, IsTaking, IsTake, TakesSteps, EmptyAfter, SameRing, IsOfSize, empty_of};
+    ghost use Rattle.ring_shared.specs.declared.take.TakeStep.TheVariants.{Done};
+    ghost use Rattle.ring_shared.specs.Takes.{IsReader, KeepsNoEmpty, IsTake, TakesSteps, EmptyAfter, SameRing, IsOfSize, empty_of};
 
     /// Takes the oldest page that is closed and unread, for which `body`, of the ring's data size in bytes, goes into
     /// the ring; with any other answer a body of that size is returned. It answers as soon as one of its steps does. It
@@ -35,20 +35,20 @@ impl Reader {
 
     /// The steps of a take.
     fn take_by_steps(&mut self, body: Body) -> Take
-        requires taking { IsTaking self.old }
+        requires taking { KeepsNoEmpty self.old }
         requires size { length body ≡ self.old.shape.size }
         ensures took { IsTake self.old.shape self.old.part body result self.new.part }
         ensures steps { TakesSteps self.old.shape self.old.part result self.new.part }
         ensures empty { EmptyAfter self.new (Done result) }
         ensures ring { SameRing self.old self.new }
-        ensures taking { IsTaking self.new }
+        ensures taking { KeepsNoEmpty self.new }
     {
         let mut body = body;
         for made in 0..2 * self.order.len() + 8 {
             let _made = made;
             match self.step(body) {
-                Turn::Looking(back) => body = back,
-                Turn::Done(took) => return took,
+                TakeStep::Looking(back) => body = back,
+                TakeStep::Done(took) => return took,
             }
         }
         Take::Moving(FillNo(self.at.hint), body)

@@ -2,7 +2,7 @@
 use crate::writer::Writer;
 use nested_writer::WriteFault;
 use nested_writer::frame::{Frame, Progress, Purpose};
-use ring_frames::{Answer, Phase, Turned};
+use ring_frames::{Answer, Phase, StepAnswer};
 use trace_model::RecordNo;
 
 /// What `finish_top` makes of the frame on top.
@@ -92,8 +92,8 @@ impl Writer {
         ensures { LeavesTop self.old result self.new }
     {
         match self.load_wish() {
-            Turned::Going => self.finish_leaving(),
-            Turned::Gone => Answer::Gone,
+            StepAnswer::Going => self.finish_leaving(),
+            StepAnswer::Gone => Answer::Gone,
         }
     }
 
@@ -120,7 +120,7 @@ impl Writer {
         ensures ring { SameWriter self.old self.new }
         ensures writer { IsWriter self.new }
     {
-        if let Turned::Gone = self.close_fills() {
+        if let StepAnswer::Gone = self.close_fills() {
             return None;
         }
         met_first(None, self.leave_top())
@@ -128,7 +128,7 @@ impl Writer {
 
     /// The frame on top, which has left, closes fills, and looks for the reader's wish, as long as it is up to these.
     #[inline(always)]
-    fn close_fills(&mut self) -> Turned
+    fn close_fills(&mut self) -> StepAnswer
         requires { HasLeavingTop self.old }
         ensures closes { (frame : ModelFrame) (below : List ModelFrame) → self.old.part.frames ≡ frame ∷ below
             → Closes self.old.shape below self.old.part result self.new.part }
@@ -142,7 +142,7 @@ impl Writer {
                     self.release_fill();
                 }
                 Phase::Wishing => return self.load_wish(),
-                _ => return Turned::Going,
+                _ => return StepAnswer::Going,
             }
         }
     }
@@ -179,7 +179,7 @@ impl Writer {
         loop {
             let answer = self.step();
             if self.depth() < depth {
-                return told(met, answer);
+                return refusal_or_last(met, answer);
             }
             met = met_first(met, answer);
         }
@@ -219,8 +219,8 @@ pub(crate) fn met_first(met: Option<WriteFault>, answer: Answer) -> Option<Write
 }
 
 /// The refusal that was met, or else the last answer.
-fn told(met: Option<WriteFault>, last: Answer) -> Answer
-    ensures { result ≡ told_behind met last }
+fn refusal_or_last(met: Option<WriteFault>, last: Answer) -> Answer
+    ensures { result ≡ reported_behind met last }
 {
     match met {
         Some(fault) => Answer::Refused(fault),
@@ -247,4 +247,4 @@ fn target_of(top: Option<Frame>) -> Target
 
 ghost use Rattle.std.specs.Prelude.{◌≡◌, ◌≢◌};
 ghost use Rattle.ring_frames.specs.declared.answer.Answer.TheVariants.{Going};
-ghost use Rattle.ring_shared.specs.Finishing.{IsNumberOrRefused, IsOutcomeOf, IsTarget, met_behind, told_behind};
+ghost use Rattle.ring_shared.specs.Finishing.{IsNumberOrRefused, IsOutcomeOf, IsTarget, met_behind, reported_behind};

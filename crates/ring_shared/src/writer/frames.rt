@@ -1,7 +1,7 @@
 //! What frames do in private. Each such call notes for proofs what it does to the frames, and touches no shared word.
 use crate::writer::Writer;
 use nested_writer::frame::Pushed;
-use ring_frames::{Answer, Turned};
+use ring_frames::{Answer, StepAnswer};
 use std::marker::Brand;
 use trace_model::RecordNo;
 
@@ -17,7 +17,7 @@ impl Writer {
     ghost use Rattle.ring_frames.specs.declared.phase.Phase.TheVariants.{Idle};
     ghost use Rattle.ring_frames.specs.Value.{phase_of};
     ghost use Rattle.ring_frames.specs.Answers.{top_bytes, EndsPayload, KeepsPayloads, ZerosSlot};
-    ghost use Rattle.ring_frames.specs.Phases.{told};
+    ghost use Rattle.ring_frames.specs.Phases.{as_answer};
     ghost use Rattle.ring_shared.specs.Value.{SameWriter};
     ghost use Rattle.ring_shared.specs.Calls.{IsWriter, MakesSome};
     ghost use Rattle.ring_shared.specs.Nearer.{IsNearer};
@@ -98,12 +98,12 @@ impl Writer {
 
     /// A fill was begun since the frame on top noted what to open, so that it begins again.
     #[inline(never)]
-    pub(crate) fn begin_again(&mut self) -> Turned
+    pub(crate) fn begin_again(&mut self) -> StepAnswer
         requires framed { HasFrame self.old }
         requires passed { (noted : ℕ) × (noted_fill (phase_of self.old.frames.phase) ≡ Some noted)
             × (noted ≢ opened self.old.frames.stack) }
         requires private { PhaseIsPrivate (phase_of self.old.frames.phase) (opened self.old.frames.stack) }
-        ensures makes { MakesSome self.old model.steps (told result) self.new }
+        ensures makes { MakesSome self.old model.steps (as_answer result) self.new }
         ensures nearer { IsNearer self.old self.new }
         ensures payloads { KeepsPayloads self.old.frames.stack self.new.frames.stack }
     {

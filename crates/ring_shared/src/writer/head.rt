@@ -2,7 +2,7 @@
 //! free position, and moves the head if there is none.
 use crate::writer::Writer;
 use link_marks::Mark;
-use ring_frames::{Phase, Role, Turned};
+use ring_frames::{Phase, Role, StepAnswer};
 use trace_model::FillNo;
 
 impl Writer {
@@ -11,7 +11,7 @@ impl Writer {
     ghost use Rattle.ring_frames.specs.declared.phase.Phase.TheVariants.{Looking, Claiming, LookingNext, Marking, Clearing};
     ghost use Rattle.ring_steps.specs.Linking.{tail_in};
     ghost use Rattle.ring_frames.specs.Answers.{KeepsPayloads};
-    ghost use Rattle.ring_frames.specs.Phases.{told};
+    ghost use Rattle.ring_frames.specs.Phases.{as_answer};
     ghost use Rattle.ring_shared.specs.Calls.{IsWriter, MakesSome};
     ghost use Rattle.ring_shared.specs.Nearer.{IsNearer};
     ghost use Rattle.ring_shared.specs.Promises.{HasFrame};
@@ -30,10 +30,10 @@ impl Writer {
     /// A load of the link into the position of the fill to open, from the tail's word: it is free, or its page is the
     /// head, or a frame below is moving the head.
     #[inline(always)]
-    pub(crate) fn load_link(&mut self, noted: u64) -> Turned
+    pub(crate) fn load_link(&mut self, noted: u64) -> StepAnswer
         requires framed { HasFrame self.old }
         requires phase { self.old.frames.phase ≡ Looking noted }
-        ensures makes { MakesSome self.old model.steps (told result) self.new }
+        ensures makes { MakesSome self.old model.steps (as_answer result) self.new }
         ensures nearer { IsNearer self.old self.new }
         ensures payloads { KeepsPayloads self.old.frames.stack self.new.frames.stack }
     {
@@ -57,10 +57,10 @@ impl Writer {
 
     /// A compare and exchange of that link from HEADER to UPDATE, by which the head is lost.
     #[inline(always)]
-    pub(crate) fn claim_head(&mut self, noted: u64, page: u16) -> Turned
+    pub(crate) fn claim_head(&mut self, noted: u64, page: u16) -> StepAnswer
         requires framed { HasFrame self.old }
         requires phase { self.old.frames.phase ≡ Claiming noted page }
-        ensures makes { MakesSome self.old model.steps (told result) self.new }
+        ensures makes { MakesSome self.old model.steps (as_answer result) self.new }
         ensures nearer { IsNearer self.old self.new }
         ensures payloads { KeepsPayloads self.old.frames.stack self.new.frames.stack }
     {
@@ -83,10 +83,10 @@ impl Writer {
 
     /// A load of the next link, from the word of the page that is passed: does it still wait for the HEADER?
     #[inline(always)]
-    pub(crate) fn load_next(&mut self, role: Role, noted: u64, page: u16) -> Turned
+    pub(crate) fn load_next(&mut self, role: Role, noted: u64, page: u16) -> StepAnswer
         requires framed { HasFrame self.old }
         requires phase { self.old.frames.phase ≡ LookingNext role noted page }
-        ensures makes { MakesSome self.old model.steps (told result) self.new }
+        ensures makes { MakesSome self.old model.steps (as_answer result) self.new }
         ensures nearer { IsNearer self.old self.new }
         ensures payloads { KeepsPayloads self.old.frames.stack self.new.frames.stack }
     {
@@ -109,10 +109,10 @@ impl Writer {
 
     /// A compare and exchange of the next link from NORMAL to HEADER.
     #[inline(always)]
-    pub(crate) fn mark_head(&mut self, role: Role, noted: u64, page: u16, next: u16) -> Turned
+    pub(crate) fn mark_head(&mut self, role: Role, noted: u64, page: u16, next: u16) -> StepAnswer
         requires framed { HasFrame self.old }
         requires phase { self.old.frames.phase ≡ Marking role noted page next }
-        ensures makes { MakesSome self.old model.steps (told result) self.new }
+        ensures makes { MakesSome self.old model.steps (as_answer result) self.new }
         ensures nearer { IsNearer self.old self.new }
         ensures payloads { KeepsPayloads self.old.frames.stack self.new.frames.stack }
     {
@@ -126,10 +126,10 @@ impl Writer {
 
     /// A compare and exchange of the link of the claim from the frame's own UPDATE to NORMAL, which is always done.
     #[inline(always)]
-    pub(crate) fn clear_update(&mut self, noted: u64, page: u16) -> Turned
+    pub(crate) fn clear_update(&mut self, noted: u64, page: u16) -> StepAnswer
         requires framed { HasFrame self.old }
         requires phase { self.old.frames.phase ≡ Clearing noted page }
-        ensures makes { MakesSome self.old model.steps (told result) self.new }
+        ensures makes { MakesSome self.old model.steps (as_answer result) self.new }
         ensures nearer { IsNearer self.old self.new }
         ensures payloads { KeepsPayloads self.old.frames.stack self.new.frames.stack }
     {

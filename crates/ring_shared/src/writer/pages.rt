@@ -1,7 +1,7 @@
 //! The steps by which the writer gets and gives up pages: a fill is begun, fills are closed, and the reader's wish is
 //! looked for.
 use crate::writer::Writer;
-use ring_frames::Turned;
+use ring_frames::StepAnswer;
 use trace_model::FillNo;
 
 impl Writer {
@@ -9,17 +9,17 @@ impl Writer {
     ghost use Rattle.trace_model.specs.Steps as model;
     ghost use Rattle.ring_frames.specs.declared.phase.Phase.TheVariants.{Opening, Releasing, Wishing};
     ghost use Rattle.ring_frames.specs.Answers.{KeepsPayloads};
-    ghost use Rattle.ring_frames.specs.Phases.{told};
+    ghost use Rattle.ring_frames.specs.Phases.{as_answer};
     ghost use Rattle.ring_shared.specs.Calls.{MakesSome};
     ghost use Rattle.ring_shared.specs.Nearer.{IsNearer};
     ghost use Rattle.ring_shared.specs.Promises.{HasFrame};
 
     /// A store of the number of begun fills: the page to open is taken from its home, and is the tail from now on.
     #[inline(always)]
-    pub(crate) fn open_fill(&mut self, noted: u64, page: u16) -> Turned
+    pub(crate) fn open_fill(&mut self, noted: u64, page: u16) -> StepAnswer
         requires framed { HasFrame self.old }
         requires phase { self.old.frames.phase ≡ Opening noted page }
-        ensures makes { MakesSome self.old model.steps (told result) self.new }
+        ensures makes { MakesSome self.old model.steps (as_answer result) self.new }
         ensures nearer { IsNearer self.old self.new }
         ensures payloads { KeepsPayloads self.old.frames.stack self.new.frames.stack }
     {
@@ -33,10 +33,10 @@ impl Writer {
 
     /// A store of the number of closed fills: the oldest open fill is closed, and its page goes home.
     #[inline(always)]
-    pub(crate) fn release_fill(&mut self) -> Turned
+    pub(crate) fn release_fill(&mut self) -> StepAnswer
         requires framed { HasFrame self.old }
         requires phase { self.old.frames.phase ≡ Releasing }
-        ensures makes { MakesSome self.old model.steps (told result) self.new }
+        ensures makes { MakesSome self.old model.steps (as_answer result) self.new }
         ensures nearer { IsNearer self.old self.new }
         ensures payloads { KeepsPayloads self.old.frames.stack self.new.frames.stack }
     {
@@ -45,16 +45,16 @@ impl Writer {
             Some(number) => self.seat.release_fill(number, page),
             None => unreachable!(),
         }
-        Turned::Going
+        StepAnswer::Going
     }
 
     /// A load of the reader's wish: if it is for the tail, and the tail holds a record and isn't the last fill, the
     /// frame closes it; else it closes what was begun meanwhile, or is gone.
     #[inline(always)]
-    pub(crate) fn load_wish(&mut self) -> Turned
+    pub(crate) fn load_wish(&mut self) -> StepAnswer
         requires framed { HasFrame self.old }
         requires phase { self.old.frames.phase ≡ Wishing }
-        ensures makes { MakesSome self.old model.steps (told result) self.new }
+        ensures makes { MakesSome self.old model.steps (as_answer result) self.new }
         ensures nearer { IsNearer self.old self.new }
         ensures payloads { KeepsPayloads self.old.frames.stack self.new.frames.stack }
     {

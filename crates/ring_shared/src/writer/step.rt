@@ -1,7 +1,7 @@
 //! One step of the frame on top.
 use crate::writer::Writer;
 use nested_writer::WriteFault;
-use ring_frames::{Answer, Phase, Turned};
+use ring_frames::{Answer, Phase, StepAnswer};
 
 impl Writer {
     ghost use Rattle.std.specs.Prelude.{◌≡◌, ◌≢◌};
@@ -9,7 +9,7 @@ impl Writer {
     ghost use Rattle.ring_frames.specs.declared.answer.Answer.TheVariants.{Going};
     ghost use Rattle.ring_frames.specs.declared.phase.Phase.TheVariants.{Idle};
     ghost use Rattle.ring_frames.specs.Answers.{KeepsPayloads};
-    ghost use Rattle.ring_frames.specs.Phases.{told};
+    ghost use Rattle.ring_frames.specs.Phases.{as_answer};
     ghost use Rattle.ring_shared.specs.Value.{SameWriter};
     ghost use Rattle.ring_shared.specs.Calls.{IsWriter, MakesSome};
     ghost use Rattle.ring_shared.specs.Nearer.{IsNearer};
@@ -36,16 +36,16 @@ impl Writer {
         match self.frames.phase() {
             Phase::Idle => self.reserve(),
             Phase::Wishing => self.load_wish().answer(),
-            _ => self.turn().answer(),
+            _ => self.word_step().answer(),
         }
     }
 
     /// One step of the frame on top, which has more to do at the words. It is called rarely.
     #[inline(never)]
-    fn turn(&mut self) -> Turned
+    fn word_step(&mut self) -> StepAnswer
         requires framed { HasFrame self.old }
         requires busy { self.old.frames.phase ≢ Idle }
-        ensures makes { MakesSome self.old model.steps (told result) self.new }
+        ensures makes { MakesSome self.old model.steps (as_answer result) self.new }
         ensures nearer { IsNearer self.old self.new }
         ensures payloads { KeepsPayloads self.old.frames.stack self.new.frames.stack }
     {

@@ -3,7 +3,7 @@ use crate::writer::Writer;
 use crate::writer::finish::met_first;
 use nested_writer::frame::Slot;
 use nested_writer::{Ended, WriteFault, Wrote};
-use ring_frames::{Answer, Turned};
+use ring_frames::{Answer, StepAnswer};
 use std::marker::Brand;
 
 impl Writer {
@@ -38,8 +38,8 @@ impl Writer {
             return Ok(());
         }
         match self.frames.stay(moment, payload.len(), wish) {
-            Turned::Gone => Ok(()),
-            Turned::Going => {
+            StepAnswer::Gone => Ok(()),
+            StepAnswer::Going => {
                 let _refusal = self.leave_on();
                 Ok(())
             }

@@ -3,7 +3,7 @@ ghost use Rattle.std.specs.Prelude.{◌≡◌, ◌≤◌, ◌-◌, ◌++◌, len
 
 use crate::lane::Lane;
 use nested_writer::WriteFault;
-use replay_log::{At, LogLine, tell, tell_refusal};
+use replay_log::{At, LogLine, report, report_refusal};
 use ring_core::{Answer, Event};
 use trace_model::NoMemory;
 
@@ -40,7 +40,7 @@ impl<'a> Lane<'a> {
             self.old log.old.items self.new log.new.items) }
     {
         if self.core.depth() == 0 {
-            return tell_refusal(at, WriteFault::NoFrame, log);
+            return report_refusal(at, WriteFault::NoFrame, log);
         }
         self.follow(at, count, log)
     }
@@ -53,7 +53,7 @@ impl<'a> Lane<'a> {
             self.old log.old.items self.new log.new.items) }
     {
         if self.core.depth() == 0 {
-            return tell_refusal(at, WriteFault::NoFrame, log);
+            return report_refusal(at, WriteFault::NoFrame, log);
         }
         self.follow(at, MOST_STEPS, log)
     }
@@ -70,7 +70,7 @@ impl<'a> Lane<'a> {
         let mut steps = 0;
         while steps < count && self.payloads.len() == depth {
             let answer = self.step_once();
-            tell(at, answer, log)?;
+            report(at, answer, log)?;
             steps += 1;
         }
         Ok(())

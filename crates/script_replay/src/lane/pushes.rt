@@ -1,6 +1,6 @@
 //! Frames that are pushed.
 use crate::lane::Lane;
-use replay_log::{At, LogLine, tell};
+use replay_log::{At, LogLine, report};
 use ring_core::{Answer, Event};
 use trace_model::NoMemory;
 
@@ -26,7 +26,7 @@ impl<'a> Lane<'a> {
         let len = payload.len();
         match self.push(Event::Push { moment, len }, payload)? {
             Answer::Pushed => Ok(()),
-            refused => tell(at, refused, log),
+            refused => report(at, refused, log),
         }
     }
 
@@ -74,7 +74,7 @@ impl<'a> Lane<'a> {
         let answer = self.push(event, payload)?;
         match answer {
             Answer::Pushed => self.finish(at, log),
-            refused => tell(at, refused, log),
+            refused => report(at, refused, log),
         }
     }
 

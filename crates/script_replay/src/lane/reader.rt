@@ -3,7 +3,7 @@ use crate::lane::Lane;
 use crate::lane::frames::MOST_STEPS;
 use page_image::{Body, Page};
 use page_numbers::Parcel;
-use replay_log::{At, LogLine, tell, tell_any};
+use replay_log::{At, LogLine, report, report_any};
 use ring_core::{Answer, Event};
 use std::alloc::Global;
 use trace_model::{CpuId, NoMemory};
@@ -52,7 +52,7 @@ impl<'a> Lane<'a> {
             self.old log.old.items self.new log.new.items) }
     {
         let answer = self.core.step(Event::Wish);
-        tell(at, answer, log)
+        report(at, answer, log)
     }
 
     /// The reader makes steps until `count` are made or it answers.
@@ -84,7 +84,7 @@ impl<'a> Lane<'a> {
     {
         let body = self.next_body(alloc)?;
         let answer = self.core.step(Event::Read(body));
-        tell_any(at, &answer, log)?;
+        report_any(at, &answer, log)?;
         self.keep(alloc, at.cpu, answer)
     }
 

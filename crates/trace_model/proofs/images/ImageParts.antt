@@ -4,7 +4,7 @@ use Rattle.std.proofs.lemmas.Nat.{le_bytes_8, from_le_bytes-to_le_bytes_8}
 use Rattle.std.proofs.lemmas.List.{take_at, drop_at, drop-drop}
 use Rattle.std.proofs.lemmas.Bool.{eq-eqb, ne_eqb, cases_Bool, cases_lt, false≢true, true≢false}
 use Rattle.trace_model.specs.FirstFault.{AreBytes}
-use Rattle.trace_model.specs.Image.{le64, from_le64, Commit, commit_word, HasHeader, HasParts, Missed, none, unknown, counted, TellsMissed}
+use Rattle.trace_model.specs.Image.{le64, from_le64, Commit, commit_word, HasHeader, HasParts, Missed, none, unknown, counted, ReportsMissed}
 use Rattle.trace_model.proofs.words.OneWord.{AreBytes-drop, AreBytes-take}
 
 -- ---- a number in eight bytes
@@ -171,36 +171,36 @@ counted_length : (behind ignored : List ℕ) (events : ℕ) → behind ≡ le64 
 counted_length behind ignored events is = omega (arith, ap length is, length-append (le64 events) ignored, length-le64 events)
 
 -- if both flags are set, a count is stated, and there is room for it
-pub TellsMissed-room : (commit : Commit) (behind : List ℕ) (missed : Missed) → TellsMissed commit behind missed → commit.is_missed ≡ true → commit.is_stored ≡ true → 8 ≤ length behind
-TellsMissed-room commit behind none tells missed stored = absurd (false≢true (sym tells ∙ missed))
-TellsMissed-room commit behind unknown tells missed stored = absurd (false≢true (sym tells.1 ∙ stored))
-TellsMissed-room commit behind (counted events) tells missed stored = counted_length behind tells.3.0 events tells.3.1
+pub ReportsMissed-room : (commit : Commit) (behind : List ℕ) (missed : Missed) → ReportsMissed commit behind missed → commit.is_missed ≡ true → commit.is_stored ≡ true → 8 ≤ length behind
+ReportsMissed-room commit behind none reports missed stored = absurd (false≢true (sym reports ∙ missed))
+ReportsMissed-room commit behind unknown reports missed stored = absurd (false≢true (sym reports.1 ∙ stored))
+ReportsMissed-room commit behind (counted events) reports missed stored = counted_length behind reports.3.0 events reports.3.1
 
-pub TellsMissed-same : (commit : Commit) (behind : List ℕ) (missed other : Missed) → TellsMissed commit behind missed → TellsMissed commit behind other → missed ≡ other
-TellsMissed-same commit behind none none a b = refl
-TellsMissed-same commit behind none unknown a b = absurd (false≢true (sym a ∙ b.0))
-TellsMissed-same commit behind none (counted n) a b = absurd (false≢true (sym a ∙ b.0))
-TellsMissed-same commit behind unknown none a b = absurd (true≢false (sym a.0 ∙ b))
-TellsMissed-same commit behind unknown unknown a b = refl
-TellsMissed-same commit behind unknown (counted n) a b = absurd (false≢true (sym a.1 ∙ b.1))
-TellsMissed-same commit behind (counted n) none a b = absurd (true≢false (sym a.0 ∙ b))
-TellsMissed-same commit behind (counted n) unknown a b = absurd (true≢false (sym a.1 ∙ b.1))
-TellsMissed-same commit behind (counted n) (counted m) a b =
+pub ReportsMissed-same : (commit : Commit) (behind : List ℕ) (missed other : Missed) → ReportsMissed commit behind missed → ReportsMissed commit behind other → missed ≡ other
+ReportsMissed-same commit behind none none a b = refl
+ReportsMissed-same commit behind none unknown a b = absurd (false≢true (sym a ∙ b.0))
+ReportsMissed-same commit behind none (counted n) a b = absurd (false≢true (sym a ∙ b.0))
+ReportsMissed-same commit behind unknown none a b = absurd (true≢false (sym a.0 ∙ b))
+ReportsMissed-same commit behind unknown unknown a b = refl
+ReportsMissed-same commit behind unknown (counted n) a b = absurd (false≢true (sym a.1 ∙ b.1))
+ReportsMissed-same commit behind (counted n) none a b = absurd (true≢false (sym a.0 ∙ b))
+ReportsMissed-same commit behind (counted n) unknown a b = absurd (true≢false (sym a.1 ∙ b.1))
+ReportsMissed-same commit behind (counted n) (counted m) a b =
     ap counted (sym (from_le64-le64 n a.3.0 a.2) ∙ ap from_le64 (sym a.3.1 ∙ b.3.1) ∙ from_le64-le64 m b.3.0 b.2)
 
 -- something is stated, or a count is stated that isn't there
 pub data Telling (commit : Commit) (behind : List ℕ) : Type 0 where
-  tells : (missed : Missed) → TellsMissed commit behind missed → Telling commit behind
+  reports : (missed : Missed) → ReportsMissed commit behind missed → Telling commit behind
   no_room : commit.is_missed ≡ true → commit.is_stored ≡ true → length behind < 8 → Telling commit behind
 
-pub telling : (commit : Commit) (behind : List ℕ) → AreBytes behind → Telling commit behind
-telling commit behind small =
+pub reporting : (commit : Commit) (behind : List ℕ) → AreBytes behind → Telling commit behind
+reporting commit behind small =
     ⊎_elim (λ (missed : commit.is_missed ≡ true).
     ⊎_elim (λ (stored : commit.is_stored ≡ true).
     ⊎_elim (λ short. no_room missed stored short)
-    (λ long. tells (counted (from_le64 behind)) (missed, stored, from_le64_lt behind small, (drop 8 behind, le64-front behind long small)))
+    (λ long. reports (counted (from_le64 behind)) (missed, stored, from_le64_lt behind small, (drop 8 behind, le64-front behind long small)))
     (cases_lt (length behind) 8))
-    (λ none_stored. tells unknown (missed, none_stored))
+    (λ none_stored. reports unknown (missed, none_stored))
     (cases_Bool commit.is_stored))
-    (λ none_missed. tells none none_missed)
+    (λ none_missed. reports none none_missed)
     (cases_Bool commit.is_missed)

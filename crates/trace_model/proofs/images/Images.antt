@@ -6,12 +6,12 @@ use Rattle.trace_model.specs.Record.{Record}
 use Rattle.trace_model.specs.Words.{Decodes}
 use Rattle.trace_model.specs.Faults.{Cause}
 use Rattle.trace_model.specs.FirstFault.{AreBytes, FirstFault}
-use Rattle.trace_model.specs.Image.{le64, Commit, commit_word, HasHeader, HasParts, Missed, none, unknown, counted, TellsMissed, DecodesImageWithin, DecodesImage, has_room, stores_count, commit_of, filled, image_of, missed_told, ImageCause, too_short, bad_size, bad_count, bad_word, HasBadSize, HasBadCount, HasBadWord, FirstImageFault}
+use Rattle.trace_model.specs.Image.{le64, Commit, commit_word, HasHeader, HasParts, Missed, none, unknown, counted, ReportsMissed, DecodesImageWithin, DecodesImage, has_room, stores_count, commit_of, filled, image_of, missed_reported, ImageCause, too_short, bad_size, bad_count, bad_word, HasBadSize, HasBadCount, HasBadWord, FirstImageFault}
 use Rattle.trace_model.specs.declared.limits.TheConstants.{MAX_IMAGE}
 use Rattle.trace_model.proofs.words.OneWord.{AreBytes-drop, AreBytes-take}
 use Rattle.trace_model.proofs.words.Unique.{Decodes-unique}
 use Rattle.trace_model.proofs.words.FirstFaults.{read_or_faulty, Decodes-FirstFault, FirstFault-unique}
-use Rattle.trace_model.proofs.images.ImageParts.{length-le64, HasHeader-of, HasHeader-is, HasHeader-same, HasParts-of, HasParts-same, TellsMissed-room, TellsMissed-same, Telling, tells, no_room, telling}
+use Rattle.trace_model.proofs.images.ImageParts.{length-le64, HasHeader-of, HasHeader-is, HasHeader-same, HasParts-of, HasParts-same, ReportsMissed-room, ReportsMissed-same, Telling, reports, no_room, reporting}
 
 -- ---- a fault excludes what comes after it in the order
 
@@ -25,10 +25,10 @@ parts_no_bad_size bytes time commit contents behind p bad =
     let left : length bad.rest ≡ length contents + length behind = sym (ap length same.rests) ∙ length-append contents behind in
     ⊎_elim (λ (past : length bad.rest < bad.commit.size). omega arith) (λ (past : MAX_IMAGE < length bytes). let fits = p.length_fits in omega arith) bad.wrong
 
-telling_no_bad_count : (bytes : List ℕ) (time : ℕ) (commit : Commit) (contents behind : List ℕ) (missed : Missed) → HasParts MAX_IMAGE bytes time commit contents behind → TellsMissed commit behind missed → HasBadCount bytes → ⊥
-telling_no_bad_count bytes time commit contents behind missed p told bad =
+reporting_no_bad_count : (bytes : List ℕ) (time : ℕ) (commit : Commit) (contents behind : List ℕ) (missed : Missed) → HasParts MAX_IMAGE bytes time commit contents behind → ReportsMissed commit behind missed → HasBadCount bytes → ⊥
+reporting_no_bad_count bytes time commit contents behind missed p reported bad =
     let same = HasParts-same MAX_IMAGE MAX_IMAGE bytes time bad.time commit bad.commit contents bad.contents behind bad.behind p bad.parts in
-    let room = TellsMissed-room commit behind missed told (ap (λ (c : Commit). c.is_missed) same.commits ∙ bad.missed) (ap (λ (c : Commit). c.is_stored) same.commits ∙ bad.stored) in
+    let room = ReportsMissed-room commit behind missed reported (ap (λ (c : Commit). c.is_missed) same.commits ∙ bad.missed) (ap (λ (c : Commit). c.is_stored) same.commits ∙ bad.stored) in
     let short = bad.no_room in
     let len = ap length same.behinds in
     omega arith
@@ -38,7 +38,7 @@ telling_no_bad_count bytes time commit contents behind missed p told bad =
 pub DecodesImage-FirstImageFault : (bytes : List ℕ) (time size : ℕ) (missed : Missed) (records : List Record) (fault : ImageCause) → DecodesImage bytes time size missed records → FirstImageFault bytes fault → ⊥
 DecodesImage-FirstImageFault bytes time size missed records too_short d short = header_not_short bytes time d.commit (d.contents ++ d.behind) d.parts.header short
 DecodesImage-FirstImageFault bytes time size missed records bad_size d bad = parts_no_bad_size bytes time d.commit d.contents d.behind d.parts bad
-DecodesImage-FirstImageFault bytes time size missed records bad_count d bad = telling_no_bad_count bytes time d.commit d.contents d.behind missed d.parts d.tells bad
+DecodesImage-FirstImageFault bytes time size missed records bad_count d bad = reporting_no_bad_count bytes time d.commit d.contents d.behind missed d.parts d.reports bad
 DecodesImage-FirstImageFault bytes time size missed records (bad_word cause at) d bad =
     let same = HasParts-same MAX_IMAGE MAX_IMAGE bytes time bad.time d.commit bad.commit d.contents bad.contents d.behind bad.behind d.parts bad.parts in
     Decodes-FirstFault bad.contents bad.time records cause at (subst (λ (t : ℕ). Decodes bad.contents t records) same.times (subst (λ (b : List ℕ). Decodes b time records) same.datas d.reads)) bad.fault
@@ -50,11 +50,11 @@ pub DecodesImageWithin-unique : (limit other_limit : ℕ) (bytes : List ℕ) (ti
     → (time ≡ other_time) × (size ≡ other_size) × (missed ≡ other) × (records ≡ others)
 DecodesImageWithin-unique limit other_limit bytes time other_time size other_size missed other records others d e =
     let same = HasParts-same limit other_limit bytes time other_time d.commit e.commit d.contents e.contents d.behind e.behind d.parts e.parts in
-    let told : TellsMissed e.commit e.behind missed = subst (λ (b : List ℕ). TellsMissed e.commit b missed) same.behinds (subst (λ (c : Commit). TellsMissed c d.behind missed) same.commits d.tells) in
+    let reported : ReportsMissed e.commit e.behind missed = subst (λ (b : List ℕ). ReportsMissed e.commit b missed) same.behinds (subst (λ (c : Commit). ReportsMissed c d.behind missed) same.commits d.reports) in
     let reads : Decodes e.contents other_time records = subst (λ (t : ℕ). Decodes e.contents t records) same.times (subst (λ (b : List ℕ). Decodes b time records) same.datas d.reads) in (
       same.times,
       d.size_is ∙ ap (λ (c : Commit). c.size) same.commits ∙ sym e.size_is,
-      TellsMissed-same e.commit e.behind missed other told e.tells,
+      ReportsMissed-same e.commit e.behind missed other reported e.reports,
       Decodes-unique e.contents other_time records others reads e.reads,
     )
 
@@ -72,7 +72,7 @@ DecodesImageWithin-other limit other_limit bytes time size missed records fits d
   behind = d.behind;
   parts = record { header = d.parts.header; size_is = d.parts.size_is; length_fits = fits };
   size_is = d.size_is;
-  tells = d.tells;
+  reports = d.reports;
   reads = d.reads;
 }
 
@@ -101,10 +101,10 @@ FirstImageFault-unique bytes bad_size (bad_word cause at) f g = absurd (parts_no
 FirstImageFault-unique bytes bad_count too_short f g = absurd (header_not_short bytes f.time f.commit (f.contents ++ f.behind) f.parts.header g)
 FirstImageFault-unique bytes bad_count bad_size f g = absurd (parts_no_bad_size bytes f.time f.commit f.contents f.behind f.parts g)
 FirstImageFault-unique bytes bad_count bad_count f g = refl
-FirstImageFault-unique bytes bad_count (bad_word cause at) f g = absurd (telling_no_bad_count bytes g.time g.commit g.contents g.behind g.missed g.parts g.tells f)
+FirstImageFault-unique bytes bad_count (bad_word cause at) f g = absurd (reporting_no_bad_count bytes g.time g.commit g.contents g.behind g.missed g.parts g.reports f)
 FirstImageFault-unique bytes (bad_word cause at) too_short f g = absurd (header_not_short bytes f.time f.commit (f.contents ++ f.behind) f.parts.header g)
 FirstImageFault-unique bytes (bad_word cause at) bad_size f g = absurd (parts_no_bad_size bytes f.time f.commit f.contents f.behind f.parts g)
-FirstImageFault-unique bytes (bad_word cause at) bad_count f g = absurd (telling_no_bad_count bytes f.time f.commit f.contents f.behind f.missed f.parts f.tells g)
+FirstImageFault-unique bytes (bad_word cause at) bad_count f g = absurd (reporting_no_bad_count bytes f.time f.commit f.contents f.behind f.missed f.parts f.reports g)
 FirstImageFault-unique bytes (bad_word cause at) (bad_word other there) f g = same_bad_word bytes cause other at there f g
 
 -- ---- one of the two
@@ -115,20 +115,20 @@ IsReadImage bytes = (time size : ℕ) × (missed : Missed) × (records : List Re
 abbrev IsFaultyImage : List ℕ → Type 0
 IsFaultyImage bytes = (fault : ImageCause) × FirstImageFault bytes fault
 
-from_telling : (bytes : List ℕ) (time : ℕ) (commit : Commit) (contents behind : List ℕ) → HasParts MAX_IMAGE bytes time commit contents behind → AreBytes contents → Telling commit behind → IsReadImage bytes ⊎ IsFaultyImage bytes
-from_telling bytes time commit contents behind p small (no_room missed stored short) =
+from_reporting : (bytes : List ℕ) (time : ℕ) (commit : Commit) (contents behind : List ℕ) → HasParts MAX_IMAGE bytes time commit contents behind → AreBytes contents → Telling commit behind → IsReadImage bytes ⊎ IsFaultyImage bytes
+from_reporting bytes time commit contents behind p small (no_room missed stored short) =
     inr (bad_count, record { time = time; commit = commit; contents = contents; behind = behind; parts = p; missed = missed; stored = stored; no_room = short })
-from_telling bytes time commit contents behind p small (tells missed told) = ⊎_elim
-    (λ reads. inl (time, commit.size, missed, reads.0, record { commit = commit; contents = contents; behind = behind; parts = p; size_is = refl; tells = told; reads = reads.1 }))
-    (λ fault. inr (bad_word fault.0 fault.1, record { time = time; commit = commit; contents = contents; behind = behind; parts = p; missed = missed; tells = told; fault = fault.2 }))
+from_reporting bytes time commit contents behind p small (reports missed reported) = ⊎_elim
+    (λ reads. inl (time, commit.size, missed, reads.0, record { commit = commit; contents = contents; behind = behind; parts = p; size_is = refl; reports = reported; reads = reads.1 }))
+    (λ fault. inr (bad_word fault.0 fault.1, record { time = time; commit = commit; contents = contents; behind = behind; parts = p; missed = missed; reports = reported; fault = fault.2 }))
     (read_or_faulty contents time small)
 
 from_header : (bytes : List ℕ) (time : ℕ) (commit : Commit) (rest : List ℕ) → HasHeader bytes time commit rest → AreBytes rest → IsReadImage bytes ⊎ IsFaultyImage bytes
 from_header bytes time commit rest h small =
     ⊎_elim (λ past. wrong (inl past)) (λ there.
     ⊎_elim (λ past. wrong (inr past)) (λ limit.
-    from_telling bytes time commit (take commit.size rest) (drop commit.size rest) (HasParts-of MAX_IMAGE bytes time commit rest h there limit)
-    (AreBytes-take commit.size rest small) (telling commit (drop commit.size rest) (AreBytes-drop commit.size rest small)))
+    from_reporting bytes time commit (take commit.size rest) (drop commit.size rest) (HasParts-of MAX_IMAGE bytes time commit rest h there limit)
+    (AreBytes-take commit.size rest small) (reporting commit (drop commit.size rest) (AreBytes-drop commit.size rest small)))
     (cases_lt MAX_IMAGE (length bytes)))
     (cases_lt (length rest) commit.size)
   where
@@ -160,15 +160,15 @@ length-image_of time contents missed size fits =
     let behind = length-filled contents stored size (stored_fits contents missed size (ltb 0 missed) (has_room contents size) refl fits) in
     omega (arith, length-append (le64 time) (le64 word ++ filled contents stored size), length-append (le64 word) (filled contents stored size), length-le64 time, length-le64 word)
 
-told_by : (contents zeros : List ℕ) (missed : ℕ) (some room : Bool) → missed < 2 ^ 64
-    → TellsMissed (record { size = length contents; is_stored = some && room; is_missed = some; ignored = 0 }) (cond (some && room) (le64 missed) [] ++ zeros) (cond (some && room) (counted missed) (cond some unknown none))
-told_by contents zeros missed true true fits = (refl, refl, fits, (zeros, refl))
-told_by contents zeros missed true false fits = (refl, refl)
-told_by contents zeros missed false room fits = refl
+reported_by : (contents zeros : List ℕ) (missed : ℕ) (some room : Bool) → missed < 2 ^ 64
+    → ReportsMissed (record { size = length contents; is_stored = some && room; is_missed = some; ignored = 0 }) (cond (some && room) (le64 missed) [] ++ zeros) (cond (some && room) (counted missed) (cond some unknown none))
+reported_by contents zeros missed true true fits = (refl, refl, fits, (zeros, refl))
+reported_by contents zeros missed true false fits = (refl, refl)
+reported_by contents zeros missed false room fits = refl
 
 -- what is written reads as the time, the data and the missed events that it was written for
 pub DecodesImage-image_of : (time : ℕ) (contents : List ℕ) (missed size : ℕ) (records : List Record) → time < 2 ^ 64 → missed < 2 ^ 64 → length contents ≤ size → 16 + size ≤ MAX_IMAGE → Decodes contents time records
-    → DecodesImage (image_of time contents missed size) time (length contents) (missed_told contents missed size) records
+    → DecodesImage (image_of time contents missed size) time (length contents) (missed_reported contents missed size) records
 DecodesImage-image_of time contents missed size records time_fits missed_fits fits limit reads =
     let stored : List ℕ = cond (stores_count contents missed size) (le64 missed) [] in
     let zeros : List ℕ = replicate (size - length contents - length stored) 0 in
@@ -182,6 +182,6 @@ DecodesImage-image_of time contents missed size records time_fits missed_fits fi
         length_fits = omega (arith, length-image_of time contents missed size fits);
       };
       size_is = refl;
-      tells = told_by contents zeros missed (ltb 0 missed) (has_room contents size) missed_fits;
+      reports = reported_by contents zeros missed (ltb 0 missed) (has_room contents size) missed_fits;
       reads = reads;
     }

@@ -3,7 +3,7 @@ use Rattle.std.proofs.Common.{◌≡◌, ◌⊎◌, inl, inr, ⊎_elim, ℕ, ◌
 use Rattle.std.proofs.lemmas.Bool.{cases_lt, ltb-true, ltb-false}
 use Rattle.trace_model.specs.Words.{Decodes}
 use Rattle.trace_model.specs.FirstFault.{AreBytes}
-use Rattle.trace_model.specs.Image.{Missed, none, unknown, counted, DecodesImage, has_room, image_of, missed_told, ImageCause, too_short, bad_size, bad_count, bad_word, FirstImageFault}
+use Rattle.trace_model.specs.Image.{Missed, none, unknown, counted, DecodesImage, has_room, image_of, missed_reported, ImageCause, too_short, bad_size, bad_count, bad_word, FirstImageFault}
 use Rattle.trace_model.specs.Parcel.{Parcel}
 use Rattle.trace_model.specs.ParcelBytes.{IsParcel, bytes_of_parcel, HasNumbers, AgreesWith, HasImage, DecodesParcel, ParcelCause, bad_cpu, bad_image, number_overflow, missed_too_many, missed_differs, HasBadCpu, HasBadImage, HasOverflow, HasTooManyMissed, HasOtherMissed, FirstParcelFault}
 use Rattle.trace_model.specs.declared.limits.TheConstants.{MAX_IMAGE, MAX_CPUS}
@@ -14,11 +14,11 @@ use Rattle.trace_model.proofs.images.ParcelParts.{length-with_numbers, HasNumber
 -- ---- one image
 
 -- the bytes decide the parcel, its records and what the image states
-pub HasImage-same : (bytes : List ℕ) (parcel other : Parcel) (told tells : Missed) → HasImage bytes parcel told → HasImage bytes other tells → (parcel ≡ other) × (told ≡ tells)
-HasImage-same bytes parcel other told tells h g =
+pub HasImage-same : (bytes : List ℕ) (parcel other : Parcel) (reported reports : Missed) → HasImage bytes parcel reported → HasImage bytes other reports → (parcel ≡ other) × (reported ≡ reports)
+HasImage-same bytes parcel other reported reports h g =
     let same = HasNumbers-same bytes parcel.cpu other.cpu parcel.fill other.fill parcel.first other.first parcel.missed other.missed h.image g.image h.numbers g.numbers in
-    let reads : DecodesImage g.image h.time h.size told parcel.records = subst (λ (b : List ℕ). DecodesImage b h.time h.size told parcel.records) same.images h.reads in
-    let one = DecodesImage-unique g.image h.time g.time h.size g.size told tells parcel.records other.records reads g.reads in (
+    let reads : DecodesImage g.image h.time h.size reported parcel.records = subst (λ (b : List ℕ). DecodesImage b h.time h.size reported parcel.records) same.images h.reads in
+    let one = DecodesImage-unique g.image h.time g.time h.size g.size reported reports parcel.records other.records reads g.reads in (
       (λ i. record { cpu = same.cpus i; fill = same.fills i; first = same.firsts i; missed = same.misses i; records = one.3 i }),
       one.2,
     )
@@ -50,13 +50,13 @@ bad_image_is bytes bad_size f = inr f
 bad_image_is bytes bad_count f = inr f
 bad_image_is bytes (bad_word cause at) f = inr f
 
-image_not_bad : (bytes : List ℕ) (parcel : Parcel) (told : Missed) (cause : ImageCause) → HasImage bytes parcel told → BadImage bytes cause → ⊥
+image_not_bad : (bytes : List ℕ) (parcel : Parcel) (reported : Missed) (cause : ImageCause) → HasImage bytes parcel reported → BadImage bytes cause → ⊥
 unfolding BadImage
-image_not_bad bytes parcel told cause h bad = ⊎_elim
+image_not_bad bytes parcel reported cause h bad = ⊎_elim
     (λ short. numbers_not_short bytes parcel.cpu parcel.fill parcel.first parcel.missed h.image h.numbers short.0)
     (λ faulty.
     let same = HasNumbers-same bytes parcel.cpu faulty.cpu parcel.fill faulty.fill parcel.first faulty.first parcel.missed faulty.missed h.image faulty.image h.numbers faulty.numbers in
-    DecodesImage-FirstImageFault h.image h.time h.size told parcel.records cause h.reads (subst (λ (b : List ℕ). FirstImageFault b cause) (sym same.images) faulty.fault))
+    DecodesImage-FirstImageFault h.image h.time h.size reported parcel.records cause h.reads (subst (λ (b : List ℕ). FirstImageFault b cause) (sym same.images) faulty.fault))
     bad
 
 cpu_not_bad_image : (bytes : List ℕ) (cause : ImageCause) → HasBadCpu bytes → BadImage bytes cause → ⊥
@@ -66,43 +66,43 @@ cpu_not_bad_image bytes cause bad image = ⊎_elim
     (λ faulty. known_not_bad bytes faulty.cpu faulty.fill faulty.first faulty.missed faulty.image faulty.numbers faulty.cpu_known bad)
     image
 
-image_not_bad_cpu : (bytes : List ℕ) (parcel : Parcel) (told : Missed) → HasImage bytes parcel told → HasBadCpu bytes → ⊥
-image_not_bad_cpu bytes parcel told h bad = known_not_bad bytes parcel.cpu parcel.fill parcel.first parcel.missed h.image h.numbers h.cpu_known bad
+image_not_bad_cpu : (bytes : List ℕ) (parcel : Parcel) (reported : Missed) → HasImage bytes parcel reported → HasBadCpu bytes → ⊥
+image_not_bad_cpu bytes parcel reported h bad = known_not_bad bytes parcel.cpu parcel.fill parcel.first parcel.missed h.image h.numbers h.cpu_known bad
 
-fits_not_past : (bytes : List ℕ) (parcel : Parcel) (told : Missed) → HasImage bytes parcel told → parcel.first + length parcel.records < 2 ^ 64 → HasOverflow bytes → ⊥
-fits_not_past bytes parcel told h fits bad =
-    let same = HasImage-same bytes parcel bad.parcel told bad.told h bad.image in
+fits_not_past : (bytes : List ℕ) (parcel : Parcel) (reported : Missed) → HasImage bytes parcel reported → parcel.first + length parcel.records < 2 ^ 64 → HasOverflow bytes → ⊥
+fits_not_past bytes parcel reported h fits bad =
+    let same = HasImage-same bytes parcel bad.parcel reported bad.reported h bad.image in
     let sum = ap (λ (p : Parcel). p.first + length p.records) same.0 in
     let past = bad.past in
     omega arith
 
-few_not_many : (bytes : List ℕ) (parcel : Parcel) (told : Missed) → HasImage bytes parcel told → parcel.missed ≤ parcel.first → HasTooManyMissed bytes → ⊥
-few_not_many bytes parcel told h few bad =
-    let same = HasImage-same bytes parcel bad.parcel told bad.told h bad.image in
+few_not_many : (bytes : List ℕ) (parcel : Parcel) (reported : Missed) → HasImage bytes parcel reported → parcel.missed ≤ parcel.first → HasTooManyMissed bytes → ⊥
+few_not_many bytes parcel reported h few bad =
+    let same = HasImage-same bytes parcel bad.parcel reported bad.reported h bad.image in
     let firsts = ap (λ (p : Parcel). p.first) same.0 in
     let misses = ap (λ (p : Parcel). p.missed) same.0 in
     let past = bad.past in
     omega arith
 
-agreed_not_other : (bytes : List ℕ) (parcel : Parcel) (told : Missed) → HasImage bytes parcel told → AgreesWith told parcel.missed → HasOtherMissed bytes → ⊥
-agreed_not_other bytes parcel told h agrees bad =
-    let same = HasImage-same bytes parcel bad.parcel told bad.told h bad.image in
-    let there : AgreesWith told bad.parcel.missed = subst (λ (p : Parcel). AgreesWith told p.missed) same.0 agrees in
+agreed_not_other : (bytes : List ℕ) (parcel : Parcel) (reported : Missed) → HasImage bytes parcel reported → AgreesWith reported parcel.missed → HasOtherMissed bytes → ⊥
+agreed_not_other bytes parcel reported h agrees bad =
+    let same = HasImage-same bytes parcel bad.parcel reported bad.reported h bad.image in
+    let there : AgreesWith reported bad.parcel.missed = subst (λ (p : Parcel). AgreesWith reported p.missed) same.0 agrees in
     bad.differs (subst (λ (t : Missed). AgreesWith t bad.parcel.missed) same.1 there)
 
 -- ---- a reading and a fault exclude each other
 
 pub DecodesParcel-FirstParcelFault : (bytes : List ℕ) (parcel : Parcel) (fault : ParcelCause) → DecodesParcel bytes parcel → FirstParcelFault bytes fault → ⊥
-DecodesParcel-FirstParcelFault bytes parcel bad_cpu d f = image_not_bad_cpu bytes parcel d.told d.image f
-DecodesParcel-FirstParcelFault bytes parcel (bad_image cause) d f = image_not_bad bytes parcel d.told cause d.image (bad_image_is bytes cause f)
-DecodesParcel-FirstParcelFault bytes parcel number_overflow d f = fits_not_past bytes parcel d.told d.image d.sound.numbers_fit f
-DecodesParcel-FirstParcelFault bytes parcel missed_too_many d f = few_not_many bytes parcel d.told d.image d.sound.missed_fit f
-DecodesParcel-FirstParcelFault bytes parcel missed_differs d f = agreed_not_other bytes parcel d.told d.image d.agrees f
+DecodesParcel-FirstParcelFault bytes parcel bad_cpu d f = image_not_bad_cpu bytes parcel d.reported d.image f
+DecodesParcel-FirstParcelFault bytes parcel (bad_image cause) d f = image_not_bad bytes parcel d.reported cause d.image (bad_image_is bytes cause f)
+DecodesParcel-FirstParcelFault bytes parcel number_overflow d f = fits_not_past bytes parcel d.reported d.image d.sound.numbers_fit f
+DecodesParcel-FirstParcelFault bytes parcel missed_too_many d f = few_not_many bytes parcel d.reported d.image d.sound.missed_fit f
+DecodesParcel-FirstParcelFault bytes parcel missed_differs d f = agreed_not_other bytes parcel d.reported d.image d.agrees f
 
 -- ---- one reading
 
 pub DecodesParcel-unique : (bytes : List ℕ) (parcel other : Parcel) → DecodesParcel bytes parcel → DecodesParcel bytes other → parcel ≡ other
-DecodesParcel-unique bytes parcel other d e = let same = HasImage-same bytes parcel other d.told e.told d.image e.image in same.0
+DecodesParcel-unique bytes parcel other d e = let same = HasImage-same bytes parcel other d.reported e.reported d.image e.image in same.0
 
 -- ---- one first fault
 
@@ -124,28 +124,28 @@ same_bad_image bytes cause other f g = ⊎_elim
 pub FirstParcelFault-unique : (bytes : List ℕ) (fault other : ParcelCause) → FirstParcelFault bytes fault → FirstParcelFault bytes other → fault ≡ other
 FirstParcelFault-unique bytes bad_cpu bad_cpu f g = refl
 FirstParcelFault-unique bytes bad_cpu (bad_image cause) f g = absurd (cpu_not_bad_image bytes cause f (bad_image_is bytes cause g))
-FirstParcelFault-unique bytes bad_cpu number_overflow f g = absurd (image_not_bad_cpu bytes g.parcel g.told g.image f)
-FirstParcelFault-unique bytes bad_cpu missed_too_many f g = absurd (image_not_bad_cpu bytes g.parcel g.told g.image f)
-FirstParcelFault-unique bytes bad_cpu missed_differs f g = absurd (image_not_bad_cpu bytes g.parcel g.told g.image f)
+FirstParcelFault-unique bytes bad_cpu number_overflow f g = absurd (image_not_bad_cpu bytes g.parcel g.reported g.image f)
+FirstParcelFault-unique bytes bad_cpu missed_too_many f g = absurd (image_not_bad_cpu bytes g.parcel g.reported g.image f)
+FirstParcelFault-unique bytes bad_cpu missed_differs f g = absurd (image_not_bad_cpu bytes g.parcel g.reported g.image f)
 FirstParcelFault-unique bytes (bad_image cause) bad_cpu f g = absurd (cpu_not_bad_image bytes cause g (bad_image_is bytes cause f))
 FirstParcelFault-unique bytes (bad_image cause) (bad_image other) f g = same_bad_image bytes cause other (bad_image_is bytes cause f) (bad_image_is bytes other g)
-FirstParcelFault-unique bytes (bad_image cause) number_overflow f g = absurd (image_not_bad bytes g.parcel g.told cause g.image (bad_image_is bytes cause f))
-FirstParcelFault-unique bytes (bad_image cause) missed_too_many f g = absurd (image_not_bad bytes g.parcel g.told cause g.image (bad_image_is bytes cause f))
-FirstParcelFault-unique bytes (bad_image cause) missed_differs f g = absurd (image_not_bad bytes g.parcel g.told cause g.image (bad_image_is bytes cause f))
-FirstParcelFault-unique bytes number_overflow bad_cpu f g = absurd (image_not_bad_cpu bytes f.parcel f.told f.image g)
-FirstParcelFault-unique bytes number_overflow (bad_image cause) f g = absurd (image_not_bad bytes f.parcel f.told cause f.image (bad_image_is bytes cause g))
+FirstParcelFault-unique bytes (bad_image cause) number_overflow f g = absurd (image_not_bad bytes g.parcel g.reported cause g.image (bad_image_is bytes cause f))
+FirstParcelFault-unique bytes (bad_image cause) missed_too_many f g = absurd (image_not_bad bytes g.parcel g.reported cause g.image (bad_image_is bytes cause f))
+FirstParcelFault-unique bytes (bad_image cause) missed_differs f g = absurd (image_not_bad bytes g.parcel g.reported cause g.image (bad_image_is bytes cause f))
+FirstParcelFault-unique bytes number_overflow bad_cpu f g = absurd (image_not_bad_cpu bytes f.parcel f.reported f.image g)
+FirstParcelFault-unique bytes number_overflow (bad_image cause) f g = absurd (image_not_bad bytes f.parcel f.reported cause f.image (bad_image_is bytes cause g))
 FirstParcelFault-unique bytes number_overflow number_overflow f g = refl
-FirstParcelFault-unique bytes number_overflow missed_too_many f g = absurd (fits_not_past bytes g.parcel g.told g.image g.numbers_fit f)
-FirstParcelFault-unique bytes number_overflow missed_differs f g = absurd (fits_not_past bytes g.parcel g.told g.image g.sound.numbers_fit f)
-FirstParcelFault-unique bytes missed_too_many bad_cpu f g = absurd (image_not_bad_cpu bytes f.parcel f.told f.image g)
-FirstParcelFault-unique bytes missed_too_many (bad_image cause) f g = absurd (image_not_bad bytes f.parcel f.told cause f.image (bad_image_is bytes cause g))
-FirstParcelFault-unique bytes missed_too_many number_overflow f g = absurd (fits_not_past bytes f.parcel f.told f.image f.numbers_fit g)
+FirstParcelFault-unique bytes number_overflow missed_too_many f g = absurd (fits_not_past bytes g.parcel g.reported g.image g.numbers_fit f)
+FirstParcelFault-unique bytes number_overflow missed_differs f g = absurd (fits_not_past bytes g.parcel g.reported g.image g.sound.numbers_fit f)
+FirstParcelFault-unique bytes missed_too_many bad_cpu f g = absurd (image_not_bad_cpu bytes f.parcel f.reported f.image g)
+FirstParcelFault-unique bytes missed_too_many (bad_image cause) f g = absurd (image_not_bad bytes f.parcel f.reported cause f.image (bad_image_is bytes cause g))
+FirstParcelFault-unique bytes missed_too_many number_overflow f g = absurd (fits_not_past bytes f.parcel f.reported f.image f.numbers_fit g)
 FirstParcelFault-unique bytes missed_too_many missed_too_many f g = refl
-FirstParcelFault-unique bytes missed_too_many missed_differs f g = absurd (few_not_many bytes g.parcel g.told g.image g.sound.missed_fit f)
-FirstParcelFault-unique bytes missed_differs bad_cpu f g = absurd (image_not_bad_cpu bytes f.parcel f.told f.image g)
-FirstParcelFault-unique bytes missed_differs (bad_image cause) f g = absurd (image_not_bad bytes f.parcel f.told cause f.image (bad_image_is bytes cause g))
-FirstParcelFault-unique bytes missed_differs number_overflow f g = absurd (fits_not_past bytes f.parcel f.told f.image f.sound.numbers_fit g)
-FirstParcelFault-unique bytes missed_differs missed_too_many f g = absurd (few_not_many bytes f.parcel f.told f.image f.sound.missed_fit g)
+FirstParcelFault-unique bytes missed_too_many missed_differs f g = absurd (few_not_many bytes g.parcel g.reported g.image g.sound.missed_fit f)
+FirstParcelFault-unique bytes missed_differs bad_cpu f g = absurd (image_not_bad_cpu bytes f.parcel f.reported f.image g)
+FirstParcelFault-unique bytes missed_differs (bad_image cause) f g = absurd (image_not_bad bytes f.parcel f.reported cause f.image (bad_image_is bytes cause g))
+FirstParcelFault-unique bytes missed_differs number_overflow f g = absurd (fits_not_past bytes f.parcel f.reported f.image f.sound.numbers_fit g)
+FirstParcelFault-unique bytes missed_differs missed_too_many f g = absurd (few_not_many bytes f.parcel f.reported f.image f.sound.missed_fit g)
 FirstParcelFault-unique bytes missed_differs missed_differs f g = refl
 
 -- ---- one of the two
@@ -156,7 +156,7 @@ IsReadParcel bytes = (parcel : Parcel) × DecodesParcel bytes parcel
 abbrev IsFaultyParcel : List ℕ → Type 0
 IsFaultyParcel bytes = (fault : ParcelCause) × FirstParcelFault bytes fault
 
-agrees_or_not : (told : Missed) (missed : ℕ) → AgreesWith told missed ⊎ (AgreesWith told missed → ⊥)
+agrees_or_not : (reported : Missed) (missed : ℕ) → AgreesWith reported missed ⊎ (AgreesWith reported missed → ⊥)
 agrees_or_not none missed = ⊎_elim (λ low. inl (omega arith)) (λ high. inr (λ is. omega arith)) (cases_lt missed 1)
 agrees_or_not unknown missed = ⊎_elim (λ low. inl low) (λ high. inr (λ is. omega arith)) (cases_lt 0 missed)
 agrees_or_not (counted events) missed =
@@ -174,17 +174,17 @@ fault_from bytes bad_size f = (bad_image bad_size, f)
 fault_from bytes bad_count f = (bad_image bad_count, f)
 fault_from bytes (bad_word cause at) f = (bad_image (bad_word cause at), f)
 
-from_image : (bytes : List ℕ) (parcel : Parcel) (told : Missed) → HasImage bytes parcel told → IsReadParcel bytes ⊎ IsFaultyParcel bytes
-from_image bytes parcel told h =
+from_image : (bytes : List ℕ) (parcel : Parcel) (reported : Missed) → HasImage bytes parcel reported → IsReadParcel bytes ⊎ IsFaultyParcel bytes
+from_image bytes parcel reported h =
     ⊎_elim (λ fits.
-    ⊎_elim (λ past. inr (missed_too_many, record { parcel = parcel; told = told; image = h; numbers_fit = fits; past = past }))
+    ⊎_elim (λ past. inr (missed_too_many, record { parcel = parcel; reported = reported; image = h; numbers_fit = fits; past = past }))
     (λ few.
     let sound : IsParcel parcel = record { cpu_known = h.cpu_known; numbers_fit = fits; missed_fit = few } in
-    ⊎_elim (λ agrees. inl (parcel, record { told = told; image = h; sound = sound; agrees = agrees }))
-    (λ differs. inr (missed_differs, record { parcel = parcel; told = told; image = h; sound = sound; differs = differs }))
-    (agrees_or_not told parcel.missed))
+    ⊎_elim (λ agrees. inl (parcel, record { reported = reported; image = h; sound = sound; agrees = agrees }))
+    (λ differs. inr (missed_differs, record { parcel = parcel; reported = reported; image = h; sound = sound; differs = differs }))
+    (agrees_or_not reported parcel.missed))
     (cases_lt parcel.first parcel.missed))
-    (λ past. inr (number_overflow, record { parcel = parcel; told = told; image = h; past = past }))
+    (λ past. inr (number_overflow, record { parcel = parcel; reported = reported; image = h; past = past }))
     (cases_lt (parcel.first + length parcel.records) (2 ^ 64))
 
 from_numbers : (bytes : List ℕ) (cpu fill first missed : ℕ) (image : List ℕ) → HasNumbers bytes cpu fill first missed image → AreBytes image → IsReadParcel bytes ⊎ IsFaultyParcel bytes
@@ -211,10 +211,10 @@ length-bytes_of_parcel parcel time contents size fits =
     omega (arith, length-with_numbers parcel.cpu parcel.fill parcel.first parcel.missed (image_of time contents parcel.missed size), length-image_of time contents parcel.missed size fits)
 
 -- what an image states of the number that it was written with agrees with it
-told_agrees : (missed : ℕ) (some room : Bool) → some ≡ ltb 0 missed → AgreesWith (cond (some && room) (counted missed) (cond some unknown none)) missed
-told_agrees missed true true is = (ltb-true 0 missed (sym is), refl)
-told_agrees missed true false is = ltb-true 0 missed (sym is)
-told_agrees missed false room is = let none_missed = ltb-false 0 missed (sym is) in omega arith
+reported_agrees : (missed : ℕ) (some room : Bool) → some ≡ ltb 0 missed → AgreesWith (cond (some && room) (counted missed) (cond some unknown none)) missed
+reported_agrees missed true true is = (ltb-true 0 missed (sym is), refl)
+reported_agrees missed true false is = ltb-true 0 missed (sym is)
+reported_agrees missed false room is = let none_missed = ltb-false 0 missed (sym is) in omega arith
 
 pub DecodesParcel-bytes_of_parcel : (parcel : Parcel) (time : ℕ) (contents : List ℕ) (size : ℕ) → IsParcel parcel → parcel.fill < 2 ^ 64 → time < 2 ^ 64 → length contents ≤ size → 16 + size ≤ MAX_IMAGE → Decodes contents time parcel.records
     → DecodesParcel (bytes_of_parcel parcel time contents size) parcel
@@ -226,7 +226,7 @@ DecodesParcel-bytes_of_parcel parcel time contents size sound fill_fits time_fit
     let image : List ℕ = image_of time contents parcel.missed size in
     let long = length-image_of time contents parcel.missed size fits in
     record {
-      told = missed_told contents parcel.missed size;
+      reported = missed_reported contents parcel.missed size;
       image = record {
         image = image;
         numbers = record {
@@ -243,5 +243,5 @@ DecodesParcel-bytes_of_parcel parcel time contents size sound fill_fits time_fit
         reads = DecodesImage-image_of time contents parcel.missed size parcel.records time_fits missed_fits fits limit reads;
       };
       sound = sound;
-      agrees = told_agrees parcel.missed (ltb 0 parcel.missed) (has_room contents size) refl;
+      agrees = reported_agrees parcel.missed (ltb 0 parcel.missed) (has_room contents size) refl;
     }

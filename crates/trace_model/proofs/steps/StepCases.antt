@@ -7,12 +7,12 @@ use Rattle.trace_model.specs.History.{push, push_close, wished, Reservation, res
 use Rattle.trace_model.specs.Packing.{tail_of, FitsBehind}
 use Rattle.trace_model.specs.Links.{normal_link, header_link, update_link}
 use Rattle.trace_model.specs.Frames.{for_record, for_close, FrameState, waiting, reserved, left, number_of, Role, owner, helper, Phase, idle, looking, claiming, looking_next, marking, clearing, opening, releasing, wishing, Frame, Refusal, too_deep, too_long, late_moment, crowded, worn, no_frame, not_reserved}
-use Rattle.trace_model.specs.Ring.{link_into, ReaderPhase, loading_link, loading_done, storing_link, swapping, Core}
-use Rattle.trace_model.specs.Events.{Event, pushes, pushes_close, steps, ends, reads, wishes, Answer, pushed, going, reserved_as, gone, refused, reading, empty, moving, swapped, wished_for}
+use Rattle.trace_model.specs.Ring.{link_into, ReaderPhase, loading_head, loading_done, storing_spare_link, swapping, Core}
+use Rattle.trace_model.specs.Events.{Event, pushes, pushes_close, steps, ends, reads, wishes, Answer, pushed, going, reserved_as, gone, refused, reading, empty, moving, page_taken, wished_for}
 use Rattle.trace_model.specs.WriterSteps.{with_history_event, in_phase, with_link, leave_answer, after_leave, after_begin, begin_answer, with_frame, new_reservation, with_reservation, in_reserved, with_new_tail, end_answer, with_released}
 use Rattle.trace_model.specs.HeadMove.{with_head_claimed, after_next}
 use Rattle.trace_model.specs.ReaderSteps.{reader_at, reader_saw, next_header, taken_fill, after_swap, with_wish}
-use Rattle.trace_model.specs.StepConditions.{MayOpen, NeedsPage, IsGranted, IsTooLong}
+use Rattle.trace_model.specs.StepConditions.{MayContinue, NeedsPage, IsGranted, IsTooLong}
 
 -- ---- the steps of a frame, phase by phase
 
@@ -121,14 +121,14 @@ pub data LoadNextStep (n : ℕ) (c : Core) (frame : Frame) (below : List Frame)
       → BeginsAgain c frame below noted answer after
       → LoadNextStep n c frame below role noted page answer after
   sees_normal : (lost next : ℕ)
-      → MayOpen role noted c.opened
+      → MayContinue role noted c.opened
       → lost + n ≡ noted
       → link_into n c.links (suc lost) ≡ normal_link next (suc lost)
       → answer ≡ going
       → after ≡ in_phase c frame below (marking role noted page next)
       → LoadNextStep n c frame below role noted page answer after
   sees_other : (lost : ℕ)
-      → MayOpen role noted c.opened
+      → MayContinue role noted c.opened
       → lost + n ≡ noted
       → ((next : ℕ) → link_into n c.links (suc lost) ≢ normal_link next (suc lost))
       → answer ≡ going
@@ -144,7 +144,7 @@ pub data MarkHeadStep (n : ℕ) (c : Core) (frame : Frame) (below : List Frame)
       → BeginsAgain c frame below noted answer after
       → MarkHeadStep n c frame below role noted page next answer after
   marks : (lost : ℕ)
-      → MayOpen role noted c.opened
+      → MayContinue role noted c.opened
       → lost + n ≡ noted
       → link_into n c.links (suc lost) ≡ normal_link next (suc lost)
       → answer ≡ going
@@ -152,7 +152,7 @@ pub data MarkHeadStep (n : ℕ) (c : Core) (frame : Frame) (below : List Frame)
       ≡ in_phase (with_link n c (suc lost) (header_link next (suc lost))) frame below (after_next role noted page)
       → MarkHeadStep n c frame below role noted page next answer after
   mark_fails : (lost : ℕ)
-      → MayOpen role noted c.opened
+      → MayContinue role noted c.opened
       → lost + n ≡ noted
       → link_into n c.links (suc lost) ≢ normal_link next (suc lost)
       → answer ≡ going
@@ -257,19 +257,19 @@ pub data LoadHeadStep (n : ℕ) (c : Core) (answer : Answer) (after : Core) : Ty
   loads_update : (page lost : ℕ)
       → link_into n c.links c.reader.hint ≡ update_link page lost
       → answer ≡ moving (suc lost)
-      → after ≡ reader_at c loading_link (suc lost)
+      → after ≡ reader_at c loading_head (suc lost)
       → LoadHeadStep n c answer after
   loads_owed : (page : ℕ)
       → link_into n c.links c.reader.hint ≡ normal_link page c.reader.hint
       → answer ≡ moving c.reader.hint
-      → after ≡ reader_at c loading_link c.reader.hint
+      → after ≡ reader_at c loading_head c.reader.hint
       → LoadHeadStep n c answer after
   loads_passed : (page fill least : ℕ)
       → link_into n c.links c.reader.hint ≡ normal_link page fill
       → c.reader.hint < fill
       → least + n ≡ suc fill
       → answer ≡ reading
-      → after ≡ reader_at c loading_link least
+      → after ≡ reader_at c loading_head least
       → LoadHeadStep n c answer after
 
 -- A load of the number of closed fills.
@@ -277,12 +277,12 @@ pub data LoadDoneStep (c : Core) (page fill : ℕ) (answer : Answer) (after : Co
   finds_none :
       c.done ≤ fill
       → answer ≡ empty c.done
-      → after ≡ reader_saw c loading_link
+      → after ≡ reader_saw c loading_head
       → LoadDoneStep c page fill answer after
   finds_closed :
       fill < c.done
       → answer ≡ reading
-      → after ≡ reader_saw c (storing_link page fill)
+      → after ≡ reader_saw c (storing_spare_link page fill)
       → LoadDoneStep c page fill answer after
 
 -- A store of the spare's link.
@@ -295,20 +295,20 @@ pub record StoreSpareLinkStep (n : ℕ) (c : Core) (page fill : ℕ) (answer : A
 pub data SwapHeadStep (n : ℕ) (c : Core) (page fill : ℕ) (answer : Answer) (after : Core) : Type 0 where
   swaps :
       link_into n c.links fill ≡ header_link page fill
-      → answer ≡ swapped (taken_fill c page fill)
+      → answer ≡ page_taken (taken_fill c page fill)
       → after ≡ after_swap n c page fill
       → SwapHeadStep n c page fill answer after
   swap_fails :
       link_into n c.links fill ≢ header_link page fill
       → answer ≡ reading
-      → after ≡ reader_at c loading_link (suc fill)
+      → after ≡ reader_at c loading_head (suc fill)
       → SwapHeadStep n c page fill answer after
 
 -- the step of the reader, in its phase
 abbrev pub ReadStep : ℕ → Core → ReaderPhase → Answer → Core → Type 0
-ReadStep n c loading_link answer after = LoadHeadStep n c answer after
+ReadStep n c loading_head answer after = LoadHeadStep n c answer after
 ReadStep n c (loading_done page fill) answer after = LoadDoneStep c page fill answer after
-ReadStep n c (storing_link page fill) answer after = StoreSpareLinkStep n c page fill answer after
+ReadStep n c (storing_spare_link page fill) answer after = StoreSpareLinkStep n c page fill answer after
 ReadStep n c (swapping page fill) answer after = SwapHeadStep n c page fill answer after
 
 -- ---- the whole

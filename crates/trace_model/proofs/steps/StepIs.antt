@@ -7,12 +7,12 @@ use Rattle.trace_model.specs.History.{Reservation, wished, reserved_records}
 use Rattle.trace_model.specs.Packing.{fill_len, FitsBehind, tail_of}
 use Rattle.trace_model.specs.Links.{Link, normal_link, header_link, update_link, same_link}
 use Rattle.trace_model.specs.Frames.{Kind, for_record, for_close, FrameState, waiting, reserved, left, number_of, Role, owner, helper, Phase, idle, looking, claiming, looking_next, marking, clearing, opening, releasing, wishing, Frame, Refusal}
-use Rattle.trace_model.specs.Ring.{ReaderPhase, loading_link, loading_done, storing_link, swapping, Core, link_into}
+use Rattle.trace_model.specs.Ring.{ReaderPhase, loading_head, loading_done, storing_spare_link, swapping, Core, link_into}
 use Rattle.trace_model.specs.Events.{Event, Answer, refused, Outcome, only_if}
 use Rattle.trace_model.specs.WriterSteps.{with_history_event, in_phase, with_link, new_reservation, with_reservation, in_reserved, with_released, tail_holds, unless_begun, is_full, is_too_long, push_record, fits_in_tail, needs_page, reserve, sees_link, load_link, open_fill, idle_step, end_frame, end_top, release_fill, is_granted, load_wish}
 use Rattle.trace_model.specs.HeadMove.{with_head_claimed, after_next, claim_head, unless_passed, load_next, mark_head, clear_update}
 use Rattle.trace_model.specs.ReaderSteps.{reader_at, reads_link, load_head}
-use Rattle.trace_model.specs.StepConditions.{MayOpen, NeedsPage, IsGranted, IsTooLong}
+use Rattle.trace_model.specs.StepConditions.{MayContinue, NeedsPage, IsGranted, IsTooLong}
 use Rattle.trace_model.specs.Steps.{frame_step_of, top_step_of, read_step_of, step_of, Step}
 use Rattle.trace_model.proofs.steps.StepCases.{BeginsAgain, ReserveStep, reserves, finds_nothing, is_crowded, is_worn, notes, LoadLinkStep, load_link_late, sees_free, sees_header, sees_update, ClaimHeadStep, claim_late, claims, claim_fails, LoadNextStep, load_next_late, sees_normal, sees_other, MarkHeadStep, mark_late, marks, mark_fails, ClearUpdateStep, clears, OpenFillStep, open_late, opens, ReleaseFillStep, releases, releases_last, LoadWishStep, grants, closes_more, goes_away, IdleStep, FrameStep, LoadHeadStep, loads_header, loads_update, loads_owed, loads_passed, LoadDoneStep, finds_none, finds_closed, SwapHeadStep, swaps, swap_fails, ReadStep, PushRefused, all_stand, has_no_room, comes_late, StepCases, push_step, push_refused, close_step, close_refused, frame_step, frame_lacks, end_step, end_lacks, end_early, read_step, store_wish_step}
 use Rattle.trace_model.proofs.steps.StepSound.{same_link_true, same_link_from, holds_some, granted_true, granted_from, too_long_true}
@@ -74,7 +74,7 @@ module _ (n size : ℕ) (c : Core) (frame : Frame) (below : List Frame) (answer 
   passed_is : (role : Role) (noted : ℕ) (o : Outcome) → role ≡ helper → BeginsAgain c frame below noted answer after → Is (unless_passed role noted c frame below o) answer after
   passed_is role noted o helps step = ap (λ (r : Role). unless_passed r noted c frame below o) helps ∙ late_is noted o step
 
-  on_is : (role : Role) (noted : ℕ) (o : Outcome) → MayOpen role noted c.opened → unless_passed role noted c frame below o ≡ o
+  on_is : (role : Role) (noted : ℕ) (o : Outcome) → MayContinue role noted c.opened → unless_passed role noted c frame below o ≡ o
   on_is owner noted o on = refl
   on_is helper noted o on = now_is noted o on
 
@@ -212,7 +212,7 @@ module _ (n : ℕ) (c : Core) (answer : Answer) (after : Core) where
   load_head_is (loads_passed page fill least at more sum a is) =
       read_is_at (normal_link page fill) at ∙ if_no (fill == c.reader.hint) _ _ (ne_eqb fill c.reader.hint (λ e. omega arith))
       ∙ only (nat_lt c.reader.hint fill && nat_le n (suc fill)) _ (and_from (nat_lt c.reader.hint fill) (nat_le n (suc fill)) (lt-ltb c.reader.hint fill more) (le-leb n (suc fill) (omega arith)))
-      ∙ here _ answer _ after a (is ∙ ap (λ (f : ℕ). reader_at c loading_link f) (let e : least ≡ suc fill - n = omega arith in e))
+      ∙ here _ answer _ after a (is ∙ ap (λ (f : ℕ). reader_at c loading_head f) (let e : least ≡ suc fill - n = omega arith in e))
 
   load_done_is : (page fill : ℕ) → LoadDoneStep c page fill answer after → Is (read_step_of n c (loading_done page fill)) answer after
   load_done_is page fill (finds_none le a is) = if_yes (nat_le c.done fill) _ _ (le-leb c.done fill le) ∙ here _ answer _ after a is
@@ -225,9 +225,9 @@ module _ (n : ℕ) (c : Core) (answer : Answer) (after : Core) where
       if_no (same_link l (header_link page fill)) _ _ (same_no l (header_link page fill) at) ∙ here _ answer _ after a is
 
   read_is : (phase : ReaderPhase) → ReadStep n c phase answer after → Is (read_step_of n c phase) answer after
-  read_is loading_link step = load_head_is step
+  read_is loading_head step = load_head_is step
   read_is (loading_done page fill) step = load_done_is page fill step
-  read_is (storing_link page fill) step = here _ answer _ after step.answer_is step.after_is
+  read_is (storing_spare_link page fill) step = here _ answer _ after step.answer_is step.after_is
   read_is (swapping page fill) step = swap_head_is page fill step
 
 -- ---- the whole

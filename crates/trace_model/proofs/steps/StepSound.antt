@@ -7,12 +7,12 @@ use Rattle.trace_model.specs.History.{Reservation}
 use Rattle.trace_model.specs.Packing.{fill_len, tail_of}
 use Rattle.trace_model.specs.Links.{Mark, normal, header, update, Link, normal_link, header_link, update_link, mark_code, same_link}
 use Rattle.trace_model.specs.Frames.{Kind, for_record, for_close, FrameState, waiting, reserved, left, number_of, Role, owner, helper, Phase, idle, looking, claiming, looking_next, marking, clearing, opening, releasing, wishing, Frame, too_deep, too_long, late_moment}
-use Rattle.trace_model.specs.Ring.{ReaderPhase, loading_link, loading_done, storing_link, swapping, Core, link_into}
+use Rattle.trace_model.specs.Ring.{ReaderPhase, loading_head, loading_done, storing_spare_link, swapping, Core, link_into}
 use Rattle.trace_model.specs.Events.{Event, pushes, pushes_close, steps, ends, reads, wishes, Answer, Outcome, only_if}
 use Rattle.trace_model.specs.WriterSteps.{new_reservation, tail_holds, unless_begun, is_full, is_too_long, push_record, push_close_frame, fits_in_tail, needs_page, reserve, sees_link, load_link, open_fill, idle_step, end_frame, end_top, release_fill, is_granted, load_wish}
 use Rattle.trace_model.specs.HeadMove.{claim_head, unless_passed, load_next, mark_head, clear_update}
 use Rattle.trace_model.specs.ReaderSteps.{reads_link}
-use Rattle.trace_model.specs.StepConditions.{MayOpen, NeedsPage, IsGranted, IsTooLong}
+use Rattle.trace_model.specs.StepConditions.{MayContinue, NeedsPage, IsGranted, IsTooLong}
 use Rattle.trace_model.specs.Steps.{frame_step_of, top_step_of, read_step_of, step_of, Step}
 use Rattle.trace_model.proofs.words.LinkWords.{mark_of}
 use Rattle.trace_model.proofs.steps.StepCases.{BeginsAgain, ReserveStep, reserves, finds_nothing, is_crowded, is_worn, notes, LoadLinkStep, load_link_late, sees_free, sees_header, sees_update, ClaimHeadStep, claim_late, claims, claim_fails, LoadNextStep, load_next_late, sees_normal, sees_other, MarkHeadStep, mark_late, marks, mark_fails, ClearUpdateStep, clears, OpenFillStep, open_late, opens, ReleaseFillStep, releases, releases_last, LoadWishStep, grants, closes_more, goes_away, IdleStep, FrameStep, LoadHeadStep, loads_header, loads_update, loads_owed, loads_passed, LoadDoneStep, finds_none, finds_closed, SwapHeadStep, swaps, swap_fails, ReadStep, all_stand, has_no_room, comes_late, StepCases, push_step, push_refused, close_step, close_refused, frame_step, frame_lacks, end_step, end_lacks, end_early, read_step, store_wish_step}
@@ -95,7 +95,7 @@ module _ (n size : ℕ) (c : Core) (frame : Frame) (below : List Frame) where
   begun_sound P noted o now late = by_if P (noted == c.opened) _ _ (λ e. now (eqb-true noted c.opened e))
       (λ e. late _ _ record { passed = eqb-false noted c.opened e; answer_is = refl; after_is = refl })
 
-  passed_sound : (P : Answer → Core → Type 0) (role : Role) (noted : ℕ) (o : Outcome) → (MayOpen role noted c.opened → Sound P o)
+  passed_sound : (P : Answer → Core → Type 0) (role : Role) (noted : ℕ) (o : Outcome) → (MayContinue role noted c.opened → Sound P o)
       → (role ≡ helper → (answer : Answer) (after : Core) → BeginsAgain c frame below noted answer after → P answer after)
       → Sound P (unless_passed role noted c frame below o)
   passed_sound P owner noted o on late = on tt
@@ -228,11 +228,11 @@ reads_link_sound n c normal page fill at = by_if (LoadHeadStep n c) (fill == c.r
     loads_passed page fill (suc fill - n) at (ltb-true c.reader.hint fill more) (omega arith) refl refl))
 
 pub read_sound : (n : ℕ) (c : Core) (phase : ReaderPhase) → Sound (ReadStep n c phase) (read_step_of n c phase)
-read_sound n c loading_link = let l = link_into n c.links c.reader.hint in reads_link_sound n c l.mark l.page l.fill refl
+read_sound n c loading_head = let l = link_into n c.links c.reader.hint in reads_link_sound n c l.mark l.page l.fill refl
 read_sound n c (loading_done page fill) = by_if (LoadDoneStep c page fill) (nat_le c.done fill) _ _
     (λ e. finds_none (leb-true c.done fill e) refl refl)
     (λ e. finds_closed (leb-false c.done fill e) refl refl)
-read_sound n c (storing_link page fill) = record { answer_is = refl; after_is = refl }
+read_sound n c (storing_spare_link page fill) = record { answer_is = refl; after_is = refl }
 read_sound n c (swapping page fill) = by_if (SwapHeadStep n c page fill) (same_link (link_into n c.links fill) (header_link page fill)) _ _
     (λ e. swaps (same_link_true (link_into n c.links fill) (header_link page fill) e) refl refl)
     (λ e. swap_fails (same_link_false (link_into n c.links fill) (header_link page fill) e) refl refl)

@@ -1,7 +1,7 @@
 //! Laws over page images.
 ghost use Rattle.std.specs.Prelude.{◌≡◌, ℕ, ◌+◌, ◌^◌, ◌<◌, ◌≤◌, ◌⊎◌, List, length};
 ghost use Rattle.trace_model.specs.FirstFault.{AreBytes};
-ghost use Rattle.trace_model.specs.Image.{Missed, DecodesImageWithin, DecodesImage, ImageCause, FirstImageFault, image_of, missed_told};
+ghost use Rattle.trace_model.specs.Image.{Missed, DecodesImageWithin, DecodesImage, ImageCause, FirstImageFault, image_of, missed_reported};
 ghost use Rattle.trace_model.specs.declared.limits.TheConstants.{MAX_IMAGE};
 ghost use Rattle.trace_model.specs.Record.{Record};
 ghost use Rattle.trace_model.specs.Words.{Decodes};
@@ -56,5 +56,5 @@ pub fn image_reads_back()
         → time < 2 ^ 64 → missed < 2 ^ 64 → length contents ≤ size → 16 + size ≤ MAX_IMAGE
         → Decodes contents time records
         → DecodesImage (image_of time contents missed size) time (length contents)
-        (missed_told contents missed size) records }
+        (missed_reported contents missed size) records }
 {}

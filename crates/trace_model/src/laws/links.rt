@@ -1,10 +1,10 @@
 //! Laws over the words of links.
-ghost use Rattle.trace_model.specs.Links.{ThreeIsNoMark, WordHasItsBits, WordTellsLink};
+ghost use Rattle.trace_model.specs.Links.{ThreeIsNoMark, WordHasItsBits, WordReportsLink};
 
 /// The word of a link that fits one determines the link: no other has it. It has 64 bits, and its lowest two are
 /// never both set.
-pub fn words_tell_links()
-    ensures one { WordTellsLink }
+pub fn words_report_links()
+    ensures one { WordReportsLink }
     ensures bits { WordHasItsBits }
     ensures marks { ThreeIsNoMark }
 {}

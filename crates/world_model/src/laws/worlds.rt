@@ -6,12 +6,12 @@ ghost use Rattle.trace_model.specs.Ring.{Core, IsStart};
 ghost use Rattle.trace_model.specs.Steps.{Exchange};
 ghost use Rattle.trace_model.specs.Parcel.{Parcel};
 ghost use Rattle.trace_model.specs.Collection.{Agree, IsSame, IsLeastUpperBound};
-ghost use Rattle.link_marks.specs.ToldRuns.{IsToldBy};
+ghost use Rattle.link_marks.specs.RunsAsEvents.{AreEventsOfRun};
 ghost use Rattle.text_model.specs.Script.{Script, Command, deliver};
 ghost use Rattle.text_model.specs.ScriptLimits.{IsWithinLimits};
 ghost use Rattle.world_model.specs.World.{World, Obeys, WorldBehind, WorldOf};
 ghost use Rattle.world_model.specs.WorldMade.{IsWorldOf};
-ghost use Rattle.world_model.specs.RunEvents.{AreEventsOf, IsRunToldBy};
+ghost use Rattle.world_model.specs.RunEvents.{AreEventsOf, AreEventsOfSteps};
 ghost use Rattle.world_model.specs.Headline.{IsGenuineWorld};
 
 /// A script has one world at most, after any of its lines and after all of them; and a line that is obeyed leads
@@ -36,8 +36,8 @@ pub fn worlds_are_made()
 /// takes. And in each step, a fill that the head passed without being taken was closed, and a whole round of fills is
 /// begun from it on: none is lost early.
 pub fn runs_have_events()
-    ensures told { (n size start : ℕ) (from c : Core) (exchanges : List Exchange) (events : List RingEvent) →
-        IsStart n start from → IsRunToldBy n size from exchanges events c → IsToldBy n start c events }
+    ensures reported { (n size start : ℕ) (from c : Core) (exchanges : List Exchange) (events : List RingEvent) →
+        IsStart n start from → AreEventsOfSteps n size from exchanges events c → AreEventsOfRun n start c events }
     ensures full { (n : ℕ) (before after : Core) (events : List RingEvent) → AreEventsOf n before events after →
         after.reader.taken ≡ before.reader.taken → before.head < after.head →
         (before.head < after.done) × (before.head + n ≤ after.opened) }

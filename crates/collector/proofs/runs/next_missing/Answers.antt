@@ -9,6 +9,6 @@ loop-at-preserved c = record {
   passed = λ m from below missing. ⊎_elim
       (λ (before : m < c.loop-at.at). c.loop-at.invariant.passed m from before missing)
       (λ at. shown_not_missing c.args.collector.now c.args.cpu.0 m c.stretch-stretch.result.content c.stretch-stretch.ensures.agree
-      (c.if-tells_missing.ensures.no refl) (c.stretch-stretch.ensures.shown m at below) missing)
+      (c.if-reports_missing.ensures.no refl) (c.stretch-stretch.ensures.shown m at below) missing)
       (cases_lt m c.loop-at.at);
 }

@@ -14,7 +14,7 @@ loop-i-init c = record {
 
 pub loop-i-preserved : goal.loop-i-preserved
 loop-i-preserved c =
-    let put = c.in_ok-span.ensures.told in
+    let put = c.in_ok-span.ensures.reported in
     record {
       put = put_more (List Parcel) Shown IsPrintOf (λ pair. printed_collector pair.0 pair.1) c.args.collectors.now c.loop-i.i
           c.index-collectors-i.result c.args.out.now.items c.loop-i.out.items c.put_whole.new.out.items put.0

@@ -2,7 +2,7 @@ use Rattle.std.proofs.Common.{◌≡◌, ℕ, List, ◌++◌, Bor, IfSome, Optio
 use Rattle.trace_model.specs.Parcel.{Parcel}
 use Rattle.collector_text.specs.Prints.{StandsBetween}
 use Rattle.text_values.proofs.Behind.{behind_behind}
-use Rattle.collector_text.proofs.Shown.{stands_kept, stands_last, told_whole}
+use Rattle.collector_text.proofs.Shown.{stands_kept, stands_last, reported_whole}
 use Rattle.collector_text.proofs.collectors.put_whole.Goals as goal
 
 -- what is there of the collector before stays there
@@ -17,8 +17,8 @@ put_below-requires c =
     kept c.args.before c.args.out.now.items _ c.put_head.new.out.items c.args.span.start c.args.span.end
     c.in_ok-put_head.ensures.text c.requires
 
-pub returns-clause-told : goal.returns-clause-told
-returns-clause-told c = told_whole c.args.collector.now c.args.number c.args.out.now.items c.put_head.new.out.items
+pub returns-clause-reported : goal.returns-clause-reported
+returns-clause-reported c = reported_whole c.args.collector.now c.args.number c.args.out.now.items c.put_head.new.out.items
     c.put_below.new.out.items c.in_ok-put_head.ensures.text c.in_ok-put_below.ensures.text
 
 pub returns-clause-below : goal.returns-clause-below

@@ -11,8 +11,8 @@ use Rattle.command_io.proofs.input.read_all.Goals as goal
 -- what was read before and the chunk that went past the limit
 pub returns-in_err-add_chunk-in-Ok-clause-too_long : goal.returns-in_err-add_chunk-in-Ok-clause-too_long
 returns-in_err-add_chunk-in-Ok-clause-too_long g c = λ refused.
-    let told : c.add_chunk.result ≡ Err TooLong = grind (arith, common_steps) in
-    let over = c.add_chunk.ensures.too_long.0 told in
+    let reported : c.add_chunk.result ≡ Err TooLong = grind (arith, common_steps) in
+    let over = c.add_chunk.ensures.too_long.0 reported in
     let same : take c.in-Ok.count c.deref.result.now ≡ take c.in-Ok.count c.read.new.buf = grind (arith, common_steps) in
     let len = c.loop-text.text.ok.0 in
     record {
@@ -27,7 +27,7 @@ returns-in_err-add_chunk-in-Ok-clause-too_long g c = λ refused.
 -- what was read before and the chunk for which there was no room
 pub returns-in_err-add_chunk-in-Ok-clause-no_memory : goal.returns-in_err-add_chunk-in-Ok-clause-no_memory
 returns-in_err-add_chunk-in-Ok-clause-no_memory g c = λ refused.
-    let told : c.add_chunk.result ≡ Err NoMemory = grind (arith, common_steps) in
+    let reported : c.add_chunk.result ≡ Err NoMemory = grind (arith, common_steps) in
     let len = c.loop-text.text.ok.0 in
     let within : vec_len c.loop-text.text + length (take c.in-Ok.count c.deref.result.now) ≤ MAX_INPUT = ⊎_elim
     (λ over. absurd (let long : c.add_chunk.result ≡ Err TooLong = c.add_chunk.ensures.too_long.1 over in cc))

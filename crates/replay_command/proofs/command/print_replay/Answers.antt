@@ -1,4 +1,4 @@
-use Rattle.replay_command.proofs.Told.{printing}
+use Rattle.replay_command.proofs.Printed.{printing}
 use Rattle.replay_command.proofs.command.print_replay.Goals as goal
 
 pub returns : goal.returns

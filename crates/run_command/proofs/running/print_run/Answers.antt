@@ -10,7 +10,7 @@ returns-in_ok-print_ran-in-Some g c =
         ran = c.in-Some.ran;
         of_script = rw c.in-Some.is at c.in_ok-found.ensures;
         shown = text.0;
-        told = text.1;
+        reported = text.1;
         printed = text.2;
       },
       refl,

@@ -15,7 +15,7 @@ loop-i-init c = record {
 
 pub loop-i-preserved : goal.loop-i-preserved
 loop-i-preserved c =
-    let put = c.in_ok-span.ensures.told in
+    let put = c.in_ok-span.ensures.reported in
     record {
       put = put_more (List Parcel) AuditedShown (IsAuditedPrintOf (taken_in c.args.ledgers.now))
           (λ pair. printed_audited pair.0 pair.1) c.args.collectors.now c.loop-i.i c.index-collectors-i.result

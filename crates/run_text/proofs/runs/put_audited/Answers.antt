@@ -5,18 +5,18 @@ use Rattle.run_text.specs.Printing.{printed_audit}
 use Rattle.run_text.proofs.runs.put_audited.Goals as goal
 
 pub returns-in_err-put_audit-clause-behind : goal.returns-in_err-put_audit-clause-behind
-returns-in_err-put_audit-clause-behind c = (_, c.in_err-put_audit.ensures.kept ∙ c.in_ok-own.ensures.told.2)
+returns-in_err-put_audit-clause-behind c = (_, c.in_err-put_audit.ensures.kept ∙ c.in_ok-own.ensures.reported.2)
 
 pub returns : goal.returns
 returns c =
-    let told = c.in_ok-own.ensures.told in
+    let reported = c.in_ok-own.ensures.reported in
     let more = c.in_ok-put_audit.ensures.text
-    ∙ ap (λ (t : List ℕ). t ++ printed_audit (verdict_of c.answer_of-answer.result)) told.2
+    ∙ ap (λ (t : List ℕ). t ++ printed_audit (verdict_of c.answer_of-answer.result)) reported.2
     ∙ append_assoc c.args.out.now.items _ (printed_audit (verdict_of c.answer_of-answer.result)) in
     record {
-      told = (
-        record { collector = told.0; verdict = verdict_of c.answer_of-answer.result },
-        record { tells = told.1; verdict = c.answer_of-answer.ensures },
+      reported = (
+        record { collector = reported.0; verdict = verdict_of c.answer_of-answer.result },
+        record { reports = reported.1; verdict = c.answer_of-answer.ensures },
         more,
       );
       below = stands_kept c.args.collector.now c.put_collector.new.out.items

@@ -2,12 +2,12 @@ use Rattle.std.proofs.Common.{ℕ, ◌≤◌, List, length, ap, ◌∙◌, subst
 use Rattle.std.proofs.lemmas.List.{take_all}
 use Rattle.text_model.specs.Script.{Command}
 use Rattle.trace_script.specs.ScriptTypes.{shown_line}
-use Rattle.script_replay.specs.Replay.{IsAmid}
-use Rattle.script_replay.proofs.LinesObeyed.{first_amid, may_obey, one_more}
+use Rattle.script_replay.specs.Replay.{IsStateAfter}
+use Rattle.script_replay.proofs.LinesObeyed.{first_part_way, may_obey, one_more}
 use Rattle.script_replay.proofs.replaying.obey_all.Goals as goal
 
 pub loop-index-init : goal.loop-index-init
-loop-index-init c = first_amid c.args.script.now (record { lanes = c.new.result; collectors = c.in_ok-new_collectors.field-0; log = c.new-2.result })
+loop-index-init c = first_part_way c.args.script.now (record { lanes = c.new.result; collectors = c.in_ok-new_collectors.field-0; log = c.new-2.result })
     c.commands-commands.ensures.limits c.new.ensures.items (c.in_ok-new_collectors.ensures.count ∙ c.collectors.ensures.collectors) c.in_ok-new_collectors.ensures.new c.new-2.ensures.items
 
 pub obey-requires : goal.obey-requires
@@ -18,8 +18,8 @@ pub loop-index-preserved : goal.loop-index-preserved
 loop-index-preserved c = one_more c.args.script.now c.commands-commands.result.now c.loop-index.index (shown_line c.line.result) c.loop-index.state c.obey.new.state
     c.line.ensures c.commands-commands.ensures.commands c.loop-index.invariant c.in_ok-obey.ensures
 
-pub returns-clause-amid : goal.returns-clause-amid
-returns-clause-amid c =
+pub returns-clause-part_way : goal.returns-clause-part_way
+returns-clause-part_way c =
     let lines = c.args.script.now.commands in
     let past : length lines ≤ c.loop-index.index = omega (arith, c.loop-index-test.false, c.len-index-end.ensures, ap length c.commands-commands.ensures.commands) in
-    subst (λ (l : List (ℕ × Command)). IsAmid c.args.script.now l c.loop-index.state) (take_all c.loop-index.index lines past) c.loop-index.invariant
+    subst (λ (l : List (ℕ × Command)). IsStateAfter c.args.script.now l c.loop-index.state) (take_all c.loop-index.index lines past) c.loop-index.invariant

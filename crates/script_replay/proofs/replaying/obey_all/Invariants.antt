@@ -1,6 +1,6 @@
 use Rattle.std.proofs.Common.{take}
-use Rattle.script_replay.specs.Replay.{IsAmid}
+use Rattle.script_replay.specs.Replay.{IsStateAfter}
 use Rattle.script_replay.proofs.replaying.obey_all.Given as goal
 
 abbrev pub invariant-loop-index : goal.invariant-loop-index
-invariant-loop-index l = IsAmid l.script (take l.index l.script.commands) l.state
+invariant-loop-index l = IsStateAfter l.script (take l.index l.script.commands) l.state

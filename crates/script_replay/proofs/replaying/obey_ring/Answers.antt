@@ -19,7 +19,7 @@ run_line-requires-clause-lane c =
     let from = lent_from script c.make_lane.new.places.items cpu (lane_at c.args.state.now.lanes.items cpu) c.index_mut.result.now c.in-Some.lane
     c.in_ok-make_lane.ensures.room c.index_mut.ensures.value c.in-Some.is c.in_ok-make_lane.ensures.lane in
     subst (IsLaneOf cpu) (sym c.deref_mut.ensures.value)
-    (is_lane_of script ready.lines c.args.state.now ready.limits ready.amid cpu c.in-Some.lane.value low from)
+    (is_lane_of script ready.lines c.args.state.now ready.limits ready.part_way cpu c.in-Some.lane.value low from)
 
 pub returns : goal.returns
 returns c =

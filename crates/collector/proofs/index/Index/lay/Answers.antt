@@ -2,7 +2,7 @@ use Rattle.std.proofs.Common.{◌≡◌, ◌≢◌, ⊎_elim, length, Some, refl
 use Rattle.std.specs.List.{slice_get}
 use Rattle.std.proofs.lemmas.Bool.{cases_eq}
 use Rattle.std.proofs.lemmas.Option.{slice_get_read}
-use Rattle.collector.specs.Index.{TellSameOf}
+use Rattle.collector.specs.Index.{ReportSameOf}
 use Rattle.std.proofs.lemmas.Result.{on_ok_weaker, on_err_weaker}
 use Rattle.collector.proofs.Indexes.{here_laid, here_same, laid_behind, others_same, same_same}
 use Rattle.collector.proofs.index.Index.lay.Goals as goal
@@ -29,7 +29,7 @@ returns-clause-refused c =
     let at : slice_get xs c.args.cpu.0 ≡ Some c.index_mut.result.now = slice_get_read xs (length xs) c.args.cpu.0 c.index_mut.result.now refl c.in_ok-grow.ensures.grown c.index_mut.ensures.value in
     on_err_weaker c.lay.result
     (λ same q. same_same c.args.self.now c.grow.new.self _ q (c.grow.ensures.same q) (⊎_elim
-    (λ (e : q ≡ c.args.cpu.0). subst (TellSameOf c.grow.new.self _) (sym e) (here_same c.grow.new.self _ c.args.cpu.0 c.index_mut.result.now c.lay.new.self at c.in_ok-grow.ensures.grown refl same))
+    (λ (e : q ≡ c.args.cpu.0). subst (ReportSameOf c.grow.new.self _) (sym e) (here_same c.grow.new.self _ c.args.cpu.0 c.index_mut.result.now c.lay.new.self at c.in_ok-grow.ensures.grown refl same))
     (λ (apart : q ≢ c.args.cpu.0). others_same c.grow.new.self _ c.args.cpu.0 c.index_mut.result.now c.lay.new.self at c.in_ok-grow.ensures.grown refl q apart)
     (cases_eq q c.args.cpu.0)))
     c.lay.ensures.refused

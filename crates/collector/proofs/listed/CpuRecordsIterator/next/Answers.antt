@@ -1,5 +1,5 @@
 use Rattle.std.proofs.Common.{length, sym, ap, ◌∙◌, subst, arith}
-use Rattle.page_borrow.specs.Entries.{told}
+use Rattle.page_borrow.specs.Entries.{numbered_record}
 use Rattle.collector.proofs.RecordsLeft.{no_record_left, records_skip, IsReady, IsStep, step_taken}
 use Rattle.collector.proofs.listed.CpuRecordsIterator.next.Goals.{then-self+in-Some, else-self, After-self-3-1}
 use Rattle.collector.proofs.listed.CpuRecordsIterator.next.Goals as goal
@@ -28,10 +28,10 @@ ready c =
     ]
 
 -- and the next one is read
-step : (c : After-self-3-1) → IsStep c.if-self.self-inside.collector.now c.if-self.self-inside.cpu.0 c.args.self.now c.next.new.self c.if-self.self-inside.number c.if-self.self-inside.end (told c.in-Some-next.entry)
+step : (c : After-self-3-1) → IsStep c.if-self.self-inside.collector.now c.if-self.self-inside.cpu.0 c.args.self.now c.next.new.self c.if-self.self-inside.number c.if-self.self-inside.end (numbered_record c.in-Some-next.entry)
 step c =
     let at = c.if-self.self-inside in
-    step_taken at.collector.now at.cpu.0 c.args.self.now at.entries c.in-Some-entries.entries c.next.new.self at.number at.end (told c.in-Some-next.entry) (ready c) c.in-Some-entries.is c.in-Some-next.ensures.steps
+    step_taken at.collector.now at.cpu.0 c.args.self.now at.entries c.in-Some-entries.entries c.next.new.self at.number at.end (numbered_record c.in-Some-next.entry) (ready c) c.in-Some-entries.is c.in-Some-next.ensures.steps
 
 pub invariant_of-self-2 : goal.invariant_of-self-2
 invariant_of-self-2 c = (step c).goes

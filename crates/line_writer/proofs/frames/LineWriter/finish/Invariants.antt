@@ -1,12 +1,12 @@
 use Rattle.std.proofs.Common.{◌≡◌, ℕ, length}
 use Rattle.line_writer.specs.Distance.{distance}
-use Rattle.line_writer.specs.Runs.{IsAmid}
+use Rattle.line_writer.specs.Runs.{HasMadeCalls}
 use Rattle.line_writer.proofs.frames.LineWriter.finish.Given as goal
 
 abbrev pub invariant-loop-self : goal.invariant-loop-self
 invariant-loop-self g l = record {
   deep : length l.self.writer.part.frames ≡ l.depth;
-  amid : (count : ℕ) × IsAmid l.depth count l.fn.self l.self;
+  part_way : (count : ℕ) × HasMadeCalls l.depth count l.fn.self l.self;
 }
 
 abbrev pub decreases-loop-self : goal.decreases-loop-self

@@ -1,11 +1,11 @@
 use Rattle.std.proofs.Common.{◌≤◌, ◌-◌}
-use Rattle.line_writer.specs.Runs.{IsAmid}
+use Rattle.line_writer.specs.Runs.{HasMadeCalls}
 use Rattle.line_writer.proofs.frames.LineWriter.step.Given as goal
 
 abbrev pub invariant-loop-made : goal.invariant-loop-made
 invariant-loop-made g l = record {
   few : l.made ≤ l.count;
-  amid : IsAmid l.depth l.made l.fn.self l.self;
+  part_way : HasMadeCalls l.depth l.made l.fn.self l.self;
 }
 
 abbrev pub decreases-loop-made : goal.decreases-loop-made

@@ -3,17 +3,17 @@ use Rattle.trace_model.specs.History.{open_fill}
 use Rattle.nested_writer.specs.Stack.{Stack, opened, next_number, blank_page}
 use Rattle.nested_writer.specs.Inside.{stack_of}
 use Rattle.nested_writer.specs.Calls.{MayAddPage}
-use Rattle.nested_writer.specs.IsStack.{IsStack, Stands}
+use Rattle.nested_writer.specs.IsStack.{IsStack, IsReachedStack}
 use Rattle.nested_writer.proofs.Bounds.{stands_fits}
 use Rattle.nested_writer.proofs.Answering.{number_counts}
 use Rattle.nested_writer.proofs.Opening.{page_may_be_added}
-use Rattle.nested_writer.proofs.Staying.{acted_stays}
+use Rattle.nested_writer.proofs.Staying.{has_events_stays}
 use Rattle.nested_writer.proofs.stack.WriterStack.add_page.Goals as goal
 
 pub overflow_add-first : goal.overflow_add-first
 overflow_add-first c =
     let fills = c.self.invariant.fills in
-    let fits = stands_fits (stack_of c.self.inside) (subst Stands (sym c.self.view_is) c.requires.stack) (omega arith) in
+    let fits = stands_fits (stack_of c.self.inside) (subst IsReachedStack (sym c.self.view_is) c.requires.stack) (omega arith) in
     omega (arith, c.first_number.ensures, c.count.ensures.count)
 
 pub returns-clause-stack : goal.returns-clause-stack
@@ -32,4 +32,4 @@ pub returns-clause-numbered : goal.returns-clause-numbered
 returns-clause-numbered c = λ start history k. number_counts start history c.args.self.now k
 
 pub returns-clause-stays : goal.returns-clause-stays
-returns-clause-stays c = acted_stays c.args.self.now _ (open_fill ∷ []) (returns-clause-stack c) c.requires.stack
+returns-clause-stays c = has_events_stays c.args.self.now _ (open_fill ∷ []) (returns-clause-stack c) c.requires.stack

@@ -7,7 +7,7 @@ use Rattle.nested_writer.specs.Stack.{Stack, opened}
 use Rattle.nested_writer.specs.Inside.{frames_from}
 use Rattle.nested_writer.specs.Calls.{with_progress}
 use Rattle.nested_writer.specs.Allotted.{IsAllotted}
-use Rattle.nested_writer.specs.IsStack.{Stands}
+use Rattle.nested_writer.specs.IsStack.{IsReachedStack}
 use Rattle.nested_writer.proofs.Allotting.{waited_through, stayed_through}
 use Rattle.nested_writer.proofs.Answering.{fits_answer, close_answer, through_closes}
 use Rattle.nested_writer.proofs.Promises.{allots_place}
@@ -36,7 +36,7 @@ returns-then-wants_page c =
     }
 
 pub returns-in-Record : goal.returns-in-Record
-unfolding Stands
+unfolding IsReachedStack
 returns-in-Record c =
     let s : Stack = c.args.self.now in
     let place = c.reserve_any.result in

@@ -8,7 +8,7 @@ use Rattle.nested_writer.specs.IsStack.{IsStack}
 use Rattle.nested_writer.proofs.Leaving.{asked_at}
 use Rattle.nested_writer.proofs.Releasing.{tail_empty, tail_holds}
 use Rattle.trace_model.specs.History.{wished}
-use Rattle.nested_writer.proofs.Staying.{acted_stays}
+use Rattle.nested_writer.proofs.Staying.{has_events_stays}
 use Rattle.nested_writer.proofs.stack.WriterStack.ask_close.Goals as goal
 
 pub returns-in-Some-clause-wished : goal.returns-in-Some-clause-wished
@@ -38,4 +38,4 @@ returns-in-Some-clause-holds_record c = λ start history old.
     (λ yes. tail_holds start history s k some, λ holds. refl)
 
 pub returns-in-Some-clause-stays : goal.returns-in-Some-clause-stays
-returns-in-Some-clause-stays c = acted_stays c.args.self.now _ (wished ∷ []) (returns-in-Some-clause-wished c refl)
+returns-in-Some-clause-stays c = has_events_stays c.args.self.now _ (wished ∷ []) (returns-in-Some-clause-wished c refl)

@@ -4,10 +4,10 @@ use Rattle.page_image.specs.Contents.{Contents}
 use Rattle.nested_writer.specs.Stack.{Stack}
 use Rattle.nested_writer.specs.Inside.{stack_of}
 use Rattle.nested_writer.specs.Calls.{IsAtBottom}
-use Rattle.nested_writer.specs.IsStack.{IsStack, Stands}
+use Rattle.nested_writer.specs.IsStack.{IsStack, IsReachedStack}
 use Rattle.nested_writer.proofs.Dropping.{released}
 use Rattle.nested_writer.proofs.Releasing.{front_written, front_committed, front_some}
-use Rattle.nested_writer.proofs.Staying.{acted_stays}
+use Rattle.nested_writer.proofs.Staying.{has_events_stays}
 use Rattle.nested_writer.proofs.stack.WriterStack.drop_front.Goals as goal
 
 pub returns-clause-stack : goal.returns-clause-stack
@@ -34,12 +34,12 @@ returns-clause-holds_some c = λ start h k.
     front_some start h c.args.self.now c.in-Some.page c.pop.new.self.pages c.requires.bottom older k
 
 pub returns-clause-stays : goal.returns-clause-stays
-returns-clause-stays c = acted_stays c.args.self.now _ [] (returns-clause-stack c)
+returns-clause-stays c = has_events_stays c.args.self.now _ [] (returns-clause-stack c)
 
 pub returns-clause-page : goal.returns-clause-page
-unfolding Stands
+unfolding IsReachedStack
 returns-clause-page c = λ stands. let (start, h, k) = stands in (returns-clause-written c start h k).page_reads
 
 pub returns-clause-size : goal.returns-clause-size
-unfolding Stands
+unfolding IsReachedStack
 returns-clause-size c = λ stands. let (start, h, k) = stands in (returns-clause-written c start h k).size_is

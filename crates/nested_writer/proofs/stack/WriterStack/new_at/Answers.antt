@@ -3,7 +3,7 @@ use Rattle.std.proofs.lemmas.List.{length-replicate}
 use Rattle.page_image.specs.Contents.{IsPage}
 use Rattle.nested_writer.specs.Stack.{blank_page}
 use Rattle.nested_writer.proofs.NewStack.{new_is}
-use Rattle.nested_writer.specs.IsStack.{Stands}
+use Rattle.nested_writer.specs.IsStack.{IsReachedStack}
 use Rattle.nested_writer.proofs.stack.WriterStack.new_at.Goals as goal
 
 pub returns-clause-stack : goal.returns-clause-stack
@@ -14,5 +14,5 @@ returns-clause-stack c =
     rw (none, below, c.of.ensures, blank, c.none.ensures) (new_is c.args.pages c.args.size c.args.start c.requires.limits.large (subst IsPage blank c.fresh.ensures.page))
 
 pub returns-clause-stands : goal.returns-clause-stands
-unfolding Stands
+unfolding IsReachedStack
 returns-clause-stands c = (c.args.start, [], returns-clause-stack c)

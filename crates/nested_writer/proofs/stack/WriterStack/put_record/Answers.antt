@@ -7,19 +7,19 @@ use Rattle.page_image.specs.Contents.{Contents, is_blank}
 use Rattle.nested_writer.specs.Stack.{Stack}
 use Rattle.nested_writer.specs.AtOnce.{FitsAtOnce}
 use Rattle.nested_writer.specs.Inside.{stack_of}
-use Rattle.nested_writer.specs.IsStack.{IsStack, Stands}
+use Rattle.nested_writer.specs.IsStack.{IsStack, IsReachedStack}
 use Rattle.nested_writer.proofs.Bounds.{stands_ends_at}
 use Rattle.nested_writer.proofs.AtOnce.{IsPutWith, written_at_once, fits_page}
 use Rattle.nested_writer.proofs.stack.WriterStack.put_record.Goals as goal
 
 pub put_payload-requires : goal.put_payload-requires
-unfolding Stands
+unfolding IsReachedStack
 put_payload-requires c =
     let (start, history, k) = c.requires.stack in record {
       room = search rules;
       order = search rules;
       in_time = search rules;
-      last = stands_ends_at (stack_of c.self.inside) (subst Stands (sym c.self.view_is) c.requires.stack);
+      last = stands_ends_at (stack_of c.self.inside) (subst IsReachedStack (sym c.self.view_is) c.requires.stack);
       ends = search rules;
     }
 
@@ -44,5 +44,5 @@ returns-clause-stack c = λ start history old.
     subst (λ (m : ℕ). IsStack start (history ++ events) (record s { tail = tail'; last_moment = m })) (sym raised) done
 
 pub returns-clause-stays : goal.returns-clause-stays
-unfolding Stands
+unfolding IsReachedStack
 returns-clause-stays c = let (start, history, k) = c.requires.stack in (start, _, returns-clause-stack c start history k)

@@ -9,7 +9,7 @@ use Rattle.nested_writer.specs.declared.frame.Progress.TheVariants.{Reserved}
 use Rattle.nested_writer.specs.Stack.{Stack, tail_fill}
 use Rattle.nested_writer.specs.Inside.{stack_of, frames_from}
 use Rattle.nested_writer.specs.Calls.{HasRecordRoom}
-use Rattle.nested_writer.specs.IsStack.{IsStack, Stands}
+use Rattle.nested_writer.specs.IsStack.{IsStack, IsReachedStack}
 use Rattle.nested_writer.proofs.Tops.{top_is}
 use Rattle.nested_writer.proofs.Bounds.{stands_ends_at, stands_fits}
 use Rattle.nested_writer.proofs.Reserving.{reserved_with}
@@ -18,17 +18,17 @@ use Rattle.nested_writer.proofs.stack.WriterStack.reserve_any.Goals as goal
 pub overflow_add-number : goal.overflow_add-number
 overflow_add-number c =
     let fills = c.self.invariant.fills in
-    let fits = stands_fits (stack_of c.self.inside) (subst Stands (sym c.self.view_is) c.requires.stack) (omega arith) in
+    let fits = stands_fits (stack_of c.self.inside) (subst IsReachedStack (sym c.self.view_is) c.requires.stack) (omega arith) in
     omega (arith, c.first_number.ensures, c.count.ensures.count)
 
 pub put-place-requires : goal.put-place-requires
-unfolding Stands
+unfolding IsReachedStack
 put-place-requires c =
     let (start, history, k) = c.requires.stack in record {
       room = search rules;
       order = search rules;
       in_time = search rules;
-      last = stands_ends_at (stack_of c.self.inside) (subst Stands (sym c.self.view_is) c.requires.stack);
+      last = stands_ends_at (stack_of c.self.inside) (subst IsReachedStack (sym c.self.view_is) c.requires.stack);
       ends = search rules;
     }
 

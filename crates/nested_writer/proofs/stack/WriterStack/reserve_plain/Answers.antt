@@ -2,7 +2,7 @@ use Rattle.std.proofs.Common.{◌∷◌, [], ◌++◌, refl}
 use Rattle.trace_model.specs.History.{reserve}
 use Rattle.nested_writer.proofs.Allotting.{plain_after}
 use Rattle.nested_writer.proofs.Answering.{plain_answer}
-use Rattle.nested_writer.specs.IsStack.{Stands}
+use Rattle.nested_writer.specs.IsStack.{IsReachedStack}
 use Rattle.nested_writer.proofs.stack.WriterStack.reserve_plain.Goals as goal
 
 pub returns-clause-slot : goal.returns-clause-slot
@@ -15,7 +15,7 @@ returns-clause-after c = (
 )
 
 pub returns-clause-stays : goal.returns-clause-stays
-unfolding Stands
+unfolding IsReachedStack
 returns-clause-stays c = let (start, history, k) = c.requires.stack in (start, history ++ reserve ∷ [], c.hold_plain.ensures.stack start history k)
 
 pub returns-clause-answered : goal.returns-clause-answered

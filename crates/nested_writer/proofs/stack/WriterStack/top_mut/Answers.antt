@@ -6,27 +6,27 @@ use Rattle.nested_writer.specs.Inside.{stack_of}
 use Rattle.nested_writer.specs.Calls.{IsTopSlot, top_slot}
 use Rattle.nested_writer.specs.Lent.{Lent}
 use Rattle.nested_writer.specs.Lending.{IsLent}
-use Rattle.nested_writer.specs.IsStack.{Stands}
+use Rattle.nested_writer.specs.IsStack.{IsReachedStack}
 use Rattle.nested_writer.proofs.Lent.{same_ends, top_in_tail, top_in_older, some_frame, has_slot, slot_place, slot_at, tail_stays, older_stays, older_long, older_none, tail_within, tail_lent, other_page, older_within, older_lent, slot_fits, slot_word, lent_there, lent_written, lent_stays}
 use Rattle.nested_writer.proofs.stack.WriterStack.top_mut.Goals as goal
 
 pub lend-requires : goal.lend-requires
-unfolding Stands
+unfolding IsReachedStack
 lend-requires c =
     let s : Stack = stack_of c.self.inside in
     let slot : Slot = c.in_ok-slot.slot in
     let is : IsTopSlot s.frames slot = c.in_ok-slot.ensures.slot in
-    let (start, h, k) = subst Stands (sym c.self.view_is) c.requires.stack in
+    let (start, h, k) = subst IsReachedStack (sym c.self.view_is) c.requires.stack in
     record { within = tail_within start h s slot is k (c.if-slot-fill_number.true ∙ c.fill_number.ensures) }
 
 pub returns-then-slot-fill_number : goal.returns-then-slot-fill_number
-unfolding Stands
+unfolding IsReachedStack
 returns-then-slot-fill_number c =
     let s : Stack = stack_of c.self.inside in
     let slot : Slot = c.in_ok-slot.slot in
     let is : IsTopSlot s.frames slot = c.in_ok-slot.ensures.slot in
     let same : slot.fill ≡ s.tail.fill = c.if-slot-fill_number.true ∙ c.fill_number.ensures in
-    let stands : Stands s = subst Stands (sym c.self.view_is) c.requires.stack in
+    let stands : IsReachedStack s = subst IsReachedStack (sym c.self.view_is) c.requires.stack in
     let payload : Lent = c.lend.new.self in
     let lent : IsLent s payload = subst (IsLent s) (sym c.lend.ensures) (tail_lent stands.0 stands.1 s slot is stands.2 same) in
     let place : payload.place ≡ slot.place = ap (λ (p : Lent). p.place) c.lend.ensures in
@@ -54,31 +54,31 @@ returns-then-slot-fill_number c =
     )
 
 pub lend-payload-requires-clause-inside : goal.lend-payload-requires-clause-inside
-unfolding Stands
+unfolding IsReachedStack
 lend-payload-requires-clause-inside c =
     let s : Stack = stack_of c.self.inside in
     let slot : Slot = c.in_ok-slot.slot in
     let is : IsTopSlot s.frames slot = c.in_ok-slot.ensures.slot in
-    let (start, h, k) = subst Stands (sym c.self.view_is) c.requires.stack in
+    let (start, h, k) = subst IsReachedStack (sym c.self.view_is) c.requires.stack in
     (other_page start h s slot is k (λ same. c.if-slot-fill_number.false (same ∙ sym c.fill_number.ensures))).inside
 
 pub lend-payload-requires-clause-within : goal.lend-payload-requires-clause-within
-unfolding Stands
+unfolding IsReachedStack
 lend-payload-requires-clause-within c =
     let s : Stack = stack_of c.self.inside in
     let slot : Slot = c.in_ok-slot.slot in
     let is : IsTopSlot s.frames slot = c.in_ok-slot.ensures.slot in
-    let (start, h, k) = subst Stands (sym c.self.view_is) c.requires.stack in
+    let (start, h, k) = subst IsReachedStack (sym c.self.view_is) c.requires.stack in
     older_within start h s slot is k (λ same. c.if-slot-fill_number.false (same ∙ sym c.fill_number.ensures))
 
 pub returns : goal.returns
-unfolding Stands
+unfolding IsReachedStack
 returns c =
     let s : Stack = stack_of c.self.inside in
     let slot : Slot = c.in_ok-slot.slot in
     let is : IsTopSlot s.frames slot = c.in_ok-slot.ensures.slot in
     let other : (slot.fill ≡ s.tail.fill → ⊥) = λ same. c.if-slot-fill_number.false (same ∙ sym c.fill_number.ensures) in
-    let stands : Stands s = subst Stands (sym c.self.view_is) c.requires.stack in
+    let stands : IsReachedStack s = subst IsReachedStack (sym c.self.view_is) c.requires.stack in
     let payload : Lent = c.lend-payload.result.now in
     let found = older_lent stands.0 stands.1 s slot is stands.2 other payload.page c.lend-payload.ensures.page in
     let lent : IsLent s payload = subst (λ (p : Lent). IsLent s p) (λ i. record { page = payload.page; place = sym c.lend-payload.ensures.place i }) found in

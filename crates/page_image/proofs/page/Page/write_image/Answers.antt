@@ -2,7 +2,7 @@ use Rattle.std.specs.Prelude.{Vec}
 use Rattle.std.specs.declared.alloc.Global.{Global}
 use Rattle.std.proofs.Common.{◌≡◌, ℕ, ◌+◌, ◌-◌, Bool, true, false, cond, List, [], ◌++◌, length, take, drop, replicate, sym, ap, ◌∙◌, subst, arith, length-take-le, append-nil}
 use Rattle.std.specs.Int.{to_le_bytes, w64}
-use Rattle.trace_model.specs.Image.{le64, Commit, commit_word, commit_of, stores_count, stored_count, DecodesImage, missed_told}
+use Rattle.trace_model.specs.Image.{le64, Commit, commit_word, commit_of, stores_count, stored_count, DecodesImage, missed_reported}
 use Rattle.trace_model.proofs.images.Images.{DecodesImage-image_of}
 use Rattle.page_image.specs.Contents.{Contents, records_of_page}
 use Rattle.page_image.proofs.ImageWrites.{written-image_of, behind-image_of}
@@ -63,5 +63,5 @@ returns-clause-reads c = λ is.
     let end_is : v.end ≡ length page.bytes = sym (length-take-le v.end v.body.items c.self.invariant.0) ∙ ap length bytes_is in
     let reach = c.self.invariant.0 in
     let limit = c.self.invariant.1 in
-    subst (λ (b : List ℕ). DecodesImage b page.time (length page.bytes) (missed_told page.bytes c.args.missed page.size) (records_of_page page)) (sym (returns-clause-image c))
+    subst (λ (b : List ℕ). DecodesImage b page.time (length page.bytes) (missed_reported page.bytes c.args.missed page.size) (records_of_page page)) (sym (returns-clause-image c))
     (DecodesImage-image_of page.time page.bytes c.args.missed page.size (records_of_page page) is.in_time c.ranges.missed.fits (omega arith) (omega arith) is.reads)

@@ -6,7 +6,7 @@ use Rattle.trace_model.proofs.collections.Elements.{some_is}
 use Rattle.page_image.specs.Contents.{Contents}
 use Rattle.nested_writer.specs.Stack.{opened}
 use Rattle.ring_frames.specs.declared.phase.Phase.TheVariants.{Opening}
-use Rattle.ring_frames.specs.Phases.{told}
+use Rattle.ring_frames.specs.Phases.{as_answer}
 use Rattle.ring_core.specs.Value.{CoreValue, with_frames}
 use Rattle.ring_core.specs.Inside.{core_of}
 use Rattle.ring_core.specs.IsCore.{IsCore}
@@ -49,8 +49,8 @@ returns-clause-makes c = λ n size start m old.
     let core : IsCore n size start v m = subst (λ (x : CoreValue). IsCore n size start x m) (sym c.self.view_is) old in
     let some = subst (λ (x : CoreValue). x.stack.frames ≢ []) (sym c.self.view_is) c.requires.top in
     let is = subst (λ (x : CoreValue). x.phase ≡ Opening (opened x.stack) c.args.page) (sym c.self.view_is) c.requires.phase in
-    subst (λ (x : Option Contents). IsStep n size start m steps (told c.open_fill.result) (record (with_frames v c.open_fill.new.self) { homes = slice_set v.homes c.args.page x })) (sym c.take.ensures.after)
-    (begun n size start v m core some c.args.page is (told c.open_fill.result) c.open_fill.new.self c.open_fill.ensures.opens)
+    subst (λ (x : Option Contents). IsStep n size start m steps (as_answer c.open_fill.result) (record (with_frames v c.open_fill.new.self) { homes = slice_set v.homes c.args.page x })) (sym c.take.ensures.after)
+    (begun n size start v m core some c.args.page is (as_answer c.open_fill.result) c.open_fill.new.self c.open_fill.ensures.opens)
 
 pub unreachable-requires : goal.unreachable-requires
 unfolding IsReachedCore

@@ -4,26 +4,26 @@ use Rattle.ring_core.specs.Value.{CoreValue}
 use Rattle.trace_model.specs.Ring.{link_into}
 use Rattle.link_marks.specs.ModelLinks.{link_of}
 use Rattle.link_marks.specs.declared.link.Mark.{Mark}
-use Rattle.ring_core.proofs.ReaderSteps.{sees_header, sees_update, sees_owed, sees_passed, told_fits, turn_fits}
+use Rattle.ring_core.proofs.ReaderSteps.{sees_header, sees_update, sees_owed, sees_passed, reported_fits, turn_fits}
 use Rattle.ring_core.specs.Steps.{IsReachedCore}
 use Rattle.ring_core.proofs.ring.Core.load_head.Goals as goal
 
 pub overflow_add-fill : goal.overflow_add-fill
 unfolding IsReachedCore
 overflow_add-fill c =
-    let below = told_fits c.args.self.now c.requires.ring c.self.inside.reader.hint in
+    let below = reported_fits c.args.self.now c.requires.ring c.self.inside.reader.hint in
     let is = ap (λ (l : Link). l.fill) c.link_into-link.ensures in omega arith
 
 pub overflow_add-result : goal.overflow_add-result
 unfolding IsReachedCore
 overflow_add-result c =
-    let below = told_fits c.args.self.now c.requires.ring c.self.inside.reader.hint in
+    let below = reported_fits c.args.self.now c.requires.ring c.self.inside.reader.hint in
     let is = ap (λ (l : Link). l.fill) c.link_into-link.ensures in omega arith
 
 pub overflow_add-fill-in-Normal : goal.overflow_add-fill-in-Normal
 unfolding IsReachedCore
 overflow_add-fill-in-Normal c =
-    let below = told_fits c.args.self.now c.requires.ring c.self.inside.reader.hint in
+    let below = reported_fits c.args.self.now c.requires.ring c.self.inside.reader.hint in
     let is = ap (λ (l : Link). l.fill) c.link_into-link.ensures in omega arith
 
 pub overflow_sub-fill : goal.overflow_sub-fill

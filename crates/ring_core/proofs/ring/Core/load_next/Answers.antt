@@ -2,7 +2,7 @@ use Rattle.std.proofs.Common.{◌≡◌, ℕ, suc, ◌+◌, ◌-◌, length, ref
 use Rattle.trace_model.specs.Links.{Link, normal_link}
 use Rattle.trace_model.specs.Ring.{link_into}
 use Rattle.trace_model.specs.Steps as model
-use Rattle.trace_model.specs.Steps.{MayOpen}
+use Rattle.trace_model.specs.Steps.{MayContinue}
 use Rattle.link_marks.specs.declared.link.Mark.{Mark}
 use Rattle.link_marks.specs.ModelLinks.{mark_of, link_of}
 use Rattle.nested_writer.specs.Stack.{opened}
@@ -34,7 +34,7 @@ overflow_sub-behind c =
 pub returns-clause-makes : goal.returns-clause-makes
 returns-clause-makes c = λ n size start s old.
     let v : CoreValue = c.args.self.now in
-    let now : MayOpen (role_of c.args.role) c.args.noted (opened v.stack) = subst (MayOpen (role_of c.args.role) c.args.noted) (ap (λ (x : CoreValue). opened x.stack) c.self.view_is) (c.stops.ensures.goes_on c.if-stops.false) in
+    let now : MayContinue (role_of c.args.role) c.args.noted (opened v.stack) = subst (MayContinue (role_of c.args.role) c.args.noted) (ap (λ (x : CoreValue). opened x.stack) c.self.view_is) (c.stops.ensures.goes_on c.if-stops.false) in
     let round = round_next n size start v s old c.requires.top c.args.role c.args.noted c.args.page c.requires.phase in
     let wide : c.positions.result ≡ length v.links = c.positions.ensures.positions in
     let lost : ℕ = c.args.noted - c.positions.result in

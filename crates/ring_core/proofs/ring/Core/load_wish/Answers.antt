@@ -1,9 +1,9 @@
 use Rattle.std.proofs.Common.{rules, sym, subst}
 use Rattle.trace_model.specs.Steps.{steps}
-use Rattle.ring_frames.specs.Phases.{told}
+use Rattle.ring_frames.specs.Phases.{as_answer}
 use Rattle.ring_core.specs.Value.{CoreValue}
 use Rattle.ring_core.specs.Inside.{core_of}
-use Rattle.ring_core.specs.Steps.{IsReachedCore, Makes}
+use Rattle.ring_core.specs.Steps.{IsReachedCore, MakesStep}
 use Rattle.ring_core.proofs.Privately.{looked_for_wish}
 use Rattle.ring_core.proofs.ring.Core.load_wish.Goals as goal
 
@@ -17,5 +17,5 @@ load_wish-requires c = record {
 
 pub returns-clause-makes : goal.returns-clause-makes
 returns-clause-makes c =
-    subst (λ (x : CoreValue). Makes x steps (told c.load_wish.result) (core_of record c.self.inside { frames = c.load_wish.new.self })) c.self.view_is
-    (looked_for_wish (core_of c.self.inside) (told c.load_wish.result) c.load_wish.new.self c.load_wish.ensures.looks)
+    subst (λ (x : CoreValue). MakesStep x steps (as_answer c.load_wish.result) (core_of record c.self.inside { frames = c.load_wish.new.self })) c.self.view_is
+    (looked_for_wish (core_of c.self.inside) (as_answer c.load_wish.result) c.load_wish.new.self c.load_wish.ensures.looks)

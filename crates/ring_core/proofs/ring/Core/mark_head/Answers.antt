@@ -1,7 +1,7 @@
 use Rattle.std.proofs.Common.{◌≡◌, ℕ, suc, ◌+◌, ◌-◌, ◌↔◌, IsTrue, true, length, refl, sym, ap, ◌∙◌, subst, arith}
 use Rattle.trace_model.specs.Links.{Link, normal_link, header_link}
 use Rattle.trace_model.specs.Ring.{link_into, links_with}
-use Rattle.trace_model.specs.Steps.{MayOpen}
+use Rattle.trace_model.specs.Steps.{MayContinue}
 use Rattle.nested_writer.specs.Stack.{opened}
 use Rattle.ring_frames.specs.declared.phase.Phase.TheVariants.{Marking}
 use Rattle.ring_frames.specs.declared.phase.Role.{Role}
@@ -40,7 +40,7 @@ returns-clause-makes c = λ n size start s old.
     let exchanged : c.exchange.result ≡ true → c.exchange.new.self ≡ with_link behind (header_link c.args.next behind) = λ yes. c.exchange.ensures.exchanged yes ∙ ap (with_link behind) c.header.ensures in
     gone_on n size start s c.exchange.new.self c.go_on.new.self c.after_next.result c.go_on.result c.go_on.ensures.answer c.go_on.ensures.phase
     (mark_exchanged n size start v s old c.requires.top c.args.role c.args.noted c.args.page c.args.next lost c.after_next.result c.exchange.result c.exchange.new.self c.requires.phase
-    (subst (MayOpen (role_of c.args.role) c.args.noted) (ap (λ (x : CoreValue). opened x.stack) c.self.view_is) (c.stops.ensures.goes_on c.if-stops.false)) sum c.after_next.ensures
+    (subst (MayContinue (role_of c.args.role) c.args.noted) (ap (λ (x : CoreValue). opened x.stack) c.self.view_is) (c.stops.ensures.goes_on c.if-stops.false)) sum c.after_next.ensures
     (subst (λ (f : ℕ). IsTrue c.exchange.result ↔ (link_into (length v.links) v.links f ≡ normal_link c.args.next f)) is met)
     (subst (λ (f : ℕ). c.exchange.result ≡ true → c.exchange.new.self ≡ with_link f (header_link c.args.next f)) is exchanged)
     c.exchange.ensures.kept)

@@ -3,7 +3,7 @@ use Rattle.trace_model.specs.Steps.{steps}
 use Rattle.ring_frames.specs.Answers.{ZerosSlot}
 use Rattle.ring_core.specs.Value.{CoreValue}
 use Rattle.ring_core.specs.Inside.{core_of}
-use Rattle.ring_core.specs.Steps.{IsReachedCore, Makes}
+use Rattle.ring_core.specs.Steps.{IsReachedCore, MakesStep}
 use Rattle.ring_core.proofs.Privately.{made_privately}
 use Rattle.ring_core.proofs.ring.Core.reserve.Goals as goal
 
@@ -14,7 +14,7 @@ reserve-requires-clause-frames c =
     (n, size, start, m, record { reached = core.reached; are = core.shows.frames })
 
 pub returns-clause-makes : goal.returns-clause-makes
-returns-clause-makes c = subst (λ (x : CoreValue). Makes x steps c.reserve.result (core_of record c.self.inside { frames = c.reserve.new.self })) c.self.view_is
+returns-clause-makes c = subst (λ (x : CoreValue). MakesStep x steps c.reserve.result (core_of record c.self.inside { frames = c.reserve.new.self })) c.self.view_is
     (made_privately (core_of c.self.inside) steps c.reserve.result c.reserve.new.self c.reserve.ensures.step)
 
 pub returns-clause-zeros : goal.returns-clause-zeros

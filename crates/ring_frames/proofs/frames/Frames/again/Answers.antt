@@ -6,7 +6,7 @@ use Rattle.nested_writer.specs.declared.frame.Progress.{Progress}
 use Rattle.nested_writer.specs.declared.frame.Progress.TheVariants.{Waiting, Through, Reserved, Left}
 use Rattle.nested_writer.specs.Calls.{top_of}
 use Rattle.ring_frames.specs.Value.{FramesValue}
-use Rattle.ring_frames.specs.Phases.{closing_phase, told}
+use Rattle.ring_frames.specs.Phases.{closing_phase, as_answer}
 use Rattle.ring_frames.proofs.Again.{top_from, closes_again, leaver_again, tries_again}
 use Rattle.ring_frames.proofs.frames.Frames.again.Goals as goal
 
@@ -57,7 +57,7 @@ pub returns-in-Close-clause-again : goal.returns-in-Close-clause-again
 returns-in-Close-clause-again c =
     let v : FramesValue = c.args.self.now in
     let (below, is) = top_from v.stack.frames c.in-Some.top (c.in-Some.ensures ∙ ap (λ (x : FramesValue). top_of x.stack.frames) c.self.view_is) in
-    closes_again v c.in-Some.top below _ (told c.leave_closed.result) c.leave_closed.new.self is c.in-Close.is c.in-Waiting.is c.leave_closed.ensures.without
+    closes_again v c.in-Some.top below _ (as_answer c.leave_closed.result) c.leave_closed.new.self is c.in-Close.is c.in-Waiting.is c.leave_closed.ensures.without
 
 pub returns-in-Left-clause-again : goal.returns-in-Left-clause-again
 returns-in-Left-clause-again c =

@@ -6,12 +6,12 @@ use Rattle.nested_writer.specs.declared.stack.allot.Allot.TheVariants.{Fits}
 use Rattle.nested_writer.specs.declared.frame.Purpose.TheVariants.{Close}
 use Rattle.nested_writer.specs.declared.frame.Progress.TheVariants.{Waiting}
 use Rattle.nested_writer.specs.Stack.{opened}
-use Rattle.nested_writer.specs.IsStack.{Stands}
+use Rattle.nested_writer.specs.IsStack.{IsReachedStack}
 use Rattle.ring_frames.specs.Value.{FramesValue}
 use Rattle.ring_frames.specs.Inside.{frames_in}
 use Rattle.ring_frames.specs.Steps.{AreSomeFrames, LeavesWithout, IsCloseTop}
-use Rattle.ring_frames.specs.Phases.{told}
-use Rattle.ring_frames.proofs.Closing.{top_fits, acted_none, closed_shown}
+use Rattle.ring_frames.specs.Phases.{as_answer}
+use Rattle.ring_frames.proofs.Closing.{top_fits, has_no_events, closed_shown}
 use Rattle.ring_frames.specs.Answers.{KeepsPayloads}
 use Rattle.ring_frames.proofs.Payloads.{allotted_kept, ended_kept, kept_then, through_lacks}
 use Rattle.ring_frames.proofs.frames.Frames.leave_closed.Goals as goal
@@ -21,19 +21,19 @@ abbrev HasPassed : FramesValue → Type 0
 HasPassed v = (noted : ℕ) × IsCloseTop v noted × (noted ≢ opened v.stack)
 
 pub end_close-requires-clause-stack : goal.end_close-requires-clause-stack
-unfolding Stands
+unfolding IsReachedStack
 end_close-requires-clause-stack c =
     let v : FramesValue = frames_in c.self.inside in
     let (n, size, start, s, k) = subst AreSomeFrames (sym c.self.view_is) c.requires.shown in
     let (noted, top, ne) = subst HasPassed (sym c.self.view_is) c.requires.close in
     let (fits, through) = top_fits n size start v s noted _ c.allot.new.self k top ne c.in-Ok.ensures.answered c.in-Ok.ensures.after in
-    (start, s.history, acted_none start s.history v.stack c.allot.new.self through.1 k.stack_is)
+    (start, s.history, has_no_events start s.history v.stack c.allot.new.self through.1 k.stack_is)
 
 pub returns-clause-without : goal.returns-clause-without
 returns-clause-without c =
     let v : FramesValue = frames_in c.self.inside in
     let (noted, top, ne) = subst HasPassed (sym c.self.view_is) c.requires.close in
-    subst (λ (x : FramesValue). LeavesWithout x (told c.end_close.result) c.end_close.new.self) c.self.view_is (λ n size start s frame below k model_is.
+    subst (λ (x : FramesValue). LeavesWithout x (as_answer c.end_close.result) c.end_close.new.self) c.self.view_is (λ n size start s frame below k model_is.
     let (fits, through) = top_fits n size start v s noted _ c.allot.new.self k top ne c.in-Ok.ensures.answered c.in-Ok.ensures.after in
     rw (c.end_close.ensures.answer, c.end_close.ensures.phase)
     (closed_shown n size start v s _ top.0 frame below (Some noted) c.allot.new.self c.end_close.new.self.stack k top.1 model_is refl through c.end_close.ensures.left))

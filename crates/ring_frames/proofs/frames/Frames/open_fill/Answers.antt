@@ -6,7 +6,7 @@ use Rattle.ring_frames.specs.Value.{FramesValue}
 use Rattle.ring_frames.specs.Inside.{frames_in}
 use Rattle.ring_frames.specs.Steps.{IsFrames}
 use Rattle.ring_frames.specs.Fills.{OpensFill}
-use Rattle.ring_frames.specs.Phases.{told}
+use Rattle.ring_frames.specs.Phases.{as_answer}
 use Rattle.ring_frames.proofs.Beginning.{noted_in, room, fills, begun, one_more}
 use Rattle.ring_frames.specs.Answers.{KeepsPayloads}
 use Rattle.ring_frames.proofs.Payloads.{added_kept, kept_then}
@@ -48,7 +48,7 @@ begin_again-requires-clause-passed c =
 pub returns-clause-opens : goal.returns-clause-opens
 returns-clause-opens c =
     let v : FramesValue = frames_in c.self.inside in
-    subst (λ (x : FramesValue). OpensFill x (told c.begin_again.result) c.begin_again.new.self) c.self.view_is (λ n size start page m frame below are top.
+    subst (λ (x : FramesValue). OpensFill x (as_answer c.begin_again.result) c.begin_again.new.self) c.self.view_is (λ n size start page m frame below are top.
     c.begin_again.ensures.again n size start (with_new_tail m page) frame below (begun n size start v m page c.add_page.new.self (next_number v.stack) are c.add_page.ensures.page c.add_page.ensures.stack) top)
 
 pub returns-clause-payloads : goal.returns-clause-payloads

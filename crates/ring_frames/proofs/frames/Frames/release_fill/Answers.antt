@@ -32,7 +32,7 @@ returns-clause-releases c = λ n size start m reached now.
     record {
       oldest = c.drop_front-page.ensures.oldest;
       released = c.drop_front-page.ensures.released;
-      acted = c.drop_front-page.ensures.stack;
+      has_events = c.drop_front-page.ensures.stack;
       written = c.drop_front-page.ensures.written;
     }
     (closing_phase c.drop_front-page.new.self) refl)

@@ -8,12 +8,12 @@ use Rattle.ring_steps.specs.Views.{Reading}
 use Rattle.ring_steps.specs.Ends.{reading_in, reader_table}
 use Rattle.ring_steps.specs.Swapping.{HeadTaken, HeadMissed}
 use Rattle.ring_shared.specs.declared.take.Take.TheVariants.{Page}
-use Rattle.ring_shared.specs.declared.take.Turn.TheVariants.{Done}
+use Rattle.ring_shared.specs.declared.take.TakeStep.TheVariants.{Done}
 use Rattle.ring_shared.specs.Value.{ReaderValue}
 use Rattle.ring_shared.specs.Takes.{IsReaderPart, SawPage, IsPageTaken, IsAnswered}
 use Rattle.ring_shared.proofs.TakeSteps.{nothing}
 use Rattle.ring_shared.proofs.Fields.{fields, positions, shown}
-use Rattle.ring_shared.proofs.Swapped.{takes, misses, swap_answers, miss_answers}
+use Rattle.ring_shared.proofs.PageTaken.{takes, misses, swap_answers, miss_answers}
 use Rattle.ring_shared.proofs.reader.Reader.swap_head.Goals as goal
 
 pub swap_head-swapped-requires-clause-fits : goal.swap_head-swapped-requires-clause-fits
@@ -28,7 +28,7 @@ returns-in-Ok c =
     let at = c.requires.taking.reader.phase_is ∙ ap reader_phase_of c.requires.phase in
     let old = fields _ v c.self.view_is c.requires.taking.reader in
     record {
-      turn = subst (λ (missed : ℕ). IsPageTaken v.shape v.part taken missed after) (λ i. sym c.first-first.ensures i - old.3 i) (takes v.shape v.part c.args.page c.args.fill after at taken (search rules) h).1;
+      take_step = subst (λ (missed : ℕ). IsPageTaken v.shape v.part taken missed after) (λ i. sym c.first-first.ensures i - old.3 i) (takes v.shape v.part c.args.page c.args.fill after at taken (search rules) h).1;
       answered = subst (λ (missed : ℕ). IsAnswered v.shape v.part (Done (Page taken missed)) after) (λ i. sym c.first-first.ensures i - old.3 i) (swap_answers v.shape v.part c.args.page c.args.fill after taken h);
       empty = search rules;
       empty_at = search rules;
@@ -54,14 +54,14 @@ returns-in-Err c =
     let h = subst (λ (w : ReaderValue). HeadMissed w.shape w.part c.args.page c.args.fill after) c.self.view_is c.in-Err.ensures.missed in
     let at = c.requires.taking.reader.phase_is ∙ ap reader_phase_of c.requires.phase in
     record {
-      turn = let (s, low) = misses v.shape v.part c.args.page c.args.fill after at h in (
+      take_step = let (s, low) = misses v.shape v.part c.args.page c.args.fill after at h in (
         c.in-Err.ensures.given_back,
-        nothing v.shape v.part after (record v.part.reader { phase = ring.loading_link; hint = c.args.fill + 1 }) s refl refl low (omega arith),
+        nothing v.shape v.part after (record v.part.reader { phase = ring.loading_head; hint = c.args.fill + 1 }) s refl refl low (omega arith),
       );
-      answered = record { told = model.reading; step = miss_answers v.shape v.part c.args.page c.args.fill after h; tells = refl };
+      answered = record { reported = model.reading; step = miss_answers v.shape v.part c.args.page c.args.fill after h; reports = refl };
       empty = search rules;
       empty_at = search rules;
       ring = search rules;
-      reader = let new = c.swap_head-swapped.new.self in let old = fields _ v c.self.view_is c.requires.taking.reader in shown _ v c.self.view_is c.requires.taking.reader new.shape (reader_table new) after (record v.part.reader { phase = ring.loading_link; hint = c.args.fill + 1 }) _ c.requires.taking.again c.swap_head-swapped.ensures.same.shape
+      reader = let new = c.swap_head-swapped.new.self in let old = fields _ v c.self.view_is c.requires.taking.reader in shown _ v c.self.view_is c.requires.taking.reader new.shape (reader_table new) after (record v.part.reader { phase = ring.loading_head; hint = c.args.fill + 1 }) _ c.requires.taking.again c.swap_head-swapped.ensures.same.shape
           (misses v.shape v.part c.args.page c.args.fill after at h).0 (refl, refl, old.2, old.3) tt tt;
     }

@@ -1,7 +1,7 @@
 use Rattle.std.proofs.Common.{◌≡◌, ℕ, length, refl, ap, ◌∙◌, subst, sym, rules}
 use Rattle.ring_steps.specs.declared.rule.Shape.{Shape}
-use Rattle.ring_shared.specs.declared.take.Turn.{Turn}
-use Rattle.ring_shared.specs.declared.take.Turn.TheVariants.{Done}
+use Rattle.ring_shared.specs.declared.take.TakeStep.{TakeStep}
+use Rattle.ring_shared.specs.declared.take.TakeStep.TheVariants.{Done}
 use Rattle.ring_shared.specs.Value.{ReaderValue}
 use Rattle.ring_shared.specs.Takes.{IsTake, IsSentAway, IsAnswered, most_steps, ReadsOn, no_step, one_more, has_answer, has_none}
 use Rattle.ring_shared.proofs.Fields.{positions}
@@ -12,19 +12,19 @@ pub loop-made-init : goal.loop-made-init
 loop-made-init c = record { reader = c.requires.taking.reader; ring = (refl, refl); made = no_step; nothing = nothing_yet c.args.self.now.part; empty_at = c.requires.taking.again; body = refl }
 
 pub loop-made-preserved : goal.loop-made-preserved
-loop-made-preserved c = let kept = c.loop-made.invariant in let turn = c.in-Looking.ensures.turn in record {
+loop-made-preserved c = let kept = c.loop-made.invariant in let take_step = c.in-Looking.ensures.take_step in record {
   reader = c.step.ensures.reader;
   ring = (c.step.ensures.ring.0 ∙ kept.ring.0, c.step.ensures.ring.1 ∙ kept.ring.1);
-  made = one_more c.loop-made.made c.loop-made.self.part c.step.new.self.part kept.made (goes_on c.args.self.now.shape c.loop-made.self.shape c.loop-made.self.part c.step.new.self.part _ kept.ring.0 (subst (λ (t : Turn). IsAnswered c.loop-made.self.shape c.loop-made.self.part t c.step.new.self.part) c.in-Looking.is c.step.ensures.answered));
-  nothing = nothing_more c.args.self.now.part c.loop-made.self.part c.step.new.self.part kept.nothing turn.1;
+  made = one_more c.loop-made.made c.loop-made.self.part c.step.new.self.part kept.made (goes_on c.args.self.now.shape c.loop-made.self.shape c.loop-made.self.part c.step.new.self.part _ kept.ring.0 (subst (λ (t : TakeStep). IsAnswered c.loop-made.self.shape c.loop-made.self.part t c.step.new.self.part) c.in-Looking.is c.step.ensures.answered));
+  nothing = nothing_more c.args.self.now.part c.loop-made.self.part c.step.new.self.part kept.nothing take_step.1;
   empty_at = c.step.ensures.empty_at;
-  body = turn.0 ∙ kept.body;
+  body = take_step.0 ∙ kept.body;
 }
 
 pub returns-in-Done-clause-took : goal.returns-in-Done-clause-took
 returns-in-Done-clause-took c = let kept = c.loop-made.invariant in
     subst (λ (shape : Shape). IsTake shape c.args.self.now.part c.args.body c.in-Done.took c.step.new.self.part) kept.ring.0
-    (answered c.loop-made.self.shape c.args.self.now.part c.loop-made.self.part c.step.new.self.part c.args.body c.loop-made.body c.in-Done.took kept.nothing kept.body c.in-Done.ensures.turn)
+    (answered c.loop-made.self.shape c.args.self.now.part c.loop-made.self.part c.step.new.self.part c.args.body c.loop-made.body c.in-Done.took kept.nothing kept.body c.in-Done.ensures.take_step)
 
 pub returns-clause-took : goal.returns-clause-took
 returns-clause-took c = let kept = c.loop-made.invariant in
@@ -38,7 +38,7 @@ pub returns-in-Done-clause-steps : goal.returns-in-Done-clause-steps
 returns-in-Done-clause-steps c = let kept = c.loop-made.invariant in
     has_answer c.loop-made.made c.loop-made.self.part (search rules) kept.made
     (subst (λ (shape : Shape). IsAnswered shape c.loop-made.self.part (Done c.in-Done.took) c.step.new.self.part) kept.ring.0
-    (subst (λ (t : Turn). IsAnswered c.loop-made.self.shape c.loop-made.self.part t c.step.new.self.part) c.in-Done.is c.step.ensures.answered))
+    (subst (λ (t : TakeStep). IsAnswered c.loop-made.self.shape c.loop-made.self.part t c.step.new.self.part) c.in-Done.is c.step.ensures.answered))
 
 pub returns-clause-steps : goal.returns-clause-steps
 returns-clause-steps c = let kept = c.loop-made.invariant in

@@ -3,7 +3,7 @@ use Rattle.trace_model.specs.Steps.{steps}
 use Rattle.link_marks.specs.Seats.{PhaseIsPrivate}
 use Rattle.nested_writer.specs.Stack.{opened}
 use Rattle.ring_frames.specs.Value.{phase_of}
-use Rattle.ring_frames.specs.Phases.{told}
+use Rattle.ring_frames.specs.Phases.{as_answer}
 use Rattle.ring_shared.specs.Value.{WriterValue}
 use Rattle.ring_shared.specs.Calls.{IsWriter}
 use Rattle.ring_shared.proofs.Privately.{step_leads, seen_call}
@@ -25,7 +25,7 @@ unfolding IsWriter
 returns-clause-makes c =
     let own = subst (λ (x : WriterValue). PhaseIsPrivate (phase_of x.frames.phase) (opened x.frames.stack)) (sym c.self.view_is) c.requires.private in
     let made = c.begin_again.ensures.late own in
-    seen_call _ _ (λ _. steps) (told c.begin_again.result) _ c.self.view_is c.requires.framed.writer c.note.ensures.same.shape c.note.ensures.same.table c.note.ensures.noted refl made
+    seen_call _ _ (λ _. steps) (as_answer c.begin_again.result) _ c.self.view_is c.requires.framed.writer c.note.ensures.same.shape c.note.ensures.same.table c.note.ensures.noted refl made
 
 pub returns-clause-nearer : goal.returns-clause-nearer
 unfolding IsWriter

@@ -7,7 +7,7 @@ use Rattle.ring_frames.specs.declared.phase.Phase.TheVariants.{Looking, LookingN
 use Rattle.ring_frames.specs.declared.phase.Role.TheVariants.{Owner}
 use Rattle.ring_frames.specs.declared.phase.Phase.{Phase}
 use Rattle.ring_frames.specs.declared.answer.Answer.TheVariants.{Going}
-use Rattle.ring_frames.specs.Phases.{told}
+use Rattle.ring_frames.specs.Phases.{as_answer}
 use Rattle.ring_frames.specs.Value.{phase_of}
 use Rattle.ring_steps.specs.Views.{Writing}
 use Rattle.ring_steps.specs.Linking.{tail_in}
@@ -82,8 +82,8 @@ returns-clause-makes c =
     let s = c.claim_head.ensures.step in
     let here : c.args.noted ≡ s.core.opened = now ∙ ap (λ (p : Writing). p.opened) (sym s.before_is) in
     let there = ap (link_into v.shape.pages s.core.links) now in
-    let goes : (p : Phase) → noted_fill (phase_of p) ≡ Some c.args.noted → c.if-claim_head.phase ≡ p → Moves v (claiming c.args.noted c.args.page) (phase_of p) s.core s.next → MakesSome c.args.self.now model.steps (told c.go_on.result) new =
-    λ p noted_is is moves. goes_on_called c.self.view_is c.requires.framed.writer c.requires.framed.top c.requires.phase c.args.noted c.if-claim_head.phase p _ refl noted_is is c.claim_head.ensures.same.shape c.claim_head.ensures.same.table refl c.go_on.ensures.goes_on (ap told c.go_on.ensures.answer) s moves in
+    let goes : (p : Phase) → noted_fill (phase_of p) ≡ Some c.args.noted → c.if-claim_head.phase ≡ p → Moves v (claiming c.args.noted c.args.page) (phase_of p) s.core s.next → MakesSome c.args.self.now model.steps (as_answer c.go_on.result) new =
+    λ p noted_is is moves. goes_on_called c.self.view_is c.requires.framed.writer c.requires.framed.top c.requires.phase c.args.noted c.if-claim_head.phase p _ refl noted_is is c.claim_head.ensures.same.shape c.claim_head.ensures.same.table refl c.go_on.ensures.goes_on (ap as_answer c.go_on.ensures.answer) s moves in
     elim c.if-claim_head.branch [
       | then-claim_head b ↦ goes (LookingNext Owner c.args.noted c.args.page) refl b.phase-is
           (λ frame below step. claimed v.shape.pages s.core frame below model.going s.next c.args.noted c.args.page lost here sum (there ∙ s.seen.0 b.if-claim_head.true) step)

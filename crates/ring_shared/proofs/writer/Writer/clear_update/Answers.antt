@@ -4,7 +4,7 @@ use Rattle.trace_model.specs.Frames.{clearing}
 use Rattle.trace_model.specs.Steps as model
 use Rattle.ring_frames.specs.declared.phase.Phase.TheVariants.{Opening}
 use Rattle.ring_frames.specs.Value.{phase_of}
-use Rattle.ring_frames.specs.Phases.{told}
+use Rattle.ring_frames.specs.Phases.{as_answer}
 use Rattle.ring_shared.specs.Value.{WriterValue}
 use Rattle.ring_shared.specs.Calls.{IsWriter}
 use Rattle.ring_shared.specs.contracts.writer.Writer.{the_view}
@@ -70,7 +70,7 @@ unfolding IsWriter
 returns-clause-makes c =
     let v : WriterValue = the_view c.self.inside in
     let s = c.clear_update-cleared.ensures.step in
-    goes_on_called c.self.view_is c.requires.framed.writer c.requires.framed.top c.requires.phase c.args.noted (Opening c.args.noted c.args.page) (Opening c.args.noted c.args.page) _ refl refl refl c.clear_update-cleared.ensures.same.shape c.clear_update-cleared.ensures.same.table refl c.go_on.ensures.goes_on (ap told c.go_on.ensures.answer) s
+    goes_on_called c.self.view_is c.requires.framed.writer c.requires.framed.top c.requires.phase c.args.noted (Opening c.args.noted c.args.page) (Opening c.args.noted c.args.page) _ refl refl refl c.clear_update-cleared.ensures.same.shape c.clear_update-cleared.ensures.same.table refl c.go_on.ensures.goes_on (ap as_answer c.go_on.ensures.answer) s
     (λ frame below step. cleared v.shape.pages s.core frame below model.going s.next c.args.noted c.args.page step)
 
 pub returns-clause-nearer : goal.returns-clause-nearer

@@ -3,7 +3,7 @@ use Rattle.trace_model.specs.Frames.{Frame}
 use Rattle.trace_model.specs.Steps as model
 use Rattle.ring_frames.specs.declared.answer.Answer.{Answer}
 use Rattle.ring_frames.specs.Value.{phase_of}
-use Rattle.ring_frames.specs.Phases.{told}
+use Rattle.ring_frames.specs.Phases.{as_answer}
 use Rattle.ring_steps.specs.declared.rule.Shape.{Shape}
 use Rattle.ring_shared.specs.Value.{WriterValue}
 use Rattle.ring_shared.specs.Calls.{IsWriter, IsCall}
@@ -55,13 +55,13 @@ loop-self-preserved c =
     let makes = c.release_fill.ensures.makes in
     let (frame, below, top) = h.some in
     let (next, at, leaves, goes) = h.closes frame below top in
-    let going = release_goes old h.writer (told c.release_fill.result) new.part (some_stand old h.writer next below at) (ap phase_of (ap (λ (x : WriterValue). x.frames.phase) (sym c.self.view_is) ∙ (sym c.phase.ensures ∙ c.in-Releasing.is))) makes.call in
+    let going = release_goes old h.writer (as_answer c.release_fill.result) new.part (some_stand old h.writer next below at) (ap phase_of (ap (λ (x : WriterValue). x.frames.phase) (sym c.self.view_is) ∙ (sym c.phase.ensures ∙ c.in-Releasing.is))) makes.call in
     record {
       writer = makes.writer;
-      ring = same_writer c.args.self.now old new (told c.release_fill.result) h.ring makes;
+      ring = same_writer c.args.self.now old new (as_answer c.release_fill.result) h.ring makes;
       some = h.some;
-      closes = λ other others is. closes_then shape others c.args.self.now.part old.part new.part Rattle.ring_frames.specs.declared.phase.Turned.TheVariants.Going (h.closes other others is)
-          (subst (λ (x : Answer). IsCall shape old.part model.steps x new.part) going (call_in shape old new (told c.release_fill.result) h.ring.0 makes));
+      closes = λ other others is. closes_then shape others c.args.self.now.part old.part new.part Rattle.ring_frames.specs.declared.phase.StepAnswer.TheVariants.Going (h.closes other others is)
+          (subst (λ (x : Answer). IsCall shape old.part model.steps x new.part) going (call_in shape old new (as_answer c.release_fill.result) h.ring.0 makes));
       payloads = kept_then c.args.self.now.frames.stack old.frames.stack new.frames.stack h.payloads c.release_fill.ensures.payloads;
     }
 
@@ -80,7 +80,7 @@ returns-in-Wishing-clause-closes c = λ frame below top.
     let h = c.loop-self.invariant in
     let old : WriterValue = c.loop-self.self in let new : WriterValue = c.load_wish.new.self in let shape : Shape = c.args.self.now.shape in
     closes_then shape below c.args.self.now.part old.part new.part c.load_wish.result (h.closes frame below top)
-    (call_in shape old new (told c.load_wish.result) h.ring.0 c.load_wish.ensures.makes)
+    (call_in shape old new (as_answer c.load_wish.result) h.ring.0 c.load_wish.ensures.makes)
 
 pub returns-in-Wishing-clause-payloads : goal.returns-in-Wishing-clause-payloads
 returns-in-Wishing-clause-payloads c =

@@ -1,6 +1,6 @@
 use Rattle.std.specs.Prelude.{◌≡◌, List, ◌∷◌}
 use Rattle.trace_model.specs.Frames.{Frame}
-use Rattle.ring_frames.specs.declared.phase.Turned.TheVariants.{Going}
+use Rattle.ring_frames.specs.declared.phase.StepAnswer.TheVariants.{Going}
 use Rattle.ring_frames.specs.Answers.{KeepsPayloads}
 use Rattle.ring_shared.specs.Value.{SameWriter}
 use Rattle.ring_shared.specs.Calls.{IsWriter}

@@ -91,7 +91,7 @@ pub returns-in-Ok-clause-slots : goal.returns-in-Ok-clause-slots
 returns-in-Ok-clause-slots c = record {
   payloads = search rules;
   zeros = search rules;
-  room = λ number told. let (slot, on_top, finishes) = c.in-Reserved.ensures.finished in
+  room = λ number reported. let (slot, on_top, finishes) = c.in-Reserved.ensures.finished in
       finished_rooms _ _ _ _ finishes record { 0 = slot.number } refl;
   gone = search rules;
 }

@@ -1,5 +1,5 @@
 use Rattle.std.proofs.Common.{rules, subst}
-use Rattle.ring_frames.specs.declared.phase.Turned.{Turned}
+use Rattle.ring_frames.specs.declared.phase.StepAnswer.{StepAnswer}
 use Rattle.ring_shared.specs.Value.{WriterValue}
 use Rattle.ring_shared.specs.Finishing.{at_once, Closes}
 use Rattle.ring_shared.proofs.Depths.{leaving_top}
@@ -44,7 +44,7 @@ returns-in-Gone c = record {
   leaves = λ other others at.
       let (frame, below, top, is) = c.requires.leaving.top in
       let v : WriterValue = c.args.self.now in let one : WriterValue = c.load_wish.new.self in
-      subst (λ (t : Turned). Closes v.shape others v.part t one.part) c.in-Gone.is
+      subst (λ (t : StepAnswer). Closes v.shape others v.part t one.part) c.in-Gone.is
       (closes_then v.shape others v.part v.part one.part c.load_wish.result (other, at, leaving_top v.part.frames frame other below others top is at, at_once) c.load_wish.ensures.makes.call);
   gone = search rules;
   payloads = search rules;

@@ -1,6 +1,6 @@
 use Rattle.std.proofs.Common.{rules, refl, subst, inl}
 use Rattle.ring_frames.specs.declared.answer.Answer.TheVariants.{Gone}
-use Rattle.ring_frames.specs.declared.phase.Turned.{Turned}
+use Rattle.ring_frames.specs.declared.phase.StepAnswer.{StepAnswer}
 use Rattle.ring_shared.specs.Value.{WriterValue}
 use Rattle.ring_shared.specs.Finishing.{Closes}
 use Rattle.ring_shared.proofs.FinishParts.{closes_still, closes_rest}
@@ -10,7 +10,7 @@ use Rattle.ring_shared.proofs.writer.Writer.leave_on.Goals as goal
 pub returns-in-Gone-clause-leaves : goal.returns-in-Gone-clause-leaves
 returns-in-Gone-clause-leaves c =
     let v : WriterValue = c.args.self.now in let new : WriterValue = c.close_fills.new.self in
-    (Gone, refl, inl refl, λ frame below top. subst (λ (t : Turned). Closes v.shape below v.part t new.part) c.in-Gone.is (c.close_fills.ensures.closes frame below top))
+    (Gone, refl, inl refl, λ frame below top. subst (λ (t : StepAnswer). Closes v.shape below v.part t new.part) c.in-Gone.is (c.close_fills.ensures.closes frame below top))
 
 pub leave_top-requires : goal.leave_top-requires
 leave_top-requires c = record {

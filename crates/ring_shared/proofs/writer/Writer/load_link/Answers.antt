@@ -9,7 +9,7 @@ use Rattle.ring_steps.specs.Views.{Writing, writing_of}
 use Rattle.ring_frames.specs.declared.phase.Phase.TheVariants.{Opening, Claiming, LookingNext}
 use Rattle.ring_frames.specs.declared.phase.Role.TheVariants.{Helper}
 use Rattle.ring_frames.specs.declared.answer.Answer.TheVariants.{Going}
-use Rattle.ring_frames.specs.Phases.{told}
+use Rattle.ring_frames.specs.Phases.{as_answer}
 use Rattle.ring_frames.specs.declared.phase.Phase.{Phase}
 use Rattle.ring_frames.specs.Value.{phase_of}
 use Rattle.ring_steps.specs.Linking.{tail_in}
@@ -51,8 +51,8 @@ returns-clause-makes c =
     let found : (m : Mark) → l.mark ≡ m → Moves v (looking c.args.noted) (found_at (mark_of m) c.args.noted l.page) s.core s.next =
     λ m e frame below step. subst (λ (k : Mark). writing_of s.next ≡ writing_of (model.in_phase s.core frame below (found_at (mark_of k) c.args.noted l.page))) e
     (looked v.shape.pages s.core frame below model.going s.next c.args.noted (link_of l) here link step) in
-    let goes : (p : Phase) → noted_fill (phase_of p) ≡ Some c.args.noted → c.match-link.phase ≡ p → Moves v (looking c.args.noted) (phase_of p) s.core s.next → MakesSome c.args.self.now model.steps (told c.go_on.result) new =
-    λ p noted_is is moves. goes_on_called c.self.view_is c.requires.framed.writer c.requires.framed.top c.requires.phase c.args.noted c.match-link.phase p _ refl noted_is is c.load_link-link.ensures.same.shape c.load_link-link.ensures.same.table refl c.go_on.ensures.goes_on (ap told c.go_on.ensures.answer) s moves in
+    let goes : (p : Phase) → noted_fill (phase_of p) ≡ Some c.args.noted → c.match-link.phase ≡ p → Moves v (looking c.args.noted) (phase_of p) s.core s.next → MakesSome c.args.self.now model.steps (as_answer c.go_on.result) new =
+    λ p noted_is is moves. goes_on_called c.self.view_is c.requires.framed.writer c.requires.framed.top c.requires.phase c.args.noted c.match-link.phase p _ refl noted_is is c.load_link-link.ensures.same.shape c.load_link-link.ensures.same.table refl c.go_on.ensures.goes_on (ap as_answer c.go_on.ensures.answer) s moves in
     elim c.match-link.branch [
       | in-Normal b ↦ goes (Opening c.args.noted l.page) refl b.phase-is (found Normal b.in-Normal.is)
       | in-Header b ↦ goes (Claiming c.args.noted l.page) refl b.phase-is (found Header b.in-Header.is)

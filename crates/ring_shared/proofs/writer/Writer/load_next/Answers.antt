@@ -2,14 +2,14 @@ use Rattle.std.proofs.Common.{◌≡◌, ℕ, ◌+◌, ◌-◌, ◌≤◌, Some,
 use Rattle.trace_model.specs.Links.{Link, normal_link}
 use Rattle.trace_model.specs.Frames.{Phase as ModelPhase, looking_next, noted_fill}
 use Rattle.trace_model.specs.Steps as model
-use Rattle.trace_model.specs.Steps.{MayOpen}
+use Rattle.trace_model.specs.Steps.{MayContinue}
 use Rattle.link_marks.specs.declared.link.Mark.{Mark}
 use Rattle.link_marks.specs.ModelLinks.{mark_of, link_of}
 use Rattle.ring_steps.specs.Views.{Writing, writing_of}
 use Rattle.ring_frames.specs.declared.phase.Phase.TheVariants.{Marking}
 use Rattle.ring_frames.specs.declared.phase.Phase.{Phase}
 use Rattle.ring_frames.specs.declared.answer.Answer.TheVariants.{Going}
-use Rattle.ring_frames.specs.Phases.{told}
+use Rattle.ring_frames.specs.Phases.{as_answer}
 use Rattle.ring_frames.specs.Value.{phase_of, role_of}
 use Rattle.ring_shared.specs.Value.{WriterValue}
 use Rattle.ring_shared.specs.Calls.{IsWriter, MakesSome}
@@ -52,7 +52,7 @@ load_next-link-requires c =
         role = role_of c.args.role;
         noted = c.args.noted;
         phase = phase_shown v w (looking_next (role_of c.args.role) c.args.noted c.args.page) some at;
-        goes_on = subst (MayOpen (role_of c.args.role) c.args.noted) (opened_now v w) (c.stops.ensures.goes_on c.if-stops.false);
+        goes_on = subst (MayContinue (role_of c.args.role) c.args.noted) (opened_now v w) (c.stops.ensures.goes_on c.if-stops.false);
         behind_is = omega arith;
       };
     }
@@ -65,7 +65,7 @@ returns-clause-makes c =
     let from : ModelPhase = looking_next (role_of c.args.role) c.args.noted c.args.page in
     let new : WriterValue = the_view record { seat = c.load_next-link.new.self; frames = c.go_on.new.self; pages = c.self.inside.pages } in
     let s = c.load_next-link.ensures.step in
-    let on : MayOpen (role_of c.args.role) c.args.noted s.core.opened = subst (MayOpen (role_of c.args.role) c.args.noted)
+    let on : MayContinue (role_of c.args.role) c.args.noted s.core.opened = subst (MayContinue (role_of c.args.role) c.args.noted)
     (opened_now v w ∙ ap (λ (p : Writing). p.opened) (sym s.before_is)) (c.stops.ensures.goes_on c.if-stops.false) in
     let pages : c.pages.result ≡ v.shape.pages = c.pages.ensures.pages ∙ w.frames_are.pages_is in
     let round : v.shape.pages ≤ c.args.noted = advances v w from (top_seen c.self.view_is c.requires.framed.top) (phase_seen c.self.view_is c.requires.phase) in
@@ -73,8 +73,8 @@ returns-clause-makes c =
     let sum : behind + v.shape.pages ≡ c.args.noted + 1 = omega arith in
     let l = c.load_next-link.result in
     let marked : Mark → Link = λ (m : Mark). record { mark = mark_of m; page = l.page; fill = l.fill } in
-    let goes : (p : Phase) → noted_fill (phase_of p) ≡ Some c.args.noted → c.match-link.phase ≡ p → Moves v from (phase_of p) s.core s.next → MakesSome c.args.self.now model.steps (told c.go_on.result) new =
-    λ p noted_is is moves. goes_on_called c.self.view_is c.requires.framed.writer c.requires.framed.top c.requires.phase c.args.noted c.match-link.phase p _ refl noted_is is c.load_next-link.ensures.same.shape c.load_next-link.ensures.same.table refl c.go_on.ensures.goes_on (ap told c.go_on.ensures.answer) s moves in
+    let goes : (p : Phase) → noted_fill (phase_of p) ≡ Some c.args.noted → c.match-link.phase ≡ p → Moves v from (phase_of p) s.core s.next → MakesSome c.args.self.now model.steps (as_answer c.go_on.result) new =
+    λ p noted_is is moves. goes_on_called c.self.view_is c.requires.framed.writer c.requires.framed.top c.requires.phase c.args.noted c.match-link.phase p _ refl noted_is is c.load_next-link.ensures.same.shape c.load_next-link.ensures.same.table refl c.go_on.ensures.goes_on (ap as_answer c.go_on.ensures.answer) s moves in
     elim c.match-link.branch [
       | in-Normal b ↦ goes (Marking c.args.role c.args.noted c.args.page l.page) refl b.phase-is
           (λ frame below step. waits v.shape.pages s.core frame below model.going s.next (role_of c.args.role) c.args.noted c.args.page behind (link_of l) on sum s.seen

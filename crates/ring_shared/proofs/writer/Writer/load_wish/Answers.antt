@@ -9,7 +9,7 @@ use Rattle.ring_shared.proofs.Called.{writer_seen, top_seen, phase_seen}
 use Rattle.ring_shared.proofs.PageMoves.{looks_called}
 use Rattle.std.specs.Prelude.{◌≤◌}
 use Rattle.ring_frames.specs.Value.{phase_of}
-use Rattle.ring_frames.specs.Phases.{told}
+use Rattle.ring_frames.specs.Phases.{as_answer}
 use Rattle.ring_steps.specs.Ends.{passed_in}
 use Rattle.ring_shared.proofs.Nearing.{stays_near}
 use Rattle.ring_shared.proofs.writer.Writer.load_wish.Goals as goal
@@ -25,7 +25,7 @@ pub returns-clause-makes : goal.returns-clause-makes
 unfolding IsWriter
 returns-clause-makes c =
     let (answer, step) = c.load_wish-wish.ensures.step in
-    looks_called c.self.view_is c.requires.framed.writer c.requires.framed.top c.load_wish-wish.ensures.same.shape c.load_wish-wish.ensures.same.table _ c.load_wish-wish.result (told c.load_wish.result) answer
+    looks_called c.self.view_is c.requires.framed.writer c.requires.framed.top c.load_wish-wish.ensures.same.shape c.load_wish-wish.ensures.same.table _ c.load_wish-wish.result (as_answer c.load_wish.result) answer
     c.load_wish.ensures.looks refl step (λ is. is)
 
 pub returns-clause-nearer : goal.returns-clause-nearer

@@ -1,10 +1,10 @@
 use Rattle.std.proofs.Common.{◌≡◌, ◌≤◌, refl, sym, ap, ◌∙◌, subst, arith}
 use Rattle.trace_model.specs.Frames.{Phase as ModelPhase, marking, noted_fill}
 use Rattle.trace_model.specs.Steps as model
-use Rattle.trace_model.specs.Steps.{MayOpen}
+use Rattle.trace_model.specs.Steps.{MayContinue}
 use Rattle.ring_steps.specs.Views.{Writing, writing_of}
 use Rattle.ring_frames.specs.declared.phase.Phase.{Phase}
-use Rattle.ring_frames.specs.Phases.{told}
+use Rattle.ring_frames.specs.Phases.{as_answer}
 use Rattle.ring_frames.specs.Value.{phase_of, role_of}
 use Rattle.ring_shared.specs.Value.{WriterValue}
 use Rattle.ring_shared.specs.Calls.{IsWriter}
@@ -45,7 +45,7 @@ mark_head-marked-requires-clause-phase c =
       role = role_of c.args.role;
       noted = c.args.noted;
       phase = phase_shown v w (marking (role_of c.args.role) c.args.noted c.args.page c.args.next) some at;
-      goes_on = subst (MayOpen (role_of c.args.role) c.args.noted) (opened_now v w) (c.stops.ensures.goes_on c.if-stops.false);
+      goes_on = subst (MayContinue (role_of c.args.role) c.args.noted) (opened_now v w) (c.stops.ensures.goes_on c.if-stops.false);
       behind_is = omega arith;
     }
 
@@ -65,11 +65,11 @@ returns-clause-makes c =
     let v : WriterValue = the_view c.self.inside in
     let w : IsWriter v = writer_seen c.self.view_is c.requires.framed.writer in
     let s = c.mark_head-marked.ensures.step in
-    let on : MayOpen (role_of c.args.role) c.args.noted s.core.opened = subst (MayOpen (role_of c.args.role) c.args.noted)
+    let on : MayContinue (role_of c.args.role) c.args.noted s.core.opened = subst (MayContinue (role_of c.args.role) c.args.noted)
     (opened_now v w ∙ ap (λ (p : Writing). p.opened) (sym s.before_is)) (c.stops.ensures.goes_on c.if-stops.false) in
     let next : Phase = c.after_next.result in
     goes_on_called c.self.view_is c.requires.framed.writer c.requires.framed.top c.requires.phase c.args.noted next next _ refl (ap noted_fill c.after_next.ensures ∙ noted_after (role_of c.args.role) c.args.noted c.args.page) refl
-    c.mark_head-marked.ensures.same.shape c.mark_head-marked.ensures.same.table refl c.go_on.ensures.goes_on (ap told c.go_on.ensures.answer) s
+    c.mark_head-marked.ensures.same.shape c.mark_head-marked.ensures.same.table refl c.go_on.ensures.goes_on (ap as_answer c.go_on.ensures.answer) s
     (λ frame below step. subst (λ (p : ModelPhase). writing_of s.next ≡ writing_of (model.in_phase s.core frame below p)) (sym c.after_next.ensures)
     (marked v.shape.pages s.core frame below model.going s.next (role_of c.args.role) c.args.noted c.args.page c.args.next on step))
 

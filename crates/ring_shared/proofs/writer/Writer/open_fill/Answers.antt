@@ -2,7 +2,7 @@ use Rattle.std.proofs.Common.{◌≡◌, ap, ◌∙◌, subst, refl, arith}
 use Rattle.trace_model.specs.Frames.{opening}
 use Rattle.trace_model.specs.Steps as model
 use Rattle.ring_frames.specs.declared.phase.Phase.TheVariants.{Opening}
-use Rattle.ring_frames.specs.Phases.{told}
+use Rattle.ring_frames.specs.Phases.{as_answer}
 use Rattle.ring_shared.specs.Value.{WriterValue}
 use Rattle.ring_shared.specs.Calls.{IsWriter, MakesSome}
 use Rattle.ring_shared.specs.contracts.writer.Writer.{the_view}
@@ -50,8 +50,8 @@ returns-clause-makes c =
     let v : WriterValue = the_view c.self.inside in
     let w : IsWriter v = writer_seen c.self.view_is c.requires.framed.writer in
     let new : WriterValue = the_view record { seat = c.open_fill-body.new.self; frames = c.open_fill.new.self; pages = c.push_back_reserved.new.self } in
-    subst (λ (x : WriterValue). MakesSome x model.steps (told c.open_fill.result) new) c.self.view_is
-    (opens_fill v new w (top_seen c.self.view_is c.requires.framed.top) c.open_fill-body.ensures.same.shape c.open_fill-body.ensures.same.table _ c.args.noted c.args.page (told c.open_fill.result)
+    subst (λ (x : WriterValue). MakesSome x model.steps (as_answer c.open_fill.result) new) c.self.view_is
+    (opens_fill v new w (top_seen c.self.view_is c.requires.framed.top) c.open_fill-body.ensures.same.shape c.open_fill-body.ensures.same.table _ c.args.noted c.args.page (as_answer c.open_fill.result)
     (phase_seen c.self.view_is c.requires.phase) (c.if-noted-opened.false ∙ c.opened.ensures.begun ∙ opened_now v w)
     c.open_fill.ensures.opens c.push_back_reserved.ensures.items c.open_fill-body.ensures.step)
 

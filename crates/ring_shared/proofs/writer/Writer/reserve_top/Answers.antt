@@ -6,8 +6,8 @@ use Rattle.ring_shared.specs.Nearer.{rank_of}
 use Rattle.ring_shared.specs.Finishing.{Reserves}
 use Rattle.ring_shared.proofs.Targets.{lacks_slot}
 use Rattle.ring_shared.proofs.Depths.{reserving_top}
-use Rattle.ring_shared.proofs.Finishes.{IsAmidReserving, reserving_unnumbered, reserving_first, reserving_on, reserving_stands, reserving_ends, call_in, same_writer}
-use Rattle.ring_shared.proofs.Turning.{amid_turned, same_turned}
+use Rattle.ring_shared.proofs.Finishes.{IsStillReserving, reserving_unnumbered, reserving_first, reserving_on, reserving_stands, reserving_ends, call_in, same_writer}
+use Rattle.ring_shared.proofs.Turning.{part_way_turned, same_turned}
 use Rattle.ring_frames.proofs.Payloads.{same_stack, kept_then}
 use Rattle.ring_shared.specs.Calls.{IsWriter}
 use Rattle.ring_shared.proofs.writer.Writer.reserve_top.Goals as goal
@@ -21,7 +21,7 @@ loop-last-init c =
       writer = c.requires.writer;
       ring = (refl, refl);
       some = (frame, below, top);
-      amid = λ other others is. reserving_first v.shape other others v.part is (reserving_top v.part.frames frame other below others top reserves is);
+      part_way = λ other others is. reserving_first v.shape other others v.part is (reserving_top v.part.frames frame other below others top reserves is);
       payloads = same_stack v.frames.stack v.frames.stack refl;
     }
 
@@ -35,7 +35,7 @@ returns-in-Some-clause-reserves c = λ frame below top.
     let old : WriterValue = c.loop-last.self in let new : WriterValue = c.step.new.self in let shape : Shape = c.args.self.now.shape in
     let (same, other) = c.unless_going.ensures.other c.in-Some.last c.in-Some.is in
     subst (λ (x : Answer). Reserves shape frame.kind below c.args.self.now.part x new.part) (sym same)
-    (reserving_ends shape frame.kind below c.args.self.now.part old.part new.part c.step.result (h.amid frame below top)
+    (reserving_ends shape frame.kind below c.args.self.now.part old.part new.part c.step.result (h.part_way frame below top)
     (call_in shape old new c.step.result h.ring.0 c.step.ensures.makes) other)
 
 pub returns-in-Some-clause-ring : goal.returns-in-Some-clause-ring
@@ -46,8 +46,8 @@ turn_over-requires-clause-top c =
     let h = c.loop-last.invariant in
     let old : WriterValue = c.loop-last.self in let one : WriterValue = c.step.new.self in let shape : Shape = c.args.self.now.shape in
     let (frame, below, top) = h.some in
-    let a : IsAmidReserving shape frame.kind below c.args.self.now.part one.part =
-    reserving_on shape frame.kind below c.args.self.now.part old.part one.part c.step.result (h.amid frame below top)
+    let a : IsStillReserving shape frame.kind below c.args.self.now.part one.part =
+    reserving_on shape frame.kind below c.args.self.now.part old.part one.part c.step.result (h.part_way frame below top)
     (call_in shape old one c.step.result h.ring.0 c.step.ensures.makes) (c.unless_going.ensures.going c.in_default.is) in
     (a.frame, below, a.top, a.reserves)
 
@@ -56,7 +56,7 @@ loop-last-smaller c =
     let h = c.loop-last.invariant in
     let old : WriterValue = c.loop-last.self in let one : WriterValue = c.step.new.self in let new : WriterValue = c.turn_over.new.self in let shape : Shape = c.args.self.now.shape in
     let (frame, below, top) = h.some in
-    let a : IsAmidReserving shape frame.kind below c.args.self.now.part old.part = h.amid frame below top in
+    let a : IsStillReserving shape frame.kind below c.args.self.now.part old.part = h.part_way frame below top in
     let less : rank_of one < rank_of old = c.step.ensures.nearer a.frame below a.top (reserving_unnumbered a.frame.kind a.frame.state a.reserves)
     (reserving_stands shape frame.kind below c.args.self.now.part old.part one.part c.step.result a
     (call_in shape old one c.step.result h.ring.0 c.step.ensures.makes) (c.unless_going.ensures.going c.in_default.is)) in
@@ -73,9 +73,9 @@ loop-last-preserved c =
       writer = turns.writer;
       ring = same_turned c.args.self.now one new ring turns;
       some = h.some;
-      amid = λ frame below top.
-          amid_turned shape frame.kind below c.args.self.now.part one new ring.0
-          (reserving_on shape frame.kind below c.args.self.now.part old.part one.part c.step.result (h.amid frame below top)
+      part_way = λ frame below top.
+          part_way_turned shape frame.kind below c.args.self.now.part one new ring.0
+          (reserving_on shape frame.kind below c.args.self.now.part old.part one.part c.step.result (h.part_way frame below top)
           (call_in shape old one c.step.result h.ring.0 makes) (c.unless_going.ensures.going c.in_default.is)) turns;
       payloads = kept_then c.args.self.now.frames.stack one.frames.stack new.frames.stack (kept_then c.args.self.now.frames.stack old.frames.stack one.frames.stack h.payloads c.step.ensures.slots.payloads) turns.payloads;
     }
@@ -89,6 +89,6 @@ unfolding IsWriter
 returns-in-Some-clause-zeros c = λ number slot e lacks at.
     let h = c.loop-last.invariant in
     let (frame, below, top) = h.some in
-    let a = h.amid frame below top in
+    let a = h.part_way frame below top in
     let (same, other) = c.unless_going.ensures.other c.in-Some.last c.in-Some.is in
     c.step.ensures.slots.zeros number slot (sym same ∙ e) (lacks_slot c.loop-last.self h.writer a.frame below a.top a.reserves) at

@@ -1,5 +1,5 @@
 use Rattle.std.proofs.Common.{rules, sym, ◌∙◌}
-use Rattle.ring_frames.specs.Phases.{told}
+use Rattle.ring_frames.specs.Phases.{as_answer}
 use Rattle.ring_shared.proofs.Rooms.{going_rooms, reserved_rooms, gone_rooms}
 use Rattle.ring_shared.proofs.writer.Writer.step.Goals as goal
 
@@ -19,19 +19,19 @@ returns-in-Wishing-clause-slots c = record {
   payloads = search rules;
   zeros = search rules;
   room = search rules;
-  gone = λ gone. gone_rooms _ _ (told c.load_wish.result) _ c.load_wish.ensures.makes.call (sym c.answer.ensures ∙ gone);
+  gone = λ gone. gone_rooms _ _ (as_answer c.load_wish.result) _ c.load_wish.ensures.makes.call (sym c.answer.ensures ∙ gone);
 }
 
 pub returns-in-Wishing-clause-going : goal.returns-in-Wishing-clause-going
-returns-in-Wishing-clause-going c = λ going. going_rooms _ _ (told c.load_wish.result) _ c.load_wish.ensures.makes.call (sym c.answer.ensures ∙ going)
+returns-in-Wishing-clause-going c = λ going. going_rooms _ _ (as_answer c.load_wish.result) _ c.load_wish.ensures.makes.call (sym c.answer.ensures ∙ going)
 
 pub returns-in_default-clause-slots : goal.returns-in_default-clause-slots
 returns-in_default-clause-slots c = record {
   payloads = search rules;
   zeros = search rules;
   room = search rules;
-  gone = λ gone. gone_rooms _ _ (told c.turn.result) _ c.turn.ensures.makes.call (sym c.answer-in_default.ensures ∙ gone);
+  gone = λ gone. gone_rooms _ _ (as_answer c.word_step.result) _ c.word_step.ensures.makes.call (sym c.answer-in_default.ensures ∙ gone);
 }
 
 pub returns-in_default-clause-going : goal.returns-in_default-clause-going
-returns-in_default-clause-going c = λ going. going_rooms _ _ (told c.turn.result) _ c.turn.ensures.makes.call (sym c.answer-in_default.ensures ∙ going)
+returns-in_default-clause-going c = λ going. going_rooms _ _ (as_answer c.word_step.result) _ c.word_step.ensures.makes.call (sym c.answer-in_default.ensures ∙ going)

@@ -4,7 +4,7 @@ use Rattle.trace_model.specs.Ring.{Core}
 use Rattle.trace_model.specs.Steps as model
 use Rattle.ring_frames.specs.declared.answer.Answer.TheVariants.{Going, Gone}
 use Rattle.ring_frames.specs.Value.{FramesValue}
-use Rattle.ring_frames.specs.Phases.{told}
+use Rattle.ring_frames.specs.Phases.{as_answer}
 use Rattle.ring_steps.specs.declared.rule.Shape.{Shape}
 use Rattle.ring_steps.specs.Views.{Writing}
 use Rattle.ring_steps.specs.Seats.{IsWriterStep}
@@ -87,7 +87,7 @@ returns-in-Gone-clause-keeps c =
       payloads = subst (λ (x : WriterValue). KeepsPayloads x.frames.stack c.stay.new.self.stack) c.self.view_is
           (kept_then v.frames.stack c.write.new.self.stack c.stay.new.self.stack c.write.ensures.payloads c.stay.ensures.payloads);
       ring = search rules;
-      writer = let w : IsWriter v = writer_seen c.self.view_is c.requires.writer in let gone : FramesValue = c.write.new.self in let wrote = c.write.ensures.wrote c.in-Record.is in let alone = c.write.ensures.alone c.in-Record.is in let new : WriterValue = the_view record { seat = c.load_wish-wish.new.self; frames = c.stay.new.self; pages = c.self.inside.pages } in let (answer, loads) = c.load_wish-wish.ensures.step in let step = from_noted c.note.ensures.same.shape c.note.ensures.noted loads in let makes : MakesSome (mid v w c.args.moment c.args.payload.now gone wrote alone) model.steps (told c.stay.result) new = looks_for_wish (mid v w c.args.moment c.args.payload.now gone wrote alone) new (writer_mid v w c.args.moment c.args.payload.now gone wrote alone) (some_mid v w c.args.moment c.args.payload.now gone wrote alone) (c.load_wish-wish.ensures.same.shape ∙ c.note.ensures.same.shape) (c.load_wish-wish.ensures.same.table ∙ c.note.ensures.same.table) _ c.load_wish-wish.result (told c.stay.result) answer c.stay.ensures.looks refl step (λ is. is) in makes.writer;
+      writer = let w : IsWriter v = writer_seen c.self.view_is c.requires.writer in let gone : FramesValue = c.write.new.self in let wrote = c.write.ensures.wrote c.in-Record.is in let alone = c.write.ensures.alone c.in-Record.is in let new : WriterValue = the_view record { seat = c.load_wish-wish.new.self; frames = c.stay.new.self; pages = c.self.inside.pages } in let (answer, loads) = c.load_wish-wish.ensures.step in let step = from_noted c.note.ensures.same.shape c.note.ensures.noted loads in let makes : MakesSome (mid v w c.args.moment c.args.payload.now gone wrote alone) model.steps (as_answer c.stay.result) new = looks_for_wish (mid v w c.args.moment c.args.payload.now gone wrote alone) new (writer_mid v w c.args.moment c.args.payload.now gone wrote alone) (some_mid v w c.args.moment c.args.payload.now gone wrote alone) (c.load_wish-wish.ensures.same.shape ∙ c.note.ensures.same.shape) (c.load_wish-wish.ensures.same.table ∙ c.note.ensures.same.table) _ c.load_wish-wish.result (as_answer c.stay.result) answer c.stay.ensures.looks refl step (λ is. is) in makes.writer;
     }
 
 pub returns-in-Gone-clause-written : goal.returns-in-Gone-clause-written
@@ -99,13 +99,13 @@ returns-in-Gone-clause-written c = λ _.
     let wrote = c.write.ensures.wrote c.in-Record.is in let alone = c.write.ensures.alone c.in-Record.is in
     let new : WriterValue = the_view record { seat = c.load_wish-wish.new.self; frames = c.stay.new.self; pages = c.self.inside.pages } in
     let (answer, loads) = c.load_wish-wish.ensures.step in let step = from_noted c.note.ensures.same.shape c.note.ensures.noted loads in
-    let makes : MakesSome (mid v w c.args.moment c.args.payload.now gone wrote alone) model.steps (told c.stay.result) new =
+    let makes : MakesSome (mid v w c.args.moment c.args.payload.now gone wrote alone) model.steps (as_answer c.stay.result) new =
     looks_for_wish (mid v w c.args.moment c.args.payload.now gone wrote alone) new (writer_mid v w c.args.moment c.args.payload.now gone wrote alone)
-    (some_mid v w c.args.moment c.args.payload.now gone wrote alone) (c.load_wish-wish.ensures.same.shape ∙ c.note.ensures.same.shape) (c.load_wish-wish.ensures.same.table ∙ c.note.ensures.same.table) _ c.load_wish-wish.result (told c.stay.result) answer
+    (some_mid v w c.args.moment c.args.payload.now gone wrote alone) (c.load_wish-wish.ensures.same.shape ∙ c.note.ensures.same.shape) (c.load_wish-wish.ensures.same.table ∙ c.note.ensures.same.table) _ c.load_wish-wish.result (as_answer c.stay.result) answer
     c.stay.ensures.looks refl step (λ is. is) in
     subst (λ (x : WriterValue). IsWritten x.shape x.part c.args.moment c.args.payload.now new.part) c.self.view_is
-    (written_at_once v w c.args.moment c.args.payload.now gone wrote alone (told c.stay.result) new.part makes.call
-    (λ e. let both : Gone ≡ Going = sym (ap told c.in-Gone.is) ∙ e in cc))
+    (written_at_once v w c.args.moment c.args.payload.now gone wrote alone (as_answer c.stay.result) new.part makes.call
+    (λ e. let both : Gone ≡ Going = sym (ap as_answer c.in-Gone.is) ∙ e in cc))
 
 pub leave_on-refusal-requires : goal.leave_on-refusal-requires
 unfolding IsWriter
@@ -116,13 +116,13 @@ leave_on-refusal-requires c =
     let wrote = c.write.ensures.wrote c.in-Record.is in let alone = c.write.ensures.alone c.in-Record.is in
     let new : WriterValue = the_view record { seat = c.load_wish-wish.new.self; frames = c.stay.new.self; pages = c.self.inside.pages } in
     let (answer, loads) = c.load_wish-wish.ensures.step in let step = from_noted c.note.ensures.same.shape c.note.ensures.noted loads in
-    let makes : MakesSome (mid v w c.args.moment c.args.payload.now gone wrote alone) model.steps (told c.stay.result) new =
+    let makes : MakesSome (mid v w c.args.moment c.args.payload.now gone wrote alone) model.steps (as_answer c.stay.result) new =
     looks_for_wish (mid v w c.args.moment c.args.payload.now gone wrote alone) new (writer_mid v w c.args.moment c.args.payload.now gone wrote alone)
-    (some_mid v w c.args.moment c.args.payload.now gone wrote alone) (c.load_wish-wish.ensures.same.shape ∙ c.note.ensures.same.shape) (c.load_wish-wish.ensures.same.table ∙ c.note.ensures.same.table) _ c.load_wish-wish.result (told c.stay.result) answer
+    (some_mid v w c.args.moment c.args.payload.now gone wrote alone) (c.load_wish-wish.ensures.same.shape ∙ c.note.ensures.same.shape) (c.load_wish-wish.ensures.same.table ∙ c.note.ensures.same.table) _ c.load_wish-wish.result (as_answer c.stay.result) answer
     c.stay.ensures.looks refl step (λ is. is) in
     record {
       writer = makes.writer;
-      top = stands_still v w c.args.moment c.args.payload.now gone wrote alone (told c.stay.result) new.part makes.call (ap told c.in-Going.is);
+      top = stands_still v w c.args.moment c.args.payload.now gone wrote alone (as_answer c.stay.result) new.part makes.call (ap as_answer c.in-Going.is);
     }
 
 pub returns-in-Going-clause-written : goal.returns-in-Going-clause-written
@@ -134,14 +134,14 @@ returns-in-Going-clause-written c = λ _.
     let wrote = c.write.ensures.wrote c.in-Record.is in let alone = c.write.ensures.alone c.in-Record.is in
     let new : WriterValue = the_view record { seat = c.load_wish-wish.new.self; frames = c.stay.new.self; pages = c.self.inside.pages } in
     let (answer, loads) = c.load_wish-wish.ensures.step in let step = from_noted c.note.ensures.same.shape c.note.ensures.noted loads in
-    let makes : MakesSome (mid v w c.args.moment c.args.payload.now gone wrote alone) model.steps (told c.stay.result) new =
+    let makes : MakesSome (mid v w c.args.moment c.args.payload.now gone wrote alone) model.steps (as_answer c.stay.result) new =
     looks_for_wish (mid v w c.args.moment c.args.payload.now gone wrote alone) new (writer_mid v w c.args.moment c.args.payload.now gone wrote alone)
-    (some_mid v w c.args.moment c.args.payload.now gone wrote alone) (c.load_wish-wish.ensures.same.shape ∙ c.note.ensures.same.shape) (c.load_wish-wish.ensures.same.table ∙ c.note.ensures.same.table) _ c.load_wish-wish.result (told c.stay.result) answer
+    (some_mid v w c.args.moment c.args.payload.now gone wrote alone) (c.load_wish-wish.ensures.same.shape ∙ c.note.ensures.same.shape) (c.load_wish-wish.ensures.same.table ∙ c.note.ensures.same.table) _ c.load_wish-wish.result (as_answer c.stay.result) answer
     c.stay.ensures.looks refl step (λ is. is) in
     let end : Writing = c.leave_on-refusal.new.self.part in
     let (last, refusal, how, leaves) = c.leave_on-refusal.ensures.leaves in
     subst (λ (x : WriterValue). IsWritten x.shape x.part c.args.moment c.args.payload.now end) c.self.view_is
-    (written_behind v w c.args.moment c.args.payload.now gone wrote alone (told c.stay.result) new.part makes.call last end (ap told c.in-Going.is)
+    (written_behind v w c.args.moment c.args.payload.now gone wrote alone (as_answer c.stay.result) new.part makes.call last end (ap as_answer c.in-Going.is)
     (λ frame below top. subst (λ (s : Shape). Leaves s below new.part last end) (c.load_wish-wish.ensures.same.shape ∙ c.note.ensures.same.shape) (leaves frame below top)))
 
 -- ---- payloads

@@ -28,8 +28,8 @@ put_padded-requires c =
 
 pub returns-in_err-slot-clause-refused : goal.returns-in_err-slot-clause-refused
 returns-in_err-slot-clause-refused c = λ fault e.
-    let (told, is, back) = err_from_is_err_and c.from_residual.result c.from_residual.ensures.1 in
-    let same : told ≡ fault = one_fault told fault (sym is ∙ e) in
+    let (reported, is, back) = err_from_is_err_and c.from_residual.result c.from_residual.ensures.1 in
+    let same : reported ≡ fault = one_fault reported fault (sym is ∙ e) in
     c.reserve_record.ensures.refused fault (c.in_err-slot.was ∙ ap Err (sym back ∙ same))
 
 -- the record's slot is on top, so that it is lent

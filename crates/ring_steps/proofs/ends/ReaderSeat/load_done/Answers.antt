@@ -8,13 +8,13 @@ load-requires-clause-allowed c = let is = c.args.self.now.is_reading in
     reader_allows c.args.self.now.shape _ _ _ _ _ _ is.view (λ core words homes s. load_done_moves c.args.self.now.shape _ is core words homes s _ _ c.requires.due)
 
 pub returns-clause-closed : goal.returns-clause-closed
-returns-clause-closed c = let told = c.load.ensures.told.1 in
-    λ below. finds_closed c.args.self.now.shape _ _ c.load.result told.step.0 told.step.1 _ _ c.requires.due told.keeps_is below
+returns-clause-closed c = let reported = c.load.ensures.reported.1 in
+    λ below. finds_closed c.args.self.now.shape _ _ c.load.result reported.step.0 reported.step.1 _ _ c.requires.due reported.keeps_is below
 
 pub returns-clause-none : goal.returns-clause-none
-returns-clause-none c = let told = c.load.ensures.told.1 in
-    λ le. (finds_none c.args.self.now.shape _ _ c.load.result told.step.0 told.step.1 _ _ c.requires.due told.keeps_is le).0
+returns-clause-none c = let reported = c.load.ensures.reported.1 in
+    λ le. (finds_none c.args.self.now.shape _ _ c.load.result reported.step.0 reported.step.1 _ _ c.requires.due reported.keeps_is le).0
 
 pub returns-clause-all : goal.returns-clause-all
-returns-clause-all c = let told = c.load.ensures.told.1 in
-    λ le. (finds_none c.args.self.now.shape _ _ c.load.result told.step.0 told.step.1 _ _ c.requires.due told.keeps_is le).1
+returns-clause-all c = let reported = c.load.ensures.reported.1 in
+    λ le. (finds_none c.args.self.now.shape _ _ c.load.result reported.step.0 reported.step.1 _ _ c.requires.due reported.keeps_is le).1

@@ -10,24 +10,24 @@ load-requires-clause-allowed c = let is = c.args.self.now.is_reading in
     reader_allows c.args.self.now.shape _ _ _ _ _ _ is.view (λ core words homes s. load_link_moves c.args.self.now.shape _ is core words homes s c.args.page c.requires.due c.requires.page)
 
 pub link_in-requires : goal.link_in-requires
-link_in-requires c = record { mark = λ three. no_mark _ (ap (λ (word : ℕ). word % 4) c.load.ensures.told.1.step.1.seen.word_is ∙ three) }
+link_in-requires c = record { mark = λ three. no_mark _ (ap (λ (word : ℕ). word % 4) c.load.ensures.reported.1.step.1.seen.word_is ∙ three) }
 
 pub returns-clause-header : goal.returns-clause-header
-returns-clause-header c = let told = c.load.ensures.told.1 in
-    at_header c.args.self.now.shape _ _ _ told.step c.requires.due told.keeps_is c.link_in.result c.link_in.ensures.fits c.link_in.ensures.word
+returns-clause-header c = let reported = c.load.ensures.reported.1 in
+    at_header c.args.self.now.shape _ _ _ reported.step c.requires.due reported.keeps_is c.link_in.result c.link_in.ensures.fits c.link_in.ensures.word
 
 pub returns-clause-update : goal.returns-clause-update
-returns-clause-update c = let told = c.load.ensures.told.1 in
-    at_update c.args.self.now.shape _ _ _ told.step c.requires.due told.keeps_is c.link_in.result c.link_in.ensures.fits c.link_in.ensures.word
+returns-clause-update c = let reported = c.load.ensures.reported.1 in
+    at_update c.args.self.now.shape _ _ _ reported.step c.requires.due reported.keeps_is c.link_in.result c.link_in.ensures.fits c.link_in.ensures.word
 
 pub returns-clause-owed : goal.returns-clause-owed
-returns-clause-owed c = let told = c.load.ensures.told.1 in
-    at_owed c.args.self.now.shape _ _ _ told.step c.requires.due told.keeps_is c.link_in.result c.link_in.ensures.fits c.link_in.ensures.word
+returns-clause-owed c = let reported = c.load.ensures.reported.1 in
+    at_owed c.args.self.now.shape _ _ _ reported.step c.requires.due reported.keeps_is c.link_in.result c.link_in.ensures.fits c.link_in.ensures.word
 
 pub returns-clause-passed : goal.returns-clause-passed
-returns-clause-passed c = let told = c.load.ensures.told.1 in
-    λ is other. (at_passed c.args.self.now.shape _ _ _ told.step c.requires.due told.keeps_is c.link_in.result c.link_in.ensures.fits c.link_in.ensures.word is other).0
+returns-clause-passed c = let reported = c.load.ensures.reported.1 in
+    λ is other. (at_passed c.args.self.now.shape _ _ _ reported.step c.requires.due reported.keeps_is c.link_in.result c.link_in.ensures.fits c.link_in.ensures.word is other).0
 
 pub returns-clause-behind : goal.returns-clause-behind
-returns-clause-behind c = let told = c.load.ensures.told.1 in
-    λ is other. (at_passed c.args.self.now.shape _ _ _ told.step c.requires.due told.keeps_is c.link_in.result c.link_in.ensures.fits c.link_in.ensures.word is other).1
+returns-clause-behind c = let reported = c.load.ensures.reported.1 in
+    λ is other. (at_passed c.args.self.now.shape _ _ _ reported.step c.requires.due reported.keeps_is c.link_in.result c.link_in.ensures.fits c.link_in.ensures.word is other).1

@@ -10,5 +10,5 @@ store-requires-clause-allowed c = let is = c.args.self.now.is_reading in
     (λ core words homes s. store_moves c.args.self.now.shape _ is core words homes s _ _ c.args.spare _ _ c.requires.due c.requires.spare c.requires.given_back c.pack-word.ensures c.requires.link)
 
 pub returns-clause-linked : goal.returns-clause-linked
-returns-clause-linked c = let told = c.store.ensures.told.1 in
-    stores c.args.self.now.shape _ _ (λ _. ⊤) told.step.0 told.step.1 _ c.requires.due c.requires.link told.keeps_is
+returns-clause-linked c = let reported = c.store.ensures.reported.1 in
+    stores c.args.self.now.shape _ _ (λ _. ⊤) reported.step.0 reported.step.1 _ c.requires.due c.requires.link reported.keeps_is

@@ -1,6 +1,6 @@
 use Rattle.std.proofs.Common.{sym, ap, ◌∙◌, arith}
 use Rattle.page_image.specs.Contents.{Contents}
-use Rattle.ring_steps.proofs.Swaps.{swap_allowed, told_before, taken_slot, taken_seat, taken_told, missed_slot, missed_seat, missed_told, missed_page}
+use Rattle.ring_steps.proofs.Swaps.{swap_allowed, reported_before, taken_slot, taken_seat, taken_reported, missed_slot, missed_seat, missed_reported, missed_page}
 use Rattle.ring_steps.proofs.ends.ReaderSeat.swap_head.Goals as goal
 
 pub exchange-requires-2-clause-allowed : goal.exchange-requires-2-clause-allowed
@@ -13,19 +13,19 @@ exchange-requires-2-clause-allowed c = let self = c.args.self.now in let numbers
 pub lift-requires-clause-slot : goal.lift-requires-clause-slot
 lift-requires-clause-slot c = let self = c.args.self.now in
     taken_slot self.shape self.seat.me c.exchange-2.new.seat.me c.exchange-2.new.seat.me c.args.page c.args.fill.0 c.exchange-2.result c.fresh-blank.result
-    (told_before self.shape self.seat.me c.exchange.new.seat.me c.args.page c.args.fill.0 c.args.spare c.fresh-blank.result self.is_reading c.requires.due c.requires.kept c.requires.spare c.exchange.ensures.3 _ _ c.exchange-2.ensures.told)
+    (reported_before self.shape self.seat.me c.exchange.new.seat.me c.args.page c.args.fill.0 c.args.spare c.fresh-blank.result self.is_reading c.requires.due c.requires.kept c.requires.spare c.exchange.ensures.3 _ _ c.exchange-2.ensures.reported)
     (c.if-exchange-from.true ∙ c.header_word-from.ensures)
 
 pub invariant_of-self-clause-is_reading : goal.invariant_of-self-clause-is_reading
 invariant_of-self-clause-is_reading c = let self = c.args.self.now in
     taken_seat self.shape self.seat.me c.exchange-2.new.seat.me c.lift.new.seat.me c.args.page c.args.fill.0 c.exchange-2.result c.fresh-blank.result
-    (told_before self.shape self.seat.me c.exchange.new.seat.me c.args.page c.args.fill.0 c.args.spare c.fresh-blank.result self.is_reading c.requires.due c.requires.kept c.requires.spare c.exchange.ensures.3 _ _ c.exchange-2.ensures.told)
+    (reported_before self.shape self.seat.me c.exchange.new.seat.me c.args.page c.args.fill.0 c.args.spare c.fresh-blank.result self.is_reading c.requires.due c.requires.kept c.requires.spare c.exchange.ensures.3 _ _ c.exchange-2.ensures.reported)
     (c.if-exchange-from.true ∙ c.header_word-from.ensures) c.lift.ensures.seat
 
 pub returns-then-exchange-from-clause-taken : goal.returns-then-exchange-from-clause-taken
 returns-then-exchange-from-clause-taken c = let self = c.args.self.now in
-    taken_told self.shape self.seat.me c.exchange-2.new.seat.me c.lift.new.seat.me c.args.page c.args.fill.0 c.exchange-2.result c.fresh-blank.result
-    (told_before self.shape self.seat.me c.exchange.new.seat.me c.args.page c.args.fill.0 c.args.spare c.fresh-blank.result self.is_reading c.requires.due c.requires.kept c.requires.spare c.exchange.ensures.3 _ _ c.exchange-2.ensures.told)
+    taken_reported self.shape self.seat.me c.exchange-2.new.seat.me c.lift.new.seat.me c.args.page c.args.fill.0 c.exchange-2.result c.fresh-blank.result
+    (reported_before self.shape self.seat.me c.exchange.new.seat.me c.args.page c.args.fill.0 c.args.spare c.fresh-blank.result self.is_reading c.requires.due c.requires.kept c.requires.spare c.exchange.ensures.3 _ _ c.exchange-2.ensures.reported)
     (c.if-exchange-from.true ∙ c.header_word-from.ensures) c.lift.ensures.seat c.lift.result c.lift.ensures.page
 
 -- ---- it wasn't there
@@ -33,23 +33,23 @@ returns-then-exchange-from-clause-taken c = let self = c.args.self.now in
 pub lift-requires-else-exchange-from-clause-slot : goal.lift-requires-else-exchange-from-clause-slot
 lift-requires-else-exchange-from-clause-slot c = let self = c.args.self.now in
     missed_slot self.shape self.seat.me c.exchange-2.new.seat.me c.exchange-2.new.seat.me c.args.page c.args.fill.0 c.exchange-2.result c.fresh-blank.result
-    (told_before self.shape self.seat.me c.exchange.new.seat.me c.args.page c.args.fill.0 c.args.spare c.fresh-blank.result self.is_reading c.requires.due c.requires.kept c.requires.spare c.exchange.ensures.3 _ _ c.exchange-2.ensures.told)
+    (reported_before self.shape self.seat.me c.exchange.new.seat.me c.args.page c.args.fill.0 c.args.spare c.fresh-blank.result self.is_reading c.requires.due c.requires.kept c.requires.spare c.exchange.ensures.3 _ _ c.exchange-2.ensures.reported)
     (λ same. c.if-exchange-from.false (same ∙ sym c.header_word-from.ensures)) c.args.spare c.requires.spare
 
 pub invariant_of-self-else-exchange-from-clause-is_reading : goal.invariant_of-self-else-exchange-from-clause-is_reading
 invariant_of-self-else-exchange-from-clause-is_reading c = let self = c.args.self.now in
     missed_seat self.shape self.seat.me c.exchange-2.new.seat.me c.lift-else-exchange-from.new.seat.me c.args.page c.args.fill.0 c.exchange-2.result c.fresh-blank.result
-    (told_before self.shape self.seat.me c.exchange.new.seat.me c.args.page c.args.fill.0 c.args.spare c.fresh-blank.result self.is_reading c.requires.due c.requires.kept c.requires.spare c.exchange.ensures.3 _ _ c.exchange-2.ensures.told)
+    (reported_before self.shape self.seat.me c.exchange.new.seat.me c.args.page c.args.fill.0 c.args.spare c.fresh-blank.result self.is_reading c.requires.due c.requires.kept c.requires.spare c.exchange.ensures.3 _ _ c.exchange-2.ensures.reported)
     (λ same. c.if-exchange-from.false (same ∙ sym c.header_word-from.ensures)) c.args.spare c.requires.spare c.lift-else-exchange-from.ensures.seat
 
 pub returns-else-exchange-from-clause-missed : goal.returns-else-exchange-from-clause-missed
 returns-else-exchange-from-clause-missed c = let self = c.args.self.now in
-    missed_told self.shape self.seat.me c.exchange-2.new.seat.me c.lift-else-exchange-from.new.seat.me c.args.page c.args.fill.0 c.exchange-2.result c.fresh-blank.result
-    (told_before self.shape self.seat.me c.exchange.new.seat.me c.args.page c.args.fill.0 c.args.spare c.fresh-blank.result self.is_reading c.requires.due c.requires.kept c.requires.spare c.exchange.ensures.3 _ _ c.exchange-2.ensures.told)
+    missed_reported self.shape self.seat.me c.exchange-2.new.seat.me c.lift-else-exchange-from.new.seat.me c.args.page c.args.fill.0 c.exchange-2.result c.fresh-blank.result
+    (reported_before self.shape self.seat.me c.exchange.new.seat.me c.args.page c.args.fill.0 c.args.spare c.fresh-blank.result self.is_reading c.requires.due c.requires.kept c.requires.spare c.exchange.ensures.3 _ _ c.exchange-2.ensures.reported)
     (λ same. c.if-exchange-from.false (same ∙ sym c.header_word-from.ensures)) c.args.spare c.requires.spare c.lift-else-exchange-from.ensures.seat
 
 pub returns-else-exchange-from-clause-given_back : goal.returns-else-exchange-from-clause-given_back
 returns-else-exchange-from-clause-given_back c = let self = c.args.self.now in
     c.into_body.ensures ∙ ap (λ (p : Contents). p.size) (missed_page self.shape self.seat.me c.exchange-2.new.seat.me c.lift-else-exchange-from.new.seat.me c.args.page c.args.fill.0 c.exchange-2.result c.fresh-blank.result
-    (told_before self.shape self.seat.me c.exchange.new.seat.me c.args.page c.args.fill.0 c.args.spare c.fresh-blank.result self.is_reading c.requires.due c.requires.kept c.requires.spare c.exchange.ensures.3 _ _ c.exchange-2.ensures.told)
+    (reported_before self.shape self.seat.me c.exchange.new.seat.me c.args.page c.args.fill.0 c.args.spare c.fresh-blank.result self.is_reading c.requires.due c.requires.kept c.requires.spare c.exchange.ensures.3 _ _ c.exchange-2.ensures.reported)
     (λ same. c.if-exchange-from.false (same ∙ sym c.header_word-from.ensures)) c.args.spare c.requires.spare c.lift-else-exchange-from.result c.lift-else-exchange-from.ensures.page ∙ c.fresh-blank.ensures.blank)

@@ -25,16 +25,16 @@ exchange-found-requires-clause-allowed c = let self = c.args.self.now in
     c.args.tail c.args.page c.args.lost.0 c.header_word-from.result c.update_word-to.result c.requires.tail c.requires.phase c.requires.lost c.requires.fits c.header_word-from.ensures c.update_word-to.ensures)
 
 pub invariant_of-self-clause-is_writing : goal.invariant_of-self-clause-is_writing
-invariant_of-self-clause-is_writing c = c.exchange-found.ensures.told.told.seat
+invariant_of-self-clause-is_writing c = c.exchange-found.ensures.reported.reported.seat
 
 pub invariant_of-self-clause-reached : goal.invariant_of-self-clause-reached
-invariant_of-self-clause-reached c = ∣ step_reached c.args.self.now.shape _ _ _ _ c.exchange-found.ensures.told.told.step ∣₁
+invariant_of-self-clause-reached c = ∣ step_reached c.args.self.now.shape _ _ _ _ c.exchange-found.ensures.reported.reported.step ∣₁
 
 pub invariant_of-self-clause-pending : goal.invariant_of-self-clause-pending
 invariant_of-self-clause-pending c = rests c.args.self.now.shape _ _ c.ghost_part_at_rest-self.ensures
 
 pub returns-clause-passed : goal.returns-clause-passed
-returns-clause-passed c = let behind = c.exchange-found.ensures.told.lost in let sum = c.requires.lost in omega arith
+returns-clause-passed c = let behind = c.exchange-found.ensures.reported.lost in let sum = c.requires.lost in omega arith
 
 pub returns-clause-step : goal.returns-clause-step
 returns-clause-step c = let self = c.args.self.now in
@@ -42,4 +42,4 @@ returns-clause-step c = let self = c.args.self.now in
     seen_as self.shape _ _ _ _ _
     (λ core reached seen. done_seen self.shape self.table.pages_fit _ _ (header_link c.args.page c.args.lost.0) record { page_fits = c.requires.fits; fill_fits = omega arith } core reached seen.1
     c.header_word-from.result c.header_word-from.ensures)
-    (step_noted _ _ _ _ _ _ c.ghost_part_at_rest-self.ensures c.exchange-found.ensures.told.told.step)
+    (step_noted _ _ _ _ _ _ c.ghost_part_at_rest-self.ensures c.exchange-found.ensures.reported.reported.step)

@@ -46,10 +46,10 @@ exchange-found-requires-clause-allowed c = let self = c.args.self.now in
     c.args.front c.args.page (c.args.noted.0 - self.shape.pages) c.args.noted.0 c.update_word-from.result c.normal_word-to.result c.requires.front c.requires.phase (omega arith) c.update_word-from.ensures c.normal_word-to.ensures)
 
 pub invariant_of-self-clause-is_writing : goal.invariant_of-self-clause-is_writing
-invariant_of-self-clause-is_writing c = c.exchange-found.ensures.told.seat
+invariant_of-self-clause-is_writing c = c.exchange-found.ensures.reported.seat
 
 pub invariant_of-self-clause-reached : goal.invariant_of-self-clause-reached
-invariant_of-self-clause-reached c = ∣ step_reached c.args.self.now.shape _ _ _ _ c.exchange-found.ensures.told.step ∣₁
+invariant_of-self-clause-reached c = ∣ step_reached c.args.self.now.shape _ _ _ _ c.exchange-found.ensures.reported.step ∣₁
 
 pub invariant_of-self-clause-pending : goal.invariant_of-self-clause-pending
 invariant_of-self-clause-pending c = rests c.args.self.now.shape _ _ c.ghost_part_at_rest-self.ensures
@@ -59,7 +59,7 @@ returns-clause-done c = let self = c.args.self.now in
     let enough = lost_bounds self.shape (writing self.seat.me.0) (writing_in c.args.self.now) self.reached c.recall.ensures c.args.page c.args.noted.0 c.requires.phase in
     let (page, fill, front, some) = passed_bounds self.shape (writing self.seat.me.0) (writing_in c.args.self.now) self.reached c.recall.ensures (clearing c.args.noted.0 c.args.page) c.args.noted.0 c.args.page c.requires.phase refl refl in
     let few = self.table.pages_fit in
-    let s = c.exchange-found.ensures.told.step in
+    let s = c.exchange-found.ensures.reported.step in
     let there = cleared_update self.shape (writing_in c.args.self.now) c.args.page c.args.noted.0 (c.args.noted.0 - self.shape.pages) _ _ _ c.requires.phase (omega arith) s in
     (done_seen self.shape self.table.pages_fit c.args.noted.0 c.exchange-found.result (update_link c.args.page (c.args.noted.0 - self.shape.pages)) record { page_fits = omega arith; fill_fits = omega arith } s.core s.reached
     (subst (λ (fill : ℕ). word_of (link_into self.shape.pages s.core.links fill) ≡ c.exchange-found.result) (sym (clears_noted (writing_in c.args.self.now) c.args.page c.args.noted.0 c.requires.phase)) s.seen.1)
@@ -74,4 +74,4 @@ returns-clause-step c = let self = c.args.self.now in
     (sym (clears_noted (writing_in c.args.self.now) c.args.page c.args.noted.0 c.requires.phase))
     (done_seen self.shape self.table.pages_fit _ _ (update_link c.args.page (c.args.noted.0 - self.shape.pages)) record { page_fits = omega arith; fill_fits = omega arith }
     core reached seen.1 c.update_word-from.result c.update_word-from.ensures))
-    (step_noted _ _ _ _ _ _ c.ghost_part_at_rest-self.ensures c.exchange-found.ensures.told.step)
+    (step_noted _ _ _ _ _ _ c.ghost_part_at_rest-self.ensures c.exchange-found.ensures.reported.step)

@@ -21,19 +21,19 @@ load-found-requires-clause-allowed c = let self = c.args.self.now in
     (λ core r ws homes s now_is pages low. load_link_moves self.shape self.seat.me self.is_writing (writing_in c.args.self.now) core r ws homes s now_is pages low c.args.tail c.requires.tail c.requires.phase)
 
 pub invariant_of-self-clause-is_writing : goal.invariant_of-self-clause-is_writing
-invariant_of-self-clause-is_writing c = c.load-found.ensures.told.seat
+invariant_of-self-clause-is_writing c = c.load-found.ensures.reported.seat
 
 pub invariant_of-self-clause-reached : goal.invariant_of-self-clause-reached
-invariant_of-self-clause-reached c = ∣ step_reached c.args.self.now.shape _ _ _ _ c.load-found.ensures.told.step ∣₁
+invariant_of-self-clause-reached c = ∣ step_reached c.args.self.now.shape _ _ _ _ c.load-found.ensures.reported.step ∣₁
 
 pub invariant_of-self-clause-pending : goal.invariant_of-self-clause-pending
 invariant_of-self-clause-pending c = rests c.args.self.now.shape _ _ c.ghost_part_at_rest-self.ensures
 
 pub link_in-requires : goal.link_in-requires
-link_in-requires c = record { mark = λ three. no_mark _ (ap (λ (word : ℕ). word % 4) c.load-found.ensures.told.step.seen.1 ∙ three) }
+link_in-requires c = record { mark = λ three. no_mark _ (ap (λ (word : ℕ). word % 4) c.load-found.ensures.reported.step.seen.1 ∙ three) }
 
 pub returns-clause-step : goal.returns-clause-step
 returns-clause-step c = let self = c.args.self.now in
     seen_as self.shape _ _ _ _ _
     (λ core reached seen. (seen.0, link_seen self.shape self.table.pages_fit _ _ (link_of c.link_in.result) c.link_in.ensures.fits core reached seen.1 c.link_in.ensures.word))
-    (step_noted _ _ _ _ _ _ c.ghost_part_at_rest-self.ensures c.load-found.ensures.told.step)
+    (step_noted _ _ _ _ _ _ c.ghost_part_at_rest-self.ensures c.load-found.ensures.reported.step)

@@ -1,6 +1,6 @@
 use Rattle.ring_steps.specs.Views.{passed}
-use Rattle.ring_steps.specs.Linking.{LinkTold, behind_in}
+use Rattle.ring_steps.specs.Linking.{LinkReported, behind_in}
 use Rattle.ring_steps.proofs.ends.WriterSeat.load_next.Given as goal
 
 abbrev pub ghosts-load : goal.ghosts-load
-ghosts-load a = record { tells = λ before found after. LinkTold a.shape a.given.now.now (passed before.0) (behind_in a.shape.pages a.given.now.now) found after }
+ghosts-load a = record { reports = λ before found after. LinkReported a.shape a.given.now.now (passed before.0) (behind_in a.shape.pages a.given.now.now) found after }

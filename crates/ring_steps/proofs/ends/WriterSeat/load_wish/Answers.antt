@@ -11,13 +11,13 @@ load-wish-requires-clause-allowed c = let self = c.args.self.now in
     (λ core r ws homes s now_is pages low. load_wish_moves self.shape self.seat.me self.is_writing (writing_in c.args.self.now) core r ws homes s now_is pages low c.requires.phase)
 
 pub invariant_of-self-clause-is_writing : goal.invariant_of-self-clause-is_writing
-invariant_of-self-clause-is_writing c = c.load-wish.ensures.told.seat
+invariant_of-self-clause-is_writing c = c.load-wish.ensures.reported.seat
 
 pub invariant_of-self-clause-reached : goal.invariant_of-self-clause-reached
-invariant_of-self-clause-reached c = ∣ step_reached c.args.self.now.shape _ _ _ _ c.load-wish.ensures.told.step ∣₁
+invariant_of-self-clause-reached c = ∣ step_reached c.args.self.now.shape _ _ _ _ c.load-wish.ensures.reported.step ∣₁
 
 pub invariant_of-self-clause-pending : goal.invariant_of-self-clause-pending
 invariant_of-self-clause-pending c = rests c.args.self.now.shape _ _ c.ghost_part_at_rest-self.ensures
 
 pub returns-clause-step : goal.returns-clause-step
-returns-clause-step c = (c.load-wish.ensures.told.answer, (step_noted _ _ _ _ _ _ c.ghost_part_at_rest-self.ensures c.load-wish.ensures.told.step))
+returns-clause-step c = (c.load-wish.ensures.reported.answer, (step_noted _ _ _ _ _ _ c.ghost_part_at_rest-self.ensures c.load-wish.ensures.reported.step))

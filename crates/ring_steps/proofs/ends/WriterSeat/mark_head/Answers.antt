@@ -28,10 +28,10 @@ exchange-found-requires-clause-allowed c = let self = c.args.self.now in
     c.args.page c.args.next c.args.behind.0 c.normal_word-from.result c.header_word-to.result c.requires.phase c.requires.fits c.normal_word-from.ensures c.header_word-to.ensures)
 
 pub invariant_of-self-clause-is_writing : goal.invariant_of-self-clause-is_writing
-invariant_of-self-clause-is_writing c = c.exchange-found.ensures.told.seat
+invariant_of-self-clause-is_writing c = c.exchange-found.ensures.reported.seat
 
 pub invariant_of-self-clause-reached : goal.invariant_of-self-clause-reached
-invariant_of-self-clause-reached c = ∣ step_reached c.args.self.now.shape _ _ _ _ c.exchange-found.ensures.told.step ∣₁
+invariant_of-self-clause-reached c = ∣ step_reached c.args.self.now.shape _ _ _ _ c.exchange-found.ensures.reported.step ∣₁
 
 pub invariant_of-self-clause-pending : goal.invariant_of-self-clause-pending
 invariant_of-self-clause-pending c = rests c.args.self.now.shape _ _ c.ghost_part_at_rest-self.ensures
@@ -44,4 +44,4 @@ returns-clause-step c = let self = c.args.self.now in
     (done_seen self.shape self.table.pages_fit _ _ (normal_link c.args.next c.args.behind.0)
     record { page_fits = c.requires.fits; fill_fits = behind_fits self.shape (writing self.seat.me.0) (writing_in c.args.self.now) self.reached c.recall.ensures c.args.page c.args.next c.args.behind.0 c.requires.phase }
     core reached seen.1 c.normal_word-from.result c.normal_word-from.ensures))
-    (step_noted _ _ _ _ _ _ c.ghost_part_at_rest-self.ensures c.exchange-found.ensures.told.step)
+    (step_noted _ _ _ _ _ _ c.ghost_part_at_rest-self.ensures c.exchange-found.ensures.reported.step)

@@ -21,13 +21,13 @@ store-requires-clause-allowed c = let self = c.args.self.now in
     self.is_writing c.exchange.ensures.3 c.recall.ensures c.requires.phase c.requires.oldest c.requires.written (c.fill-fill.ensures ∙ c.requires.written.fill_is)
 
 pub invariant_of-self-clause-is_writing : goal.invariant_of-self-clause-is_writing
-invariant_of-self-clause-is_writing c = c.store.ensures.told.seat
+invariant_of-self-clause-is_writing c = c.store.ensures.reported.seat
 
 pub invariant_of-self-clause-reached : goal.invariant_of-self-clause-reached
-invariant_of-self-clause-reached c = ∣ step_reached c.args.self.now.shape _ _ _ _ c.store.ensures.told.step ∣₁
+invariant_of-self-clause-reached c = ∣ step_reached c.args.self.now.shape _ _ _ _ c.store.ensures.reported.step ∣₁
 
 pub invariant_of-self-clause-pending : goal.invariant_of-self-clause-pending
 invariant_of-self-clause-pending c = rests c.args.self.now.shape _ _ c.ghost_part_at_rest-self.ensures
 
 pub returns-clause-step : goal.returns-clause-step
-returns-clause-step c = step_noted _ _ _ _ _ _ c.ghost_part_at_rest-self.ensures c.store.ensures.told.step
+returns-clause-step c = step_noted _ _ _ _ _ _ c.ghost_part_at_rest-self.ensures c.store.ensures.reported.step

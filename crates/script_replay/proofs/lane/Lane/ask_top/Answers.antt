@@ -7,7 +7,7 @@ use Rattle.nested_writer.specs.Stack.{Stack}
 use Rattle.nested_writer.specs.Calls.{IsTopSlot}
 use Rattle.ring_frames.specs.Answers.{top_bytes}
 use Rattle.ring_core.specs.Lending.{FitsFrame}
-use Rattle.ring_core.specs.Steps.{Makes}
+use Rattle.ring_core.specs.Steps.{MakesStep}
 use Rattle.script_replay.specs.Value.{LaneValue, lane_of}
 use Rattle.script_replay.specs.Lanes.{IsLane, IsLaneOf}
 use Rattle.script_replay.specs.declared.lane.Lane.TheInside.{Inside}
@@ -101,4 +101,4 @@ returns-clause-step c =
     (λ bs fills. ap (λ (t : Stack). top_bytes t v.core.stack.frames) (sym (lent.in_slot bs)) ∙ c.in-Ok.ensures.slot.written bs (fills ∙ sym place ∙ sym lent.long))
     (is_first bytes kept.items (c.len.result - 1) c.index-payload.result.now last c.index-payload.ensures)
     (c.put_padded.ensures ∙ ap (λ (k : ℕ). payload ++ replicate (k - length payload) 0) (c.deref_mut.ensures.len ∙ place))
-    (subst (λ (t : Stack). Makes (record v.core { stack = t }) (ends (top_bytes t t.frames)) c.step-2.result c.step-2.new.self) (lent.in_slot part) c.step-2.ensures.obeys.step))
+    (subst (λ (t : Stack). MakesStep (record v.core { stack = t }) (ends (top_bytes t t.frames)) c.step-2.result c.step-2.new.self) (lent.in_slot part) c.step-2.ensures.obeys.step))

@@ -10,11 +10,11 @@ returns-then-depth-eq0 c =
     let none : length c.args.self.now.core.stack.frames
     ≡ 0 = ap (λ (v : LaneValue). length v.core.stack.frames) (sym c.self.view_is) ∙ sym c.depth.ensures
     ∙ c.if-depth-eq0.true in
-    on_ok_weaker c.tell_refusal.result
-    (λ told n size start lane is.
+    on_ok_weaker c.report_refusal.result
+    (λ reported n size start lane is.
     lacks_finish n size start c.args.at.cpu.0 c.args.at.line c.args.self.now lane c.args.log.now.items
-    c.tell_refusal.new.log.items is none told)
-    c.tell_refusal.ensures
+    c.report_refusal.new.log.items is none reported)
+    c.report_refusal.ensures
 
 pub returns : goal.returns
 returns c =

@@ -1,13 +1,13 @@
 use Rattle.std.proofs.Common.{inl, inr, sym, ◌∙◌, arith}
 use Rattle.script_replay.proofs.LaneValues.{depth_is, kept_many}
-use Rattle.script_replay.proofs.FrameRuns.{amid_none, amid_turn, followed}
+use Rattle.script_replay.proofs.FrameRuns.{part_way_none, part_way_turn, followed}
 use Rattle.script_replay.proofs.lane.Lane.follow.Goals as goal
 
 pub loop-steps-init : goal.loop-steps-init
 loop-steps-init c = record {
   few = omega arith;
-  amid = λ n size start lane is.
-      amid_none n size start c.args.at.cpu.0 c.args.at.line c.len-depth.result c.args.self.now lane
+  part_way = λ n size start lane is.
+      part_way_none n size start c.args.at.cpu.0 c.args.at.line c.len-depth.result c.args.self.now lane
       c.args.log.now.items is
       (kept_many n size start c.args.at.cpu.0 c.args.self.now lane c.self.inside c.len-depth.result is c.self.view_is
       (c.len-depth.ensures ∙ c.self.inside.payloads.ok.0));
@@ -17,29 +17,29 @@ loop-steps-init c = record {
 pub step_once-answer-requires : goal.step_once-answer-requires
 step_once-answer-requires c =
     let (n, size, start, lane, is) = c.requires.lane in
-    let h = c.loop-steps.invariant.amid n size start lane is in
+    let h = c.loop-steps.invariant.part_way n size start lane is in
     (c.args.at.cpu.0, (n, size, start, h.after, h.is_lane))
 
 pub loop-steps-preserved : goal.loop-steps-preserved
 loop-steps-preserved c =
     let (n, size, start, lane, is) = c.requires.lane in
-    let h = c.loop-steps.invariant.amid n size start lane is in
+    let h = c.loop-steps.invariant.part_way n size start lane is in
     let many = kept_many n size start c.args.at.cpu.0 c.loop-steps.self h.after c.self-in-loop-steps.inside c.len.result
     h.is_lane c.self-in-loop-steps.view_is (c.len.ensures ∙ c.self-in-loop-steps.inside.payloads.ok.0) in
     record {
       few = omega arith;
-      amid = amid_turn c.args.at.line c.args.at.cpu.0 c.len-depth.result c.loop-steps.steps c.args.self.now
+      part_way = part_way_turn c.args.at.line c.args.at.cpu.0 c.len-depth.result c.loop-steps.steps c.args.self.now
           c.loop-steps.self c.step_once-answer.new.self c.step_once-answer.result c.args.log.now.items
-          c.loop-steps.log.items c.tell.new.log.items
-          c.loop-steps.invariant.amid
+          c.loop-steps.log.items c.report.new.log.items
+          c.loop-steps.invariant.part_way
           (sym many ∙ c.if-len-depth.true)
           c.step_once-answer.ensures
-          c.in_ok-tell.ensures;
+          c.in_ok-report.ensures;
     }
 
 pub returns-else-len-depth : goal.returns-else-len-depth
 returns-else-len-depth c = λ n size start lane is.
-    let h = c.loop-steps.invariant.amid n size start lane is in
+    let h = c.loop-steps.invariant.part_way n size start lane is in
     let many = kept_many n size start c.args.at.cpu.0 c.loop-steps.self h.after c.self-in-loop-steps.inside c.len.result
     h.is_lane c.self-in-loop-steps.view_is (c.len.ensures ∙ c.self-in-loop-steps.inside.payloads.ok.0) in
     followed n size start c.args.at.cpu.0 c.args.at.line c.len-depth.result c.loop-steps.steps c.args.count lane
@@ -54,7 +54,7 @@ pub returns-after-loop-steps : goal.returns-after-loop-steps
 returns-after-loop-steps c = λ n size start lane is.
     followed n size start c.args.at.cpu.0 c.args.at.line c.len-depth.result c.loop-steps.steps c.args.count lane
     c.loop-steps.self c.args.log.now.items c.loop-steps.log.items
-    (c.loop-steps.invariant.amid n size start lane is)
+    (c.loop-steps.invariant.part_way n size start lane is)
     (kept_many n size start c.args.at.cpu.0 c.args.self.now lane c.self.inside c.len-depth.result is c.self.view_is
     (c.len-depth.ensures ∙ c.self.inside.payloads.ok.0)
     ∙ depth_is n size start c.args.at.cpu.0 c.args.self.now lane is)

@@ -1,12 +1,12 @@
 use Rattle.std.proofs.Common.{◌≤◌, ◌-◌}
 use Rattle.script_replay.specs.Lanes.{MakesExchanges}
-use Rattle.script_replay.specs.Frames.{IsAmid}
+use Rattle.script_replay.specs.Frames.{HasMadeSteps}
 use Rattle.script_replay.proofs.lane.Lane.follow.Given as goal
 
 abbrev pub invariant-loop-steps : goal.invariant-loop-steps
 invariant-loop-steps l = record {
   few : l.steps ≤ l.count;
-  amid : MakesExchanges (IsAmid l.depth l.steps) l.at.line l.at.cpu.0 l.fn.self l.fn.log.items l.self l.log.items;
+  part_way : MakesExchanges (HasMadeSteps l.depth l.steps) l.at.line l.at.cpu.0 l.fn.self l.fn.log.items l.self l.log.items;
 }
 
 abbrev pub decreases-loop-steps : goal.decreases-loop-steps

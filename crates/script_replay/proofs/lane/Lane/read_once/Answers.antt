@@ -1,7 +1,7 @@
 use Rattle.std.proofs.Common.{ap, ◌∙◌, subst}
 use Rattle.std.proofs.lemmas.Result.{IfOk-weaker}
 use Rattle.trace_model.specs.Steps.{reads}
-use Rattle.ring_core.specs.Steps.{Makes}
+use Rattle.ring_core.specs.Steps.{MakesStep}
 use Rattle.script_replay.specs.Value.{LaneValue}
 use Rattle.script_replay.proofs.TakesLanes.{may_keep, reads_once}
 use Rattle.script_replay.proofs.lane.Lane.read_once.Goals as goal
@@ -9,7 +9,7 @@ use Rattle.script_replay.proofs.lane.Lane.read_once.Goals as goal
 pub keep-requires : goal.keep-requires
 keep-requires c =
     may_keep c.args.at.cpu.0 c.args.self.now c.step-answer.result c.step-answer.new.self c.in_ok-body.body c.requires
-    (subst (λ (w : LaneValue). Makes w.core reads c.step-answer.result c.step-answer.new.self)
+    (subst (λ (w : LaneValue). MakesStep w.core reads c.step-answer.result c.step-answer.new.self)
     (c.self.view_is ∙ c.in_ok-body.ensures.rest) c.step-answer.ensures.obeys.step)
     c.step-answer.ensures.obeys.given_back
 
@@ -18,12 +18,12 @@ returns c =
     let same = c.self.view_is ∙ c.in_ok-body.ensures.rest in
     IfOk-weaker c.keep.result _ _
     (λ goes_on keeps. reads_once c.args.at.line c.args.at.cpu.0 c.args.self.now _ c.keep.new.self c.in_ok-body.body
-    c.step-answer.result goes_on c.args.log.now.items c.tell_any.new.log.items
+    c.step-answer.result goes_on c.args.log.now.items c.report_any.new.log.items
     c.in_ok-body.ensures.size
-    (subst (λ (w : LaneValue). Makes w.core reads c.step-answer.result c.step-answer.new.self) same
+    (subst (λ (w : LaneValue). MakesStep w.core reads c.step-answer.result c.step-answer.new.self) same
     c.step-answer.ensures.obeys.step)
     (ap (λ (w : LaneValue). record w { core = c.step-answer.new.self }) same)
     c.step-answer.ensures.obeys.given_back
-    c.in_ok-tell_any.ensures
+    c.in_ok-report_any.ensures
     keeps)
     c.keep.ensures

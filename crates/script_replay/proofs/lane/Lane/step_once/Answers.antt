@@ -12,10 +12,10 @@ returns c = λ n size start cpu lane is.
     let left : value_behind c.args.self.now c.ask_top-answer.new.self.core
     ≡ c.forget_gone.new.self = sym (c.forget_gone.ensures
     ∙ ap (λ (v : LaneValue). value_behind v v.core) c.ask_top-answer.ensures.ring) in record {
-      told = s.answer;
+      reported = s.answer;
       core = s.after;
       step = s.step;
-      tells = s.tells;
+      reports = s.reports;
       is_lane = subst (λ (v : LaneValue). IsLane n size start cpu v (lane_behind lane s.after)) left
           (top_behind n size start cpu c.args.self.now lane s.answer s.after c.ask_top-answer.new.self.core is s.step
           s.is_core);

@@ -4,7 +4,7 @@ use Rattle.nested_writer.specs.declared.frame.Purpose.{Purpose}
 use Rattle.nested_writer.specs.declared.frame.Purpose.TheVariants.{Record}
 use Rattle.nested_writer.specs.declared.frame.Progress.TheVariants.{Waiting, Reserved}
 use Rattle.nested_writer.specs.declared.frame.Frame.{Frame}
-use Rattle.nested_writer.proofs.Tops.{told_by}
+use Rattle.nested_writer.proofs.Tops.{reported_by}
 use Rattle.nested_writer.proofs.stack.top.Top.hold.Goals as goal
 
 pub returns : goal.returns
@@ -12,5 +12,5 @@ returns c = λ frame stood.
     let (moment, len, waits) = c.requires in
     let waiting : Frame = record { purpose = Record moment len; progress = Waiting None } in
     let same : frame ≡ waiting = same_Some frame waiting (sym stood ∙ waits) in
-    let told = told_by c.self.inside.phase c.self.inside.pushed c.self.inside.noted c.self.inside.slot c.self.inside.other moment len (λ other. c.self.invariant.apart other moment len) (c.self.view_is ∙ waits) in
-    ap (λ (purpose : Purpose). let held : Frame = record { purpose = purpose; progress = Reserved c.args.slot } in Some held) (told ∙ sym (ap (λ (f : Frame). f.purpose) same))
+    let reported = reported_by c.self.inside.phase c.self.inside.pushed c.self.inside.noted c.self.inside.slot c.self.inside.other moment len (λ other. c.self.invariant.apart other moment len) (c.self.view_is ∙ waits) in
+    ap (λ (purpose : Purpose). let held : Frame = record { purpose = purpose; progress = Reserved c.args.slot } in Some held) (reported ∙ sym (ap (λ (f : Frame). f.purpose) same))

@@ -2,7 +2,7 @@
 -- docs/FORMATS.md, "The ring".
 use Rattle.std.specs.Prelude.{◌≡◌, ℕ, ◌+◌, List, [], ◌∷◌, map}
 use Rattle.trace_model.specs.Window.{RingEvent, takes, loses, history_events_of, WindowRun}
-use Rattle.trace_model.specs.Ring.{Taken, Core, window_of}
+use Rattle.trace_model.specs.Ring.{TakenFill, Core, window_of}
 
 -- the fills that the events take, from this head on, in order
 abbrev pub fills_taken : ℕ → List RingEvent → List ℕ
@@ -18,12 +18,12 @@ fills_lost head (takes ∷ events) = fills_lost (head + 1) events
 fills_lost head (loses ∷ events) = head ∷ fills_lost (head + 1) events
 fills_lost head (_ ∷ events) = fills_lost head events
 
-abbrev pub numbers_of : List Taken → List ℕ
+abbrev pub numbers_of : List TakenFill → List ℕ
 numbers_of taken = map (λ t. t.fill) taken
 
 -- These events of a ring from its start are what its frames did, in order, lead to its window, and take the
 -- fills that its reader took.
-pub record IsToldBy (n start : ℕ) (c : Core) (events : List RingEvent) : Type 0 where
+pub record AreEventsOfRun (n start : ℕ) (c : Core) (events : List RingEvent) : Type 0 where
   pub history_events : history_events_of events ≡ c.history
   pub window : WindowRun n start events (window_of c)
   pub took : fills_taken start events ≡ numbers_of c.reader.taken

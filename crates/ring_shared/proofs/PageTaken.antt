@@ -16,7 +16,7 @@ use Rattle.ring_steps.specs.Views.{Reading}
 use Rattle.ring_steps.specs.Swapping.{HeadTaken, HeadMissed}
 use Rattle.ring_steps.proofs.TakeSteps.{facts, hint_is}
 use Rattle.ring_shared.specs.declared.take.Take.TheVariants.{Page}
-use Rattle.ring_shared.specs.declared.take.Turn.TheVariants.{Done}
+use Rattle.ring_shared.specs.declared.take.TakeStep.TheVariants.{Done}
 use Rattle.ring_shared.specs.Takes.{IsReaderPart, IsPageTaken, ReadsSo, IsAnswered}
 use Rattle.ring_shared.proofs.TakeSteps.{Stays, known_after, so, stays}
 
@@ -30,17 +30,17 @@ module _ (shape : Shape) (before : Reading) (page fill : ℕ) (after : Reading) 
   pub takes : (taken : Contents) → shape.size ≤ MAX_SIZE → HeadTaken shape before page fill taken after → IsReaderPart shape after × IsPageTaken shape before taken (taken.first - before.reader.expected) after
   takes taken small h =
       let sees : ring.Core → Type 0 = λ core. ring.link_into shape.pages core.links fill ≡ header_link page fill in
-      let known : IsReaderPart shape after = known_after shape before after sees (model.swapped h.told) h.step in
-      let seen = (facts shape before after sees (model.swapped h.told) h.step (ring.swapping page fill) at).0 in
-      let fill_is = seen.fill_is in let told_is = h.fill_is in let hint = hint_is shape before after sees (model.swapped h.told) h.step in
+      let known : IsReaderPart shape after = known_after shape before after sees (model.page_taken h.reported) h.step in
+      let seen = (facts shape before after sees (model.page_taken h.reported) h.step (ring.swapping page fill) at).0 in
+      let fill_is = seen.fill_is in let reported_is = h.fill_is in let hint = hint_is shape before after sees (model.page_taken h.reported) h.step in
       let first = h.written.first_is in let behind = h.behind in
       let saw = ap (λ (x : ring.Reader). x.seen) h.reader_is in
       let counted = h.written.page_reads.counted in
       let few = h.numbers_fit in (
         known,
         record {
-          taken = h.told;
-          is = record { written = subst (λ (f : ℕ). IsWrittenPage shape.size f h.told.held taken) (sym h.fill_is) h.written; missed_is = sym h.skipped_is };
+          taken = h.reported;
+          is = record { written = subst (λ (f : ℕ). IsWrittenPage shape.size f h.reported.held taken) (sym h.fill_is) h.written; missed_is = sym h.skipped_is };
           one_more = ap (λ (x : ring.Reader). x.taken) h.reader_is;
           first_is = omega arith;
           expected_is = ap (λ (x : ring.Reader). x.expected) h.reader_is ∙ ap (λ (k : ℕ). k + taken.count) h.written.first_is;
@@ -57,12 +57,12 @@ module _ (shape : Shape) (before : Reading) (page fill : ℕ) (after : Reading) 
         },
       )
 
-  pub misses : HeadMissed shape before page fill after → Stays shape before after (record before.reader { phase = ring.loading_link; hint = fill + 1 }) × (before.reader.hint ≤ fill + 1)
+  pub misses : HeadMissed shape before page fill after → Stays shape before after (record before.reader { phase = ring.loading_head; hint = fill + 1 }) × (before.reader.hint ≤ fill + 1)
   misses h =
       let sees : ring.Core → Type 0 = λ core. ring.link_into shape.pages core.links fill ≢ header_link page fill in
       let seen = (facts shape before after sees model.reading h.step (ring.swapping page fill) at).0 in
       let fill_is = seen.fill_is in let hint = hint_is shape before after sees model.reading h.step in (
-        stays shape before after sees model.reading h.step (record before.reader { phase = ring.loading_link; hint = fill + 1 }) before.spare_link before.keeps_spare h.after_is,
+        stays shape before after sees model.reading h.step (record before.reader { phase = ring.loading_head; hint = fill + 1 }) before.spare_link before.keeps_spare h.after_is,
         omega arith,
       )
 
@@ -70,9 +70,9 @@ module _ (shape : Shape) (before : Reading) (page fill : ℕ) (after : Reading) 
 
 pub swap_answers : (shape : Shape) (before : Reading) (page fill : ℕ) (after : Reading) (taken : Contents) → HeadTaken shape before page fill taken after → IsAnswered shape before (Done (Page taken (taken.first - before.reader.expected))) after
 swap_answers shape before page fill after taken h = record {
-  told = model.swapped h.told;
-  step = so shape before after (λ core. ring.link_into shape.pages core.links fill ≡ header_link page fill) (model.swapped h.told) h.step;
-  tells = (h.told, refl, record { written = subst (λ (f : ℕ). IsWrittenPage shape.size f h.told.held taken) (sym h.fill_is) h.written; missed_is = sym h.skipped_is });
+  reported = model.page_taken h.reported;
+  step = so shape before after (λ core. ring.link_into shape.pages core.links fill ≡ header_link page fill) (model.page_taken h.reported) h.step;
+  reports = (h.reported, refl, record { written = subst (λ (f : ℕ). IsWrittenPage shape.size f h.reported.held taken) (sym h.fill_is) h.written; missed_is = sym h.skipped_is });
 }
 
 pub miss_answers : (shape : Shape) (before : Reading) (page fill : ℕ) (after : Reading) → HeadMissed shape before page fill after → ReadsSo shape before model.reading after

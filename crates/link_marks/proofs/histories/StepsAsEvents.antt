@@ -4,7 +4,7 @@ use Rattle.trace_model.specs.History.{HistoryEvent, push, push_close, open_fill,
 use Rattle.trace_model.proofs.histories.NextEvent.{settled_at_rest}
 use Rattle.trace_model.specs.Frames.{Kind, for_record, for_close, FrameState, waiting, reserved, left, Phase, idle, looking, claiming, looking_next, marking, clearing, opening, releasing, wishing, Frame}
 use Rattle.trace_model.specs.Window.{first_window, released_one, window_after, RingEvent, acts, closes, takes, loses, history_events_of, window_event_of, window_behind, MayPass, WindowRunFrom}
-use Rattle.trace_model.specs.Ring.{ReaderPhase, loading_link, loading_done, storing_link, swapping, Reader, Core, IsStart, window_of}
+use Rattle.trace_model.specs.Ring.{ReaderPhase, loading_head, loading_done, storing_spare_link, swapping, Reader, Core, IsStart, window_of}
 use Rattle.trace_model.specs.Steps.{Event, Answer, with_new_tail, after_begin, taken_fill, Exchange, Run}
 use Rattle.trace_model.proofs.steps.StepCases.{StepCases, BeginsAgain, reserves, finds_nothing, is_crowded, is_worn, notes, IdleStep, load_link_late, sees_free, sees_header, sees_update, claim_late, claims, claim_fails, load_next_late, sees_normal, sees_other, mark_late, marks, mark_fails, clears, open_late, opens, releases, releases_last, grants, closes_more, goes_away, FrameStep, push_step, push_refused, close_step, close_refused, frame_step, frame_lacks, end_step, end_lacks, end_early, read_step, store_wish_step, loads_header, loads_update, loads_owed, loads_passed, finds_none, finds_closed, swaps, swap_fails, ReadStep}
 use Rattle.trace_model.proofs.steps.StepSound.{cases_of}
@@ -13,8 +13,8 @@ use Rattle.link_marks.specs.KeptStack.{StackKept}
 use Rattle.link_marks.specs.KeptHistory.{HistoryKept}
 use Rattle.link_marks.specs.RingKept.{IsRingKept}
 use Rattle.link_marks.specs.Reached.{IsReached}
-use Rattle.link_marks.specs.ToldRuns.{fills_taken, numbers_of, IsToldBy}
-use Rattle.link_marks.proofs.links.LinkFills.{header_inside, header_tells, fill_at}
+use Rattle.link_marks.specs.RunsAsEvents.{fills_taken, numbers_of, AreEventsOfRun}
+use Rattle.link_marks.proofs.links.LinkFills.{header_inside, header_reports, fill_at}
 use Rattle.link_marks.proofs.links.FrameChanges.{top_kept}
 use Rattle.link_marks.proofs.histories.HistorySteps.{rest_releasing}
 use Rattle.link_marks.proofs.histories.WindowRuns.{run_rises, run-append, taken-append, history_events-append, numbers-push}
@@ -105,17 +105,17 @@ module _ (n size start : ℕ) (c : Core) (frame : Frame) (below : List Frame) (k
   leads_frame wishing answer after same (goes_away alone not_granted last a is) = subst (Leads n c) (sym is) (no_event n c _ refl refl refl)
 
 leads_read : (n : ℕ) (c : Core) (phase : ReaderPhase) (answer : Answer) (after : Core) → LinksKept n c → ReaderKept n c.links c.order c.spare_link c.head c.done c.reader.hint phase → ReadStep n c phase answer after → Leads n c after
-leads_read n c loading_link answer after k facts (loads_header page fill at a is) = subst (Leads n c) (sym is) (no_event n c _ refl refl refl)
-leads_read n c loading_link answer after k facts (loads_update page lost at a is) = subst (Leads n c) (sym is) (no_event n c _ refl refl refl)
-leads_read n c loading_link answer after k facts (loads_owed page at a is) = subst (Leads n c) (sym is) (no_event n c _ refl refl refl)
-leads_read n c loading_link answer after k facts (loads_passed page fill least at more sum a is) = subst (Leads n c) (sym is) (no_event n c _ refl refl refl)
+leads_read n c loading_head answer after k facts (loads_header page fill at a is) = subst (Leads n c) (sym is) (no_event n c _ refl refl refl)
+leads_read n c loading_head answer after k facts (loads_update page lost at a is) = subst (Leads n c) (sym is) (no_event n c _ refl refl refl)
+leads_read n c loading_head answer after k facts (loads_owed page at a is) = subst (Leads n c) (sym is) (no_event n c _ refl refl refl)
+leads_read n c loading_head answer after k facts (loads_passed page fill least at more sum a is) = subst (Leads n c) (sym is) (no_event n c _ refl refl refl)
 leads_read n c (loading_done page fill) answer after k facts (finds_none le a is) = subst (Leads n c) (sym is) (no_event n c _ refl refl refl)
 leads_read n c (loading_done page fill) answer after k facts (finds_closed below a is) = subst (Leads n c) (sym is) (no_event n c _ refl refl refl)
-leads_read n c (storing_link page fill) answer after k facts step = subst (Leads n c) (sym step.after_is) (no_event n c _ refl refl refl)
+leads_read n c (storing_spare_link page fill) answer after k facts step = subst (Leads n c) (sym step.after_is) (no_event n c _ refl refl refl)
 leads_read n c (swapping page fill) answer after k facts (swaps at a is) =
     let (g, low_g, high_g, same, link) = fill_at n c k fill in
-    let told = header_tells n c.links c.order c.head c.frames g page fill link (same ∙ at) in
-    let here : fill ≡ c.head = told.0 ∙ told.1 in let closed = facts.1 in
+    let reported = header_reports n c.links c.order c.head c.frames g page fill link (same ∙ at) in
+    let here : fill ≡ c.head = reported.0 ∙ reported.1 in let closed = facts.1 in
     subst (Leads n c) (sym is) record {
       events = takes ∷ [];
       history_events = sym (append-nil c.history);
@@ -154,27 +154,27 @@ leads_run n size start c after (x ∷ exchanges) r (between, step, run) = leads_
     (leads_run n size start between after exchanges (ring_step n size start c x.event x.answer between r step) run)
 
 -- events that describe a state, and those that lead on from there, describe the later one
-told_on : (n start : ℕ) (c after : Core) (events : List RingEvent) → IsToldBy n start c events → (x : Leads n c after) → IsToldBy n start after (events ++ x.events)
-told_on n start c after events t x = record {
+reported_on : (n start : ℕ) (c after : Core) (events : List RingEvent) → AreEventsOfRun n start c events → (x : Leads n c after) → AreEventsOfRun n start after (events ++ x.events)
+reported_on n start c after events t x = record {
   history_events = history_events-append events x.events ∙ ap (λ (h : List HistoryEvent). h ++ history_events_of x.events) t.history_events ∙ sym x.history_events;
   window = run-append n [] (first_window start) (window_of c) (window_of after) events x.events t.window (subst (λ (h : List HistoryEvent). WindowRunFrom n h (window_of c) x.events (window_of after)) (sym t.history_events) x.window);
   took = taken-append n [] (first_window start) (window_of c) events x.events t.window ∙ ap (λ (l : List ℕ). l ++ fills_taken c.head x.events) t.took ∙ sym x.took;
 }
 
 -- the events of a longer run go on from those of a shorter one
-pub run_extends : (n size start : ℕ) (c after : Core) (exchanges : List Exchange) (events : List RingEvent) → IsRingKept n size start c → IsToldBy n start c events → Run n size c exchanges after → (more : List RingEvent) × IsToldBy n start after (events ++ more)
-run_extends n size start c after exchanges events r told run = let x = leads_run n size start c after exchanges r run in (x.events, told_on n start c after events told x)
+pub run_extends : (n size start : ℕ) (c after : Core) (exchanges : List Exchange) (events : List RingEvent) → IsRingKept n size start c → AreEventsOfRun n start c events → Run n size c exchanges after → (more : List RingEvent) × AreEventsOfRun n start after (events ++ more)
+run_extends n size start c after exchanges events r reported run = let x = leads_run n size start c after exchanges r run in (x.events, reported_on n start c after events reported x)
 
 -- a new ring is described by no events
-start_told : (n start : ℕ) (c : Core) → IsStart n start c → IsToldBy n start c []
-start_told n start c s = record {
+start_reported : (n start : ℕ) (c : Core) → IsStart n start c → AreEventsOfRun n start c []
+start_reported n start c s = record {
   history_events = sym s.history;
   window = λ i. record { head = (sym s.head) i; done = (sym s.done) i; opened = (sym s.opened) i };
   took = ap (λ (r : Reader). numbers_of r.taken) (sym s.reader);
 }
 
-pub run_told : (n size start : ℕ) (c : Core) → IsReached n size start c → (events : List RingEvent) × IsToldBy n start c events
-run_told n size start c r = run_extends n size start r.from c r.exchanges [] (ring_start n size start r.from r.may_start r.is_new) (start_told n start r.from r.is_new) r.run
+pub run_reported : (n size start : ℕ) (c : Core) → IsReached n size start c → (events : List RingEvent) × AreEventsOfRun n start c events
+run_reported n size start c r = run_extends n size start r.from c r.exchanges [] (ring_start n size start r.from r.may_start r.is_new) (start_reported n start r.from r.is_new) r.run
 
 pub counts_rise : (n size start : ℕ) (c after : Core) (exchanges : List Exchange) → IsRingKept n size start c → Run n size c exchanges after → (c.head ≤ after.head) × (c.done ≤ after.done) × (c.opened ≤ after.opened)
 counts_rise n size start c after exchanges r run = let x = leads_run n size start c after exchanges r run in

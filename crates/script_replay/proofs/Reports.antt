@@ -8,7 +8,7 @@ use Rattle.replay_log.specs.declared.line.LogLine.{LogLine}
 use Rattle.replay_log.specs.LogTypes.{shown_log}
 
 -- it is appended to the log
-abbrev pub IsTold : (line cpu : ℕ) → Answer → List LogLine → List LogLine → Type 0
-IsTold line cpu answer log more = (size : ℕ) (told : model.Answer)
-    → IsAnswerOf size answer told
-    → shown_log more ≡ shown_log log ++ logged line cpu told
+abbrev pub IsReported : (line cpu : ℕ) → Answer → List LogLine → List LogLine → Type 0
+IsReported line cpu answer log more = (size : ℕ) (reported : model.Answer)
+    → IsAnswerOf size answer reported
+    → shown_log more ≡ shown_log log ++ logged line cpu reported

@@ -1,5 +1,0 @@
-use Rattle.trace_model.proofs.laws.links.words_tell_links.Goals as goal
-use Rattle.trace_model.proofs.words.LinkWords.{word_tells, no_mark, word_bits}
-
-pub returns : goal.returns
-returns c = record { one = word_tells; bits = word_bits; marks = no_mark }
