@@ -27,6 +27,8 @@ use Rattle.world_model.specs.Headline.{StandsIn, IsOverwrittenBefore, parcels_fr
 use Rattle.world_model.specs.Printing.{Shown, printed_collector}
 use Rattle.world_model.proofs.Lookups.{element_at, contains_at, get_map, get_from_map, kept_by}
 use Rattle.world_model.proofs.DeliveredLines.{delivered_by_lines}
+use Rattle.world_model.proofs.GenuineWorlds.{world_genuine}
+use Rattle.world_model.proofs.WorldsMade.{world_of_made}
 use Rattle.line_model.specs.Lines.{writer_line, IsBegunByLines}
 use Rattle.line_model.specs.ReplayedLines.{commands_of}
 use Rattle.line_model.specs.Accounts.{AddAll, IsAccount, IsShownOf, IsAccounted}
@@ -198,14 +200,16 @@ module _ (script : Script) (w : World) (limits : IsWithinLimits script) (of : Wo
 
 pub accounted : (script : Script) (asked : Bool) (bytes : List ℕ) → IsWithinLimits script → IsPrinting script asked bytes → IsAccounted script asked bytes
 accounted script asked bytes limits p =
-    let w : World = p.world in record {
-      events = events script w limits p.of_script p.genuine;
-      accounts = λ cpu low. account script w limits p.of_script p.genuine cpu (known_at script w limits p.of_script p.genuine cpu) low;
+    let w : World = p.world in
+    let of : WorldOf script w = world_of_made script w p.of_script in
+    let genuine : IsGenuineWorld script w = world_genuine script script.commands w limits of in record {
+      events = events script w limits of genuine;
+      accounts = λ cpu low. account script w limits of genuine cpu (known_at script w limits of genuine cpu) low;
       fills = map keys_of w.delivered;
-      collectors = length-map w.delivered keys_of ∙ p.genuine.collectors;
-      delivered = λ collector cpu fill own at has. is_delivered script w limits p.of_script p.genuine collector own (cpu, fill) at has;
+      collectors = length-map w.delivered keys_of ∙ genuine.collectors;
+      delivered = λ collector cpu fill own at has. is_delivered script w limits of genuine collector own (cpu, fill) at has;
       shown = p.shown;
-      each = all_shown script w limits p.of_script p.genuine w.delivered p.shown (λ k parcels at. (k, at)) p.reported;
+      each = all_shown script w limits of genuine w.delivered p.shown (λ k parcels at. (k, at)) p.reported;
       log = if asked then flat_map printed_log_line w.log else [];
       log_asked = λ not. ap (λ (b : Bool). if b then flat_map printed_log_line w.log else []) not;
       printed = p.printed;

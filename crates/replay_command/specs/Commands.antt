@@ -5,8 +5,8 @@ use Rattle.std.specs.List.{AllZip}
 use Rattle.text_model.specs.ScriptLines.{LineFault}
 use Rattle.text_model.specs.Printing.{printed_fault}
 use Rattle.text_model.specs.Script.{Script, ParsesScript, FirstScriptFault}
-use Rattle.world_model.specs.World.{World, WorldOf}
-use Rattle.world_model.specs.Headline.{IsGenuineWorld}
+use Rattle.world_model.specs.World.{World}
+use Rattle.world_model.specs.WorldMade.{IsWorldOf}
 use Rattle.world_model.specs.Printing.{Shown, printed_world}
 use Rattle.line_model.specs.Accounts.{IsAccounted}
 use Rattle.collector_text.specs.Prints.{IsPrintOf}
@@ -22,8 +22,7 @@ pub record AccountGives (asked : Bool) (text bytes : List ℕ) (status : ℕ) : 
 -- that were delivered to it have and miss.
 pub record IsPrinting (script : Script) (asked : Bool) (bytes : List ℕ) : Type 0 where
   pub world : World
-  pub of_script : WorldOf script world
-  pub genuine : IsGenuineWorld script world
+  pub of_script : IsWorldOf script world
   pub shown : List Shown
   pub reported : AllZip IsPrintOf world.delivered shown
   pub printed : bytes ≡ printed_world asked world.log shown

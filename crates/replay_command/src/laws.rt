@@ -1,10 +1,19 @@
 //! That a text has one output: the contract of a function with an empty body.
 ghost use Rattle.std.specs.Prelude.{◌≡◌, ℕ, Bool, List};
-ghost use Rattle.replay_command.specs.Commands.{ReplayGives};
+ghost use Rattle.world_model.specs.World.{WorldOf};
+ghost use Rattle.world_model.specs.Headline.{IsGenuineWorld};
+ghost use Rattle.replay_command.specs.Commands.{PrintsReplay, ReplayGives};
 
 /// What `replay` may print for a text is one output: the same bytes, with the same exit status.
 pub fn one_output()
     ensures { (asked : Bool) (text bytes others : List ℕ) (status other : ℕ) →
         ReplayGives asked text bytes status → ReplayGives asked text others other →
         (bytes ≡ others) × (status ≡ other) }
+{}
+
+/// The world that is printed is also the one that the lines lead to by their exchanges with the rings; and in it each
+/// page is a whole fill, under its own numbers, and each collector is exact.
+pub fn printed_worlds_are_genuine()
+    ensures { (asked : Bool) (text bytes : List ℕ) (status : ℕ) (replay : PrintsReplay asked text bytes status) →
+        WorldOf replay.script replay.printing.world × IsGenuineWorld replay.script replay.printing.world }
 {}

@@ -1,6 +1,6 @@
 -- The log of a replay: what its lines met, in their order. docs/FORMATS.md, "Log".
 use Rattle.std.specs.Prelude.{ℕ, List, [], ◌∷◌, length, flat_map}
-use Rattle.trace_model.specs.Steps.{Answer, pushed, going, reserved_as, pending, full, gone, refused, reading, empty, moving, page_taken, wished_for, Exchange}
+use Rattle.trace_model.specs.Steps.{Answer, refused, empty, moving, page_taken, wished_for, Exchange}
 use Rattle.trace_model.specs.Ring.{TakenFill}
 use Rattle.text_model.specs.Log.{LogLine, Delivery, delivery_line}
 use Rattle.text_model.specs.Log as log
@@ -12,18 +12,12 @@ taken_line line cpu t = log.taken line cpu t.fill t.held.first (length t.held.re
 
 -- what is logged of an answer of the ring of a CPU, in the script's line of this number
 abbrev pub logged : (line cpu : ℕ) → Answer → List LogLine
-logged line cpu pushed = []
-logged line cpu going = []
-logged line cpu (reserved_as number) = []
-logged line cpu pending = []
-logged line cpu full = []
-logged line cpu gone = []
 logged line cpu (refused why) = log.refused line cpu why ∷ []
-logged line cpu reading = []
 logged line cpu (empty done) = log.empty line cpu ∷ []
 logged line cpu (moving fill) = log.moving line cpu fill ∷ []
 logged line cpu (page_taken t) = taken_line line cpu t ∷ []
 logged line cpu (wished_for fill) = log.asks line cpu fill ∷ []
+logged line cpu _ = []
 
 -- what is logged of a line's exchanges, in their order
 abbrev pub log_of : (line cpu : ℕ) → List Exchange → List LogLine

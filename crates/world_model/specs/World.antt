@@ -4,7 +4,7 @@ use Rattle.std.specs.Prelude.{◌≡◌, ℕ, List, [], ◌∷◌, ◌++◌, len
 use Rattle.std.specs.List.{slice_get}
 use Rattle.trace_model.specs.History.{as_record}
 use Rattle.trace_model.specs.Ring.{TakenFill}
-use Rattle.trace_model.specs.Steps.{Answer, pushed, going, reserved_as, pending, full, gone, refused, reading, empty, moving, page_taken, wished_for, Exchange}
+use Rattle.trace_model.specs.Steps.{Answer, page_taken, Exchange}
 use Rattle.trace_model.specs.Parcel.{Parcel}
 use Rattle.trace_model.specs.Collection.{IsBelow}
 use Rattle.text_model.specs.Log.{LogLine, Delivery, new_page, known_page, no_page, delivery_line}
@@ -43,18 +43,8 @@ parcel_of cpu t = record {
 
 -- the page that an answer brings, if it is a take's
 abbrev pub parcels_in : (cpu : ℕ) → Answer → List Parcel
-parcels_in cpu pushed = []
-parcels_in cpu going = []
-parcels_in cpu (reserved_as number) = []
-parcels_in cpu pending = []
-parcels_in cpu full = []
-parcels_in cpu gone = []
-parcels_in cpu (refused why) = []
-parcels_in cpu reading = []
-parcels_in cpu (empty done) = []
-parcels_in cpu (moving fill) = []
 parcels_in cpu (page_taken t) = parcel_of cpu t ∷ []
-parcels_in cpu (wished_for fill) = []
+parcels_in cpu _ = []
 
 -- the pages that a line's exchanges bring
 abbrev pub parcels_of : (cpu : ℕ) → List Exchange → List Parcel
