@@ -9,7 +9,7 @@ use Rattle.link_marks.proofs.histories.WindowRuns.{history_events-append}
 use Rattle.world_model.specs.Lanes.{event_on_top, payloads_left}
 use Rattle.world_model.proofs.FramesMove.{Moves, stays, changes, pops, PushesNone, step_moves}
 use Rattle.world_model.proofs.LanePayloads.{pushes_none}
-use Rattle.line_model.specs.Lines.{LineState, OpenFrame, frame_count, state_after, state_moved, TopRun, MayGo, stays_on, goes, ReservesFirst, StepsPart, FinishPart}
+use Rattle.line_model.specs.Lines.{LineState, OpenFrame, frame_count, state_after, state_moved, TopRun, MayGo, stays_on, goes, ReservesFirst, TopPart, StepsPart, FinishPart}
 use Rattle.line_model.specs.WriterCalls.{Writer, IsWriterCall, TopCalls}
 use Rattle.line_model.specs.CallEvents.{Agrees, IsRecordOnTop, stepped}
 use Rattle.line_model.specs.LineParts.{AreForRecords, CallsFinish}
@@ -49,6 +49,18 @@ record CallsMake (n size depth count : ℕ) (frames : List Frame) (p : LineState
   agrees : Agrees n behind lefts t
   first : ReservesFirst size p p.frames (history_events_of events)
   few : AreForRecords frames → length (history_events_of events) ≤ count
+
+-- they are a part of the events of the frame on top
+top_part : (n size depth count : ℕ) (frames : List Frame) (p : LineState) (lefts : List (List ℕ)) (t : Writer)
+    → depth ≡ frame_count p - 1
+    → (m : CallsMake n size depth count frames p lefts t)
+    → TopPart n size p m.events m.behind
+top_part n size depth count frames p lefts t depth_is m = record {
+  first = m.first;
+  reached = m.reached;
+  run = subst (λ (d : ℕ). TopRun n size d (stepped p) m.events m.reached) depth_is m.run;
+  goes = m.goes;
+}
 
 has_some : (frames : List Frame) (depth : ℕ) → length frames ≡ suc depth → frames ≢ []
 has_some frames depth e none = let z = ap (λ (fs : List Frame). length fs) none in omega arith
@@ -157,15 +169,7 @@ module _ (n size start depth : ℕ) where
       let depth_is : depth ≡ frame_count p - 1 = omega arith in (
         m.events,
         m.behind,
-        record {
-          top = record {
-            first = m.first;
-            reached = m.reached;
-            run = subst (λ (d : ℕ). TopRun n size d (stepped p) m.events m.reached) depth_is m.run;
-            goes = m.goes;
-          };
-          is_gone = omega arith;
-        },
+        record { top = top_part n size depth count s.frames p lefts t depth_is m; is_gone = omega arith },
         m.agrees,
       )
 
@@ -186,12 +190,7 @@ calls_step n size start depth count s payloads x calls t lefts p agrees are some
       m.events,
       m.behind,
       record {
-        top = record {
-          first = m.first;
-          reached = m.reached;
-          run = subst (λ (d : ℕ). TopRun n size d (stepped p) m.events m.reached) depth_is m.run;
-          goes = m.goes;
-        };
+        top = top_part n size depth (suc (length calls)) s.frames p lefts t depth_is m;
         few = omega arith;
       },
       m.agrees,

@@ -8,9 +8,9 @@ use Rattle.text_model.specs.Script.{Command, begin_frame, step_frame, finish_fra
 use Rattle.world_model.specs.Lanes.{payloads_left}
 use Rattle.world_model.proofs.FramesMove.{Moves, stays, changes, pops}
 use Rattle.line_model.specs.Lines.{LineState, OpenFrame, first_state, frame_count, with_top_stepped, ReservesFirst, stays_on, TopPart, FinishPart, IsQuiet, LinePart}
-use Rattle.line_model.specs.WriterCalls.{Writer, first_writer, TopCalls, StepsCalls, none_to_step, steps_top, FinishCalls, none_to_finish, finishes_top, BeginCalls, begins_frame, begins_none, WholeCalls, writes_frame, writes_none, LineCalls}
+use Rattle.line_model.specs.WriterCalls.{Writer, first_writer, IsWriterCall, TopCalls, StepsCalls, none_to_step, steps_top, FinishCalls, none_to_finish, finishes_top, BeginCalls, begins_frame, begins_none, WholeCalls, writes_frame, writes_none, LineCalls}
 use Rattle.line_model.specs.CallEvents.{AreOpenFrames, Agrees}
-use Rattle.line_model.specs.LineParts.{AreForRecords, IsBetweenLines, LineCallsMake, LinesCallsMake, RestCallsMake, WriterMakesLines}
+use Rattle.line_model.specs.LineParts.{PushMakes, AreForRecords, IsBetweenLines, LineCallsMake, LinesCallsMake, RestCallsMake, WriterMakesLines}
 use Rattle.line_model.proofs.EventsMade.{count_frames}
 use Rattle.line_model.proofs.CallParts.{moved_records, call_moves, calls_step, calls_finish}
 use Rattle.line_model.proofs.PushParts.{Pushing, pushing_of, pushes_make, writes_make}
@@ -156,6 +156,26 @@ module _ (n size start : ℕ) (s : Writer) (payloads : List (List ℕ)) (t : Wri
         },
       )
 
+  -- a push that is refused: the part of a `b` and of a `w` line
+  refused_push : (cpu moment : ℕ) (payload : List ℕ) (why : Refusal)
+      → IsWriterCall n size start s record { event = pushes moment (length payload); answer = refused why } t
+      → LinePart n size (begin_frame cpu moment payload) p [] p
+      × LinePart n size (write cpu moment payload) p [] p
+      × (t ≡ s)
+  refused_push cpu moment payload why call =
+      refused_part (pushing_of n size start moment (length payload) (refused why) s t call)
+      (pushes_make n size start cpu moment payload (refused why) s t payloads p between.agrees call)
+    where
+      refused_part : Pushing size s moment (length payload) (refused why) t
+          → PushMakes n size cpu moment payload (refused why) t payloads p
+          → LinePart n size (begin_frame cpu moment payload) p [] p
+          × LinePart n size (write cpu moment payload) p [] p
+          × (t ≡ s)
+      refused_part (inr (w, e, because, is)) (inr (v, f, part, whole, agrees)) = (part, whole, is)
+      refused_part (inr (w, e, because, is)) (inl (e2, behind, part, agrees)) =
+          absurd (let both : refused why ≡ pushed = e2 in cc)
+      refused_part (inl (e, may, is)) made = absurd (let both : refused why ≡ pushed = e in cc)
+
   by_begin : (cpu moment : ℕ) (payload : List ℕ)
       → BeginCalls n size start (pushes moment (length payload)) payload s payloads t lefts
       → MadePart (LinePart n size (begin_frame cpu moment payload))
@@ -164,15 +184,7 @@ module _ (n size start : ℕ) (s : Writer) (payloads : List (List ℕ)) (t : Wri
       (pushes_make n size start cpu moment payload pushed s t payloads p between.agrees call)
     where
       pushed_part : Pushing size s moment (length payload) pushed t
-          → ((pushed ≡ pushed)
-          × (behind : LineState)
-          × LinePart n size (begin_frame cpu moment payload) p (acts (push moment (length payload)) ∷ []) behind
-          × Agrees n behind (payload ∷ payloads) t)
-          ⊎ ((why : Refusal)
-          × (pushed ≡ refused why)
-          × LinePart n size (begin_frame cpu moment payload) p [] p
-          × LinePart n size (write cpu moment payload) p [] p
-          × Agrees n p payloads t)
+          → PushMakes n size cpu moment payload pushed t payloads p
           → MadePart (LinePart n size (begin_frame cpu moment payload))
       pushed_part (inl (a, may, is)) (inl (b, behind, part, agrees)) = (
         acts (push moment (length payload)) ∷ [],
@@ -189,24 +201,7 @@ module _ (n size start : ℕ) (s : Writer) (payloads : List (List ℕ)) (t : Wri
           absurd (let both : pushed ≡ refused why = e in cc)
       pushed_part (inr (why, e, because, is)) made = absurd (let both : pushed ≡ refused why = e in cc)
   by_begin cpu moment payload (begins_none why call all) =
-      refused_part (pushing_of n size start moment (length payload) (refused why) s t call)
-      (pushes_make n size start cpu moment payload (refused why) s t payloads p between.agrees call)
-    where
-      refused_part : Pushing size s moment (length payload) (refused why) t
-          → ((refused why ≡ pushed)
-          × (behind : LineState)
-          × LinePart n size (begin_frame cpu moment payload) p (acts (push moment (length payload)) ∷ []) behind
-          × Agrees n behind (payload ∷ payloads) t)
-          ⊎ ((because : Refusal)
-          × (refused why ≡ refused because)
-          × LinePart n size (begin_frame cpu moment payload) p [] p
-          × LinePart n size (write cpu moment payload) p [] p
-          × Agrees n p payloads t)
-          → MadePart (LinePart n size (begin_frame cpu moment payload))
-      refused_part (inr (w, e, because, is)) (inr (v, f, part, whole, agrees)) = ([], p, part, between_same is all)
-      refused_part (inr (w, e, because, is)) (inl (e2, behind, part, agrees)) =
-          absurd (let both : refused why ≡ pushed = e2 in cc)
-      refused_part (inl (e, may, is)) made = absurd (let both : refused why ≡ pushed = e in cc)
+      let (part, whole, same) = refused_push cpu moment payload why call in ([], p, part, between_same same all)
 
   by_write : (cpu moment : ℕ) (payload : List ℕ)
       → WholeCalls n size start (pushes moment (length payload)) payload s payloads t lefts
@@ -241,24 +236,7 @@ module _ (n size start : ℕ) (s : Writer) (payloads : List (List ℕ)) (t : Wri
           )
       by_push (inr (why, e, because, is)) = absurd (let both : pushed ≡ refused why = e in cc)
   by_write cpu moment payload (writes_none why call all) =
-      refused_part (pushing_of n size start moment (length payload) (refused why) s t call)
-      (pushes_make n size start cpu moment payload (refused why) s t payloads p between.agrees call)
-    where
-      refused_part : Pushing size s moment (length payload) (refused why) t
-          → ((refused why ≡ pushed)
-          × (behind : LineState)
-          × LinePart n size (begin_frame cpu moment payload) p (acts (push moment (length payload)) ∷ []) behind
-          × Agrees n behind (payload ∷ payloads) t)
-          ⊎ ((because : Refusal)
-          × (refused why ≡ refused because)
-          × LinePart n size (begin_frame cpu moment payload) p [] p
-          × LinePart n size (write cpu moment payload) p [] p
-          × Agrees n p payloads t)
-          → MadePart (LinePart n size (write cpu moment payload))
-      refused_part (inr (w, e, because, is)) (inr (v, f, part, whole, agrees)) = ([], p, whole, between_same is all)
-      refused_part (inr (w, e, because, is)) (inl (e2, behind, part, agrees)) =
-          absurd (let both : refused why ≡ pushed = e2 in cc)
-      refused_part (inl (e, may, is)) made = absurd (let both : refused why ≡ pushed = e in cc)
+      let (part, whole, same) = refused_push cpu moment payload why call in ([], p, whole, between_same same all)
 
   by_close : (cpu : ℕ)
       → WholeCalls n size start pushes_close [] s payloads t lefts

@@ -8,11 +8,11 @@ use Rattle.trace_model.specs.Ring.{Core}
 use Rattle.trace_model.specs.Steps.{Event, pushes, pushes_close, steps, ends, reads, wishes, Answer, pushed, refused, IsTooLong, Step}
 use Rattle.trace_model.proofs.steps.StepCases.{StepCases, PushRefused, all_stand, has_no_room, comes_late, push_step, push_refused, close_step, close_refused, frame_step, frame_lacks, end_step, end_lacks, end_early, read_step, store_wish_step}
 use Rattle.trace_model.proofs.steps.StepSound.{cases_of}
-use Rattle.text_model.specs.Script.{begin_frame, write}
+use Rattle.text_model.specs.Script.{write}
 use Rattle.line_model.specs.Lines.{LineState, frame_count, IsRefusedPush, IsQuiet, IsPush, begins, begins_none, writes, writes_none, LinePart}
 use Rattle.line_model.specs.WriterCalls.{Writer, writer_of, IsWriterCall}
 use Rattle.line_model.specs.CallEvents.{Agrees}
-use Rattle.line_model.specs.LineParts.{PushesMake, WritesMake}
+use Rattle.line_model.specs.LineParts.{PushMakes, PushesMake, WritesMake}
 use Rattle.line_model.proofs.EventsMade.{count_frames}
 use Rattle.line_model.proofs.CallParts.{calls_finish}
 
@@ -24,21 +24,20 @@ IsPushes (ends payload) = ⊥
 IsPushes reads = ⊥
 IsPushes wishes = ⊥
 
+-- the moment and the length of a push
+abbrev pushed_of : Event → ℕ × ℕ
+pushed_of (pushes moment len) = (moment, len)
+pushed_of pushes_close = (0, 0)
+pushed_of steps = (0, 0)
+pushed_of (ends payload) = (0, 0)
+pushed_of reads = (0, 0)
+pushed_of wishes = (0, 0)
+
 abbrev moment_of : Event → ℕ
-moment_of (pushes moment len) = moment
-moment_of pushes_close = 0
-moment_of steps = 0
-moment_of (ends payload) = 0
-moment_of reads = 0
-moment_of wishes = 0
+moment_of event = (pushed_of event).0
 
 abbrev len_of : Event → ℕ
-len_of (pushes moment len) = len
-len_of pushes_close = 0
-len_of steps = 0
-len_of (ends payload) = 0
-len_of reads = 0
-len_of wishes = 0
+len_of event = (pushed_of event).1
 
 -- the writer after the push
 abbrev pub writer_with : Writer → ℕ → ℕ → Writer
@@ -152,11 +151,7 @@ pushes_make n size start cpu moment payload answer s u payloads p agrees call =
     by_push (pushing_of n size start moment (length payload) answer s u call)
   where
     by_push : Pushing size s moment (length payload) answer u
-        → ((answer ≡ pushed) × (behind : LineState)
-        × LinePart n size (begin_frame cpu moment payload) p (acts (push moment (length payload)) ∷ []) behind
-        × Agrees n behind (payload ∷ payloads) u)
-        ⊎ ((why : Refusal) × (answer ≡ refused why) × LinePart n size (begin_frame cpu moment payload) p [] p
-        × LinePart n size (write cpu moment payload) p [] p × Agrees n p payloads u)
+        → PushMakes n size cpu moment payload answer u payloads p
     by_push (inl (a, none, is)) = inl (
       a,
       pushed_state n size payloads s p agrees moment payload,

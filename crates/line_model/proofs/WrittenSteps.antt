@@ -67,18 +67,22 @@ pub record Reached (n size start : ℕ) (P : LineState → Type 0) (more : List 
   pub few : IsFew start q.history q.window.opened
   pub allowed : IsAllowed size q.history more
 
+-- it holds as far as the events of a frame lead
+abbrev pub Runs : (n size start depth : ℕ) → (LineState → Type 0) → Type 0
+Runs n size start depth P = (p q : LineState) (events : List RingEvent) (more : List HistoryEvent)
+    → TopRun n size depth p events q
+    → IsAllowed size p.history (history_events_of events ++ more)
+    → IsFew start p.history p.window.opened
+    → P p
+    → Reached n size start P more q
+
 module _ (n size start depth : ℕ) (P : LineState → Type 0)
     (act : (p : LineState) (a : HistoryEvent) → Facts n size start depth p a → P p → P (state_after p a))
     (closed : (p : LineState) → MayMove n p.history p.window released_one → P p
     → P (state_moved p (window_after p.window released_one)))
     (took : (p : LineState) → P p → P (state_moved p (window_after p.window took_one)))
     (lost : (p : LineState) → P p → P (state_moved p (window_after p.window lost_one))) where
-  run_keeps : (p q : LineState) (events : List RingEvent) (more : List HistoryEvent)
-      → TopRun n size depth p events q
-      → IsAllowed size p.history (history_events_of events ++ more)
-      → IsFew start p.history p.window.opened
-      → P p
-      → Reached n size start P more q
+  run_keeps : Runs n size start depth P
   run_keeps p q [] more run allowed few keeps =
       subst (Reached n size start P more) run record { keeps = keeps; few = few; allowed = allowed }
   run_keeps p q (acts a ∷ events) more (counted, of_top, may, run) allowed few keeps =
@@ -345,12 +349,7 @@ module _ (n size start depth moment : ℕ) (payload : List ℕ) (rs : List Reser
     writing_moved head (has_left l) = has_left (left_moved _ p _ l)
     writing_moved head (was_refused l worn) = was_refused (left_moved _ p _ l) worn
 
-  pub writing_run : (p q : LineState) (events : List RingEvent) (more : List HistoryEvent)
-      → TopRun n size depth p events q
-      → IsAllowed size p.history (history_events_of events ++ more)
-      → IsFew start p.history p.window.opened
-      → IsWriting p
-      → Reached n size start IsWriting more q
+  pub writing_run : Runs n size start depth IsWriting
   writing_run = run_keeps n size start depth IsWriting writing_acts writing_closed
       (λ p w. writing_moved p (p.window.head + 1) w) (λ p w. writing_moved p (p.window.head + 1) w)
 
@@ -386,12 +385,7 @@ module _ (n size start depth : ℕ) (rs : List Reservation) where
     closing_moved w (closing_open o) = closing_open (open_moved [] close_frame rs p w o)
     closing_moved w (closing_left l) = closing_left (left_moved rs p w l)
 
-  pub closing_run : (p q : LineState) (events : List RingEvent) (more : List HistoryEvent)
-      → TopRun n size depth p events q
-      → IsAllowed size p.history (history_events_of events ++ more)
-      → IsFew start p.history p.window.opened
-      → IsClosing p
-      → Reached n size start IsClosing more q
+  pub closing_run : Runs n size start depth IsClosing
   closing_run = run_keeps n size start depth IsClosing closing_acts closing_closed
       (λ p c. closing_moved p (window_after p.window took_one) c)
       (λ p c. closing_moved p (window_after p.window lost_one) c)
@@ -408,12 +402,7 @@ pub resting_counts : (rs : List Reservation) (p : LineState) → IsResting rs p 
 resting_counts rs p r = λ i. length (r.frames i) + (if r.not_finishing i then 1 else 0)
 
 module _ (n size start depth : ℕ) (rs : List Reservation) where
-  pub resting_run : (p q : LineState) (events : List RingEvent) (more : List HistoryEvent)
-      → TopRun n size depth p events q
-      → IsAllowed size p.history (history_events_of events ++ more)
-      → IsFew start p.history p.window.opened
-      → IsResting rs p
-      → Reached n size start (IsResting rs) more q
+  pub resting_run : Runs n size start depth (IsResting rs)
   resting_run = run_keeps n size start depth (IsResting rs)
       (λ p a f r. absurd (let none = resting_counts rs p r in let some = f.counted in omega arith))
       (λ p may r. absurd (let e = r.closed in let low = may.0 in omega arith))

@@ -22,13 +22,11 @@ CallsFinish = (n size start depth : ℕ) (s : Writer) (payloads : List (List ℕ
     → length t.frames < suc depth
     → (events : List RingEvent) × (behind : LineState) × FinishPart n size p events behind × Agrees n behind lefts t
 
--- A push is the part of a `b` line. If it is refused, there is no event, which is the part of a `b` and of a `w` line.
-abbrev pub PushesMake : Type 0
-PushesMake = (n size start cpu moment : ℕ) (payload : List ℕ) (answer : Answer) (s u : Writer)
-    (payloads : List (List ℕ)) (p : LineState)
-    → Agrees n p payloads s
-    → IsWriterCall n size start s record { event = pushes moment (length payload); answer = answer } u
-    → ((answer ≡ pushed)
+-- A push that isn't refused is the part of a `b` line. If it is refused, there is no event, which is the part of a `b`
+-- and of a `w` line.
+abbrev pub PushMakes : (n size cpu moment : ℕ) → List ℕ → Answer → Writer → List (List ℕ) → LineState → Type 0
+PushMakes n size cpu moment payload answer u payloads p =
+    ((answer ≡ pushed)
     × (behind : LineState)
     × LinePart n size (begin_frame cpu moment payload) p (acts (push moment (length payload)) ∷ []) behind
     × Agrees n behind (payload ∷ payloads) u)
@@ -37,6 +35,14 @@ PushesMake = (n size start cpu moment : ℕ) (payload : List ℕ) (answer : Answ
     × LinePart n size (begin_frame cpu moment payload) p [] p
     × LinePart n size (write cpu moment payload) p [] p
     × Agrees n p payloads u)
+
+-- What a push makes.
+abbrev pub PushesMake : Type 0
+PushesMake = (n size start cpu moment : ℕ) (payload : List ℕ) (answer : Answer) (s u : Writer)
+    (payloads : List (List ℕ)) (p : LineState)
+    → Agrees n p payloads s
+    → IsWriterCall n size start s record { event = pushes moment (length payload); answer = answer } u
+    → PushMakes n size cpu moment payload answer u payloads p
 
 -- A push, and calls until its frame is popped, are the part of a `w` line.
 abbrev pub WritesMake : Type 0

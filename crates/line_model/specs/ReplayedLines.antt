@@ -27,30 +27,31 @@ LineRunsAreCalls = (n size start cpus collectors : ℕ) (line : Command) (before
 abbrev pub commands_of : List (ℕ × Command) → List Command
 commands_of lines = map (λ line. line.1) lines
 
--- After any lines of a script, the history of a CPU's ring is begun by the lines of its writer; and if no frame is on
--- the stack, it is made by them.
-abbrev pub ReplayMakesLines : Type 0
-ReplayMakesLines = (script : Script) (lines : List (ℕ × Command)) (w : World) (cpu : ℕ) (lane : Lane)
+-- these lines of its writer have begun a ring's history; and if no frame is on the stack, they have made it
+abbrev pub IsOfLines : Script → List Command → Lane → Type 0
+IsOfLines script lines lane =
+    IsBegunByLines script.pages script.size script.start lines lane.core.history
+    × (lane.core.frames ≡ [] → IsMadeByLines script.pages script.size script.start lines lane.core.history)
+
+-- After any lines of a script, this holds of each CPU's writer lines and lane.
+abbrev pub HoldsOfLanes : (Script → List Command → Lane → Type 0) → Type 0
+HoldsOfLanes Says = (script : Script) (lines : List (ℕ × Command)) (w : World) (cpu : ℕ) (lane : Lane)
     → IsWithinLimits script
     → All (λ line. IsCommandWithin script.cpus script.collectors line.1) lines
     → WorldBehind script lines w
     → slice_get w.lanes cpu ≡ Some lane
-    → IsBegunByLines script.pages script.size script.start (writer_lines cpu (commands_of lines)) lane.core.history
-    × (lane.core.frames ≡ []
-    → IsMadeByLines script.pages script.size script.start (writer_lines cpu (commands_of lines)) lane.core.history)
+    → Says script (writer_lines cpu (commands_of lines)) lane
+
+-- After any lines of a script, the history of a CPU's ring is begun, or made, by the lines of its writer.
+abbrev pub ReplayMakesLines : Type 0
+ReplayMakesLines = HoldsOfLanes IsOfLines
 
 -- For a CPU with `w` and `c` lines alone, at most as many as there are numbers left for fills, the committed records
 -- are exactly those of its `w` lines that are neither too long nor too late, in order, moments raised.
 abbrev pub ReplayCommitsWholeLines : Type 0
-ReplayCommitsWholeLines = (script : Script) (lines : List (ℕ × Command)) (w : World) (cpu : ℕ) (lane : Lane)
-    → IsWithinLimits script
-    → All (λ line. IsCommandWithin script.cpus script.collectors line.1) lines
-    → WorldBehind script lines w
-    → slice_get w.lanes cpu ≡ Some lane
-    → AllWriteOrClose (writer_lines cpu (commands_of lines))
-    → script.start + length (writer_lines cpu (commands_of lines)) + script.pages ≤ LINK_FILLS
-    → committed_records lane.core.history
-    ≡ records_of_lines script.size 0 (writer_lines cpu (commands_of lines))
+ReplayCommitsWholeLines = HoldsOfLanes (λ script lines lane. AllWriteOrClose lines
+    → script.start + length lines + script.pages ≤ LINK_FILLS
+    → committed_records lane.core.history ≡ records_of_lines script.size 0 lines)
 
 -- After all lines of a script its CPUs' histories are begun, or made, by the lines of their writers.
 abbrev pub WorldsMakeLines : Type 0
@@ -58,8 +59,4 @@ WorldsMakeLines = (script : Script) (w : World) (cpu : ℕ) (lane : Lane)
     → IsWithinLimits script
     → WorldOf script w
     → slice_get w.lanes cpu ≡ Some lane
-    → IsBegunByLines script.pages script.size script.start (writer_lines cpu (commands_of script.commands))
-    lane.core.history
-    × (lane.core.frames ≡ []
-    → IsMadeByLines script.pages script.size script.start (writer_lines cpu (commands_of script.commands))
-    lane.core.history)
+    → IsOfLines script (writer_lines cpu (commands_of script.commands)) lane

@@ -82,25 +82,23 @@ LinesFromRestCommit = (n size start : ℕ) (lines : List Command) (line : Comman
     ⊎ ((LINK_FILLS ≤ start + length (reserved_records p.history) + n)
     × (committed_records q.history ≡ committed_records p.history)))
 
--- Of a CPU that has only `w` and `c` lines, at most as many as there are numbers left for fills, the committed records
--- are exactly those of its `w` lines that are neither too long nor too late, in order, moments raised.
-abbrev pub WholeLinesCommit : Type 0
-WholeLinesCommit = (n size start : ℕ) (lines : List Command) (history : List HistoryEvent)
+-- Of a CPU that has only `w` and `c` lines, at most as many as there are numbers left for fills, and a history that is
+-- of these lines in this sense, the committed records are exactly those of its `w` lines that are neither too long nor
+-- too late, in order, moments raised.
+abbrev pub CommitsWholeLines : ((n size start : ℕ) → List Command → List HistoryEvent → Type 0) → Type 0
+CommitsWholeLines IsOfLines = (n size start : ℕ) (lines : List Command) (history : List HistoryEvent)
     → MIN_PAGES ≤ n
     → AllWriteOrClose lines
     → start + length lines + n ≤ LINK_FILLS
     → IsHistory history
     → IsPacked history size
-    → IsMadeByLines n size start lines history
+    → IsOfLines n size start lines history
     → committed_records history ≡ records_of_lines size 0 lines
+
+-- They commit if all lines have made the history.
+abbrev pub WholeLinesCommit : Type 0
+WholeLinesCommit = CommitsWholeLines IsMadeByLines
 
 -- The same of the lines so far: a `w` or `c` line leaves no frame open.
 abbrev pub WholeLinesHaveCommitted : Type 0
-WholeLinesHaveCommitted = (n size start : ℕ) (lines : List Command) (history : List HistoryEvent)
-    → MIN_PAGES ≤ n
-    → AllWriteOrClose lines
-    → start + length lines + n ≤ LINK_FILLS
-    → IsHistory history
-    → IsPacked history size
-    → IsBegunByLines n size start lines history
-    → committed_records history ≡ records_of_lines size 0 lines
+WholeLinesHaveCommitted = CommitsWholeLines IsBegunByLines
