@@ -115,6 +115,27 @@ module _ (n size start : ℕ) (c : Core) (x : Exchange) (after : Core) (r : IsRi
   deep : (frame : Frame) (below : List Frame) → c.frames ≡ frame ∷ below → length c.frames - 1 ≡ length below
   deep frame below top = let e = ap (λ (fs : List Frame). length fs) top in omega arith
 
+  -- from a state that is the stepped one
+  from_does : (frame : Frame) (below : List Frame) (ps : List (List ℕ)) (from : LineState)
+      → c.frames ≡ frame ∷ below
+      → (does : Does n size (length c.frames - 1) c frame ps from (writer_of after))
+      → stepped p ≡ from
+      → Agrees n does.behind (payloads_left after.frames payloads) (writer_of after)
+      → ReservesFirst size p p.frames (history_events_of does.events)
+      → MadeEvents
+  from_does frame below ps from top does path behind_agrees first = record {
+    events = does.events;
+    reached = does.reached;
+    behind = does.behind;
+    run = subst (λ (q : LineState). TopRun n size (length c.frames - 1) q does.events does.reached) (sym path) does.run;
+    goes = does.goes;
+    agrees = behind_agrees;
+    first = first;
+    on = λ e. ap (λ (xs : List OpenFrame). let q : LineState = record does.behind { frames = xs } in q)
+        (does.on (let t = ap (λ (fs : List Frame). length fs) top in omega arith));
+    few = λ is_record. does.few (subst IsRecordOnTop top is_record);
+  }
+
   -- the bottom frame has left
   by_last : (frame : Frame) (below : List Frame)
       → c.frames ≡ frame ∷ below
@@ -145,20 +166,8 @@ module _ (n size start : ℕ) (c : Core) (x : Exchange) (after : Core) (r : IsRi
         frames = with_top_stepped (last.open_none i);
         finishing = last.finishing_is i;
       }) in
-      record {
-        events = does.events;
-        reached = does.reached;
-        behind = does.behind;
-        run = subst (λ (q : LineState). TopRun n size (length c.frames - 1) q does.events does.reached)
-            (sym path) does.run;
-        goes = does.goes;
-        agrees = does.agrees;
-        first = subst (λ (xs : List OpenFrame). ReservesFirst size p xs (history_events_of does.events))
-            (sym last.open_none) tt;
-        on = λ e. ap (λ (xs : List OpenFrame). let q : LineState = record does.behind { frames = xs } in q)
-            (does.on (let t = ap (λ (fs : List Frame). length fs) top in omega arith));
-        few = λ is_record. does.few (subst IsRecordOnTop top is_record);
-      }
+      from_does frame below payloads _ top does path does.agrees
+      (subst (λ (xs : List OpenFrame). ReservesFirst size p xs (history_events_of does.events)) (sym last.open_none) tt)
 
   module _ (frame : Frame) (below : List Frame) (on_top : c.frames ≡ frame ∷ below) (top : OpenFrame)
       (rest : List OpenFrame) (others : List (List ℕ)) (is : IsTop frame payloads p.frames top rest others) where
@@ -187,23 +196,13 @@ module _ (n size start : ℕ) (c : Core) (x : Exchange) (after : Core) (r : IsRi
           finishing = p.finishing;
         }) in
         let history_is : p.history ≡ c.history = agrees.history in
-        record {
-          events = does.events;
-          reached = does.reached;
-          behind = does.behind;
-          run = subst (λ (q : LineState). TopRun n size (length c.frames - 1) q does.events does.reached)
-              (sym path) does.run;
-          goes = does.goes;
-          agrees = subst (λ (ps : List (List ℕ)). Agrees n does.behind (payloads_left after.frames ps)
-              (writer_of after)) (sym is.payloads_are) does.agrees;
-          first = subst (λ (xs : List OpenFrame). ReservesFirst size p xs (history_events_of does.events)) (sym is.open_is)
-              (λ fresh res wants fits. does.first (is.fresh fresh).0 (is.fresh fresh).1 res
-              (sym (ap next_reservation history_is) ∙ wants)
-              (subst (λ (h : List HistoryEvent). FitsBehind size (tail_of h) res) history_is fits));
-          on = λ e. ap (λ (xs : List OpenFrame). let q : LineState = record does.behind { frames = xs } in q)
-              (does.on (let t = ap (λ (fs : List Frame). length fs) on_top in omega arith));
-          few = λ is_record. does.few (subst IsRecordOnTop on_top is_record);
-        }
+        from_does frame below (top.payload ∷ others) _ on_top does path
+        (subst (λ (ps : List (List ℕ)). Agrees n does.behind (payloads_left after.frames ps) (writer_of after))
+        (sym is.payloads_are) does.agrees)
+        (subst (λ (xs : List OpenFrame). ReservesFirst size p xs (history_events_of does.events)) (sym is.open_is)
+        (λ fresh res wants fits. does.first (is.fresh fresh).0 (is.fresh fresh).1 res
+        (sym (ap next_reservation history_is) ∙ wants)
+        (subst (λ (h : List HistoryEvent). FitsBehind size (tail_of h) res) history_is fits)))
 
     by_state : (state : FrameState)
         → frame.state ≡ state
