@@ -18,7 +18,7 @@ use Rattle.ring_frames.specs.declared.answer.Answer.TheVariants as answer
 use Rattle.ring_core.specs.Value.{CoreValue}
 use Rattle.nested_writer.specs.declared.stack.leave.Ended.TheVariants.{Pending, Full}
 use Rattle.ring_frames.specs.Answers.{IsAnswerOf}
-use Rattle.ring_frames.proofs.Reports.{reported_pushed}
+use Rattle.ring_frames.proofs.Reported.{reported_pushed}
 use Rattle.ring_core.specs.Answers.{event_of}
 use Rattle.ring_core.specs.Steps.{IsStep, MakesStep}
 use Rattle.replay_log.specs.declared.line.LogLine.{LogLine}
