@@ -1,0 +1,13 @@
+//! A collector for a caller that has numbers and buffers alone, as a program in C.
+//!
+//! Parcels come in as bytes. The listing is copied once, and its lines go out one at a time, so that nothing is lent
+//! between two calls.
+#![tactic(auto)]
+
+mod adding;
+mod listed;
+mod missing;
+
+pub use adding::Refusal;
+pub use listed::{Given, LineNumbers, ListedCollector, ListedLine};
+pub use missing::Run;

@@ -1,0 +1,159 @@
+//! The listing, as a copy.
+ghost use Rattle.std.specs.Prelude.{◌≡◌, ◌<◌, ◌≤◌, ◌++◌, drop, length, map, IfOk};
+ghost use Rattle.trace_model.specs.Listing.{IsListing};
+ghost use Rattle.time_merge.specs.Lines.{line_seen};
+
+use collector::Collector;
+use std::alloc::Global;
+use std::marker::Model;
+use time_merge::{Line, listing};
+use trace_model::{CpuId, Moment, NoMemory, RecordNo};
+
+/// A line of a listing, with bytes of its own. Contracts see its values.
+#[derive(Drop)]
+pub struct ListedLine {
+    moment: Moment,
+    cpu: CpuId,
+    number: RecordNo,
+    bytes: Vec<u8>,
+}
+
+impl Model for ListedLine {
+    ghost use Rattle.trace_model.specs.Listing.{Line as ModelLine};
+
+    ghost Value = { ModelLine };
+
+    ghost view = { λ l. record {
+      moment = l.moment.0;
+      cpu = l.cpu.0;
+      number = l.number.0;
+      bytes = l.bytes.items;
+    } };
+}
+
+impl ListedLine {
+    /// A copy of a line.
+    fn of(alloc: Global, line: &Line<'_>) -> Result<ListedLine, NoMemory>
+        ensures { IfOk result (λ copy. copy ≡ line_seen line.now) }
+    {
+        Ok(ListedLine {
+            moment: line.moment,
+            cpu: line.cpu,
+            number: line.number,
+            bytes: Vec::from_slice(alloc, line.bytes)?,
+        })
+    }
+}
+
+/// A copy of each line.
+fn copies(alloc: Global, lines: &[Line<'_>]) -> Result<Vec<ListedLine>, NoMemory>
+    ensures { IfOk result (λ copies. copies.items ≡ map line_seen lines.now) }
+{
+    let mut copies = Vec::with_capacity(alloc, lines.len())?;
+    for line in lines {
+        copies.push(ListedLine::of(alloc, line)?)?;
+    }
+    Ok(copies)
+}
+
+/// A copy of the collector's listing.
+fn copied_listing(alloc: Global, collector: &Collector) -> Result<Vec<ListedLine>, NoMemory>
+    ensures { IfOk result (λ copies. IsListing collector.now copies.items) }
+{
+    let lines = listing(alloc, collector)?;
+    copies(alloc, &lines)
+}
+
+/// The numbers of a line that is listed, and how many bytes it has.
+#[derive(Clone, Copy, Debug, PartialEq, Eq)]
+pub struct LineNumbers {
+    pub moment: Moment,
+    pub cpu: CpuId,
+    pub number: RecordNo,
+    pub len: usize,
+}
+
+/// What is given of a listing.
+#[derive(Clone, Copy, Debug, PartialEq, Eq)]
+pub enum Given {
+    /// The next line, whose bytes are put.
+    Line(LineNumbers),
+    /// The buffer is shorter than the next line's bytes. No line is given.
+    NoRoom(LineNumbers),
+    /// All lines were given.
+    End,
+}
+
+/// A collector, and the listing that was made of it last, whose lines are given one after the other.
+#[derive(Drop)]
+pub struct ListedCollector {
+    pub collector: Collector,
+    /// The listing; no line, before one was made.
+    pub lines: Vec<ListedLine>,
+    /// How many of its lines were given.
+    pub given: usize,
+}
+
+impl ListedCollector {
+    ghost use Rattle.std.specs.Prelude.{◌≡◌, [], length, IfOk, OnOk, OnErr};
+    ghost use Rattle.trace_model.specs.Listing.{IsListing};
+    ghost use Rattle.listed_collector.specs.Giving.{GivesSo};
+
+    /// A collector that keeps no parcel, and no listing.
+    pub fn new(alloc: Global) -> ListedCollector
+        ensures collector { result.collector ≡ [] }
+        ensures lines { result.lines.items ≡ [] }
+        ensures given { result.given ≡ 0 }
+    {
+        ListedCollector {
+            collector: Collector::new(alloc),
+            lines: Vec::new(alloc),
+            given: 0,
+        }
+    }
+
+    /// Lists what the collector has now: the lines are given from the first on. The answer is how many there are. If
+    /// memory is refused, nothing has changed.
+    pub fn list(&mut self, alloc: Global) -> Result<usize, NoMemory>
+        ensures listing { OnOk result (IsListing self.old.collector self.new.lines.items) }
+        ensures count { IfOk result (λ count. count ≡ length self.new.lines.items) }
+        ensures first { OnOk result (self.new.given ≡ 0) }
+        ensures collector { self.new.collector ≡ self.old.collector }
+        ensures refused { OnErr result (self.new ≡ self.old) }
+    {
+        let lines = copied_listing(alloc, &self.collector)?;
+        let count = lines.len();
+        self.lines = lines;
+        self.given = 0;
+        Ok(count)
+    }
+
+    /// Puts the bytes of the next line to the front of `out`.
+    pub fn give(&mut self, out: &mut [u8]) -> Given
+        ensures { GivesSo self.old out.old result out.new self.new }
+    {
+        let Some(line) = self.lines.get(self.given) else {
+            return Given::End;
+        };
+        let numbers = LineNumbers {
+            moment: line.moment,
+            cpu: line.cpu,
+            number: line.number,
+            len: line.bytes.len(),
+        };
+        if out.len() < numbers.len {
+            return Given::NoRoom(numbers);
+        }
+        put_into(out, &line.bytes);
+        self.given += 1;
+        Given::Line(numbers)
+    }
+}
+
+/// The bytes are put to the front of the buffer.
+fn put_into(out: &mut [u8], bytes: &[u8])
+    requires { length bytes.now ≤ length out.old }
+    ensures { out.new ≡ bytes.now ++ drop (length bytes.now) out.old }
+{
+    out[..bytes.len()].copy_from_slice(bytes);
+}
