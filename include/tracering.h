@@ -3,8 +3,8 @@
 // One thread writes and one thread reads; neither waits for the other. Records are numbered from 0 on. If the ring is
 // full, the oldest closed page is overwritten, and the reader knows how many records were lost. What is taken is a
 // parcel: a page with its CPU, its fill, its first record's number and the count of lost records, in bytes that can be
-// stored and sent (docs/FORMATS.md, "Parcel bytes"). This library collects no parcels; a Rattle program can, by the
-// crate `collector`.
+// stored and sent (docs/FORMATS.md, "Parcel bytes"). A collector puts parcels together again, of one CPU or of many,
+// whatever their order and repeats: it lists their records by time, and knows which numbers are missing.
 //
 // Handles. A handle is all zeros ({0}) before its first call. Only the calls below change it, and it must not be
 // copied.
@@ -19,13 +19,13 @@
 // Conditions that no call can check: a pointer is valid, with as many bytes as are stated; no two arguments of one call
 // overlap; a handle is in one call at a time, other than by a signal's handler.
 //
-// Threads. A writer's handle belongs to one thread at a time, and so does a reader's. A handle may be handed to another
-// thread if the hand-over orders memory, as pthread_create, pthread_join and a lock do.
+// Threads. A writer's handle belongs to one thread at a time, and so does a reader's, and a collector's. A handle may
+// be handed to another thread if the hand-over orders memory, as pthread_create, pthread_join and a lock do.
 //
 // Signals. A handler may call write, begin, put, finish, end, begin_close and depth on the handle of the thread that
 // it interrupts: its records are nested. Amid a call on that handle they answer BUSY (depth: 0). It may call take and
-// wish on a reader's handle in the same way. It must not call those that take or release memory: new, settle, and
-// those that free. It completes what it begins.
+// wish on a reader's handle in the same way. It must not call those that take or release memory: new, settle, all calls
+// on collectors, and those that free. It completes what it begins.
 #ifndef TRACERING_H
 #define TRACERING_H
 
@@ -55,6 +55,11 @@ struct tracering_reader {
     volatile sig_atomic_t in_call;
 };
 
+struct tracering_collector {
+    struct tracering_held held;
+    volatile sig_atomic_t in_call;
+};
+
 // What is reported of a page that is given.
 struct tracering_taken {
     uint64_t fill;   // which fill of its ring it was: the first one is 0
@@ -64,11 +69,33 @@ struct tracering_taken {
     size_t len;      // how many bytes its parcel takes: TRACERING_HEADER and the ring's `size`
 };
 
+// Where a parcel is refused.
+struct tracering_fault_at {
+    uint64_t number; // the number at odds; or how many bytes of its page's data are before the word that is bad
+    uint32_t cpu;    // the CPU whose number it is
+};
+
+// A run of missing numbers.
+struct tracering_run {
+    uint64_t first; // its first number
+    uint64_t last;  // its last number
+};
+
+// A line of a listing, without its bytes.
+struct tracering_line {
+    uint64_t moment; // when the record was made, in its writer's units
+    uint64_t number; // the record's number among those of its CPU
+    uint32_t cpu;    // the CPU that made it
+    size_t len;      // how many bytes it has: its payload, and zeros up to whole words of 4
+};
+
 // The bytes of a parcel before its page's data.
 #define TRACERING_HEADER 48
 
 // What calls answer.
 enum {
+    TRACERING_DIFFERENT = -3,    // same: the collectors don't have and miss the same
+    TRACERING_KNOWN = -2,        // add: all that the parcel has and misses was there already
     TRACERING_RESERVED = -1,     // finish: the record of the frame on top is reserved
     TRACERING_DONE = 0,          // the call did what it says
     TRACERING_TOO_DEEP = 1,      // four frames are begun and not completed
@@ -89,7 +116,19 @@ enum {
     TRACERING_MOVING = 16,       // a move of the head isn't finished: try again
     TRACERING_NO_ROOM = 17,      // the buffer is too short
     TRACERING_NOT_AT_REST = 18,  // settle: a frame is begun and not completed
-    TRACERING_UNREAD = 19        // settle: a closed page may be unread
+    TRACERING_UNREAD = 19,       // settle: a closed page may be unread
+    TRACERING_TOO_SHORT = 20,    // there are fewer bytes than TRACERING_HEADER
+    TRACERING_BAD_IMAGE_SIZE = 21, // the size that the page states is above what follows, or the page is too long
+    TRACERING_BAD_COUNT = 22,    // a stored count of missed events is stated, and there are no bytes for it
+    TRACERING_CUT = 23,          // the data ends within a word
+    TRACERING_BAD_LENGTH = 24,   // no word has the length that this one states
+    TRACERING_TIME_OVERFLOW = 25, // a moment doesn't fit 64 bits
+    TRACERING_NUMBER_OVERFLOW = 26, // the number after the last record's doesn't fit 64 bits
+    TRACERING_MISSED_TOO_MANY = 27, // more numbers are missing before the first record's than there are
+    TRACERING_MISSED_DIFFERS = 28, // the page states other missed events than the number before it
+    TRACERING_CLASH = 29,        // there are two different records of one CPU's number
+    TRACERING_TAKEN_AND_MISSING = 30, // a CPU's number has a record and is missing
+    TRACERING_END = 31           // next: all lines of the listing were given
 };
 
 // The exports of the library, which the functions below call. They have two more conditions: no pointer is null, and no
@@ -108,6 +147,13 @@ int32_t tracering_raw_settle(struct tracering_held *, struct tracering_held *, u
     struct tracering_taken *);
 int32_t tracering_raw_writer_free(struct tracering_held *);
 int32_t tracering_raw_reader_free(struct tracering_held *);
+int32_t tracering_raw_collector_new(struct tracering_held *);
+int32_t tracering_raw_collector_add(struct tracering_held *, const uint8_t *, size_t, struct tracering_fault_at *);
+int32_t tracering_raw_collector_missing(struct tracering_held *, uint32_t, struct tracering_run *, size_t, size_t *);
+int32_t tracering_raw_collector_list(struct tracering_held *, size_t *);
+int32_t tracering_raw_collector_next(struct tracering_held *, uint8_t *, size_t, struct tracering_line *);
+int32_t tracering_raw_collector_same(struct tracering_held *, struct tracering_held *);
+int32_t tracering_raw_collector_free(struct tracering_held *);
 
 // Bytes that may be null if there are none.
 static inline const uint8_t *tracering_bytes(const void *bytes)
@@ -283,6 +329,100 @@ static inline int32_t tracering_reader_free(struct tracering_reader *r)
     if (!tracering_enter(&r->in_call))
         return TRACERING_BUSY;
     return tracering_leave(&r->in_call, tracering_raw_reader_free(&r->held));
+}
+
+// ---- The calls on collectors, of any thread that has the handle. Some take or release memory: no handler may make
+// them.
+
+// A new collector, without a parcel. IN_USE, NO_MEMORY.
+static inline int32_t tracering_collector_new(struct tracering_collector *c)
+{
+    if (!c)
+        return TRACERING_NULL;
+    if (c->in_call)
+        return TRACERING_BUSY;
+    return tracering_raw_collector_new(&c->held);
+}
+
+// Adds the parcel that these bytes are, as `take` gives it: the collector then also has and misses what the parcel
+// does. The bytes are copied. KNOWN: all of it was there already. TOO_SHORT, BAD_CPU, BAD_IMAGE_SIZE, BAD_COUNT, CUT,
+// BAD_LENGTH, TIME_OVERFLOW, NUMBER_OVERFLOW, MISSED_TOO_MANY, MISSED_DIFFERS: the bytes are no parcel; the first of
+// these that holds, in this order (of BAD_IMAGE_SIZE to TIME_OVERFLOW the page's first fault). CLASH,
+// TAKEN_AND_MISSING: the parcel is at odds with the others, under the CPU and number of `at`, of such numbers the
+// least, by CPU and then by number. NO_MEMORY: nothing is wrong with the parcel. `at` is changed by CLASH and
+// TAKEN_AND_MISSING, and its number alone by CUT, BAD_LENGTH and TIME_OVERFLOW. If it answers a positive number, the
+// collector is as it was.
+static inline int32_t tracering_collector_add(struct tracering_collector *c, const void *bytes, size_t len,
+    struct tracering_fault_at *at)
+{
+    if (!(c && (bytes || !len) && at))
+        return TRACERING_NULL;
+    if (!tracering_enter(&c->in_call))
+        return TRACERING_BUSY;
+    return tracering_leave(&c->in_call, tracering_raw_collector_add(&c->held, tracering_bytes(bytes), len, at));
+}
+
+// The runs of a CPU's missing numbers, which rise, and of which none touches the next. As many as there is room for go
+// to the front of `runs`, which has `room` of them, and `count` is how many there are in all. NO_ROOM: if these are
+// more; the first ones are given all the same. A CPU of which nothing was added misses nothing.
+static inline int32_t tracering_collector_missing(struct tracering_collector *c, uint32_t cpu,
+    struct tracering_run *runs, size_t room, size_t *count)
+{
+    struct tracering_run none;
+    if (!(c && (runs || !room) && count))
+        return TRACERING_NULL;
+    if (!tracering_enter(&c->in_call))
+        return TRACERING_BUSY;
+    runs = runs ? runs : &none;
+    return tracering_leave(&c->in_call, tracering_raw_collector_missing(&c->held, cpu, runs, room, count));
+}
+
+// Lists the records that the collector has now, by moment, then by CPU, then by number: `next` gives the first line
+// after it, and `count` is how many there are. The listing is a copy, which parcels that are added later don't change;
+// it stays until the next one is made. NO_MEMORY: the last listing, and where `next` is in it, are as they were.
+static inline int32_t tracering_collector_list(struct tracering_collector *c, size_t *count)
+{
+    if (!(c && count))
+        return TRACERING_NULL;
+    if (!tracering_enter(&c->in_call))
+        return TRACERING_BUSY;
+    return tracering_leave(&c->in_call, tracering_raw_collector_list(&c->held, count));
+}
+
+// The next line of the listing: its bytes go to the front of `out`, and its numbers to `line`. END: all were given, or
+// no listing was made; `line` is not changed. NO_ROOM: the line has `line->len` bytes, which is more than `room`; it
+// stays the next one.
+static inline int32_t tracering_collector_next(struct tracering_collector *c, void *out, size_t room,
+    struct tracering_line *line)
+{
+    uint8_t none;
+    if (!(c && (out || !room) && line))
+        return TRACERING_NULL;
+    if (!tracering_enter(&c->in_call))
+        return TRACERING_BUSY;
+    uint8_t *to = out ? (uint8_t *)out : &none;
+    return tracering_leave(&c->in_call, tracering_raw_collector_next(&c->held, to, room, line));
+}
+
+// Whether two collectors have the same records under the same numbers, and miss the same numbers: DONE, or DIFFERENT.
+// BUSY also if both are one.
+static inline int32_t tracering_collector_same(struct tracering_collector *c, struct tracering_collector *other)
+{
+    if (!(c && other))
+        return TRACERING_NULL;
+    if (c == other || c->in_call || other->in_call)
+        return TRACERING_BUSY;
+    return tracering_raw_collector_same(&c->held, &other->held);
+}
+
+// Frees the collector and its listing. The handle is all zeros afterwards.
+static inline int32_t tracering_collector_free(struct tracering_collector *c)
+{
+    if (!c)
+        return TRACERING_NULL;
+    if (!tracering_enter(&c->in_call))
+        return TRACERING_BUSY;
+    return tracering_leave(&c->in_call, tracering_raw_collector_free(&c->held));
 }
 
 #ifdef __cplusplus

@@ -1,6 +1,8 @@
 // Checks of the library for C: which misuse is refused; and a writer's thread, a reader's thread, and a signal's
 // handler that writes between the writer's calls, in the middle of them, and nested in records. The reader looks at
-// each record's number, moment and payload. Prints the same whatever the schedule, and ends with 0 if all is well.
+// each record's number, moment and payload. The pages that are taken are added to a collector, which has to miss what
+// the reader missed, and to list the others by moment. Prints the same whatever the schedule, and ends with 0 if all is
+// well.
 // `checks RECORDS` says how many records the writer makes.
 #define _DEFAULT_SOURCE
 #include "tracering.h"
@@ -104,6 +106,7 @@ static uint64_t write_records(uint64_t count)
 
 struct seen {
     struct tracering_reader reader;
+    struct tracering_collector collector;
     uint64_t pages, records, missed, next, faults;
 };
 
@@ -152,6 +155,8 @@ static void *read_pages(void *given)
             seen->records += taken.count;
             seen->missed += taken.missed;
             look_at(seen, out, &taken);
+            struct tracering_fault_at at;
+            seen->faults += tracering_collector_add(&seen->collector, out, taken.len, &at) != TRACERING_DONE;
         } else if (code == TRACERING_EMPTY && last) {
             return NULL;
         }
@@ -242,11 +247,164 @@ static int refusals(void)
     return bad;
 }
 
+// A parcel of CPU 3: so many records of 4 bytes from this number on, the first at moment 10 and each of the later ones
+// 10 after it, and so many missing before them.
+static size_t make_parcel(uint8_t *out, uint64_t first, uint64_t missed, uint64_t count, const char *payload)
+{
+    uint64_t numbers[6] = {3, 0, first, missed, 10, 8 * count | (missed ? 1ull << 31 : 0)};
+    for (size_t at = 0; at < TRACERING_HEADER; at++)
+        out[at] = (uint8_t)(numbers[at / 8] >> at % 8 * 8);
+    for (uint64_t k = 0; k < count; k++) {
+        uint8_t *word = out + TRACERING_HEADER + 8 * k;
+        uint32_t type_and_delta = 1 | (k ? 10u << 5 : 0);
+        for (int at = 0; at < 4; at++) {
+            word[at] = (uint8_t)(type_and_delta >> 8 * at);
+            word[4 + at] = (uint8_t)payload[at];
+        }
+    }
+    return TRACERING_HEADER + 8 * count;
+}
+
+static bool is_line(const struct tracering_line *line, uint64_t moment, uint64_t number, const uint8_t *bytes)
+{
+    return line->moment == moment && line->number == number && line->cpu == 3 && line->len == 4
+        && memcmp(bytes, "abcd", 4) == 0;
+}
+
+// What collectors answer: each refusal, the runs that miss, and a listing line by line.
+static int collected(void)
+{
+    enum { ROOM = TRACERING_HEADER + 64 };
+    struct tracering_collector none = {0}, c = {0}, other = {0}, busy = {.in_call = 1};
+    struct tracering_fault_at at = {7, 7};
+    struct tracering_run runs[2] = {{7, 7}, {7, 7}};
+    struct tracering_line line = {7, 7, 7, 7};
+    uint8_t parcel[ROOM], bytes[8];
+    size_t count = 7, len = make_parcel(parcel, 6, 2, 2, "abcd");
+    int bad = 0;
+    bad += tracering_collector_add(&none, parcel, len, &at) != TRACERING_ABSENT;
+    bad += tracering_collector_missing(&none, 3, runs, 2, &count) != TRACERING_ABSENT;
+    bad += tracering_collector_list(&none, &count) != TRACERING_ABSENT;
+    bad += tracering_collector_next(&none, bytes, 8, &line) != TRACERING_ABSENT;
+    bad += tracering_collector_same(&none, &other) != TRACERING_ABSENT;
+    bad += tracering_collector_free(&none) != TRACERING_ABSENT;
+    bad += tracering_collector_new(&busy) != TRACERING_BUSY;
+    bad += tracering_collector_add(&busy, parcel, len, &at) != TRACERING_BUSY;
+    bad += tracering_collector_missing(&busy, 3, runs, 2, &count) != TRACERING_BUSY;
+    bad += tracering_collector_list(&busy, &count) != TRACERING_BUSY;
+    bad += tracering_collector_next(&busy, bytes, 8, &line) != TRACERING_BUSY;
+    bad += tracering_collector_same(&none, &busy) != TRACERING_BUSY;
+    bad += tracering_collector_free(&busy) != TRACERING_BUSY;
+    bad += tracering_collector_new(NULL) != TRACERING_NULL;
+    bad += tracering_collector_free(NULL) != TRACERING_NULL;
+    bad += tracering_collector_new(&c) != TRACERING_DONE;
+    bad += tracering_collector_new(&c) != TRACERING_IN_USE;
+    bad += tracering_collector_new(&other) != TRACERING_DONE;
+    bad += tracering_collector_same(&c, &none) != TRACERING_ABSENT;
+    bad += tracering_collector_same(&c, &c) != TRACERING_BUSY;
+    bad += tracering_collector_same(&c, NULL) != TRACERING_NULL;
+    bad += tracering_collector_same(&c, &other) != TRACERING_DONE;
+    bad += tracering_collector_add(&c, NULL, 1, &at) != TRACERING_NULL;
+    bad += tracering_collector_add(&c, parcel, len, NULL) != TRACERING_NULL;
+    bad += tracering_collector_missing(&c, 3, NULL, 1, &count) != TRACERING_NULL;
+    bad += tracering_collector_missing(&c, 3, runs, 2, NULL) != TRACERING_NULL;
+    bad += tracering_collector_list(&c, NULL) != TRACERING_NULL;
+    bad += tracering_collector_next(&c, NULL, 1, &line) != TRACERING_NULL;
+    bad += tracering_collector_next(&c, bytes, 8, NULL) != TRACERING_NULL;
+    bad += count != 7 || at.number != 7 || at.cpu != 7 || line.len != 7 || runs[0].first != 7;
+    bad += tracering_collector_next(&c, bytes, 8, &line) != TRACERING_END;
+    bad += tracering_collector_list(&c, &count) != TRACERING_DONE || count != 0;
+    bad += tracering_collector_missing(&c, 3, NULL, 0, &count) != TRACERING_DONE || count != 0;
+
+    bad += tracering_collector_add(&c, NULL, 0, &at) != TRACERING_TOO_SHORT;
+    bad += tracering_collector_add(&c, parcel, TRACERING_HEADER - 1, &at) != TRACERING_TOO_SHORT;
+    bad += tracering_collector_add(&c, parcel, len - 1, &at) != TRACERING_BAD_IMAGE_SIZE;
+    parcel[43] |= 64;
+    bad += tracering_collector_add(&c, parcel, len, &at) != TRACERING_BAD_COUNT;
+    make_parcel(parcel, 6, 2, 2, "abcd");
+    parcel[40] = 15;
+    bad += tracering_collector_add(&c, parcel, len, &at) != TRACERING_CUT || at.number != 8 || at.cpu != 7;
+    make_parcel(parcel, 6, 2, 2, "abcd");
+    parcel[48] = 0;
+    memset(parcel + 52, 0, 4);
+    bad += tracering_collector_add(&c, parcel, len, &at) != TRACERING_BAD_LENGTH || at.number != 0 || at.cpu != 7;
+    make_parcel(parcel, 6, 2, 2, "abcd");
+    memset(parcel + 32, 255, 8);
+    bad += tracering_collector_add(&c, parcel, len, &at) != TRACERING_TIME_OVERFLOW || at.number != 8 || at.cpu != 7;
+    make_parcel(parcel, 6, 2, 2, "abcd");
+    parcel[1] = 1;
+    bad += tracering_collector_add(&c, parcel, len, &at) != TRACERING_BAD_CPU;
+    make_parcel(parcel, UINT64_MAX - 1, 2, 2, "abcd");
+    bad += tracering_collector_add(&c, parcel, len, &at) != TRACERING_NUMBER_OVERFLOW;
+    make_parcel(parcel, 6, 7, 2, "abcd");
+    bad += tracering_collector_add(&c, parcel, len, &at) != TRACERING_MISSED_TOO_MANY;
+    make_parcel(parcel, 6, 2, 2, "abcd");
+    parcel[43] = 0;
+    bad += tracering_collector_add(&c, parcel, len, &at) != TRACERING_MISSED_DIFFERS;
+    bad += tracering_collector_same(&c, &other) != TRACERING_DONE;
+
+    make_parcel(parcel, 6, 2, 2, "abcd");
+    bad += tracering_collector_add(&c, parcel, len, &at) != TRACERING_DONE;
+    bad += tracering_collector_add(&c, parcel, len, &at) != TRACERING_KNOWN;
+    make_parcel(parcel, 6, 2, 2, "abcD");
+    bad += tracering_collector_add(&c, parcel, len, &at) != TRACERING_CLASH || at.number != 6 || at.cpu != 3;
+    make_parcel(parcel, 8, 1, 2, "abcd");
+    bad += tracering_collector_add(&c, parcel, len, &at) != TRACERING_TAKEN_AND_MISSING || at.number != 7;
+    make_parcel(parcel, 2, 1, 2, "abcd");
+    bad += tracering_collector_add(&c, parcel, len, &at) != TRACERING_DONE;
+    bad += tracering_collector_same(&c, &other) != TRACERING_DIFFERENT;
+    bad += tracering_collector_missing(&c, 3, runs, 1, &count) != TRACERING_NO_ROOM || count != 2;
+    bad += runs[0].first != 1 || runs[0].last != 1 || runs[1].first != 7;
+    bad += tracering_collector_missing(&c, 3, runs, 2, &count) != TRACERING_DONE || count != 2;
+    bad += runs[0].first != 1 || runs[0].last != 1 || runs[1].first != 4 || runs[1].last != 5;
+    bad += tracering_collector_missing(&c, 256, runs, 2, &count) != TRACERING_DONE || count != 0;
+
+    bad += tracering_collector_next(&c, bytes, 8, &line) != TRACERING_END || line.len != 7;
+    bad += tracering_collector_list(&c, &count) != TRACERING_DONE || count != 4;
+    bad += tracering_collector_next(&c, bytes, 3, &line) != TRACERING_NO_ROOM || line.len != 4;
+    bad += tracering_collector_next(&c, bytes, 4, &line) != TRACERING_DONE || !is_line(&line, 10, 2, bytes);
+    bad += tracering_collector_next(&c, bytes, 8, &line) != TRACERING_DONE || !is_line(&line, 10, 6, bytes);
+    bad += tracering_collector_next(&c, bytes, 8, &line) != TRACERING_DONE || !is_line(&line, 20, 3, bytes);
+    bad += tracering_collector_next(&c, bytes, 8, &line) != TRACERING_DONE || !is_line(&line, 20, 7, bytes);
+    bad += tracering_collector_next(&c, bytes, 8, &line) != TRACERING_END;
+    bad += tracering_collector_free(&c) != TRACERING_DONE || c.held.at || c.held.live || c.in_call;
+    bad += tracering_collector_next(&c, bytes, 8, &line) != TRACERING_ABSENT;
+    bad += tracering_collector_free(&other) != TRACERING_DONE;
+    return bad;
+}
+
+// All that was taken is listed by moment and number, and what was missed is missing.
+static int is_listed(struct seen *seen)
+{
+    size_t count = 0, lines = 0;
+    uint64_t missing = 0, moment = 0, number = 0;
+    (void)tracering_collector_missing(&seen->collector, 3, NULL, 0, &count);
+    struct tracering_run *runs = calloc(count + 1, sizeof *runs);
+    int bad = tracering_collector_missing(&seen->collector, 3, runs, count + 1, &count) != TRACERING_DONE;
+    for (size_t k = 0; k < count && !bad; k++)
+        missing += runs[k].last - runs[k].first + 1;
+    bad += missing != seen->missed;
+    free(runs);
+    bad += tracering_collector_list(&seen->collector, &lines) != TRACERING_DONE || lines != seen->records;
+    for (size_t k = 0; k < lines; k++) {
+        struct tracering_line line;
+        uint8_t bytes[LONGEST];
+        bad += tracering_collector_next(&seen->collector, bytes, sizeof bytes, &line) != TRACERING_DONE;
+        bad += line.moment < moment || (k && line.number <= number) || line.cpu != 3 || line.len < bytes[0];
+        moment = line.moment;
+        number = line.number;
+    }
+    return bad + (tracering_collector_free(&seen->collector) != TRACERING_DONE);
+}
+
 int main(int argc, char **argv)
 {
     uint64_t count = argc > 1 ? strtoull(argv[1], NULL, 10) : 200000;
     int bad = refusals();
     printf("refusals: %s\n", bad ? "wrong" : "as they are to be");
+    int wrong = collected();
+    printf("collectors: %s\n", wrong ? "wrong" : "as they are to be");
+    bad += wrong;
 
     static struct seen seen;
     struct sigaction action = {.sa_handler = on_signal};
@@ -256,7 +414,8 @@ int main(int argc, char **argv)
     sigemptyset(&alarms);
     sigaddset(&alarms, SIGALRM);
     // The alarms are for this thread alone: the reader's is made while they are blocked.
-    if (tracering_new(&writer, &seen.reader, 3, PAGES, SIZE) != TRACERING_DONE || sigaction(SIGUSR1, &action, NULL)
+    if (tracering_new(&writer, &seen.reader, 3, PAGES, SIZE) != TRACERING_DONE
+        || tracering_collector_new(&seen.collector) != TRACERING_DONE || sigaction(SIGUSR1, &action, NULL)
         || sigaction(SIGALRM, &action, NULL) || pthread_sigmask(SIG_BLOCK, &alarms, NULL)
         || pthread_create(&reader, NULL, read_pages, &seen) || pthread_sigmask(SIG_UNBLOCK, &alarms, NULL)
         || setitimer(ITIMER_REAL, &often, NULL))
@@ -270,7 +429,7 @@ int main(int argc, char **argv)
     atomic_store(&done, 1);
     pthread_join(reader, NULL);
     bad += written != count || faults || seen.faults || seen.records + seen.missed != written + from_handler
-        || from_handler < (count + 7) / 8;
+        || from_handler < (count + 7) / 8 || is_listed(&seen);
     if (bad || argc > 2)
         fprintf(stderr, "records %llu, from handlers %llu, refused amid calls %llu, missed %llu, faults %llu and %d\n",
             (unsigned long long)written, (unsigned long long)from_handler, (unsigned long long)amid_calls,

@@ -1,4 +1,5 @@
-//! A trace ring with a writer's end and a reader's end, each of which may go to a thread of its own.
+//! A trace ring with a writer's end and a reader's end, each of which may go to a thread of its own; and collectors of
+//! the parcels that are taken.
 //!
 //! `include/tracering.h` says what each call does. What is a condition there is kept here by types: an end is in one
 //! call at a time, since calls borrow it, and it is freed when it is dropped.
@@ -48,21 +49,35 @@ pub enum Fault {
     NoRoom,
     NotAtRest,
     Unread,
+    TooShort,
+    BadImageSize,
+    BadCount,
+    Cut,
+    BadLength,
+    TimeOverflow,
+    NumberOverflow,
+    MissedTooMany,
+    MissedDiffers,
+    Clash,
+    TakenAndMissing,
+    /// All lines of the listing were given.
+    End,
     /// These are ends of two rings.
     OtherRing,
 }
 
-const FAULTS: [Fault; 19] = {
+const FAULTS: [Fault; 31] = {
     use Fault::*;
     [
         TooDeep, TooLong, LateMoment, Crowded, Worn, NoFrame, NotReserved, Absent, InUse, Busy, Null, NoMemory, BadSize,
-        BadCpu, Empty, Moving, NoRoom, NotAtRest, Unread,
+        BadCpu, Empty, Moving, NoRoom, NotAtRest, Unread, TooShort, BadImageSize, BadCount, Cut, BadLength,
+        TimeOverflow, NumberOverflow, MissedTooMany, MissedDiffers, Clash, TakenAndMissing, End,
     ]
 };
 
 fn done(code: i32) -> Result<(), Fault> {
     match code {
-        1..=19 => Err(FAULTS[code as usize - 1]),
+        1..=31 => Err(FAULTS[code as usize - 1]),
         _ => Ok(()),
     }
 }
@@ -81,6 +96,13 @@ extern "C" {
     fn tracering_raw_settle(w: *mut Handle, r: *mut Handle, out: *mut u8, room: usize, taken: *mut Taken) -> i32;
     fn tracering_raw_writer_free(w: *mut Handle) -> i32;
     fn tracering_raw_reader_free(r: *mut Handle) -> i32;
+    fn tracering_raw_collector_new(c: *mut Handle) -> i32;
+    fn tracering_raw_collector_add(c: *mut Handle, bytes: *const u8, len: usize, at: *mut FaultAt) -> i32;
+    fn tracering_raw_collector_missing(c: *mut Handle, cpu: u32, out: *mut Run, room: usize, count: *mut usize) -> i32;
+    fn tracering_raw_collector_list(c: *mut Handle, count: *mut usize) -> i32;
+    fn tracering_raw_collector_next(c: *mut Handle, out: *mut u8, room: usize, line: *mut Line) -> i32;
+    fn tracering_raw_collector_same(c: *mut Handle, other: *mut Handle) -> i32;
+    fn tracering_raw_collector_free(c: *mut Handle) -> i32;
 }
 
 /// The end at which records are written, and its ring's number.
@@ -189,5 +211,91 @@ impl Drop for Writer {
 impl Drop for Reader {
     fn drop(&mut self) {
         let _code = unsafe { tracering_raw_reader_free(&mut self.0) };
+    }
+}
+
+/// Where a parcel is refused, as `include/tracering.h` says.
+#[repr(C)]
+#[derive(Clone, Copy, Debug, Default, PartialEq, Eq)]
+pub struct FaultAt {
+    pub number: u64,
+    pub cpu: u32,
+}
+
+/// A run of missing numbers, by its first and its last.
+#[repr(C)]
+#[derive(Clone, Copy, Debug, Default, PartialEq, Eq)]
+pub struct Run {
+    pub first: u64,
+    pub last: u64,
+}
+
+/// A line of a listing, without its bytes.
+#[repr(C)]
+#[derive(Clone, Copy, Debug, Default, PartialEq, Eq)]
+pub struct Line {
+    pub moment: u64,
+    pub number: u64,
+    pub cpu: u32,
+    pub len: usize,
+}
+
+/// What parcels have and miss together.
+pub struct Collector(Handle);
+
+// The library's proof that this handle may go to another thread is in crates/tracering_c.
+unsafe impl Send for Collector {}
+
+impl Collector {
+    /// A collector without a parcel.
+    pub fn new() -> Result<Collector, Fault> {
+        let mut c = Collector(Handle { at: null_mut(), live: false });
+        done(unsafe { tracering_raw_collector_new(&mut c.0) }).map(|()| c)
+    }
+
+    /// Adds the parcel that these bytes are. Whether it has or misses something that wasn't there.
+    pub fn add(&mut self, bytes: &[u8]) -> Result<bool, (Fault, FaultAt)> {
+        let mut at = FaultAt::default();
+        let code = unsafe { tracering_raw_collector_add(&mut self.0, bytes.as_ptr(), bytes.len(), &mut at) };
+        done(code).map(|()| code == 0).map_err(|fault| (fault, at))
+    }
+
+    /// The runs of a CPU's missing numbers.
+    pub fn missing(&mut self, cpu: u32) -> Vec<Run> {
+        let (mut runs, mut count) = (Vec::new(), 0);
+        loop {
+            let (out, room) = (runs.as_mut_ptr(), runs.len());
+            let code = unsafe { tracering_raw_collector_missing(&mut self.0, cpu, out, room, &mut count) };
+            let enough = done(code).is_ok();
+            runs.resize(count, Run::default());
+            if enough {
+                return runs;
+            }
+        }
+    }
+
+    /// Lists the records that are there now, from the first on. How many there are.
+    pub fn list(&mut self) -> Result<usize, Fault> {
+        let mut count = 0;
+        done(unsafe { tracering_raw_collector_list(&mut self.0, &mut count) }).map(|()| count)
+    }
+
+    /// The next line of the listing, whose bytes go to the front of `out`. If there are more of them than it has room
+    /// for, the line says how many, and stays the next one.
+    pub fn next(&mut self, out: &mut [u8]) -> Result<Line, (Fault, Line)> {
+        let mut line = Line::default();
+        let code = unsafe { tracering_raw_collector_next(&mut self.0, out.as_mut_ptr(), out.len(), &mut line) };
+        done(code).map(|()| line).map_err(|fault| (fault, line))
+    }
+
+    /// Whether both have and miss the same.
+    pub fn same(&mut self, other: &mut Collector) -> bool {
+        unsafe { tracering_raw_collector_same(&mut self.0, &mut other.0) == 0 }
+    }
+}
+
+impl Drop for Collector {
+    fn drop(&mut self) {
+        unsafe { tracering_raw_collector_free(&mut self.0) };
     }
 }

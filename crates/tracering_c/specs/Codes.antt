@@ -1,5 +1,21 @@
 -- The numbers by which C is answered.
-use Rattle.std.specs.Prelude.{ℤ, pos, negsuc}
+use Rattle.std.specs.Prelude.{ℕ, ℤ, pos, negsuc, Result, Ok, Err}
+use Rattle.record_words.specs.declared.next.WordFault.{WordFault}
+use Rattle.record_words.specs.declared.next.WordFault.TheVariants.{Cut, BadLength, TimeOverflow}
+use Rattle.page_image.specs.declared.image.ImageFault.{ImageFault}
+use Rattle.page_image.specs.declared.image.ImageFault.TheVariants.{TooShort, BadSize, BadCount, Word, NoMemory as NoMemoryThere}
+use Rattle.page_numbers.specs.declared.fault.ParcelFault.{ParcelFault}
+use Rattle.page_numbers.specs.declared.fault.ParcelFault.TheVariants.{Image, NumberOverflow, MissedTooMany, MissedDiffers, BadCpu, NoMemory}
+use Rattle.collector.specs.declared.added.Added.{Added}
+use Rattle.collector.specs.declared.added.Added.TheVariants.{New, Known}
+use Rattle.collector.specs.declared.fault.AddFault.TheVariants.{Clash, TakenAndMissing, NoMemory as NoMemoryToAdd}
+use Rattle.listed_collector.specs.declared.adding.Refusal.{Refusal}
+use Rattle.listed_collector.specs.declared.adding.Refusal.TheVariants.{Parcel as NoParcel, Add as NotAdded}
+use Rattle.listed_collector.specs.declared.listed.LineNumbers.{LineNumbers}
+use Rattle.listed_collector.specs.declared.listed.Given.{Given}
+use Rattle.listed_collector.specs.declared.listed.Given.TheVariants.{Line as IsLine, NoRoom, End}
+use Rattle.tracering_c.specs.declared.collected.FaultAt.{FaultAt}
+use Rattle.tracering_c.specs.declared.collected.Listed.{Listed}
 use Rattle.nested_writer.specs.declared.fault.WriteFault.{WriteFault}
 use Rattle.nested_writer.specs.declared.fault.WriteFault.TheVariants.{TooDeep, TooLong, LateMoment, Crowded, Worn, NoFrame, NotReserved}
 use Rattle.ring_frames.specs.declared.answer.Answer.{Answer}
@@ -28,3 +44,81 @@ answer_code (Empty done body) = pos 0
 answer_code (Moving fill body) = pos 0
 answer_code (Taken page missed) = pos 0
 answer_code (Wished fill) = pos 0
+
+-- ---- collectors
+
+-- the number of a bad word, and where it is
+abbrev pub word_code : WordFault → ℤ
+word_code (Cut at) = pos 23
+word_code (BadLength at) = pos 24
+word_code (TimeOverflow at) = pos 25
+
+abbrev pub word_at : WordFault → ℕ
+word_at (Cut at) = at
+word_at (BadLength at) = at
+word_at (TimeOverflow at) = at
+
+-- the number of an image's fault
+abbrev pub image_code : ImageFault → ℤ
+image_code TooShort = pos 20
+image_code BadSize = pos 21
+image_code BadCount = pos 22
+image_code (Word fault) = word_code fault
+image_code NoMemoryThere = pos 12
+
+-- the number of why bytes are no parcel
+abbrev pub parcel_code : ParcelFault → ℤ
+parcel_code (Image fault) = image_code fault
+parcel_code NumberOverflow = pos 26
+parcel_code MissedTooMany = pos 27
+parcel_code MissedDiffers = pos 28
+parcel_code BadCpu = pos 14
+parcel_code NoMemory = pos 12
+
+-- the number of what is answered to bytes that are to be added
+abbrev pub add_code : Result Added Refusal → ℤ
+add_code (Ok New) = pos 0
+add_code (Ok Known) = negsuc 1
+add_code (Err (NoParcel fault)) = parcel_code fault
+add_code (Err (NotAdded (Clash cpu number))) = pos 29
+add_code (Err (NotAdded (TakenAndMissing cpu number))) = pos 30
+add_code (Err (NotAdded NoMemoryToAdd)) = pos 12
+
+-- where the bytes of a parcel are refused: at a bad word, or under the number at odds
+abbrev pub parcel_fault_at : FaultAt → ParcelFault → FaultAt
+parcel_fault_at was (Image TooShort) = was
+parcel_fault_at was (Image BadSize) = was
+parcel_fault_at was (Image BadCount) = was
+parcel_fault_at was (Image (Word fault)) = record was { number = word_at fault }
+parcel_fault_at was (Image NoMemoryThere) = was
+parcel_fault_at was NumberOverflow = was
+parcel_fault_at was MissedTooMany = was
+parcel_fault_at was MissedDiffers = was
+parcel_fault_at was BadCpu = was
+parcel_fault_at was NoMemory = was
+
+abbrev pub fault_at : FaultAt → Result Added Refusal → FaultAt
+fault_at was (Ok added) = was
+fault_at was (Err (NoParcel fault)) = parcel_fault_at was fault
+fault_at was (Err (NotAdded (Clash cpu number))) = record { number = number.0; cpu = cpu.0 }
+fault_at was (Err (NotAdded (TakenAndMissing cpu number))) = record { number = number.0; cpu = cpu.0 }
+fault_at was (Err (NotAdded NoMemoryToAdd)) = was
+
+-- the number of what is given of a listing, and the numbers of the line that is next
+abbrev pub given_code : Given → ℤ
+given_code (IsLine numbers) = pos 0
+given_code (NoRoom numbers) = pos 17
+given_code End = pos 31
+
+abbrev pub line_at : LineNumbers → Listed
+line_at numbers = record {
+  moment = numbers.moment.0;
+  number = numbers.number.0;
+  cpu = numbers.cpu.0;
+  len = numbers.len;
+}
+
+abbrev pub next_line : Listed → Given → Listed
+next_line was (IsLine numbers) = line_at numbers
+next_line was (NoRoom numbers) = line_at numbers
+next_line was End = was

@@ -1,6 +1,15 @@
 //! The numbers by which C is answered: 0 and below if the call did something, else why it did nothing.
+use collector::{AddFault, Added};
+use listed_collector::{Given, Refusal};
 use nested_writer::WriteFault;
+use page_image::ImageFault;
+use page_numbers::ParcelFault;
+use record_words::WordFault;
 
+/// The two collectors don't have and miss the same.
+pub const DIFFERENT: i32 = -3;
+/// All that the parcel has and misses was there already.
+pub const KNOWN: i32 = -2;
 /// The record of the frame on top is reserved.
 pub const RESERVED: i32 = -1;
 /// The call did what it says.
@@ -27,9 +36,15 @@ pub const NO_ROOM: i32 = 17;
 pub const NOT_AT_REST: i32 = 18;
 /// The last take didn't find that all closed pages are taken.
 pub const UNREAD: i32 = 19;
+/// There are two different records of one number.
+pub const CLASH: i32 = 29;
+/// A number has a record and is missing.
+pub const TAKEN_AND_MISSING: i32 = 30;
+/// All lines of the listing were given.
+pub const END: i32 = 31;
 
 ghost use Rattle.std.specs.Prelude.{◌≡◌};
-ghost use Rattle.tracering_c.specs.Codes.{fault_code};
+ghost use Rattle.tracering_c.specs.Codes.{fault_code, word_code, image_code, parcel_code, add_code, given_code};
 
 /// The number of a refusal: 1 to 7.
 pub fn code_of(fault: WriteFault) -> i32
@@ -43,5 +58,68 @@ pub fn code_of(fault: WriteFault) -> i32
         WriteFault::Worn => 5,
         WriteFault::NoFrame => 6,
         WriteFault::NotReserved => 7,
+    }
+}
+
+/// The number of a bad word: 23 to 25.
+fn code_of_word(fault: WordFault) -> i32
+    ensures { result ≡ word_code fault }
+{
+    match fault {
+        WordFault::Cut(_) => 23,
+        WordFault::BadLength(_) => 24,
+        WordFault::TimeOverflow(_) => 25,
+    }
+}
+
+/// The number of an image's fault: 20 to 25.
+fn code_of_image(fault: ImageFault) -> i32
+    ensures { result ≡ image_code fault }
+{
+    match fault {
+        ImageFault::TooShort => 20,
+        ImageFault::BadSize => 21,
+        ImageFault::BadCount => 22,
+        ImageFault::Word(fault) => code_of_word(fault),
+        ImageFault::NoMemory => NO_MEMORY,
+    }
+}
+
+/// The number of why bytes are no parcel: 20 to 28, or that there is no such CPU or no memory.
+fn code_of_parcel(fault: ParcelFault) -> i32
+    ensures { result ≡ parcel_code fault }
+{
+    match fault {
+        ParcelFault::Image(fault) => code_of_image(fault),
+        ParcelFault::NumberOverflow => 26,
+        ParcelFault::MissedTooMany => 27,
+        ParcelFault::MissedDiffers => 28,
+        ParcelFault::BadCpu => BAD_CPU,
+        ParcelFault::NoMemory => NO_MEMORY,
+    }
+}
+
+/// The number of what is answered to bytes that are to be added.
+pub fn code_of_add(answer: Result<Added, Refusal>) -> i32
+    ensures { result ≡ add_code answer }
+{
+    match answer {
+        Ok(Added::New) => DONE,
+        Ok(Added::Known) => KNOWN,
+        Err(Refusal::Parcel(fault)) => code_of_parcel(fault),
+        Err(Refusal::Add(AddFault::Clash(_, _))) => CLASH,
+        Err(Refusal::Add(AddFault::TakenAndMissing(_, _))) => TAKEN_AND_MISSING,
+        Err(Refusal::Add(AddFault::NoMemory)) => NO_MEMORY,
+    }
+}
+
+/// The number of what is given of a listing.
+pub fn code_of_given(given: Given) -> i32
+    ensures { result ≡ given_code given }
+{
+    match given {
+        Given::Line(_) => DONE,
+        Given::NoRoom(_) => NO_ROOM,
+        Given::End => END,
     }
 }

@@ -1,4 +1,5 @@
-//! A ring's two ends, each with what its calls need.
+//! A ring's two ends, each with what its calls need, and a collector.
+use listed_collector::ListedCollector;
 use page_image::Body;
 use ring_shared::{Reader, Writer};
 use trace_model::CpuId;
@@ -15,6 +16,12 @@ pub struct ReaderEnd {
     pub cpu: CpuId,
     pub reader: Reader,
     pub body: Option<Body>,
+}
+
+/// A collector and its listing.
+#[derive(Drop)]
+pub struct CollectorEnd {
+    pub listed: ListedCollector,
 }
 
 impl ReaderEnd {

@@ -2,9 +2,10 @@
 ghost use Rattle.std.specs.Prelude.{◌≡◌, true, Some, None, is_some, IsSomeAnd};
 ghost use Rattle.tracering_c.specs.declared.ends.WriterEnd.{WriterEnd as WriterValue};
 ghost use Rattle.tracering_c.specs.declared.ends.ReaderEnd.{ReaderEnd as ReaderValue};
+ghost use Rattle.tracering_c.specs.declared.ends.CollectorEnd.{CollectorEnd as CollectorValue};
 
-use crate::ends::{ReaderEnd, WriterEnd};
-use crate::held::{HeldReader, HeldWriter};
+use crate::ends::{CollectorEnd, ReaderEnd, WriterEnd};
+use crate::held::{HeldCollector, HeldReader, HeldWriter};
 use loose_box::Loose;
 use std::alloc::Global;
 use std::mem::replace;
@@ -99,6 +100,53 @@ impl ReaderHandle {
             return None;
         }
         let ReaderHandle { held, .. } = replace(self, ReaderHandle::none());
+        Some(held.into_loose(alloc).into_box())
+    }
+}
+
+/// A collector, or nothing, as C keeps it.
+#[repr(C)]
+#[derive(Drop)]
+pub struct CollectorHandle {
+    pub(crate) held: HeldCollector,
+    /// Whether there is one.
+    pub(crate) live: bool,
+    pub ghost tied: { live ≡ is_some held.value },
+}
+
+impl CollectorHandle {
+    /// No collector.
+    pub(crate) fn none() -> CollectorHandle
+        ensures { result.held.value ≡ None }
+    {
+        CollectorHandle {
+            held: HeldCollector::none(),
+            live: false,
+        }
+    }
+
+    /// This collector.
+    pub(crate) fn of(end: Box<CollectorEnd, Global>) -> CollectorHandle
+        ensures { result.held.value ≡ Some end.value }
+    {
+        CollectorHandle {
+            held: HeldCollector::of(Loose::of(end)),
+            live: true,
+        }
+    }
+
+    /// The collector, if there is one: the handle has none then.
+    pub(crate) fn take_out(&mut self, alloc: Global) -> Option<Box<CollectorEnd, Global>>
+        ensures stays { self.old.held.value ≡ None → self.new ≡ self.old }
+        ensures none { self.old.held.value ≡ None → result ≡ None }
+        ensures left { (x : CollectorValue) → self.old.held.value ≡ Some x → self.new.held.value ≡ None }
+        ensures some { (x : CollectorValue) → self.old.held.value ≡ Some x
+            → IsSomeAnd result (λ end. end.value ≡ x) }
+    {
+        if !self.live {
+            return None;
+        }
+        let CollectorHandle { held, .. } = replace(self, CollectorHandle::none());
         Some(held.into_loose(alloc).into_box())
     }
 }

@@ -1,10 +1,12 @@
-//! A running ring for C: its two ends as handles, and the calls on them.
+//! A running ring for C: its two ends as handles, and the calls on them; and collectors.
 //!
 //! `include/tracering.h` says what each call does, in C's words. A handle is all zeros, or as the last call on it left
 //! it: nothing else of it can be checked. A call on a handle that has nothing says so, and changes nothing.
 #![tactic(auto)]
 
 mod codes;
+pub mod collected;
+mod collecting;
 pub mod ends;
 pub mod handle;
 pub mod held;

@@ -1,0 +1,52 @@
+-- What the calls of C make of a collector.
+use Rattle.std.specs.Prelude.{◌≡◌, ℕ, ℤ, pos, List, length, ltb, cond, [], Result}
+use Rattle.trace_model.specs.Parcel.{Parcel}
+use Rattle.trace_model.specs.Listing.{IsListing}
+use Rattle.collector.specs.declared.added.Added.{Added}
+use Rattle.listed_collector.specs.declared.adding.Refusal.{Refusal}
+use Rattle.listed_collector.specs.declared.listed.Given.{Given}
+use Rattle.listed_collector.specs.declared.listed.ListedCollector.{ListedCollector}
+use Rattle.listed_collector.specs.declared.missing.Run.{Run}
+use Rattle.listed_collector.specs.Adding.{AddsSo}
+use Rattle.listed_collector.specs.Giving.{GivesSo}
+use Rattle.listed_collector.specs.Missing.{PutsRuns}
+use Rattle.tracering_c.specs.declared.collected.FaultAt.{FaultAt}
+use Rattle.tracering_c.specs.declared.collected.Listed.{Listed}
+use Rattle.tracering_c.specs.Codes.{add_code, fault_at, given_code, next_line}
+
+-- It keeps no parcel, and has no line to give.
+pub record IsEmpty (listed : ListedCollector) : Type 0 where
+  pub collector : listed.collector ≡ []
+  pub lines : listed.lines.items ≡ []
+  pub given : listed.given ≡ 0
+
+-- The bytes are added to the collector as Rattle's call answers, and the number and the place are those of its answer.
+-- The listing stays.
+pub record AddsBytes (old : ListedCollector) (bytes : List ℕ) (was : FaultAt) (code : ℤ) (at : FaultAt)
+    (new : ListedCollector) : Type 0 where
+  pub answer : Result Added Refusal
+  pub adds : AddsSo old.collector bytes answer new.collector
+  pub listing : new ≡ record old { collector = new.collector }
+  pub code_is : code ≡ add_code answer
+  pub at_is : at ≡ fault_at was answer
+
+-- Runs are put as far as there is room, and all are counted: 17 if there is too little room.
+pub record MissesSo (parcels : List Parcel) (cpu : ℕ) (out : List Run) (code : ℤ) (left : List Run) (count : ℕ)
+    : Type 0 where
+  pub puts : PutsRuns parcels cpu out count left
+  pub code_is : code ≡ cond (ltb (length out) count) (pos 17) (pos 0)
+
+-- The collector is listed: its listing's lines are to be given, from the first on.
+pub record IsListed (old : ListedCollector) (count : ℕ) (new : ListedCollector) : Type 0 where
+  pub listing : IsListing old.collector new.lines.items
+  pub count_is : count ≡ length new.lines.items
+  pub first : new.given ≡ 0
+  pub collector : new.collector ≡ old.collector
+
+-- What is given of the listing, by its number; and the numbers of the line that is next, if there is one.
+pub record NextSo (old : ListedCollector) (out : List ℕ) (was : Listed) (code : ℤ) (left : List ℕ) (line : Listed)
+    (new : ListedCollector) : Type 0 where
+  pub answer : Given
+  pub gives : GivesSo old out answer left new
+  pub code_is : code ≡ given_code answer
+  pub line_is : line ≡ next_line was answer

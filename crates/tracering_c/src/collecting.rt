@@ -1,0 +1,206 @@
+//! The calls on collectors.
+ghost use Rattle.std.specs.Prelude.{◌≡◌, ◌≢◌, ◌↔◌, Some, None, IfSome, IsSomeAnd, is_some, true, pos, negsuc};
+ghost use Rattle.trace_model.specs.Collection.{IsSame};
+ghost use Rattle.tracering_c.specs.declared.ends.CollectorEnd.{CollectorEnd as EndValue};
+ghost use Rattle.tracering_c.specs.CollectorCalls.{IsEmpty, AddsBytes, MissesSo, IsListed, NextSo};
+
+use crate::codes::{
+    ABSENT, DIFFERENT, DONE, IN_USE, NO_MEMORY, NO_ROOM, code_of_add, code_of_given,
+};
+use crate::collected::{FaultAt, Listed};
+use crate::ends::CollectorEnd;
+use crate::handle::CollectorHandle;
+use listed_collector::{ListedCollector, Run};
+use std::alloc::Global;
+use trace_model::CpuId;
+
+/// A collector without a parcel, for a handle that has none.
+#[unsafe(no_mangle)]
+pub extern "C" fn tracering_raw_collector_new(alloc: Global, c: &mut CollectorHandle) -> i32
+    ensures empty { result ≡ pos 0 → IsSomeAnd c.new.held.value (λ end. IsEmpty end.listed) }
+    ensures stays { result ≢ pos 0 → c.new ≡ c.old }
+    ensures in_use { is_some c.old.held.value ≡ true → result ≡ pos 9 }
+{
+    if c.live {
+        return IN_USE;
+    }
+    let listed = ListedCollector::new(alloc);
+    let Ok(end) = Box::new(alloc, CollectorEnd { listed }) else {
+        return NO_MEMORY;
+    };
+    *c = CollectorHandle::of(end);
+    DONE
+}
+
+/// Reads a parcel from its bytes, and adds it.
+#[unsafe(no_mangle)]
+pub extern "C" fn tracering_raw_collector_add(
+    alloc: Global,
+    c: &mut CollectorHandle,
+    bytes: &[u8],
+    at: &mut FaultAt,
+) -> i32
+    ensures absent { c.old.held.value ≡ None → result ≡ pos 8 }
+    ensures stays { c.old.held.value ≡ None → c.new ≡ c.old }
+    ensures at_stays { c.old.held.value ≡ None → at.new ≡ at.old }
+    ensures adds { (old : EndValue) → c.old.held.value ≡ Some old
+        → IsSomeAnd c.new.held.value (λ new. AddsBytes old.listed bytes.now at.old result at.new new.listed) }
+{
+    if !c.live {
+        return ABSENT;
+    }
+    add_to(alloc, &mut c.held.as_mut().listed, bytes, at)
+}
+
+/// `tracering_raw_collector_add`, of the collector itself.
+fn add_to(alloc: Global, listed: &mut ListedCollector, bytes: &[u8], at: &mut FaultAt) -> i32
+    ensures { AddsBytes listed.old bytes.now at.old result at.new listed.new }
+{
+    let answer = listed.add(alloc, bytes);
+    *at = FaultAt::of(answer, *at);
+    code_of_add(answer)
+}
+
+/// Puts the runs of a CPU's missing numbers to the front of `out`, as many as it has room for, and counts them all.
+#[unsafe(no_mangle)]
+pub extern "C" fn tracering_raw_collector_missing(
+    c: &mut CollectorHandle,
+    cpu: u32,
+    out: &mut [Run],
+    count: &mut usize,
+) -> i32
+    ensures absent { c.old.held.value ≡ None → result ≡ pos 8 }
+    ensures out_stays { c.old.held.value ≡ None → out.new ≡ out.old }
+    ensures count_stays { c.old.held.value ≡ None → count.new ≡ count.old }
+    ensures misses { (old : EndValue) → c.old.held.value ≡ Some old
+        → MissesSo old.listed.collector cpu out.old result out.new count.new }
+    ensures stays { c.new.held.value ≡ c.old.held.value }
+{
+    if !c.live {
+        return ABSENT;
+    }
+    missing_of(&c.held.as_mut().listed, cpu, out, count)
+}
+
+/// `tracering_raw_collector_missing`, of the collector itself.
+fn missing_of(listed: &ListedCollector, cpu: u32, out: &mut [Run], count: &mut usize) -> i32
+    ensures { MissesSo listed.now.collector cpu out.old result out.new count.new }
+{
+    let room = out.len();
+    *count = listed.put_missing(CpuId(cpu), out);
+    if room < *count {
+        return NO_ROOM;
+    }
+    DONE
+}
+
+/// Lists what the collector has now.
+#[unsafe(no_mangle)]
+pub extern "C" fn tracering_raw_collector_list(
+    alloc: Global,
+    c: &mut CollectorHandle,
+    count: &mut usize,
+) -> i32
+    ensures absent { c.old.held.value ≡ None → result ≡ pos 8 }
+    ensures listed { (old : EndValue) → c.old.held.value ≡ Some old → result ≡ pos 0
+        → IsSomeAnd c.new.held.value (λ new. IsListed old.listed count.new new.listed) }
+    ensures no_memory { (old : EndValue) → c.old.held.value ≡ Some old → result ≢ pos 0 → result ≡ pos 12 }
+    ensures stays { result ≢ pos 0 → c.new.held.value ≡ c.old.held.value }
+    ensures count_stays { result ≢ pos 0 → count.new ≡ count.old }
+{
+    if !c.live {
+        return ABSENT;
+    }
+    list_of(alloc, &mut c.held.as_mut().listed, count)
+}
+
+/// `tracering_raw_collector_list`, of the collector itself.
+fn list_of(alloc: Global, listed: &mut ListedCollector, count: &mut usize) -> i32
+    ensures listed { result ≡ pos 0 → IsListed listed.old count.new listed.new }
+    ensures no_memory { result ≢ pos 0 → result ≡ pos 12 }
+    ensures stays { result ≢ pos 0 → listed.new ≡ listed.old }
+    ensures count_stays { result ≢ pos 0 → count.new ≡ count.old }
+{
+    let Ok(lines) = listed.list(alloc) else {
+        return NO_MEMORY;
+    };
+    *count = lines;
+    DONE
+}
+
+/// Puts the bytes of the next line to the front of `out`.
+#[unsafe(no_mangle)]
+pub extern "C" fn tracering_raw_collector_next(
+    c: &mut CollectorHandle,
+    out: &mut [u8],
+    line: &mut Listed,
+) -> i32
+    ensures absent { c.old.held.value ≡ None → result ≡ pos 8 }
+    ensures stays { c.old.held.value ≡ None → c.new ≡ c.old }
+    ensures out_stays { c.old.held.value ≡ None → out.new ≡ out.old }
+    ensures line_stays { c.old.held.value ≡ None → line.new ≡ line.old }
+    ensures next { (old : EndValue) → c.old.held.value ≡ Some old → IsSomeAnd c.new.held.value (λ new.
+        NextSo old.listed out.old line.old result out.new line.new new.listed) }
+{
+    if !c.live {
+        return ABSENT;
+    }
+    next_of(&mut c.held.as_mut().listed, out, line)
+}
+
+/// `tracering_raw_collector_next`, of the collector itself.
+fn next_of(listed: &mut ListedCollector, out: &mut [u8], line: &mut Listed) -> i32
+    ensures { NextSo listed.old out.old line.old result out.new line.new listed.new }
+{
+    let given = listed.give(out);
+    *line = Listed::of(given, *line);
+    code_of_given(given)
+}
+
+/// Whether two collectors have and miss the same.
+#[unsafe(no_mangle)]
+pub extern "C" fn tracering_raw_collector_same(
+    c: &mut CollectorHandle,
+    other: &mut CollectorHandle,
+) -> i32
+    ensures absent { c.old.held.value ≡ None → result ≡ pos 8 }
+    ensures other_absent { other.old.held.value ≡ None → result ≡ pos 8 }
+    ensures same { (left : EndValue) (right : EndValue)
+        → c.old.held.value ≡ Some left → other.old.held.value ≡ Some right
+        → result ≡ pos 0 ↔ IsSame left.listed.collector right.listed.collector }
+    ensures different { (left : EndValue) (right : EndValue)
+        → c.old.held.value ≡ Some left → other.old.held.value ≡ Some right
+        → result ≢ pos 0 → result ≡ negsuc 2 }
+    ensures stays { c.new.held.value ≡ c.old.held.value }
+    ensures other_stays { other.new.held.value ≡ other.old.held.value }
+{
+    if !c.live || !other.live {
+        return ABSENT;
+    }
+    same_of(&c.held.as_mut().listed, &other.held.as_mut().listed)
+}
+
+/// `tracering_raw_collector_same`, of the collectors themselves.
+fn same_of(left: &ListedCollector, right: &ListedCollector) -> i32
+    ensures same { result ≡ pos 0 ↔ IsSame left.now.collector right.now.collector }
+    ensures different { result ≢ pos 0 → result ≡ negsuc 2 }
+{
+    if left.collector.same(&right.collector) {
+        return DONE;
+    }
+    DIFFERENT
+}
+
+/// Frees the collector.
+#[unsafe(no_mangle)]
+pub extern "C" fn tracering_raw_collector_free(alloc: Global, c: &mut CollectorHandle) -> i32
+    ensures absent { c.old.held.value ≡ None → result ≡ pos 8 }
+    ensures stays { c.old.held.value ≡ None → c.new ≡ c.old }
+    ensures freed { (x : EndValue) → c.old.held.value ≡ Some x → result ≡ pos 0 }
+    ensures none { c.new.held.value ≡ None }
+{
+    let Some(_end) = c.take_out(alloc) else {
+        return ABSENT;
+    };
+    DONE
+}
