@@ -1,6 +1,7 @@
 // Refuses each growth of memory of a collector's calls in turn, and those of a new ring: the call answers NO_MEMORY,
-// nothing has changed, the same call made once more does what it does otherwise, and no block is left. It is linked
-// with -Wl,--wrap=malloc -Wl,--wrap=realloc -Wl,--wrap=free.
+// nothing has changed, and the same call made once more does what it does otherwise. No block is left once all is freed;
+// a list that was given room before the refusal keeps it until then. It is linked with
+// -Wl,--wrap=malloc -Wl,--wrap=realloc -Wl,--wrap=free.
 #include "tracering.h"
 
 #include <stdio.h>
@@ -86,7 +87,6 @@ static long refuse(struct tracering_collector *c, struct tracering_collector *ot
 {
     for (long refused = 0;; refused++) {
         struct told before = tell(c);
-        long had = blocks;
         granted = refused;
         int32_t code = call(c, parcel);
         long left = granted;
@@ -96,7 +96,7 @@ static long refuse(struct tracering_collector *c, struct tracering_collector *ot
             return refused;
         }
         struct told after = tell(c);
-        *bad += code != TRACERING_NO_MEMORY || blocks != had || !is_same(&before, &after);
+        *bad += code != TRACERING_NO_MEMORY || !is_same(&before, &after);
         *bad += tracering_collector_same(c, other) != TRACERING_DONE;
     }
 }
