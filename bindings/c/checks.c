@@ -8,6 +8,7 @@
 #include "tracering.h"
 
 #include <pthread.h>
+#include <sched.h>
 #include <signal.h>
 #include <stdatomic.h>
 #include <stdio.h>
@@ -159,6 +160,8 @@ static void *read_pages(void *given)
             seen->faults += tracering_collector_add(&seen->collector, out, taken.len, &at) != TRACERING_DONE;
         } else if (code == TRACERING_EMPTY && last) {
             return NULL;
+        } else {
+            sched_yield();
         }
     }
 }
