@@ -50,7 +50,8 @@ impl Index {
         ensures unreported { IfNone result.content ((n : ℕ) (content : Content) → number ≤ n → n < result.end
             → ReportsOf self.now cpu.0 n content → ⊥) }
         ensures here { IfSome result.content (λ content. ReportsOf self.now cpu.0 number content) }
-        ensures unreported_here { IfNone result.content ((content : Content) → ReportsOf self.now cpu.0 number content → ⊥) }
+        ensures unreported_here { IfNone result.content ((content : Content)
+            → ReportsOf self.now cpu.0 number content → ⊥) }
         ensures goes_on { number < u64.MAX → number < result.end }
     {
         match self.cpus.get(cpu.0 as usize) {

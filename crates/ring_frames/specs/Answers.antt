@@ -87,7 +87,8 @@ IsAnswerOf size (Refused fault) reported = reported ≡ model.refused (refusal_o
 IsAnswerOf size (Looking body) reported = reported ≡ model.reading
 IsAnswerOf size (Empty done body) reported = reported ≡ model.empty done
 IsAnswerOf size (Moving fill body) reported = reported ≡ model.moving fill.0
-IsAnswerOf size (Taken page missed) reported = (t : TakenFill) × (reported ≡ model.page_taken t) × IsTakenPage size page missed t
+IsAnswerOf size (Taken page missed) reported =
+    (t : TakenFill) × (reported ≡ model.page_taken t) × IsTakenPage size page missed t
 IsAnswerOf size (Wished fill) reported = reported ≡ model.wished_for fill.0
 
 -- A slot that is reserved by this answer holds only zeros.

@@ -157,7 +157,8 @@ ReadsSo shape before reported after = IsReaderStep shape before (λ _. ⊤) mode
 -- the step's answer means the model's
 abbrev pub TakeStepMeans : ℕ → TakeStep → model.Answer → Type 0
 TakeStepMeans size (Looking back) reported = reported ≡ model.reading
-TakeStepMeans size (Done (Page page missed)) reported = (t : TakenFill) × (reported ≡ model.page_taken t) × IsTakenPage size page missed t
+TakeStepMeans size (Done (Page page missed)) reported =
+    (t : TakenFill) × (reported ≡ model.page_taken t) × IsTakenPage size page missed t
 TakeStepMeans size (Done (Empty done back)) reported = reported ≡ model.empty done
 TakeStepMeans size (Done (Moving fill back)) reported = reported ≡ model.moving fill.0
 

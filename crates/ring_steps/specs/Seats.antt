@@ -106,7 +106,8 @@ pub record IsWriterStep (shape : Shape) (before : Writing) (sees : Core → Type
 
 -- What each step of the writer shows of its seat; by now its part is this, and below the known number it knows all
 -- fills to be passed, as it does after the step.
-pub record WriterReported (shape : Shape) (now : Writing) (known : ℕ) (sees : Core → Type 0) (answer : Answer) (after : Sat)
+pub record WriterReported (shape : Shape) (now : Writing) (known : ℕ) (sees : Core → Type 0) (answer : Answer)
+    (after : Sat)
     : Type 0 where
   pub seat : IsWriting after
   pub knows : known ≤ passed after.0

@@ -70,8 +70,8 @@ pub record LinkLoaded (shape : Shape) (before : Reading) (link : Link) (answer :
         keeps_spare = false;
       }
 
--- The number of closed fills was loaded, with this answer of the model's: the reader goes on in this phase, and has seen
--- that many, which are no fewer than before. Nothing else of its part changes.
+-- The number of closed fills was loaded, with this answer of the model's: the reader goes on in this phase, and has
+-- seen that many, which are no fewer than before. Nothing else of its part changes.
 pub record DoneLoaded (shape : Shape) (before : Reading) (done : ℕ) (answer : model.Answer) (phase : ReaderPhase)
     (after : Reading)
     : Type 0 where

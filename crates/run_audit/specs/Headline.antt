@@ -32,7 +32,8 @@ pub record IsUnknown (cpu : ℕ) (kept : List Parcel) : Type 0 where
 
 -- The headline, of a collector that was audited: of each CPU with a ledger it keeps exactly what was taken from that
 -- CPU's ring, and nothing of any other CPU.
-pub record IsAuditHeadline (n size start : ℕ) (cores : ℕ → Core) (kept : List Parcel) (ledgers : List Ledger) : Type 0 where
+pub record IsAuditHeadline (n size start : ℕ) (cores : ℕ → Core) (kept : List Parcel) (ledgers : List Ledger)
+    : Type 0 where
   pub each : (cpu : ℕ) (ledger : Ledger)
       → slice_get ledgers cpu ≡ Some ledger
       → IsKept n size start cpu (cores cpu) kept (taken_of ledger)

@@ -42,7 +42,8 @@ FollowsFrame count n size before exchanges after =
     × IsStepped count (length before.core.frames) exchanges after
 
 -- Part of that: `steps` steps are made by the frame on top of a stack of `depth` frames.
-pub record HasMadeSteps (depth steps n size : ℕ) (before : Lane) (exchanges : List Exchange) (after : Lane) : Type 0 where
+pub record HasMadeSteps (depth steps n size : ℕ) (before : Lane) (exchanges : List Exchange) (after : Lane)
+    : Type 0 where
   pub run : FrameRun n size depth before exchanges after
   pub made : length exchanges ≡ steps
   pub few : length after.core.frames ≤ depth

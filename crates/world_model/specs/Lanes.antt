@@ -194,6 +194,7 @@ LineRun n size (write cpu moment payload) before exchanges after =
 LineRun n size (close cpu) before exchanges after = WritesFrame n size pushes_close [] before exchanges after
 LineRun n size (step_reader cpu count) before exchanges after =
     ReaderRun n size before exchanges after × IsRead count exchanges
-LineRun n size (take_page cpu) before exchanges after = ReaderRun n size before exchanges after × HasTakeAnswer exchanges
+LineRun n size (take_page cpu) before exchanges after =
+    ReaderRun n size before exchanges after × HasTakeAnswer exchanges
 LineRun n size (wish cpu) before exchanges after = Wishes n size before exchanges after
 LineRun n size (deliver collector cpu fill) before exchanges after = (exchanges ≡ []) × (after ≡ before)

@@ -35,7 +35,9 @@ impl Core {
     #[inline(always)]
     pub(crate) fn end(&mut self) -> Answer
         requires ring { IsReachedCore self.old }
-        ensures makes { MakesStep self.old (model.ends (top_bytes self.old.stack self.old.stack.frames)) result self.new }
+        ensures makes {
+            MakesStep self.old (model.ends (top_bytes self.old.stack self.old.stack.frames)) result self.new
+        }
         ensures payloads { EndsPayload self.old.stack self.new.stack }
     {
         self.frames.end()
