@@ -3,7 +3,7 @@ use Rattle.std.specs.Prelude.{Result, Ok, Err, None}
 use Rattle.std.proofs.Common.{◌≡◌, ℕ, ◌-◌, ◌⊎◌, inl, inr, false, List, [], ◌∷◌, ◌++◌, length, map, reverse, take, drop, refl, sym, ap, ◌∙◌, subst, arith, Bor}
 use Rattle.trace_model.specs.Words.{padded}
 use Rattle.trace_model.specs.Frames.{Kind, for_record, FrameState, waiting, reserved, left, Frame}
-use Rattle.trace_model.specs.Steps.{Event, pushes, steps, ends, pushed as is_pushed_reported, Exchange}
+use Rattle.trace_model.specs.Steps.{Event, pushes, steps, ends, Exchange}
 use Rattle.trace_model.specs.Steps as model
 use Rattle.link_marks.specs.FrameOutcomes.{IsReserving, IsLeaving}
 use Rattle.world_model.specs.Lanes.{FitFrames, event_in, event_on_top, payloads_left}

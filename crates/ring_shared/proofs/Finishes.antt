@@ -1,6 +1,6 @@
 -- The frame on top, stepped as far as it gets by itself: what one step more makes of what came before it.
 use Rattle.std.specs.Prelude.{Option, Some, None, ◌⊎◌, ◌<◌}
-use Rattle.std.proofs.Common.{◌≡◌, ◌≢◌, ℕ, suc, List, ◌∷◌, length, refl, sym, ap, ◌∙◌, subst, inl, inr, arith}
+use Rattle.std.proofs.Common.{◌≡◌, ◌≢◌, suc, List, ◌∷◌, length, refl, sym, ap, ◌∙◌, subst, inl, inr, arith}
 use Rattle.trace_model.specs.Frames.{Refusal, Kind, FrameState, number_of, Frame}
 use Rattle.trace_model.specs.Steps as model
 use Rattle.link_marks.specs.FrameOutcomes.{IsReserving, IsLeaving, Reserving, reserves_on, has_reserved, is_refused as refused_to, Leaving, leaves_on, is_gone as gone_from}
@@ -8,9 +8,7 @@ use Rattle.link_marks.proofs.partition.RingsKept.{reached_kept}
 use Rattle.link_marks.proofs.frames.FrameOutcomes.{frames_reserve, frames_leave}
 use Rattle.nested_writer.specs.declared.fault.WriteFault.{WriteFault}
 use Rattle.ring_frames.specs.declared.answer.Answer.{Answer}
-use Rattle.ring_frames.specs.declared.answer.Answer.TheVariants.{Pushed, Going, Reserved, Ended, Gone, Refused, Looking, Empty, Moving, Taken, Wished}
-use Rattle.nested_writer.specs.declared.stack.leave.Ended.TheVariants.{Pending, Full}
-use Rattle.ring_frames.specs.Answers.{refusal_of, IsAnswerOf}
+use Rattle.ring_frames.specs.declared.answer.Answer.TheVariants.{Going, Reserved, Gone, Refused}
 use Rattle.ring_steps.specs.declared.rule.Shape.{Shape}
 use Rattle.ring_steps.specs.Views.{Writing}
 use Rattle.ring_shared.specs.Value.{WriterValue, SameWriter}

@@ -1,5 +1,5 @@
 -- The first seat takes the tail's slot, and is cut in two.
-use Rattle.std.proofs.Common.{◌≡◌, ◌≢◌, ℕ, zero, ◌+◌, ◌-◌, ◌%◌, ◌<◌, ◌≤◌, List, [], ◌∷◌, ◌++◌, length, get_or, set, Some, refl, sym, ap, ◌∙◌, subst, arith, length-set}
+use Rattle.std.proofs.Common.{◌≡◌, ◌≢◌, ℕ, ◌+◌, ◌-◌, ◌%◌, ◌<◌, ◌≤◌, [], ◌∷◌, ◌++◌, length, get_or, set, refl, sym, ap, ◌∙◌, subst, arith, length-set}
 use Rattle.std.proofs.lemmas.List.{set-get_or}
 use Rattle.std.specs.Prelude.{None, slice_set}
 use mathlib.Core.Option.{some, none}
@@ -11,7 +11,7 @@ use Rattle.link_marks.proofs.contents.PageChanges.{pages_differ}
 use Rattle.link_marks.proofs.partition.RingsKept.{reached_kept}
 use Rattle.ring_steps.specs.declared.rule.Shape.{Shape}
 use Rattle.ring_steps.specs.Views.{Writing, writing_of, Reading, SeatView, laid, whole, writes, reads, writing, passed, reading, AreSeated, made, running}
-use Rattle.ring_steps.specs.Shown.{Homes, IsHome, HasBody, AreHomes, IsShown, Shows}
+use Rattle.ring_steps.specs.Shown.{Homes, AreHomes, Shows}
 use Rattle.ring_steps.specs.Seats.{Sat}
 use Rattle.ring_steps.proofs.Placed.{laid_at, whole_at}
 

@@ -11,7 +11,7 @@ use Rattle.link_marks.proofs.seats.PrivateSteps.{private_result, changes_private
 use Rattle.link_marks.proofs.seats.SeatPages.{private_leaves_other_pages}
 use Rattle.link_marks.proofs.partition.RingsKept.{reached_kept, reached_further}
 use Rattle.ring_steps.specs.Views.{Reading}
-use Rattle.ring_steps.specs.Shown.{Homes, IsHome, AreWords, AreHomes, IsReading, IsShown}
+use Rattle.ring_steps.specs.Shown.{Homes, IsHome, AreWords, IsReading, IsShown}
 use Rattle.ring_steps.proofs.Observed.{first_records, observed_stays}
 
 -- the page of a closed fill is none of the writer's

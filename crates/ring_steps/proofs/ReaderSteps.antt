@@ -11,7 +11,7 @@ use Rattle.link_marks.specs.RingKept.{IsRingKept}
 use Rattle.link_marks.proofs.partition.RingsKept.{reached_kept, reached_further}
 use Rattle.ring_steps.specs.declared.rule.Shape.{Shape}
 use Rattle.ring_steps.specs.Views.{Reading, reading}
-use Rattle.ring_steps.specs.Shown.{Homes, IsReading, IsShown}
+use Rattle.ring_steps.specs.Shown.{Homes, IsReading}
 use Rattle.ring_steps.specs.Seats.{Sat, IsSeatOfReader, IsReaderWithin, ReaderReported}
 use Rattle.ring_steps.proofs.Words as words
 use Rattle.ring_steps.proofs.Allowing.{IsShownBy, ReaderMoves}

@@ -1,6 +1,5 @@
 -- What an audit without a fault says: the collector is the sum of what was taken.
 use Rattle.std.proofs.Common.{◌≡◌, ℕ, ◌≤◌, List, length, Some, refl, sym, ap, subst}
-use Rattle.std.specs.Prelude.{Contains}
 use Rattle.std.specs.List.{slice_get}
 use Rattle.trace_model.specs.Record.{Record}
 use Rattle.trace_model.specs.Parcel.{Parcel}

@@ -1,6 +1,6 @@
 -- The payloads of the frames on the stack, which are kept with the top one's last and shown with it first.
-use Rattle.std.proofs.Common.{◌≡◌, ℕ, ◌-◌, List, [], ◌∷◌, ◌++◌, length, take, drop, reverse, map, sym, ap, ◌∙◌, arith}
-use Rattle.std.proofs.lemmas.List.{map-append, reverse-append, length-reverse, length-drop, take-append-drop, take-map, drop_at}
+use Rattle.std.proofs.Common.{◌≡◌, ℕ, ◌-◌, List, [], ◌∷◌, ◌++◌, reverse, map, ap, ◌∙◌}
+use Rattle.std.proofs.lemmas.List.{map-append, reverse-append}
 
 -- one more
 pub pushed_first : {B : Type 0} (f : B → List ℕ) (items : List B) (x : B)

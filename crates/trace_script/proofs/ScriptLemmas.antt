@@ -9,7 +9,7 @@ use Rattle.text_model.specs.ScriptLines.{LineFault, NumberedLine, Setting, bad_l
 use Rattle.text_model.specs.HeaderReading.{numbered_reading, significant_lines_after, end_line_after, setting_from, settings_from}
 use Rattle.text_model.proofs.SettingLemmas.{settings_ok}
 use Rattle.text_model.specs.Script as model
-use Rattle.text_model.specs.Script.{Command, ParsesScript, SpellCommands, command_in, start_setting, are_of_start, is_start_line}
+use Rattle.text_model.specs.Script.{Command, ParsesScript, SpellCommands, command_in, start_setting, is_start_line}
 use Rattle.text_model.specs.ScriptReading.{commands_from, start_given, start_from, script_from, script_in}
 use Rattle.text_model.specs.ScriptLimits.{IsWithinLimits}
 use Rattle.text_model.proofs.ParsedLimits.{ParsesScript-within}

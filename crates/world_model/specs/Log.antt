@@ -2,7 +2,7 @@
 use Rattle.std.specs.Prelude.{ℕ, List, [], ◌∷◌, length, flat_map}
 use Rattle.trace_model.specs.Steps.{Answer, refused, empty, moving, page_taken, wished_for, Exchange}
 use Rattle.trace_model.specs.Ring.{TakenFill}
-use Rattle.text_model.specs.Log.{LogLine, Delivery, delivery_line}
+use Rattle.text_model.specs.Log.{LogLine}
 use Rattle.text_model.specs.Log as log
 
 -- the line of a page that was taken: its fill, its first record's number, how many records it has, and how many were

@@ -1,4 +1,4 @@
-use Rattle.std.proofs.Common.{◌+◌, ◌≤◌, ◌++◌, ◌∙◌, List, ℕ, ap, arith}
+use Rattle.std.proofs.Common.{◌+◌, ◌≤◌, ◌∙◌, List, ℕ, ap, arith}
 use Rattle.std.specs.List.{slice_range}
 use Rattle.collector_text.proofs.Shown.{again_more}
 use Rattle.collector_text.proofs.collectors.put_again.Goals as goal

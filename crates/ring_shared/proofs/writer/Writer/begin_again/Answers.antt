@@ -1,4 +1,4 @@
-use Rattle.std.proofs.Common.{refl, sym, subst, ◌≤◌, ◌∙◌}
+use Rattle.std.proofs.Common.{refl, sym, subst, ◌∙◌}
 use Rattle.trace_model.specs.Steps.{steps}
 use Rattle.link_marks.specs.Seats.{PhaseIsPrivate}
 use Rattle.nested_writer.specs.Stack.{opened}
@@ -7,8 +7,6 @@ use Rattle.ring_frames.specs.Phases.{as_answer}
 use Rattle.ring_shared.specs.Value.{WriterValue}
 use Rattle.ring_shared.specs.Calls.{IsWriter}
 use Rattle.ring_shared.proofs.Privately.{step_leads, seen_call}
-use Rattle.ring_steps.specs.Ends.{passed_in}
-use Rattle.ring_shared.proofs.Standing.{phase_shown}
 use Rattle.ring_shared.proofs.Bounds.{opened_now}
 use Rattle.ring_shared.proofs.Nearing.{stays_near, quiet_late}
 use Rattle.ring_shared.proofs.writer.Writer.begin_again.Goals as goal

@@ -6,7 +6,6 @@ use Rattle.trace_model.specs.Steps as model
 use Rattle.ring_frames.specs.declared.phase.Phase.TheVariants.{Looking, LookingNext}
 use Rattle.ring_frames.specs.declared.phase.Role.TheVariants.{Owner}
 use Rattle.ring_frames.specs.declared.phase.Phase.{Phase}
-use Rattle.ring_frames.specs.declared.answer.Answer.TheVariants.{Going}
 use Rattle.ring_frames.specs.Phases.{as_answer}
 use Rattle.ring_frames.specs.Value.{phase_of}
 use Rattle.ring_steps.specs.Views.{Writing}

@@ -1,4 +1,4 @@
-use Rattle.std.proofs.Common.{◌≡◌, ℕ, ◌-◌, List, slice_index_or, refl, sym, ap, ◌∙◌, arith, subst}
+use Rattle.std.proofs.Common.{ℕ, ◌-◌, List, slice_index_or, refl, sym, ap, ◌∙◌, arith}
 use Rattle.std.proofs.lemmas.List.{get_or_read_under}
 use Rattle.trace_model.specs.Frames.{clearing}
 use Rattle.trace_model.specs.Steps as model
@@ -13,8 +13,6 @@ use Rattle.ring_shared.proofs.Called.{writer_seen, top_seen, phase_seen}
 use Rattle.ring_shared.proofs.Bounds.{done_now, count_now, noted_bounds}
 use Rattle.ring_shared.proofs.GoingOn.{goes_on_called}
 use Rattle.ring_shared.proofs.LinkMoves.{cleared}
-use Rattle.std.specs.Prelude.{◌≤◌}
-use Rattle.ring_steps.specs.Ends.{passed_in}
 use Rattle.ring_shared.proofs.Nearing.{stays_near}
 use Rattle.ring_shared.proofs.writer.Writer.clear_update.Goals as goal
 

@@ -8,7 +8,6 @@ use Rattle.link_marks.specs.ModelLinks.{mark_of, link_of}
 use Rattle.ring_steps.specs.Views.{Writing, writing_of}
 use Rattle.ring_frames.specs.declared.phase.Phase.TheVariants.{Opening, Claiming, LookingNext}
 use Rattle.ring_frames.specs.declared.phase.Role.TheVariants.{Helper}
-use Rattle.ring_frames.specs.declared.answer.Answer.TheVariants.{Going}
 use Rattle.ring_frames.specs.Phases.{as_answer}
 use Rattle.ring_frames.specs.declared.phase.Phase.{Phase}
 use Rattle.ring_frames.specs.Value.{phase_of}

@@ -8,7 +8,6 @@ use Rattle.link_marks.specs.ModelLinks.{mark_of, link_of}
 use Rattle.ring_steps.specs.Views.{Writing, writing_of}
 use Rattle.ring_frames.specs.declared.phase.Phase.TheVariants.{Marking}
 use Rattle.ring_frames.specs.declared.phase.Phase.{Phase}
-use Rattle.ring_frames.specs.declared.answer.Answer.TheVariants.{Going}
 use Rattle.ring_frames.specs.Phases.{as_answer}
 use Rattle.ring_frames.specs.Value.{phase_of, role_of}
 use Rattle.ring_shared.specs.Value.{WriterValue}
@@ -19,7 +18,6 @@ use Rattle.ring_shared.proofs.Called.{writer_seen, top_seen, phase_seen}
 use Rattle.ring_shared.proofs.Bounds.{pages_called, advances_called, opened_now, noted_bounds, advances}
 use Rattle.ring_shared.proofs.GoingOn.{Moves, goes_on_called}
 use Rattle.ring_shared.proofs.LinkMoves.{noted_after, says_normal, waits, is_passed}
-use Rattle.ring_steps.specs.Ends.{passed_in}
 use Rattle.ring_shared.proofs.Nearing.{stays_near}
 use Rattle.ring_shared.proofs.writer.Writer.load_next.Goals.{in-Normal, in_default, in_default-via-in-Normal+else-link-behind, in_default-via-in_default}
 use Rattle.ring_shared.proofs.writer.Writer.load_next.Goals as goal

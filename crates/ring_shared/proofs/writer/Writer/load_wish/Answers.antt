@@ -1,16 +1,14 @@
-use Rattle.std.proofs.Common.{refl, subst, ap}
+use Rattle.std.proofs.Common.{refl, ap}
 use Rattle.trace_model.specs.Frames.{wishing}
 use Rattle.trace_model.specs.Steps as model
 use Rattle.ring_shared.specs.Value.{WriterValue}
-use Rattle.ring_shared.specs.Calls.{IsWriter, MakesSome}
+use Rattle.ring_shared.specs.Calls.{IsWriter}
 use Rattle.ring_shared.specs.contracts.writer.Writer.{the_view}
 use Rattle.ring_shared.proofs.Standing.{phase_shown}
 use Rattle.ring_shared.proofs.Called.{writer_seen, top_seen, phase_seen}
 use Rattle.ring_shared.proofs.PageMoves.{looks_called}
-use Rattle.std.specs.Prelude.{◌≤◌}
 use Rattle.ring_frames.specs.Value.{phase_of}
 use Rattle.ring_frames.specs.Phases.{as_answer}
-use Rattle.ring_steps.specs.Ends.{passed_in}
 use Rattle.ring_shared.proofs.Nearing.{stays_near}
 use Rattle.ring_shared.proofs.writer.Writer.load_wish.Goals as goal
 

@@ -14,7 +14,6 @@ use Rattle.ring_shared.proofs.Called.{writer_seen, top_seen, phase_seen}
 use Rattle.ring_shared.proofs.Bounds.{pages_called, advances_called, opened_now, noted_bounds, advances, fits}
 use Rattle.ring_shared.proofs.GoingOn.{goes_on_called}
 use Rattle.ring_shared.proofs.LinkMoves.{noted_after, marked}
-use Rattle.ring_steps.specs.Ends.{passed_in}
 use Rattle.ring_shared.proofs.Nearing.{stays_near}
 use Rattle.ring_shared.proofs.writer.Writer.mark_head.Goals as goal
 

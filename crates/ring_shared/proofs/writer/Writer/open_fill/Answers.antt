@@ -10,9 +10,7 @@ use Rattle.ring_shared.proofs.Standing.{phase_shown}
 use Rattle.ring_shared.proofs.Called.{writer_seen, top_seen, phase_seen}
 use Rattle.ring_shared.proofs.Bounds.{opened_now, count_now, noted_bounds}
 use Rattle.ring_shared.proofs.PageMoves.{opens_fill}
-use Rattle.std.specs.Prelude.{◌≤◌}
 use Rattle.ring_frames.specs.Value.{phase_of}
-use Rattle.ring_steps.specs.Ends.{passed_in}
 use Rattle.ring_shared.proofs.Nearing.{stays_near}
 use Rattle.ring_shared.proofs.writer.Writer.open_fill.Goals as goal
 

@@ -10,9 +10,7 @@ use Rattle.ring_shared.proofs.Standing.{phase_shown}
 use Rattle.ring_shared.proofs.Called.{writer_seen, top_seen, phase_seen}
 use Rattle.ring_shared.proofs.Bounds.{some_open}
 use Rattle.ring_shared.proofs.PageMoves.{closes_fill, is_written}
-use Rattle.std.specs.Prelude.{◌≤◌}
 use Rattle.ring_frames.specs.Value.{phase_of}
-use Rattle.ring_steps.specs.Ends.{passed_in}
 use Rattle.ring_shared.proofs.Nearing.{stays_near}
 use Rattle.ring_shared.proofs.writer.Writer.release_fill.Goals as goal
 

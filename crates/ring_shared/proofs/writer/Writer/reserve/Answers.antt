@@ -8,10 +8,7 @@ use Rattle.ring_frames.specs.Answers.{ZerosSlot}
 use Rattle.ring_shared.specs.Value.{WriterValue}
 use Rattle.ring_shared.specs.Calls.{IsWriter}
 use Rattle.ring_shared.proofs.Privately.{step_leads, seen_call}
-use Rattle.std.specs.Prelude.{◌≤◌}
 use Rattle.trace_model.specs.Frames.{idle}
-use Rattle.ring_steps.specs.Ends.{passed_in}
-use Rattle.ring_shared.proofs.Standing.{phase_shown}
 use Rattle.ring_shared.proofs.Nearing.{stays_near}
 use Rattle.ring_shared.proofs.writer.Writer.reserve.Goals as goal
 
