@@ -74,7 +74,7 @@ pub record MakesCalls
 abbrev pub MakesLine : Command → LineWriter → LineWriter → Type 0
 MakesLine command old new =
     MakesCalls (λ n size start before payloads after lefts.
-        LineCalls n size start command before payloads after lefts) old new
+    LineCalls n size start command before payloads after lefts) old new
 
 -- a record frame of this moment and payload is pushed and finished, or its push is refused
 abbrev pub WritesWhole : (moment : ℕ) → (payload : List ℕ) → LineWriter → LineWriter → Type 0
@@ -86,13 +86,13 @@ WritesWhole moment payload old new =
 abbrev pub MakesLines : List Command → LineWriter → LineWriter → Type 0
 MakesLines lines old new =
     MakesCalls (λ n size start before payloads after lefts.
-        LinesCalls n size start lines before payloads after lefts) old new
+    LinesCalls n size start lines before payloads after lefts) old new
 
 -- the frames are finished, the top one first, this number of them
 abbrev pub MakesRest : ℕ → LineWriter → LineWriter → Type 0
 MakesRest count old new =
     MakesCalls (λ n size start before payloads after lefts.
-        RestCalls n size start count before payloads after lefts) old new
+    RestCalls n size start count before payloads after lefts) old new
 
 -- all frames are finished
 pub record FinishesRest (old new : LineWriter) : Type 0 where

@@ -8,8 +8,10 @@ impl Core {
     ghost use Rattle.trace_model.specs.Steps as model;
     ghost use Rattle.ring_frames.specs.declared.phase.Phase.TheVariants.{Idle};
     ghost use Rattle.ring_frames.specs.declared.phase.StepAnswer.TheVariants.{Going};
-    ghost use Rattle.ring_frames.specs.Answers.{top_bytes, EndsPayload, KeepsPayloads, ZerosSlot};
+    ghost use Rattle.ring_frames.specs.Answers.{EndsPayload, KeepsPayloads, ZerosSlot};
     ghost use Rattle.ring_frames.specs.Phases.{as_answer};
+    ghost use Rattle.ring_core.specs.declared.event.Event.TheVariants.{End};
+    ghost use Rattle.ring_core.specs.Answers.{event_of};
     ghost use Rattle.ring_core.specs.Steps.{MakesStep, IsReachedCore, IsLate};
 
     /// A frame is pushed for a record of this moment and of a payload of `len` bytes.
@@ -35,9 +37,7 @@ impl Core {
     #[inline(always)]
     pub(crate) fn end(&mut self) -> Answer
         requires ring { IsReachedCore self.old }
-        ensures makes {
-            MakesStep self.old (model.ends (top_bytes self.old.stack self.old.stack.frames)) result self.new
-        }
+        ensures makes { MakesStep self.old (event_of self.old End) result self.new }
         ensures payloads { EndsPayload self.old.stack self.new.stack }
     {
         self.frames.end()
