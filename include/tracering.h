@@ -9,8 +9,9 @@
 // Handles. A handle is all zeros ({0}) before its first call. Only the calls below change it, and it must not be
 // copied.
 //
-// Answers. A call answers TRACERING_DONE or another number that isn't positive if it did something, and else a positive
-// one: the reason why it did nothing. Each call may answer these, which its own list leaves out:
+// Answers. A call answers TRACERING_DONE or another number that isn't positive if it did what it says, and else a
+// positive one: why it didn't. What is changed all the same, the call's own text says. Each call may answer these,
+// which its own list leaves out:
 //   TRACERING_NULL     a pointer is null (one to bytes may be, if their number is 0)
 //   TRACERING_ABSENT   the handle has nothing: it is new, or it was freed
 //   TRACERING_BUSY     the handle is in another call, which this one interrupts
@@ -19,13 +20,18 @@
 // Conditions that no call can check: a pointer is valid, with as many bytes as are stated; no two arguments of one call
 // overlap; a handle is in one call at a time, other than by a signal's handler.
 //
-// Threads. A writer's handle belongs to one thread at a time, and so does a reader's, and a collector's. A handle may
-// be handed to another thread if the hand-over orders memory, as pthread_create, pthread_join and a lock do.
+// Threads. A writer's handle belongs to one thread at a time, and so does a reader's, and a collector's. A handle is
+// handed to another thread by pthread_create, pthread_join, a lock, or a sequentially consistent atomic.
 //
 // Signals. A handler may call write, begin, put, finish, end, begin_close and depth on the handle of the thread that
 // it interrupts: its records are nested. Amid a call on that handle they answer BUSY (depth: 0). It may call take and
 // wish on a reader's handle in the same way. It must not call those that take or release memory: new, settle, all calls
 // on collectors, and those that free. It completes what it begins.
+// A handler that interrupts a call on one end of a ring, and calls the other end of that ring, does what another thread
+// would do between two instructions. The library is proved for threads, and tried for such handlers.
+//
+// Memory comes from malloc, realloc and free. A program that replaces one of them replaces all three. In a forked child
+// of a process with threads, no call may be made that takes or releases memory.
 #ifndef TRACERING_H
 #define TRACERING_H
 
@@ -180,6 +186,23 @@ static inline int32_t tracering_leave(volatile sig_atomic_t *in_call, int32_t co
     return code;
 }
 
+// Marks two handles so, or none of them: one handle can't be both.
+static inline bool tracering_enter_both(volatile sig_atomic_t *in_call, volatile sig_atomic_t *other)
+{
+    if (!tracering_enter(in_call))
+        return false;
+    if (tracering_enter(other))
+        return true;
+    (void)tracering_leave(in_call, 0);
+    return false;
+}
+
+static inline int32_t tracering_leave_both(volatile sig_atomic_t *in_call, volatile sig_atomic_t *other, int32_t code)
+{
+    (void)tracering_leave(other, 0);
+    return tracering_leave(in_call, code);
+}
+
 // A new ring of `pages` pages (2 to 1,024), and a spare one, of `size` bytes of data each (32 to 65,520, a multiple of
 // 4). Its parcels are those of this CPU (below 256). All memory of the ring is taken here.
 // IN_USE, BAD_CPU, BAD_SIZE, NO_MEMORY.
@@ -188,15 +211,17 @@ static inline int32_t tracering_new(struct tracering_writer *w, struct tracering
 {
     if (!(w && r))
         return TRACERING_NULL;
-    if (w->in_call || r->in_call)
+    if (!tracering_enter_both(&w->in_call, &r->in_call))
         return TRACERING_BUSY;
-    return tracering_raw_new(&w->held, &r->held, cpu, pages, size);
+    int32_t code = tracering_raw_new(&w->held, &r->held, cpu, pages, size);
+    return tracering_leave_both(&w->in_call, &r->in_call, code);
 }
 
 // ---- The writer's calls, of its thread and of handlers that interrupt it. None takes memory or waits.
 
 // Writes a record of `len` bytes whole, nested in the frames that are begun. Moments are a caller's units, below
-// 2^59; one that is earlier than the last record's is raised to that. TOO_DEEP, TOO_LONG, LATE_MOMENT, CROWDED, WORN.
+// 2^59; one that is earlier than the last record's is raised to that. TOO_DEEP, TOO_LONG, LATE_MOMENT, CROWDED, WORN:
+// the record isn't written, and nothing of it stays begun.
 static inline int32_t tracering_write(struct tracering_writer *w, uint64_t moment, const void *payload, size_t len)
 {
     if (!(w && (payload || !len)))
@@ -307,9 +332,10 @@ static inline int32_t tracering_settle(struct tracering_writer *w, struct tracer
 {
     if (!(w && r && out && taken))
         return TRACERING_NULL;
-    if (w->in_call || r->in_call)
+    if (!tracering_enter_both(&w->in_call, &r->in_call))
         return TRACERING_BUSY;
-    return tracering_raw_settle(&w->held, &r->held, (uint8_t *)out, room, taken);
+    int32_t code = tracering_raw_settle(&w->held, &r->held, (uint8_t *)out, room, taken);
+    return tracering_leave_both(&w->in_call, &r->in_call, code);
 }
 
 // Each frees its end; the ring's memory is released with the second. The handle is all zeros afterwards.
@@ -339,9 +365,9 @@ static inline int32_t tracering_collector_new(struct tracering_collector *c)
 {
     if (!c)
         return TRACERING_NULL;
-    if (c->in_call)
+    if (!tracering_enter(&c->in_call))
         return TRACERING_BUSY;
-    return tracering_raw_collector_new(&c->held);
+    return tracering_leave(&c->in_call, tracering_raw_collector_new(&c->held));
 }
 
 // Adds the parcel that these bytes are, as `take` gives it: the collector then also has and misses what the parcel
@@ -410,9 +436,9 @@ static inline int32_t tracering_collector_same(struct tracering_collector *c, st
 {
     if (!(c && other))
         return TRACERING_NULL;
-    if (c == other || c->in_call || other->in_call)
+    if (!tracering_enter_both(&c->in_call, &other->in_call))
         return TRACERING_BUSY;
-    return tracering_raw_collector_same(&c->held, &other->held);
+    return tracering_leave_both(&c->in_call, &other->in_call, tracering_raw_collector_same(&c->held, &other->held));
 }
 
 // Frees the collector and its listing. The handle is all zeros afterwards.
