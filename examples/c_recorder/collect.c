@@ -10,16 +10,17 @@ enum { CPUS = 2, SIZE = 128, RUNS = 16 };
 static int collect(struct tracering_collector *collector)
 {
     uint8_t parcel[TRACERING_HEADER + SIZE];
-    while (fread(parcel, sizeof parcel, 1, stdin) == 1) {
+    size_t len;
+    while ((len = fread(parcel, 1, sizeof parcel, stdin)) > 0) {
         struct tracering_fault_at at = {0, 0};
-        int32_t code = tracering_collector_add(collector, parcel, sizeof parcel, &at);
+        int32_t code = tracering_collector_add(collector, parcel, len, &at);
         if (code > TRACERING_DONE) {
             unsigned long long number = at.number;
             fprintf(stderr, "a parcel is refused: %d, cpu %u number %llu\n", code, at.cpu, number);
             return 1;
         }
     }
-    return 0;
+    return ferror(stdin) != 0;
 }
 
 static int list(struct tracering_collector *collector)

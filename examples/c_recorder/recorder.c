@@ -7,6 +7,7 @@
 
 #include <pthread.h>
 #include <signal.h>
+#include <stdatomic.h>
 #include <stdint.h>
 #include <stdio.h>
 #include <string.h>
@@ -36,15 +37,23 @@ static void dump(struct tracering_reader *reader)
 {
     uint8_t parcel[TRACERING_HEADER + SIZE];
     struct tracering_taken taken;
-    for (int page = 0; page < PAGES; page++)
-        if (tracering_take(reader, parcel, sizeof parcel, &taken) == TRACERING_DONE)
-            if (write(STDOUT_FILENO, parcel, taken.len) < 0)
-                _exit(1);
+    for (int page = 0; page < PAGES; page++) {
+        int32_t code = tracering_take(reader, parcel, sizeof parcel, &taken);
+        if (code == TRACERING_DONE && write(STDOUT_FILENO, parcel, taken.len) != (ssize_t)taken.len)
+            _exit(1);
+        if (code != TRACERING_DONE && code != TRACERING_MOVING)
+            return;
+    }
 }
 
-// The thread's own page that is written is closed first, unless the fault is amid a call on its ring.
+// The thread's own page that is written is closed first, unless the fault is amid a call on its ring. Of two threads
+// that are hit, one dumps.
 static void on_fault(int signal)
 {
+    static atomic_flag dumped = ATOMIC_FLAG_INIT;
+    if (atomic_flag_test_and_set(&dumped))
+        for (;;)
+            pause();
     record(0, "fault");
     if (tracering_begin_close(&writers[cpu]) == TRACERING_DONE)
         (void)tracering_finish(&writers[cpu]);

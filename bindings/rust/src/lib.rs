@@ -77,8 +77,8 @@ const FAULTS: [Fault; 31] = {
 
 fn done(code: i32) -> Result<(), Fault> {
     match code {
-        1..=31 => Err(FAULTS[code as usize - 1]),
-        _ => Ok(()),
+        i32::MIN..=0 => Ok(()),
+        _ => Err(FAULTS[code as usize - 1]),
     }
 }
 
@@ -147,17 +147,23 @@ impl Writer {
     pub fn begin(&mut self, moment: u64, len: usize) -> Result<Open<'_>, Fault> {
         let depth = unsafe { tracering_raw_depth(&mut self.0) };
         done(unsafe { tracering_raw_begin(&mut self.0, moment, len) })?;
-        let reserved = done(unsafe { tracering_raw_finish(&mut self.0) });
-        if reserved.is_err() {
-            self.finish_above(depth);
-        }
-        reserved.map(|()| Open(self))
+        self.finish(depth).map(|()| Open(self))
     }
 
-    /// Closes the page that is written, so that it can be taken.
+    /// Closes the page that is written, so that it can be taken; if that is refused, nothing of it is left.
     pub fn close(&mut self) -> Result<(), Fault> {
+        let depth = unsafe { tracering_raw_depth(&mut self.0) };
         done(unsafe { tracering_raw_begin_close(&mut self.0) })?;
-        done(unsafe { tracering_raw_finish(&mut self.0) })
+        self.finish(depth)
+    }
+
+    /// Finishes the frame on top of `depth` others, which leaves if it is refused.
+    fn finish(&mut self, depth: usize) -> Result<(), Fault> {
+        let finished = done(unsafe { tracering_raw_finish(&mut self.0) });
+        if finished.is_err() {
+            self.finish_above(depth);
+        }
+        finished
     }
 
     fn finish_above(&mut self, depth: usize) {
