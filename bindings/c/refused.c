@@ -55,21 +55,21 @@ static void make_parcel(uint8_t *out, uint64_t cpu, uint64_t first, uint64_t mis
 }
 
 // What a collector has: how many runs of numbers CPU 0 misses, and the line of its listing that is next.
-struct told {
+struct state {
     size_t runs;
     int32_t code;
     struct tracering_line line;
 };
 
-static struct told tell(struct tracering_collector *c)
+static struct state state_of(struct tracering_collector *c)
 {
-    struct told told = {0};
-    (void)tracering_collector_missing(c, 0, NULL, 0, &told.runs);
-    told.code = tracering_collector_next(c, NULL, 0, &told.line);
-    return told;
+    struct state state = {0};
+    (void)tracering_collector_missing(c, 0, NULL, 0, &state.runs);
+    state.code = tracering_collector_next(c, NULL, 0, &state.line);
+    return state;
 }
 
-static bool is_same(const struct told *left, const struct told *right)
+static bool is_same(const struct state *left, const struct state *right)
 {
     return left->runs == right->runs && left->code == right->code && left->line.moment == right->line.moment
         && left->line.number == right->line.number && left->line.cpu == right->line.cpu;
@@ -86,7 +86,7 @@ static int32_t call(struct tracering_collector *c, const uint8_t *parcel)
 static long refuse(struct tracering_collector *c, struct tracering_collector *other, const uint8_t *parcel, int *bad)
 {
     for (long refused = 0;; refused++) {
-        struct told before = tell(c);
+        struct state before = state_of(c);
         granted = refused;
         int32_t code = call(c, parcel);
         long left = granted;
@@ -95,7 +95,7 @@ static long refuse(struct tracering_collector *c, struct tracering_collector *ot
             *bad += code != TRACERING_DONE;
             return refused;
         }
-        struct told after = tell(c);
+        struct state after = state_of(c);
         *bad += code != TRACERING_NO_MEMORY || !is_same(&before, &after);
         *bad += tracering_collector_same(c, other) != TRACERING_DONE;
     }
