@@ -10,7 +10,8 @@ use Rattle.trace_model.proofs.words.Lengths.{slot_len_ge, length-padded}
 use Rattle.trace_model.proofs.steps.StepSound.{cases_of}
 use Rattle.link_marks.specs.FrameOutcomes.{IsLeaving, Leaving, leaves_on, is_gone}
 use Rattle.link_marks.specs.KeptStack.{IsForRecord, MayBeIn, FramesAgree}
-use Rattle.link_marks.specs.WriterRanks.{writer_limit, writer_rank}
+use Rattle.link_marks.specs.Ranks.{frame_limit}
+use Rattle.link_marks.specs.WriterRanks.{writer_rank}
 use Rattle.link_marks.proofs.frames.FrameOutcomes.{frames_leave}
 use Rattle.link_marks.proofs.partition.RingsKept.{reached_kept}
 use Rattle.link_marks.proofs.seats.WriterEnds.{writers_near}
@@ -208,9 +209,9 @@ module _ (old : WriterValue) (v : WriterValue) (result : Answer) (frame : Frame)
       → length v.part.frames ≡ length old.part.frames
       → distance v < distance old
   step_closer shape_is near same =
-      subst (λ (k : ℕ). (writer_limit k + 1) * stage_on_top v.part.frames + rank_of v < distance old)
+      subst (λ (k : ℕ). (frame_limit k + 1) * stage_on_top v.part.frames + rank_of v < distance old)
       (ap (λ (s : Shape). s.pages) (sym shape_is))
-      (nearer_distance (stage_on_top v.part.frames) (stage_on_top old.part.frames) (writer_limit old.shape.pages + 1)
+      (nearer_distance (stage_on_top v.part.frames) (stage_on_top old.part.frames) (frame_limit old.shape.pages + 1)
       (rank_of v) (rank_of old) (no_farther same) (near frame below top free same))
 
 some_top : (frames : List Frame) → frames ≢ [] → (frame : Frame) × (below : List Frame) × (frames ≡ frame ∷ below)
@@ -332,11 +333,11 @@ module _ (old : LineWriter) (is : IsLineWriter old) (slot : Slot)
   ended_stage c (next ∷ under) frames e same =
       absurd (let short = ap (λ (l : List Frame). length l) e in omega arith)
 
-  rank_low : (v : WriterValue) → IsWriter v → rank_of v ≤ writer_limit v.shape.pages
+  rank_low : (v : WriterValue) → IsWriter v → rank_of v ≤ frame_limit v.shape.pages
   unfolding IsWriter
   rank_low v w =
       subst (λ (p : Writing). writer_rank v.shape.pages v.passed p.done p.opened p.history p.frames
-      ≤ writer_limit v.shape.pages) w.part_is
+      ≤ frame_limit v.shape.pages) w.part_is
       (writers_near v.shape.pages v.shape.size v.shape.start v.passed w.core
       (reached_kept v.shape.pages v.shape.size v.shape.start w.core w.reached))
 
@@ -359,9 +360,9 @@ module _ (old : LineWriter) (is : IsLineWriter old) (slot : Slot)
       let was : stage_on_top w.part.frames ≡ 1 =
       ap stage_on_top t.top ∙ ap (stage_of t.frame.kind) t.state_is in
       let pages : v.shape.pages ≡ w.shape.pages = ap (λ (s : Shape). s.pages) shape_is in
-      let low : rank_of v ≤ writer_limit v.shape.pages = rank_low v writer in
-      subst (λ (k : ℕ). (writer_limit k + 1) * stage_on_top v.part.frames + rank_of v < distance w) (sym pages)
-      (staged_distance (stage_on_top v.part.frames) (stage_on_top w.part.frames) (writer_limit w.shape.pages + 1)
+      let low : rank_of v ≤ frame_limit v.shape.pages = rank_low v writer in
+      subst (λ (k : ℕ). (frame_limit k + 1) * stage_on_top v.part.frames + rank_of v < distance w) (sym pages)
+      (staged_distance (stage_on_top v.part.frames) (stage_on_top w.part.frames) (frame_limit w.shape.pages + 1)
       (rank_of v) (rank_of w) (omega arith) (omega arith))
 
   pub end_called : (v : WriterValue) (payload part : List ℕ) (result : Answer)

@@ -1,7 +1,7 @@
 -- How far the frame on top is from being popped, the end of its record included.
 use Rattle.std.specs.Prelude.{ℕ, ◌+◌, ◌*◌, List, [], ◌∷◌}
 use Rattle.trace_model.specs.Frames.{Kind, for_record, for_close, FrameState, waiting, reserved, left, Frame}
-use Rattle.link_marks.specs.WriterRanks.{writer_limit}
+use Rattle.link_marks.specs.Ranks.{frame_limit}
 use Rattle.ring_shared.specs.Value.{WriterValue}
 use Rattle.ring_shared.specs.Nearer.{rank_of}
 
@@ -18,4 +18,4 @@ stage_on_top (frame ∷ below) = stage_of frame.kind frame.state
 
 -- each call for the frame on top lowers this number, as long as the frame is on the stack
 abbrev pub distance : WriterValue → ℕ
-distance v = (writer_limit v.shape.pages + 1) * stage_on_top v.part.frames + rank_of v
+distance v = (frame_limit v.shape.pages + 1) * stage_on_top v.part.frames + rank_of v

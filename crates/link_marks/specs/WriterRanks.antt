@@ -8,7 +8,7 @@ use Rattle.trace_model.specs.Links.{header_link}
 use Rattle.trace_model.specs.Frames.{FrameState, waiting, reserved, left, number_of, Phase, idle, looking, claiming, looking_next, marking, clearing, opening, releasing, wishing, Frame}
 use Rattle.trace_model.specs.Ring.{link_into, Core}
 use Rattle.trace_model.specs.Steps.{steps, Answer, Step}
-use Rattle.link_marks.specs.Ranks.{state_rank, late_rank}
+use Rattle.link_marks.specs.Ranks.{state_rank, late_rank, frame_limit}
 use Rattle.link_marks.specs.Reached.{IsReached}
 use Rattle.link_marks.specs.RingKept.{IsRingKept}
 
@@ -53,10 +53,6 @@ writer_rank n passed done opened history (frame ∷ below) =
 abbrev pub rank_in : (n passed : ℕ) → Core → ℕ
 rank_in n passed c = writer_rank n passed c.done c.opened c.history c.frames
 
--- no more steps than these does a frame make in a ring of n positions, if no other frame comes between
-abbrev pub writer_limit : ℕ → ℕ
-writer_limit n = 3 * n + 52
-
 -- The frame on top, which hasn't reserved, makes a step and stays on the stack: it is nearer to its end. All fills
 -- below the first number were known to be passed before it looked, and all below the second one after its step; a claim
 -- makes that of the fill that is lost.
@@ -76,7 +72,7 @@ WriterStepsComeToAnEnd = (n size start : ℕ) (c : Core) (frame : Frame) (below 
 abbrev pub WritersAreNearTheirEnd : Type 0
 WritersAreNearTheirEnd = (n size start passed : ℕ) (c : Core)
     → IsRingKept n size start c
-    → rank_in n passed c ≤ writer_limit n
+    → rank_in n passed c ≤ frame_limit n
 
 -- A frame that is about to claim the head has seen its HEADER: if it is there no more, the head was moved on.
 abbrev pub ClaimsFailBehindTheHead : Type 0

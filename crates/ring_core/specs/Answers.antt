@@ -7,7 +7,7 @@ use Rattle.nested_writer.specs.declared.stack.leave.Ended.TheVariants.{Pending}
 use Rattle.ring_core.specs.declared.event.Event.{Event}
 use Rattle.ring_core.specs.declared.event.Event.TheVariants.{Push, PushClose, Step, End, Read, Wish}
 use Rattle.ring_frames.specs.declared.answer.Answer.{Answer}
-use Rattle.ring_frames.specs.declared.answer.Answer.TheVariants.{Pushed, Going, Reserved, Ended, Gone, Refused, Looking, Empty, Moving, Taken, Wished}
+use Rattle.ring_frames.specs.declared.answer.Answer.TheVariants.{Pushed, Ended, Looking, Empty, Moving, Taken}
 use Rattle.ring_frames.specs.Answers.{top_bytes, KeepsPayloads, EndsPayload}
 use Rattle.ring_frames.specs.Lens.{lens, IsOneMore, KeepsLens}
 use Rattle.ring_core.specs.Value.{CoreValue}
@@ -47,28 +47,13 @@ StepsLens Wish result old new = lens new ≡ lens old
 
 -- a step of the reader gives its body back, unless a page is taken for it
 abbrev pub GivesBack : List ℕ → Answer → Type 0
-GivesBack body Pushed = ⊥
-GivesBack body Going = ⊥
-GivesBack body (Reserved number) = ⊥
-GivesBack body (Ended ended) = ⊥
-GivesBack body Gone = ⊥
-GivesBack body (Refused fault) = ⊥
 GivesBack body (Looking back) = back ≡ body
 GivesBack body (Empty done back) = back ≡ body
 GivesBack body (Moving fill back) = back ≡ body
 GivesBack body (Taken page missed) = Unit {0}
-GivesBack body (Wished fill) = ⊥
+GivesBack body _ = ⊥
 
 -- a page that is taken reads as its records, and has the ring's data size
 abbrev pub HasWholePage : (size : ℕ) → Answer → Type 0
-HasWholePage size Pushed = Unit {0}
-HasWholePage size Going = Unit {0}
-HasWholePage size (Reserved number) = Unit {0}
-HasWholePage size (Ended ended) = Unit {0}
-HasWholePage size Gone = Unit {0}
-HasWholePage size (Refused fault) = Unit {0}
-HasWholePage size (Looking body) = Unit {0}
-HasWholePage size (Empty done body) = Unit {0}
-HasWholePage size (Moving fill body) = Unit {0}
 HasWholePage size (Taken page missed) = IsPage page × (page.size ≡ size)
-HasWholePage size (Wished fill) = Unit {0}
+HasWholePage size _ = Unit {0}

@@ -3,7 +3,7 @@ use Rattle.std.specs.Prelude.{◌≡◌, ◌≢◌, ℕ, ◌-◌, ◌<◌, ◌�
 use Rattle.trace_model.specs.Words.{padded}
 use Rattle.trace_model.specs.Frames.{Kind, for_record, for_close, FrameState, waiting, reserved, left, Frame, no_frame}
 use Rattle.trace_model.specs.Ring.{IsStart, Core}
-use Rattle.trace_model.specs.Steps.{Event, pushes, pushes_close, steps, ends, reads, wishes, Answer, pushed, going, reserved_as, pending, full, gone, refused, reading, empty, moving, page_taken, wished_for, Step, Exchange}
+use Rattle.trace_model.specs.Steps.{Event, pushes, pushes_close, steps, ends, reads, wishes, Answer, pushed, gone, refused, reading, empty, Step, Exchange}
 use Rattle.text_model.specs.Script.{Command, begin_frame, step_frame, finish_frame, write, close, step_reader, take_page, wish, deliver}
 
 -- ---- a ring and what its frames are to write
@@ -28,17 +28,7 @@ lane_behind lane core = record { core = core; payloads = payloads_left core.fram
 -- the payloads of the frames on the stack, if one more was to be pushed
 abbrev pub payloads_with : List ℕ → Answer → List (List ℕ) → List (List ℕ)
 payloads_with payload pushed payloads = payload ∷ payloads
-payloads_with payload going payloads = payloads
-payloads_with payload (reserved_as number) payloads = payloads
-payloads_with payload pending payloads = payloads
-payloads_with payload full payloads = payloads
-payloads_with payload gone payloads = payloads
-payloads_with payload (refused why) payloads = payloads
-payloads_with payload reading payloads = payloads
-payloads_with payload (empty done) payloads = payloads
-payloads_with payload (moving fill) payloads = payloads
-payloads_with payload (page_taken t) payloads = payloads
-payloads_with payload (wished_for fill) payloads = payloads
+payloads_with payload _ payloads = payloads
 
 -- the ring after a frame was to be pushed, with this payload
 abbrev pub lane_with : Lane → List ℕ → Answer → Core → Lane
@@ -127,17 +117,8 @@ pub record PushesFrame (n size : ℕ) (event : Event) (payload : List ℕ) (befo
 -- after a push with this answer: the frame that was pushed is finished; if none was, nothing is done
 abbrev pub FinishesPushed : (n size : ℕ) → Answer → Lane → List Exchange → Lane → Type 0
 FinishesPushed n size pushed before exchanges after = FinishesFrame n size before exchanges after
-FinishesPushed n size going before exchanges after = ⊥
-FinishesPushed n size (reserved_as number) before exchanges after = ⊥
-FinishesPushed n size pending before exchanges after = ⊥
-FinishesPushed n size full before exchanges after = ⊥
-FinishesPushed n size gone before exchanges after = ⊥
 FinishesPushed n size (refused why) before exchanges after = (exchanges ≡ []) × (after ≡ before)
-FinishesPushed n size reading before exchanges after = ⊥
-FinishesPushed n size (empty done) before exchanges after = ⊥
-FinishesPushed n size (moving fill) before exchanges after = ⊥
-FinishesPushed n size (page_taken t) before exchanges after = ⊥
-FinishesPushed n size (wished_for fill) before exchanges after = ⊥
+FinishesPushed n size _ before exchanges after = ⊥
 
 -- a frame is pushed and finished
 pub record WritesFrame (n size : ℕ) (event : Event) (payload : List ℕ) (before : Lane) (exchanges : List Exchange)
