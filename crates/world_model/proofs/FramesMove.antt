@@ -3,7 +3,7 @@ use Rattle.std.proofs.Common.{◌≡◌, ℕ, List, [], ◌∷◌, refl, sym, ap
 use Rattle.trace_model.specs.Frames.{Kind, for_record, for_close, FrameState, waiting, reserved, left, Role, Phase, idle, looking, claiming, looking_next, marking, clearing, opening, releasing, wishing, Frame}
 use Rattle.trace_model.specs.Ring.{ReaderPhase, loading_head, loading_done, storing_spare_link, swapping, Core}
 use Rattle.trace_model.specs.Steps.{Event, pushes, pushes_close, steps, ends, reads, wishes, Answer, closing_phase, frames_after_leave, with_new_tail, after_begin}
-use Rattle.trace_model.proofs.steps.StepCases.{StepCases, BeginsAgain, ReserveStep, reserves, finds_nothing, is_crowded, is_worn, notes, LoadLinkStep, load_link_late, sees_free, sees_header, sees_update, ClaimHeadStep, claim_late, claims, claim_fails, LoadNextStep, load_next_late, sees_normal, sees_other, MarkHeadStep, mark_late, marks, mark_fails, ClearUpdateStep, clears, OpenFillStep, open_late, opens, ReleaseFillStep, releases, releases_last, LoadWishStep, grants, closes_more, goes_away, IdleStep, FrameStep, loads_header, loads_update, loads_owed, loads_passed, finds_none, finds_closed, swaps, swap_fails, ReadStep, push_step, push_refused, close_step, close_refused, frame_step, frame_lacks, end_step, end_lacks, end_early, read_step, store_wish_step}
+use Rattle.trace_model.proofs.steps.StepCases.{StepCases, BeginsAgain, ReserveStep, reserves, finds_nothing, is_crowded, is_worn, notes, LoadLinkStep, load_link_late, sees_free, sees_header, sees_update, ClaimHeadStep, claim_late, claims, claim_fails, LoadNextStep, load_next_late, sees_normal, sees_other, MarkHeadStep, mark_late, marks, mark_fails, ClearUpdateStep, clears, OpenFillStep, open_late, opens, ReleaseFillStep, releases, releases_last, LoadWishStep, grants, closes_more, goes_away, IdleStep, FrameStep, by_phase, loads_header, loads_update, loads_owed, loads_passed, finds_none, finds_closed, swaps, swap_fails, ReadStep, push_step, push_refused, close_step, close_refused, frame_step, frame_lacks, end_step, end_lacks, end_early, read_step, store_wish_step}
 
 -- a step that pushes none
 pub data Moves (before after : List Frame) : Type 0 where
@@ -82,15 +82,8 @@ module _ (n size : ℕ) (c : Core) (frame : Frame) (below : List Frame) (answer 
   load_wish_moves (goes_away alone denied last a is) = pops frame below top (ap (λ (d : Core). d.frames) is ∙ sym alone)
 
   pub frame_moves : (phase : Phase) → FrameStep n size c frame below phase answer after → Moves c.frames after.frames
-  frame_moves idle step = idle_moves frame.state step
-  frame_moves (looking noted) step = load_link_moves noted step
-  frame_moves (claiming noted page) step = claim_head_moves noted page step
-  frame_moves (looking_next role noted page) step = load_next_moves role noted page step
-  frame_moves (marking role noted page next) step = mark_head_moves role noted page next step
-  frame_moves (clearing noted page) step = clear_update_moves noted page step
-  frame_moves (opening noted page) step = open_fill_moves noted page step
-  frame_moves releasing step = release_fill_moves step
-  frame_moves wishing step = load_wish_moves step
+  frame_moves = by_phase n size c frame below answer after (λ phase. Moves c.frames after.frames)
+      (idle_moves frame.state) load_link_moves claim_head_moves load_next_moves mark_head_moves clear_update_moves open_fill_moves release_fill_moves load_wish_moves
 
 pub reads_stay : (n : ℕ) (c : Core) (answer : Answer) (after : Core) (phase : ReaderPhase) → ReadStep n c phase answer after → after.frames ≡ c.frames
 reads_stay n c answer after loading_head (loads_header page fill at a is) = ap (λ (d : Core). d.frames) is

@@ -5,7 +5,7 @@ use Rattle.trace_model.specs.Frames.{Kind, for_record, for_close, FrameState, wa
 use Rattle.trace_model.specs.Ring.{ReaderPhase, loading_head, loading_done, storing_spare_link, swapping, Core, window_of}
 use Rattle.trace_model.specs.Window.{Window, WindowEvent, opened_one, released_one, took_one, lost_one, WindowStep}
 use Rattle.trace_model.specs.Steps.{Event, Answer, with_new_tail, after_begin, taken_fill}
-use Rattle.trace_model.proofs.steps.StepCases.{StepCases, BeginsAgain, ReserveStep, reserves, finds_nothing, is_crowded, is_worn, notes, LoadLinkStep, load_link_late, sees_free, sees_header, sees_update, ClaimHeadStep, claim_late, claims, claim_fails, LoadNextStep, load_next_late, sees_normal, sees_other, MarkHeadStep, mark_late, marks, mark_fails, ClearUpdateStep, clears, OpenFillStep, open_late, opens, ReleaseFillStep, releases, releases_last, LoadWishStep, grants, closes_more, goes_away, IdleStep, FrameStep, loads_header, loads_update, loads_owed, loads_passed, finds_none, finds_closed, swaps, swap_fails, ReadStep, push_step, push_refused, close_step, close_refused, frame_step, frame_lacks, end_step, end_lacks, end_early, read_step, store_wish_step}
+use Rattle.trace_model.proofs.steps.StepCases.{StepCases, BeginsAgain, ReserveStep, reserves, finds_nothing, is_crowded, is_worn, notes, LoadLinkStep, load_link_late, sees_free, sees_header, sees_update, ClaimHeadStep, claim_late, claims, claim_fails, LoadNextStep, load_next_late, sees_normal, sees_other, MarkHeadStep, mark_late, marks, mark_fails, ClearUpdateStep, clears, OpenFillStep, open_late, opens, ReleaseFillStep, releases, releases_last, LoadWishStep, grants, closes_more, goes_away, IdleStep, FrameStep, by_phase, loads_header, loads_update, loads_owed, loads_passed, finds_none, finds_closed, swaps, swap_fails, ReadStep, push_step, push_refused, close_step, close_refused, frame_step, frame_lacks, end_step, end_lacks, end_early, read_step, store_wish_step}
 use Rattle.trace_model.proofs.steps.StepSound.{cases_of}
 use Rattle.link_marks.specs.KeptLinks.{LinksKept}
 use Rattle.link_marks.specs.WindowLaws.{HeadIsTaken, HeadIsLost, LossesNeedAFullRing, ClosesNeedNoFrame}
@@ -86,15 +86,8 @@ module _ (n size : ℕ) (c : Core) (frame : Frame) (below : List Frame) (answer 
   load_wish_moves (goes_away alone denied last a is) = stays _ refl is
 
   frame_moves : (phase : Phase) → FrameStep n size c frame below phase answer after → HeadMoves n c answer after
-  frame_moves idle step = idle_moves frame.state step
-  frame_moves (looking noted) step = load_link_moves noted step
-  frame_moves (claiming noted page) step = claim_head_moves noted page step
-  frame_moves (looking_next role noted page) step = load_next_moves role noted page step
-  frame_moves (marking role noted page next) step = mark_head_moves role noted page next step
-  frame_moves (clearing noted page) step = clear_update_moves noted page step
-  frame_moves (opening noted page) step = open_fill_moves noted page step
-  frame_moves releasing step = release_fill_moves step
-  frame_moves wishing step = load_wish_moves step
+  frame_moves = by_phase n size c frame below answer after (λ phase. HeadMoves n c answer after)
+      (idle_moves frame.state) load_link_moves claim_head_moves load_next_moves mark_head_moves clear_update_moves open_fill_moves release_fill_moves load_wish_moves
 
 module _ (n : ℕ) (c : Core) (answer : Answer) (after : Core) (k : LinksKept n c) where
   rests : (next : Core) → next.head ≡ c.head → after ≡ next → HeadMoves n c answer after

@@ -245,6 +245,28 @@ FrameStep n size c frame below (opening noted page) answer after = OpenFillStep 
 FrameStep n size c frame below releasing answer after = ReleaseFillStep c frame below answer after
 FrameStep n size c frame below wishing answer after = LoadWishStep n c frame below answer after
 
+-- what follows from each kind of step of a frame follows from its step in each phase
+module _ (n size : ℕ) (c : Core) (frame : Frame) (below : List Frame) (answer : Answer) (after : Core) (P : Phase → Type 0)
+    (at_idle : IdleStep n size c frame below frame.state answer after → P idle)
+    (at_looking : (noted : ℕ) → LoadLinkStep n c frame below noted answer after → P (looking noted))
+    (at_claiming : (noted page : ℕ) → ClaimHeadStep n c frame below noted page answer after → P (claiming noted page))
+    (at_looking_next : (role : Role) (noted page : ℕ) → LoadNextStep n c frame below role noted page answer after → P (looking_next role noted page))
+    (at_marking : (role : Role) (noted page next : ℕ) → MarkHeadStep n c frame below role noted page next answer after → P (marking role noted page next))
+    (at_clearing : (noted page : ℕ) → ClearUpdateStep n c frame below noted page answer after → P (clearing noted page))
+    (at_opening : (noted page : ℕ) → OpenFillStep n c frame below noted page answer after → P (opening noted page))
+    (at_releasing : ReleaseFillStep c frame below answer after → P releasing)
+    (at_wishing : LoadWishStep n c frame below answer after → P wishing) where
+  pub by_phase : (phase : Phase) → FrameStep n size c frame below phase answer after → P phase
+  by_phase idle step = at_idle step
+  by_phase (looking noted) step = at_looking noted step
+  by_phase (claiming noted page) step = at_claiming noted page step
+  by_phase (looking_next role noted page) step = at_looking_next role noted page step
+  by_phase (marking role noted page next) step = at_marking role noted page next step
+  by_phase (clearing noted page) step = at_clearing noted page step
+  by_phase (opening noted page) step = at_opening noted page step
+  by_phase releasing step = at_releasing step
+  by_phase wishing step = at_wishing step
+
 -- ---- the steps of the reader, phase by phase
 
 -- A load of the link into the position of the hint.

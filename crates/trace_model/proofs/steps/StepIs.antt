@@ -6,7 +6,7 @@ use Rattle.trace_model.specs.Words.{encoded_len, slot_len}
 use Rattle.trace_model.specs.History.{Reservation, wished, reserved_records}
 use Rattle.trace_model.specs.Packing.{fill_len, FitsBehind, tail_of}
 use Rattle.trace_model.specs.Links.{Link, normal_link, header_link, update_link, same_link}
-use Rattle.trace_model.specs.Frames.{Kind, for_record, for_close, FrameState, waiting, reserved, left, number_of, Role, owner, helper, Phase, idle, looking, claiming, looking_next, marking, clearing, opening, releasing, wishing, Frame, Refusal}
+use Rattle.trace_model.specs.Frames.{Kind, for_record, for_close, FrameState, waiting, reserved, left, number_of, Role, owner, helper, Phase, looking, looking_next, marking, releasing, wishing, Frame, Refusal}
 use Rattle.trace_model.specs.Ring.{ReaderPhase, loading_head, loading_done, storing_spare_link, swapping, Core, link_into}
 use Rattle.trace_model.specs.Events.{Event, Answer, refused, Outcome, only_if}
 use Rattle.trace_model.specs.WriterSteps.{with_history_event, in_phase, with_link, new_reservation, with_reservation, in_reserved, with_released, tail_holds, unless_begun, is_full, is_too_long, push_record, fits_in_tail, needs_page, reserve, sees_link, load_link, open_fill, idle_step, end_frame, end_top, release_fill, is_granted, load_wish}
@@ -14,7 +14,7 @@ use Rattle.trace_model.specs.HeadMove.{with_head_claimed, after_next, claim_head
 use Rattle.trace_model.specs.ReaderSteps.{reader_at, reads_link, load_head}
 use Rattle.trace_model.specs.StepConditions.{MayContinue, NeedsPage, IsGranted, IsTooLong}
 use Rattle.trace_model.specs.Steps.{frame_step_of, top_step_of, read_step_of, step_of, Step}
-use Rattle.trace_model.proofs.steps.StepCases.{BeginsAgain, ReserveStep, reserves, finds_nothing, is_crowded, is_worn, notes, LoadLinkStep, load_link_late, sees_free, sees_header, sees_update, ClaimHeadStep, claim_late, claims, claim_fails, LoadNextStep, load_next_late, sees_normal, sees_other, MarkHeadStep, mark_late, marks, mark_fails, ClearUpdateStep, clears, OpenFillStep, open_late, opens, ReleaseFillStep, releases, releases_last, LoadWishStep, grants, closes_more, goes_away, IdleStep, FrameStep, LoadHeadStep, loads_header, loads_update, loads_owed, loads_passed, LoadDoneStep, finds_none, finds_closed, SwapHeadStep, swaps, swap_fails, ReadStep, PushRefused, all_stand, has_no_room, comes_late, StepCases, push_step, push_refused, close_step, close_refused, frame_step, frame_lacks, end_step, end_lacks, end_early, read_step, store_wish_step}
+use Rattle.trace_model.proofs.steps.StepCases.{BeginsAgain, ReserveStep, reserves, finds_nothing, is_crowded, is_worn, notes, LoadLinkStep, load_link_late, sees_free, sees_header, sees_update, ClaimHeadStep, claim_late, claims, claim_fails, LoadNextStep, load_next_late, sees_normal, sees_other, MarkHeadStep, mark_late, marks, mark_fails, ClearUpdateStep, clears, OpenFillStep, open_late, opens, ReleaseFillStep, releases, releases_last, LoadWishStep, grants, closes_more, goes_away, IdleStep, FrameStep, by_phase, LoadHeadStep, loads_header, loads_update, loads_owed, loads_passed, LoadDoneStep, finds_none, finds_closed, SwapHeadStep, swaps, swap_fails, ReadStep, PushRefused, all_stand, has_no_room, comes_late, StepCases, push_step, push_refused, close_step, close_refused, frame_step, frame_lacks, end_step, end_lacks, end_early, read_step, store_wish_step}
 use Rattle.trace_model.proofs.steps.StepSound.{same_link_true, same_link_from, holds_some, granted_true, granted_from, too_long_true}
 
 -- what is computed is this answer and this state
@@ -188,15 +188,8 @@ module _ (n size : ℕ) (c : Core) (frame : Frame) (below : List Frame) (answer 
   idle_is left step = absurd step
 
   frame_is : (phase : Phase) → FrameStep n size c frame below phase answer after → Is (frame_step_of n size c frame below phase) answer after
-  frame_is idle step = idle_is frame.state step
-  frame_is (looking noted) step = load_link_is noted step
-  frame_is (claiming noted page) step = claim_head_is noted page step
-  frame_is (looking_next role noted page) step = load_next_is role noted page step
-  frame_is (marking role noted page next) step = mark_head_is role noted page next step
-  frame_is (clearing noted page) step = clear_update_is noted page step
-  frame_is (opening noted page) step = open_fill_is noted page step
-  frame_is releasing step = release_fill_is step
-  frame_is wishing step = load_wish_is step
+  frame_is = by_phase n size c frame below answer after (λ phase. Is (frame_step_of n size c frame below phase) answer after)
+      (idle_is frame.state) load_link_is claim_head_is load_next_is mark_head_is clear_update_is open_fill_is release_fill_is load_wish_is
 
 -- ---- the steps of the reader
 

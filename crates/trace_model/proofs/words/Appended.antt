@@ -191,25 +191,13 @@ ReadsAs-push_extend bytes time records words delta reads is fits = record {
 -- ---- the word that the writer puts for data
 
 pub data_word-IsData : (delta : ℕ) (payload : List ℕ) → IsData (data_word delta payload)
-data_word-IsData delta payload = by_form (leb (length payload) 112)
-  where
-    by_form : (short : Bool) → IsData (cond short (short_data delta payload) (long_data delta payload))
-    by_form true = tt
-    by_form false = tt
+data_word-IsData delta payload = cond_both (leb (length payload) 112) (short_data delta payload) (long_data delta payload) IsData (λ short. tt) (λ long. tt)
 
 pub data_word-payload : (delta : ℕ) (payload : List ℕ) → payload_of (data_word delta payload) ≡ payload
-data_word-payload delta payload = by_form (leb (length payload) 112)
-  where
-    by_form : (short : Bool) → payload_of (cond short (short_data delta payload) (long_data delta payload)) ≡ payload
-    by_form true = refl
-    by_form false = refl
+data_word-payload delta payload = cond_both (leb (length payload) 112) (short_data delta payload) (long_data delta payload) (λ w. payload_of w ≡ payload) (λ short. refl) (λ long. refl)
 
 pub data_word-delta : (delta : ℕ) (payload : List ℕ) → delta_of (data_word delta payload) ≡ delta
-data_word-delta delta payload = by_form (leb (length payload) 112)
-  where
-    by_form : (short : Bool) → delta_of (cond short (short_data delta payload) (long_data delta payload)) ≡ delta
-    by_form true = refl
-    by_form false = refl
+data_word-delta delta payload = cond_both (leb (length payload) 112) (short_data delta payload) (long_data delta payload) (λ w. delta_of w ≡ delta) (λ short. refl) (λ long. refl)
 
 pub data_word-IsWord : (delta : ℕ) (payload : List ℕ) → delta < 2 ^ 27 → length payload % 4 ≡ 0 → 4 ≤ length payload → length payload + 4 < 2 ^ 32 → IsWord (data_word delta payload)
 data_word-IsWord delta payload small whole some fits = cond_both (leb (length payload) 112) (short_data delta payload) (long_data delta payload) IsWord

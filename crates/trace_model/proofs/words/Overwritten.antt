@@ -101,26 +101,18 @@ bare-with_payload (padding delta skipped) new = refl
 bare-with_payload (time_extend delta) new = refl
 bare-with_payload (time_stamp time) new = refl
 
-delta_of-bare : (w : Word) → delta_of (bare w) ≡ delta_of w
-delta_of-bare (short_data delta payload) = refl
-delta_of-bare (long_data delta payload) = refl
-delta_of-bare (padding delta skipped) = refl
-delta_of-bare (time_extend delta) = refl
-delta_of-bare (time_stamp time) = refl
+-- its fields but the payload are the word's
+record SameBare (w : Word) : Type 0 where
+  delta : delta_of (bare w) ≡ delta_of w
+  stamp : stamp_of (bare w) ≡ stamp_of w
+  is_stamp : is_stamp (bare w) ≡ is_stamp w
 
-stamp_of-bare : (w : Word) → stamp_of (bare w) ≡ stamp_of w
-stamp_of-bare (short_data delta payload) = refl
-stamp_of-bare (long_data delta payload) = refl
-stamp_of-bare (padding delta skipped) = refl
-stamp_of-bare (time_extend delta) = refl
-stamp_of-bare (time_stamp time) = refl
-
-is_stamp-bare : (w : Word) → is_stamp (bare w) ≡ is_stamp w
-is_stamp-bare (short_data delta payload) = refl
-is_stamp-bare (long_data delta payload) = refl
-is_stamp-bare (padding delta skipped) = refl
-is_stamp-bare (time_extend delta) = refl
-is_stamp-bare (time_stamp time) = refl
+same_bare : (w : Word) → SameBare w
+same_bare (short_data delta payload) = record { delta = refl; stamp = refl; is_stamp = refl }
+same_bare (long_data delta payload) = record { delta = refl; stamp = refl; is_stamp = refl }
+same_bare (padding delta skipped) = record { delta = refl; stamp = refl; is_stamp = refl }
+same_bare (time_extend delta) = record { delta = refl; stamp = refl; is_stamp = refl }
+same_bare (time_stamp time) = record { delta = refl; stamp = refl; is_stamp = refl }
 
 MovesTime-bare : (w : Word) → MovesTime w → MovesTime (bare w)
 MovesTime-bare (short_data delta payload) moves = tt
@@ -138,16 +130,16 @@ MovesTime-from_bare (time_stamp time) moves = absurd moves
 
 last_stamp-bare : (time : ℕ) (words : List Word) → last_stamp time (map bare words) ≡ last_stamp time words
 last_stamp-bare time [] = refl
-last_stamp-bare time (w ∷ words) = ap (λ (s : Option ℕ). last_stamp (unwrap_or s time) (map bare words)) (stamp_of-bare w) ∙ last_stamp-bare (unwrap_or (stamp_of w) time) words
+last_stamp-bare time (w ∷ words) = ap (λ (s : Option ℕ). last_stamp (unwrap_or s time) (map bare words)) (same_bare w).stamp ∙ last_stamp-bare (unwrap_or (stamp_of w) time) words
 
 any_stamp-bare : (words : List Word) → list_any is_stamp (map bare words) ≡ list_any is_stamp words
 any_stamp-bare [] = refl
-any_stamp-bare (w ∷ words) = λ i. is_stamp-bare w i || any_stamp-bare words i
+any_stamp-bare (w ∷ words) = λ i. (same_bare w).is_stamp i || any_stamp-bare words i
 
 since_stamp-bare : (words : List Word) → since_stamp (map bare words) ≡ map bare (since_stamp words)
 since_stamp-bare [] = refl
 since_stamp-bare (w ∷ words) =
-    (λ i. cond (any_stamp-bare words i) (since_stamp-bare words i) (cond (is_stamp-bare w i) (map bare words) (bare w ∷ map bare words)))
+    (λ i. cond (any_stamp-bare words i) (since_stamp-bare words i) (cond ((same_bare w).is_stamp i) (map bare words) (bare w ∷ map bare words)))
     ∙ by_test (list_any is_stamp words) (is_stamp w)
   where
     by_test : (any here : Bool) → cond any (map bare (since_stamp words)) (cond here (map bare words) (bare w ∷ map bare words)) ≡ map bare (cond any (since_stamp words) (cond here words (w ∷ words)))
@@ -157,7 +149,7 @@ since_stamp-bare (w ∷ words) =
 
 sum-bare : (words : List Word) → sum_by delta_of (map bare words) ≡ sum_by delta_of words
 sum-bare [] = refl
-sum-bare (w ∷ words) = sum_by-cons delta_of (bare w) (map bare words) ∙ (λ i. delta_of-bare w i + sum-bare words i) ∙ sym (sum_by-cons delta_of w words)
+sum-bare (w ∷ words) = sum_by-cons delta_of (bare w) (map bare words) ∙ (λ i. (same_bare w).delta i + sum-bare words i) ∙ sym (sum_by-cons delta_of w words)
 
 moment_after-bare : (time : ℕ) (words : List Word) → moment_after time (map bare words) ≡ moment_after time words
 moment_after-bare time words = λ i. last_stamp-bare time words i + (ap (sum_by delta_of) (since_stamp-bare words) ∙ sum-bare (since_stamp words)) i

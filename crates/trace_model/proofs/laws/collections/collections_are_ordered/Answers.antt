@@ -2,11 +2,4 @@ use Rattle.trace_model.proofs.collections.Collections.{below_itself, below_below
 use Rattle.trace_model.proofs.laws.collections.collections_are_ordered.Goals as goal
 
 pub returns : goal.returns
-returns c = record {
-  below_itself = below_itself;
-  below_below = below_below;
-  below_both = below_both;
-  same_itself = same_itself;
-  same_back = same_back;
-  same_same = same_same;
-}
+returns c = assumption (below_itself, below_below, below_both, same_itself, same_back, same_same)
