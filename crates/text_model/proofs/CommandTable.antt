@@ -4,7 +4,8 @@ use Rattle.std.specs.Str.{bytes_eq}
 use Rattle.std.proofs.lemmas.Bool.{cond-false}
 use Rattle.text_model.specs.ScriptLines.{LineFault, bad_line, ◌>>=◌, decimal_in, number_below, cpu_in, payload_in}
 use Rattle.text_model.proofs.FieldWords.{same_word, cpu_is_no_delivery}
-use Rattle.text_model.specs.Script.{Command, begin_frame, step_frame, finish_frame, write, close, step_reader, take_page, wish, deliver, count_in, record_in, of_cpu, steps_in, deliver_in, command_of, SpellsRecord, SpellsOfCpu, SpellsSteps, SpellsCommand}
+use Rattle.text_model.specs.Script.{Command, begin_frame, step_frame, finish_frame, write, close, step_reader, take_page, wish, deliver, count_in, command_of, SpellsRecord, SpellsOfCpu, SpellsSteps, SpellsCommand}
+use Rattle.text_model.specs.CommandReading.{record_in, of_cpu, steps_in, deliver_in}
 use Rattle.text_model.proofs.Readings.{ok_is_no_err, same_ok, bind_ok, chosen}
 
 -- what is read, or what is wrong
@@ -92,7 +93,7 @@ deliver_spelled cpus collectors first second third fourth command is h =
 
 pub command_spelled : (cpus collectors : ℕ) (fields : List Field) (command : Command)
     → command_of cpus collectors fields ≡ Ok command → SpellsCommand cpus collectors command fields
-unfolding command_of
+unfolding command_of of_cpu steps_in record_in deliver_in
 command_spelled cpus collectors [] command h = absurd (bad_is_no_command command h)
 command_spelled cpus collectors (first ∷ []) command h = absurd (bad_is_no_command command h)
 command_spelled cpus collectors (first ∷ second ∷ []) command h =
@@ -172,7 +173,7 @@ deliver_read cpus collectors k x f collector cpu fill h i j =
 
 pub spelled_command : (cpus collectors : ℕ) (fields : List Field) (command : Command)
     → SpellsCommand cpus collectors command fields → command_of cpus collectors fields ≡ Ok command
-unfolding command_of
+unfolding command_of of_cpu steps_in record_in deliver_in
 spelled_command cpus collectors fields (begin_frame cpu moment payload) h =
     ap (command_of cpus collectors) h.3
     ∙ cond-false (bytes_eq h.0 (codes "d")) _ _ (cpu_is_no_delivery cpus cpu h.0 h.4)

@@ -1,5 +1,5 @@
 -- What a text spells is within the limits: numbers, bytes, commands, scripts.
-use Rattle.std.proofs.Common.{◌≡◌, ℕ, ◌+◌, ◌*◌, ◌%◌, ◌^◌, ◌<◌, ◌≤◌, Bool, true, false, cond, ltb, List, [], ◌∷◌, Result, Ok, Err, refl, sym, subst, arith, inl, inr}
+use Rattle.std.proofs.Common.{◌≡◌, ℕ, ◌+◌, ◌*◌, ◌%◌, ◌^◌, ◌<◌, ◌≤◌, Bool, true, false, cond, ltb, List, [], ◌∷◌, codes, Result, Ok, Err, refl, sym, subst, arith, inl, inr}
 use Rattle.std.specs.List.{All, AllByRecursion, list_all}
 use Rattle.std.specs.Result.{IfOk}
 use Rattle.std.specs.Char.{digit_value, is_digit}
@@ -9,7 +9,7 @@ use Rattle.std.proofs.lemmas.Bool.{ltb-true, leb-true, eqb-true, and_parts, or_c
 use Rattle.std.proofs.lemmas.List.Elements.{All-from_recursion}
 use Rattle.std.proofs.lemmas.Result.{IfOk-at_ok}
 use Rattle.std.proofs.lemmas.Slice.Eq.{bytes_eq-Decides}
-use Rattle.text_model.specs.Text.{fields_of, is_well_spaced, is_decimal, is_hex, bytes_of_pairs, hex_bytes, no_bytes_text}
+use Rattle.text_model.specs.Text.{fields_of, is_well_spaced, is_decimal, is_hex, bytes_of_pairs}
 use Rattle.text_model.specs.ScriptLines.{LineFault, bad_line, bad_number, bad_hex, out_of_range, ◌>>=◌, decimal_in, payload_in, number_below, names_cpu, cpu_in, Setting, allowed_for, value_given, value_of, value_in, NumberedLine, GiveSettings}
 
 -- ---- answers
@@ -60,13 +60,13 @@ pairs-within (high ∷ low ∷ digits) h =
 is_same : (text other : List ℕ) → bytes_eq text other ≡ true → text ≡ other
 is_same text other h = (bytes_eq-Decides text other).0 h
 
-no_bytes-within : (text : List ℕ) → text ≡ no_bytes_text → AllByRecursion (λ b. b < 256) (bytes_of_pairs text)
+no_bytes-within : (text : List ℕ) → text ≡ codes "-" → AllByRecursion (λ b. b < 256) (bytes_of_pairs text)
 no_bytes-within text is = subst (λ (t : List ℕ). AllByRecursion (λ b. b < 256) (bytes_of_pairs t)) (sym is) tt
 
 pub payload_in-within : (field : List ℕ) → IfOk (payload_in field) AreBytes
 unfolding payload_in is_hex
-payload_in-within field = tested-within AreBytes (is_hex field) (Ok (hex_bytes field)) bad_hex (λ h. All-from_recursion (λ b. b < 256) (hex_bytes field) (elim (or_cases (bytes_eq field no_bytes_text) _ h) [
-  | inl none ↦ no_bytes-within field (is_same field no_bytes_text none)
+payload_in-within field = tested-within AreBytes (is_hex field) (Ok (bytes_of_pairs field)) bad_hex (λ h. All-from_recursion (λ b. b < 256) (bytes_of_pairs field) (elim (or_cases (bytes_eq field (codes "-")) _ h) [
+  | inl none ↦ no_bytes-within field (is_same field (codes "-") none)
   | inr pairs ↦ pairs-within field (and_parts _ _ pairs).1
 ]))
 

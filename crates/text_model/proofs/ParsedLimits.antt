@@ -11,7 +11,8 @@ use Rattle.trace_model.specs.declared.limits.TheConstants.{MAX_PAGES, LINK_FILLS
 use Rattle.text_model.specs.Text.{fields_of, is_well_spaced}
 use Rattle.text_model.specs.ScriptLines.{LineFault, bad_line, out_of_range, decimal_in, payload_in, number_below, cpu_in, NumberedLine, significant_lines}
 use Rattle.text_model.specs.declared.script_limits.TheConstants.{MIN_LINE_STEPS, MAX_LINE_STEPS}
-use Rattle.text_model.specs.Script.{Command, begin_frame, step_frame, finish_frame, write, close, step_reader, take_page, wish, Script, count_in, record_in, of_cpu, steps_in, deliver_in, command_of, command_in, header_settings, start_setting, GivesStart, SpellCommands, SpellScript, ParsesScript}
+use Rattle.text_model.specs.Script.{Command, begin_frame, step_frame, finish_frame, write, close, step_reader, take_page, wish, Script, count_in, command_of, command_in, header_settings, start_setting, GivesStart, SpellCommands, SpellScript, ParsesScript}
+use Rattle.text_model.specs.CommandReading.{record_in, of_cpu, steps_in, deliver_in}
 use Rattle.text_model.specs.ScriptLimits.{IsRecordWithin, AreStepsWithin, IsCommandWithin, IsWithinLimits}
 use Rattle.text_model.proofs.FieldLimits.{tested-within, then-within, Is64Bit, decimal_in-within, number_below-within, cpu_in-within, AreBytes, payload_in-within, IsAllowed, value_in-within, settings-within}
 
@@ -79,7 +80,7 @@ either-within P false r s h k = k
 
 command_of-within : (cpus collectors : ℕ) (fields : List (List ℕ))
     → IfOk (command_of cpus collectors fields) (IsCommandWithin cpus collectors)
-unfolding command_of
+unfolding command_of of_cpu steps_in record_in deliver_in
 command_of-within cpus collectors [] = tt
 command_of-within cpus collectors (first ∷ []) = tt
 command_of-within cpus collectors (first ∷ second ∷ []) =

@@ -7,7 +7,7 @@ use Rattle.text_model.specs.ScriptLines.{LineFault, bad_line, ◌>>=◌, Numbere
 use Rattle.text_model.specs.HeaderReading.{numbered_reading, settings_from}
 use Rattle.text_model.proofs.SettingLemmas.{settings_ok, settings_given, settings_err, faulty_setting_read, missing_setting_read, length_given, four_values}
 use Rattle.text_model.specs.Script.{Command, Script, command_in, header_settings, start_setting, is_start_line, BeginsNoStart, GivesStart, SpellCommands, SpellScript, IsFaultyStart, IsFaultyCommand}
-use Rattle.text_model.specs.ScriptReading.{commands_from, start_given, start_from, script_from}
+use Rattle.text_model.specs.ScriptReading.{commands_from, start_from, script_from}
 use Rattle.text_model.proofs.Readings.{ok_is_no_err, same_ok, same_err, bind_ok, bind_err}
 use Rattle.text_model.proofs.StartLines.{given_is_start, commands_begin_no_start, begins_no_start_before, first_is_no_start}
 
@@ -173,7 +173,7 @@ start_from_line : (pages : ℕ) (line : NumberedLine) (lines : List NumberedLine
     → start_from pages (line ∷ lines)
     ≡ cond (is_start_line line.1) (start_then line lines (value_in (start_setting pages) line.1))
     (no_start_then (line ∷ lines))
-unfolding start_from start_given
+unfolding start_from
 start_from_line pages line lines = refl
 
 start_ok_at : (pages : ℕ) (line : NumberedLine) (lines : List NumberedLine) (x : Start) (is_start : Bool)

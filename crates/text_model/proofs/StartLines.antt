@@ -4,7 +4,7 @@ use Rattle.std.specs.Str.{bytes_eq}
 use Rattle.std.proofs.lemmas.Bool.{false_from_ne_true, both_ways}
 use Rattle.text_model.specs.Text.{fields_of, is_well_spaced}
 use Rattle.text_model.specs.ScriptLines.{bad_line, decimal_in, ◌>>=◌, cpu_in, allowed_for, value_given, value_of, value_in, NumberedLine}
-use Rattle.text_model.specs.Script.{Command, of_cpu, command_of, command_in, start_setting, are_of_start, is_start_line, BeginsNoStart, SpellCommands}
+use Rattle.text_model.specs.Script.{Command, command_of, command_in, start_setting, are_of_start, is_start_line, BeginsNoStart, SpellCommands}
 use Rattle.text_model.proofs.Readings.{ok_is_no_err}
 use Rattle.text_model.proofs.FieldWords.{same_word}
 
@@ -42,7 +42,7 @@ four_same false false false false r = refl
 
 start_is_no_command : (cpus collectors : ℕ) (number : List ℕ)
     → command_of cpus collectors (codes "start" ∷ number ∷ []) ≡ Err bad_line
-unfolding command_of of_cpu cpu_in
+unfolding command_of cpu_in
 start_is_no_command cpus collectors number =
     four_same (bytes_eq number (codes "f")) (bytes_eq number (codes "c")) (bytes_eq number (codes "t"))
     (bytes_eq number (codes "a")) (Err bad_line)

@@ -8,7 +8,7 @@ use Rattle.text_model.specs.ScriptReading.{start_from, script_from, script_in}
 use Rattle.text_model.proofs.LineWrites.{setting_allowed}
 use Rattle.text_model.proofs.StartLines.{given_is_start}
 use Rattle.text_model.proofs.ScriptLemmas.{Read, Settings, Start, then_commands, then_start, script_from_settings, start_line_read, no_start_read}
-use Rattle.text_model.proofs.ScriptReads.{script_reads, fault_reads}
+use Rattle.text_model.proofs.ScriptReads.{by_lines, script_in_by_lines, script_reads, fault_reads}
 
 -- ---- the header
 -- these lines after what is read
@@ -82,14 +82,18 @@ script_of_front end header rest whole =
     script_from_settings end (header ++ rest)
     ∙ ap (λ (r : Read Settings). r >>= then_start) (settings_of_front end header_settings header rest whole)
 
-same_script_in : (text other : List ℕ) → AddsStartZero text other → script_in text ≡ script_in other
+same_by_lines : (text other : List ℕ) → AddsStartZero text other → by_lines text ≡ by_lines other
 unfolding significant_lines_after
-same_script_in text other h =
+same_by_lines text other h =
     ap (script_from (end_line_after 0 text)) h.without
     ∙ script_of_front (end_line_after 0 text) h.header h.behind h.whole_header
     ∙ then_same (settings_from 0 header_settings h.header) h.number h.behind h.no_start
     ∙ sym (script_of_front (end_line_after 0 other) h.header ((h.number, codes "start 0") ∷ h.behind) h.whole_header)
     ∙ sym (ap (script_from (end_line_after 0 other)) h.with_zero)
+
+same_script_in : (text other : List ℕ) → AddsStartZero text other → script_in text ≡ script_in other
+same_script_in text other h =
+    script_in_by_lines text ∙ same_by_lines text other h ∙ sym (script_in_by_lines other)
 
 pub same_script : (text other : List ℕ) (script : Script) → AddsStartZero text other
     → (ParsesScript text script ↔ ParsesScript other script)

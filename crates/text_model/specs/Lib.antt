@@ -1,6 +1,7 @@
 pub mod Text
 pub mod ScriptLines
 pub mod HeaderReading
+pub mod CommandReading
 pub mod LineWriting
 pub mod Script
 pub mod ScriptLimits

@@ -4,7 +4,7 @@ use Rattle.std.specs.Prelude.{◌≡◌, ℕ, ◌+◌, ◌-◌, ◌⊎◌, ⊤, 
 use Rattle.trace_model.specs.declared.limits.TheConstants.{START_FILL, LINK_FILLS}
 use Rattle.text_model.specs.Text.{lines_of, fields_of, is_well_spaced}
 use Rattle.text_model.specs.ScriptLines.{LineFault, bad_line, out_of_range, ◌>>=◌, decimal_in, payload_in, number_below, cpu_in, Setting, pages_setting, size_setting, value_in, NumberedLine, significant_lines, GiveSettings, IsFaultySetting, IsMissingSetting}
-use Rattle.text_model.specs.declared.script_limits.TheConstants.{MIN_SCRIPT_CPUS, MAX_SCRIPT_CPUS, MIN_SCRIPT_COLLECTORS, MAX_SCRIPT_COLLECTORS, MIN_LINE_STEPS, MAX_LINE_STEPS}
+use Rattle.text_model.specs.declared.script_limits.TheConstants.{MIN_SCRIPT_CPUS, MAX_SCRIPT_CPUS, MIN_SCRIPT_COLLECTORS as MIN_COLLECTORS, MAX_SCRIPT_COLLECTORS as MAX_COLLECTORS, MIN_LINE_STEPS, MAX_LINE_STEPS}
 
 -- What a line of a script asks for, of a CPU's ring or of a collector. begin_frame: a record frame of this moment and
 -- payload is pushed. step_frame: the frame on top makes this many steps, or fewer if it is gone before.
@@ -39,54 +39,29 @@ unfoldable pub count_in : List ℕ → Result ℕ LineFault
 count_in field = decimal_in field >>= λ n.
     if nat_le MIN_LINE_STEPS n && nat_le n MAX_LINE_STEPS then Ok n else Err out_of_range
 
--- what a record frame is made of: its CPU, its moment and its payload
-unfoldable pub record_in : ℕ → (ℕ → ℕ → List ℕ → Command) → (cpu moment payload : List ℕ) → Result Command LineFault
-record_in cpus command cpu_field moment_field payload_field = do
-  cpu ← cpu_in cpus cpu_field
-  moment ← decimal_in moment_field
-  payload ← payload_in payload_field
-  Ok (command cpu moment payload)
-
--- a command of a CPU alone
-unfoldable pub of_cpu : ℕ → (ℕ → Command) → List ℕ → Result Command LineFault
-of_cpu cpus command cpu_field = do
-  cpu ← cpu_in cpus cpu_field
-  Ok (command cpu)
-
--- a command of a CPU and a number of steps
-unfoldable pub steps_in : ℕ → (ℕ → ℕ → Command) → (cpu count : List ℕ) → Result Command LineFault
-steps_in cpus command cpu_field count_field = do
-  cpu ← cpu_in cpus cpu_field
-  count ← count_in count_field
-  Ok (command cpu count)
-
--- the fields of `d K cX F`, without the word
-unfoldable pub deliver_in : ℕ → ℕ → (collector cpu fill : List ℕ) → Result Command LineFault
-deliver_in cpus collectors collector_field cpu_field fill_field = do
-  collector ← number_below collectors collector_field
-  cpu ← cpu_in cpus cpu_field
-  fill ← decimal_in fill_field
-  Ok (deliver collector cpu fill)
+-- what is made of the entry that a table has for a word; a word that it lacks is no command's
+abbrev pub by_word : {A : Type 0} → List ℕ → List (List ℕ × A) → (A → Result Command LineFault)
+    → Result Command LineFault
+by_word word [] make = Err bad_line
+by_word word (entry ∷ table) make = if bytes_eq word entry.0 then make entry.1 else by_word word table make
 
 -- The command that fields spell, with these numbers of CPUs and collectors: `cX f`, `cX c`, `cX t`, `cX a`, `cX s K`,
 -- `cX r K`, `cX b T HEX`, `cX w T HEX` or `d K cX F`. Once the word and the number of fields fit, values are looked at
 -- from left to right.
 unfoldable pub command_of : ℕ → ℕ → List (List ℕ) → Result Command LineFault
 command_of cpus collectors (first ∷ second ∷ []) =
-    if bytes_eq second (codes "f") then of_cpu cpus finish_frame first
-    else (if bytes_eq second (codes "c") then of_cpu cpus close first
-    else (if bytes_eq second (codes "t") then of_cpu cpus take_page first
-    else (if bytes_eq second (codes "a") then of_cpu cpus wish first
-    else Err bad_line)))
+    by_word second ((codes "f", finish_frame) ∷ (codes "c", close) ∷ (codes "t", take_page) ∷ (codes "a", wish) ∷ [])
+    (λ command. cpu_in cpus first >>= λ cpu. Ok (command cpu))
 command_of cpus collectors (first ∷ second ∷ third ∷ []) =
-    if bytes_eq second (codes "s") then steps_in cpus step_frame first third
-    else (if bytes_eq second (codes "r") then steps_in cpus step_reader first third
-    else Err bad_line)
+    by_word second ((codes "s", step_frame) ∷ (codes "r", step_reader) ∷ [])
+    (λ command. cpu_in cpus first >>= λ cpu. count_in third >>= λ count. Ok (command cpu count))
 command_of cpus collectors (first ∷ second ∷ third ∷ fourth ∷ []) =
-    if bytes_eq first (codes "d") then deliver_in cpus collectors second third fourth
-    else (if bytes_eq second (codes "b") then record_in cpus begin_frame first third fourth
-    else (if bytes_eq second (codes "w") then record_in cpus write first third fourth
-    else Err bad_line))
+    if bytes_eq first (codes "d")
+    then (number_below collectors second >>= λ collector. cpu_in cpus third >>= λ cpu. decimal_in fourth >>= λ fill.
+    Ok (deliver collector cpu fill))
+    else by_word second ((codes "b", begin_frame) ∷ (codes "w", write) ∷ [])
+    (λ command. cpu_in cpus first >>= λ cpu. decimal_in third >>= λ moment. payload_in fourth >>= λ payload.
+    Ok (command cpu moment payload))
 command_of cpus collectors _ = Err bad_line
 
 -- fields that spell a record frame by this word
@@ -142,12 +117,7 @@ cpus_setting = record { word = codes "cpus"; min = MIN_SCRIPT_CPUS; max = MAX_SC
 
 -- how many collectors there are
 abbrev pub collectors_setting : Setting
-collectors_setting = record {
-  word = codes "collectors";
-  min = MIN_SCRIPT_COLLECTORS;
-  max = MAX_SCRIPT_COLLECTORS;
-  step = 1;
-}
+collectors_setting = record { word = codes "collectors"; min = MIN_COLLECTORS; max = MAX_COLLECTORS; step = 1 }
 
 -- the lines of a header, in their order
 abbrev pub header_settings : List Setting

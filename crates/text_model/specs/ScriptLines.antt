@@ -1,10 +1,10 @@
 -- What the lines of a script text and their fields spell, whichever commands there are; the lines of a header.
 -- After docs/FORMATS.md, "Script".
-use Rattle.std.specs.Prelude.{◌≡◌, ℕ, ◌+◌, ◌%◌, ⊤, Bool, false, not, ◌&&◌, if◌then◌else◌, ◌==◌, nat_lt, nat_le, List, [], ◌∷◌, ◌++◌, length, drop, filter, codes, bytes_eq, decimal, Result, Ok, Err}
+use Rattle.std.specs.Prelude.{◌≡◌, ℕ, ◌%◌, ⊤, Bool, false, not, ◌&&◌, if◌then◌else◌, ◌==◌, nat_lt, nat_le, List, [], ◌∷◌, ◌++◌, length, drop, filter, codes, bytes_eq, decimal, Result, Ok, Err}
 use Rattle.std.specs.List.{enumerate_from}
 use Rattle.std.specs.Str.{all_ascii_digits}
 use Rattle.std.specs.Str.Parse.{digits_value}
-use Rattle.text_model.specs.Text.{lines_of, fields_of, is_well_spaced, is_decimal, is_hex, hex_bytes}
+use Rattle.text_model.specs.Text.{lines_of, fields_of, is_well_spaced, is_decimal, is_hex, bytes_of_pairs}
 use Rattle.trace_model.specs.declared.limits.TheConstants.{MIN_PAGES, MAX_PAGES, MIN_SIZE, MAX_SIZE}
 use Rattle.text_model.specs.declared.script_limits.TheConstants.{SIZE_STEP}
 
@@ -29,7 +29,7 @@ decimal_in field = if is_decimal field then Ok (digits_value 10 field) else Err 
 
 -- the bytes that a field spells
 unfoldable pub payload_in : List ℕ → Result (List ℕ) LineFault
-payload_in field = if is_hex field then Ok (hex_bytes field) else Err bad_hex
+payload_in field = if is_hex field then Ok (bytes_of_pairs field) else Err bad_hex
 
 -- the number that a field spells, which is to be below a limit
 unfoldable pub number_below : ℕ → List ℕ → Result ℕ LineFault

@@ -42,27 +42,19 @@ is_decimal text =
     && all_ascii_digits text
     && nat_lt (digits_value 10 text) (2 ^ 64)
 
--- the bytes that pairs of hexadecimal digits spell, in lower or upper case, the high digit first
+-- the bytes that pairs of hexadecimal digits spell, in lower or upper case, the high digit first; `-` is half a pair, and
+-- so spells none
 abbrev pub bytes_of_pairs : List ℕ → List ℕ
-bytes_of_pairs [] = []
-bytes_of_pairs (digit ∷ []) = []
 bytes_of_pairs (high ∷ low ∷ digits) = (16 * digit_value high + digit_value low) ∷ bytes_of_pairs digits
-
--- the text that stands for no byte
-abbrev pub no_bytes_text : List ℕ
-no_bytes_text = codes "-"
+bytes_of_pairs _ = []
 
 -- bytes as text: two hexadecimal digits for each, in lower or upper case; `-` where there is none
 unfoldable pub is_hex : List ℕ → Bool
 is_hex text =
-    bytes_eq text no_bytes_text
+    bytes_eq text (codes "-")
     || (nat_lt 0 (length text) && (length text % 2 == 0) && list_all (λ c. is_digit c 16) text)
-
--- the bytes that such a text spells; `-` is half a pair, and so none
-abbrev pub hex_bytes : List ℕ → List ℕ
-hex_bytes text = bytes_of_pairs text
 
 -- bytes in lower case digits, and no byte as `-`
 abbrev pub hex_text : List ℕ → List ℕ
-hex_text [] = no_bytes_text
+hex_text [] = codes "-"
 hex_text (b ∷ bytes) = flat_map (λ byte. digit_char (byte / 16) ∷ digit_char (byte % 16) ∷ []) (b ∷ bytes)

@@ -10,12 +10,12 @@ use Rattle.text_model.specs.HeaderReading.{numbered_reading, significant_lines_a
 use Rattle.text_model.proofs.SettingLemmas.{settings_ok}
 use Rattle.text_model.specs.Script as model
 use Rattle.text_model.specs.Script.{Command, ParsesScript, SpellCommands, command_in, start_setting, is_start_line}
-use Rattle.text_model.specs.ScriptReading.{commands_from, start_given, start_from, script_from, script_in}
+use Rattle.text_model.specs.ScriptReading.{commands_from, start_from, script_from}
 use Rattle.text_model.specs.ScriptLimits.{IsWithinLimits}
 use Rattle.text_model.proofs.ParsedLimits.{ParsesScript-within}
 use Rattle.text_model.proofs.Readings.{ok_is_no_err}
 use Rattle.text_model.proofs.ScriptLemmas.{start_ok}
-use Rattle.text_model.proofs.ScriptReads.{script_reads, fault_reads}
+use Rattle.text_model.proofs.ScriptReads.{by_lines, script_in_by_lines, script_reads, fault_reads}
 use Rattle.trace_script.specs.declared.fault.LineFault as line
 use Rattle.trace_script.specs.declared.fault.LineFault.TheVariants as faults
 use Rattle.trace_script.specs.declared.fault.ScriptFault as script
@@ -122,7 +122,7 @@ setting_missing end s left number h is = ap (setting_from end s) h ∙ ap (λ (n
 -- ---- the start line
 start_from_line : (pages : ℕ) (left : List NumberedLine) (number : ℕ) (text : List ℕ) (rest : List NumberedLine) → left ≡ (number, text) ∷ rest → is_start_line text ≡ true
     → start_from pages left ≡ (numbered_reading number (value_in (start_setting pages) text) >>= λ value. setting_and value rest)
-unfolding start_from start_given
+unfolding start_from
 start_from_line pages left number text rest h is = ap (start_from pages) h ∙ cond-true (is_start_line text) _ _ is
 
 pub start_read : {X : Type 0} (view : X → ℕ) (pages : ℕ) (left : List NumberedLine) (number : ℕ) (text : List ℕ) (rest : List NumberedLine) (q : Result X line.LineFault) (r : Result X script.ScriptFault)
@@ -285,22 +285,22 @@ pub read_within : (text : List ℕ) (passed : ℕ) (rest : List ℕ) (header : H
     → IsWithinLimits (script_of header start commands)
 read_within text passed rest header behind start left commands none whole settings first each =
     let made = script_made (end_line_after passed rest) (significant_lines_after passed rest) header behind start left commands settings first each in
-    let here : script_in text ≡ Ok (script_of header start commands) =
+    let here : by_lines text ≡ Ok (script_of header start commands) =
     subst (λ (t : List ℕ). script_from (end_line_after 0 t) (significant_lines_after 0 t) ≡ Ok (script_of header start commands)) whole
     (subst (λ (n : ℕ). script_from (end_line_after n rest) (significant_lines_after n rest) ≡ Ok (script_of header start commands)) none made) in
-    ParsesScript-within text (script_of header start commands) ((script_reads text (script_of header start commands)).1 here)
+    ParsesScript-within text (script_of header start commands) ((script_reads text (script_of header start commands)).1 (script_in_by_lines text ∙ here))
 
-fault_of_reading : (text : List ℕ) (fault : script.ScriptFault) → FailsAt fault (script_in text) → (fault ≡ scripts.NoMemory → BeginsAsScript text) → ReportsFirstFault text fault
-fault_of_reading text (scripts.BadLine n) h memory = (fault_reads text n bad_line).1 h
-fault_of_reading text (scripts.BadNumber n) h memory = (fault_reads text n bad_number).1 h
-fault_of_reading text (scripts.BadHex n) h memory = (fault_reads text n bad_hex).1 h
-fault_of_reading text (scripts.OutOfRange n) h memory = (fault_reads text n out_of_range).1 h
+fault_of_reading : (text : List ℕ) (fault : script.ScriptFault) → FailsAt fault (by_lines text) → (fault ≡ scripts.NoMemory → BeginsAsScript text) → ReportsFirstFault text fault
+fault_of_reading text (scripts.BadLine n) h memory = (fault_reads text n bad_line).1 (script_in_by_lines text ∙ h)
+fault_of_reading text (scripts.BadNumber n) h memory = (fault_reads text n bad_number).1 (script_in_by_lines text ∙ h)
+fault_of_reading text (scripts.BadHex n) h memory = (fault_reads text n bad_hex).1 (script_in_by_lines text ∙ h)
+fault_of_reading text (scripts.OutOfRange n) h memory = (fault_reads text n out_of_range).1 (script_in_by_lines text ∙ h)
 fault_of_reading text scripts.NoMemory h memory = memory refl
 
-pub script_found : (text : List ℕ) (r : Result model.Script script.ScriptFault) → GivesAt (λ s. s) r (script_in text) → IfOk r (λ s. ParsesScript text s)
-script_found text (Ok s) h = (script_reads text s).1 h
+pub script_found : (text : List ℕ) (r : Result model.Script script.ScriptFault) → GivesAt (λ s. s) r (by_lines text) → IfOk r (λ s. ParsesScript text s)
+script_found text (Ok s) h = (script_reads text s).1 (script_in_by_lines text ∙ h)
 script_found text (Err fault) h = tt
 
-pub fault_found : (text : List ℕ) (r : Result model.Script script.ScriptFault) → GivesAt (λ s. s) r (script_in text) → (r ≡ Err scripts.NoMemory → BeginsAsScript text) → IfErr r (λ fault. ReportsFirstFault text fault)
+pub fault_found : (text : List ℕ) (r : Result model.Script script.ScriptFault) → GivesAt (λ s. s) r (by_lines text) → (r ≡ Err scripts.NoMemory → BeginsAsScript text) → IfErr r (λ fault. ReportsFirstFault text fault)
 fault_found text (Ok s) h memory = tt
 fault_found text (Err fault) h memory = fault_of_reading text fault h (λ is. memory (ap (λ (f : script.ScriptFault). let r : Result model.Script script.ScriptFault = Err f in r) is))

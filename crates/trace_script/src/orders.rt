@@ -1,7 +1,8 @@
 //! The command that a line spells.
 ghost use Rattle.std.specs.Prelude.{◌≡◌, ◌≢◌, ℕ, [], ◌∷◌};
 ghost use Rattle.text_model.specs.Text.{fields_of};
-ghost use Rattle.text_model.specs.Script.{begin_frame, write, record_in, deliver_in, command_of, command_in};
+ghost use Rattle.text_model.specs.Script.{begin_frame, write, command_of, command_in};
+ghost use Rattle.text_model.specs.CommandReading.{record_in, deliver_in};
 ghost use Rattle.trace_script.specs.Kept.{shown_order, PutsCommand};
 ghost use Rattle.trace_script.specs.ScriptFaults.{Fails, Gives};
 ghost use Rattle.trace_script.specs.ScriptFields.{AreFields, fields_seen};
@@ -14,7 +15,7 @@ use crate::values::{count_of, cpu_of, number_below, number_of};
 use trace_model::{CpuId, FillNo, Moment};
 
 /// `d K cX F`
-#[tactic(auto, unfolding(text_model::specs::Script::deliver_in))]
+#[tactic(auto, unfolding(text_model::specs::CommandReading::deliver_in))]
 fn deliver_in(
     cpus: u32,
     collectors: u16,
@@ -37,7 +38,7 @@ fn deliver_in(
 }
 
 /// `cX b T HEX`
-#[tactic(auto, unfolding(text_model::specs::Script::record_in))]
+#[tactic(auto, unfolding(text_model::specs::CommandReading::record_in))]
 fn begin_in(
     cpus: u32,
     cpu: &[u8],
@@ -58,7 +59,7 @@ fn begin_in(
 }
 
 /// `cX w T HEX`
-#[tactic(auto, unfolding(text_model::specs::Script::record_in))]
+#[tactic(auto, unfolding(text_model::specs::CommandReading::record_in))]
 fn write_in(
     cpus: u32,
     cpu: &[u8],
@@ -79,7 +80,7 @@ fn write_in(
 }
 
 /// The command of two fields.
-#[tactic(auto, unfolding(text_model::specs::Script::command_of, text_model::specs::Script::of_cpu))]
+#[tactic(auto, unfolding(text_model::specs::Script::command_of))]
 fn order_of_two(cpus: u32, collectors: u16, first: &[u8], second: &[u8]) -> Result<Order, LineFault>
     ensures gives { Gives (shown_order []) result
         (command_of cpus collectors (first.now ∷ second.now ∷ [])) }
@@ -105,7 +106,7 @@ fn order_of_two(cpus: u32, collectors: u16, first: &[u8], second: &[u8]) -> Resu
 }
 
 /// The command of three fields.
-#[tactic(auto, unfolding(text_model::specs::Script::command_of, text_model::specs::Script::steps_in))]
+#[tactic(auto, unfolding(text_model::specs::Script::command_of))]
 fn order_of_three(
     cpus: u32,
     collectors: u16,
@@ -131,7 +132,7 @@ fn order_of_three(
 }
 
 /// The command of four fields.
-#[tactic(auto, unfolding(text_model::specs::Script::command_of))]
+#[tactic(auto, unfolding(text_model::specs::Script::command_of, text_model::specs::CommandReading::record_in, text_model::specs::CommandReading::deliver_in))]
 fn order_of_four(
     cpus: u32,
     collectors: u16,

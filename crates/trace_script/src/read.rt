@@ -1,8 +1,8 @@
 //! The reader of a script's text: line by line, in one pass.
 ghost use Rattle.std.specs.Prelude.{◌≡◌, [], length, IfOk, IfErr};
-ghost use Rattle.text_model.specs.HeaderReading.{numbered_reading, significant_lines_after};
+ghost use Rattle.text_model.specs.HeaderReading.{numbered_reading, significant_lines_after, end_line_after};
 ghost use Rattle.text_model.specs.Script.{ParsesScript, command_in};
-ghost use Rattle.text_model.specs.ScriptReading.{commands_from, script_in};
+ghost use Rattle.text_model.specs.ScriptReading.{commands_from, script_from};
 ghost use Rattle.trace_script.specs.Kept.{PutsCommandAt, PutsNext, BeginAsCommands, LeavesLess};
 ghost use Rattle.trace_script.specs.ScriptFaults.{GivesAt, BeginsAsScript, ReportsFirstFault};
 
@@ -115,7 +115,8 @@ fn read_commands(
 /// The script that a text spells, as the plain reader of the definitions reads it.
 #[tactic(auto, unfolding(text_model::specs::ScriptReading::script_from))]
 fn script_in(alloc: Global, text: &[u8]) -> Result<Script, ScriptFault>
-    ensures gives { GivesAt (λ script. script) result (script_in text.now) }
+    ensures gives { GivesAt (λ script. script) result
+        (script_from (end_line_after 0 text.now) (significant_lines_after 0 text.now)) }
     ensures memory { result ≡ Err ScriptFault.NoMemory → BeginsAsScript text.now }
 {
     let mut lines = Lines::of(text);
