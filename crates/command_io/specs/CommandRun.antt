@@ -12,11 +12,6 @@ use Rattle.command_io.specs.declared.status.TheConstants.{DONE, REFUSED, USAGE, 
 -- none is left; `Appends contents contents_after bytes`, that `contents_after` is `contents` and then `bytes`;
 -- `Keeps contents contents_after`, that they are the same.
 
--- the text is all that the source had: it was taken, and nothing is left
-pub record ReadsAll (unread left : Option (List ℕ)) (text : List ℕ) : Type 0 where
-  pub taken : Consumes unread left text
-  pub ended : IsAtEnd left
-
 -- more than n bytes were taken from the source
 pub record TakesMoreThan (n : ℕ) (unread left : Option (List ℕ)) (count_after : ℕ) : Type 0 where
   pub bytes : List ℕ
@@ -25,10 +20,8 @@ pub record TakesMoreThan (n : ℕ) (unread left : Option (List ℕ)) (count_afte
   pub counted : n < count_after
 
 -- at most n bytes were taken from the source
-pub record TakesAtMost (n : ℕ) (unread left : Option (List ℕ)) : Type 0 where
-  pub bytes : List ℕ
-  pub taken : Consumes unread left bytes
-  pub within : length bytes ≤ n
+abbrev pub TakesAtMost : ℕ → (unread left : Option (List ℕ)) → Type 0
+TakesAtMost n unread left = (bytes : List ℕ) × Consumes unread left bytes × (length bytes ≤ n)
 
 -- a beginning of the bytes was written to the sink, and not all of them
 pub record AppendsPrefix (contents contents_after : Option (List ℕ)) (bytes : List ℕ) : Type 0 where
@@ -43,7 +36,7 @@ pub record AppendsPrefix (contents contents_after : Option (List ℕ)) (bytes : 
 pub record IsOutput (gives : List ℕ → List ℕ → ℕ → Type 0)
     (unread left : Option (List ℕ)) (bytes : List ℕ) (status : ℕ) : Type 0 where
   pub text : List ℕ
-  pub read : ReadsAll unread left text
+  pub read : Consumes unread left text × IsAtEnd left
   pub limited : length text ≤ MAX_INPUT
   pub given : gives text bytes status
 
@@ -88,28 +81,15 @@ sink_run contents failed before after = record {
   failed = failed after;
 }
 
--- a beginning of an output for the whole source was written, and not all of it
-pub record WritesOutputPrefix (gives : List ℕ → List ℕ → ℕ → Type 0) (source : SourceRun) (sink : SinkRun)
-    : Type 0 where
-  pub bytes : List ℕ
-  pub status : ℕ
-  pub output : IsOutput gives source.unread source.left bytes status
-  pub written : AppendsPrefix sink.contents sink.contents_after bytes
-
--- at most MAX_INPUT bytes were read, and the line that reports the refusal of memory was written
-pub record WritesMemoryLine (source : SourceRun) (sink : SinkRun) : Type 0 where
-  pub taken : TakesAtMost MAX_INPUT source.unread source.left
-  pub written : Appends sink.contents sink.contents_after MEMORY_LINE
-
--- at most MAX_INPUT bytes were read, and a beginning of that line was written, and not all of it
-pub record WritesMemoryPrefix (source : SourceRun) (sink : SinkRun) : Type 0 where
-  pub taken : TakesAtMost MAX_INPUT source.unread source.left
-  pub written : AppendsPrefix sink.contents sink.contents_after MEMORY_LINE
+-- These bytes were to be written: an output for the whole source; or the line that reports the refusal of memory, if at
+-- most MAX_INPUT bytes were read.
+abbrev pub IsDue : (List ℕ → List ℕ → ℕ → Type 0) → SourceRun → List ℕ → Type 0
+IsDue gives source bytes = ((status : ℕ) × IsOutput gives source.unread source.left bytes status)
+    ⊎ (TakesAtMost MAX_INPUT source.unread source.left × (bytes ≡ MEMORY_LINE))
 
 -- nothing was written, and no write was tried that failed
-pub record WritesNothing (sink : SinkRun) : Type 0 where
-  pub kept : Keeps sink.contents sink.contents_after
-  pub sound : sink.failed ≡ false
+abbrev pub WritesNothing : SinkRun → Type 0
+WritesNothing sink = Keeps sink.contents sink.contents_after × (sink.failed ≡ false)
 
 -- more than MAX_INPUT bytes were read, and nothing was written
 abbrev pub IsTooLong : SourceRun → SinkRun → Type 0
@@ -125,13 +105,15 @@ pub record IsCommandRun (gives : List ℕ → List ℕ → ℕ → Type 0) (sour
   -- 0 and 1: all of the source was read and all of an output for it was written, which has this status
   pub finished : (status ≡ DONE) ⊎ (status ≡ REFUSED)
       → WritesOutput gives source.unread source.left sink.contents sink.contents_after status
-  -- 3, for refused memory: nothing but the line for that was written
-  pub no_memory : status ≡ NO_MEMORY → WritesMemoryLine source sink
+  -- 3, for refused memory: at most the limit was read, and nothing but the line for that was written
+  pub no_memory : status ≡ NO_MEMORY
+      → TakesAtMost MAX_INPUT source.unread source.left × Appends sink.contents sink.contents_after MEMORY_LINE
   -- 4 if a read failed, and then nothing was written
   pub read_fault : source.failed ≡ true → (status ≡ END_FAILED) × WritesNothing sink
   -- and if a write failed, and then a beginning of what was to be written is there, and not all
   pub write_fault : sink.failed ≡ true
-      → (status ≡ END_FAILED) × (WritesOutputPrefix gives source sink ⊎ WritesMemoryPrefix source sink)
+      → (status ≡ END_FAILED)
+      × ((bytes : List ℕ) × IsDue gives source bytes × AppendsPrefix sink.contents sink.contents_after bytes)
   -- and if more was read than may be, of a source that had given nothing before, and then nothing was written
   pub long_fault : source.count ≡ 0
       → MAX_INPUT < source.count_after

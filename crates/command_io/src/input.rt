@@ -1,6 +1,7 @@
 //! Reads all of a source, up to a limit.
 ghost use Rattle.std.specs.Prelude.{◌≡◌, ◌≢◌, ◌↔◌, ◌+◌, ◌<◌, ◌≤◌, ◌++◌, false, true, vec_len, length, IfOk, IfErr, OnOk, OnErr, Err};
-ghost use Rattle.command_io.specs.CommandRun.{ReadsAll, TakesAtMost, TakesMoreThan};
+ghost use Rattle.std.specs.Io.KnownBytes.{Consumes, IsAtEnd};
+ghost use Rattle.command_io.specs.CommandRun.{TakesAtMost, TakesMoreThan};
 
 use crate::ends::Source;
 use std::alloc::Global;
@@ -55,7 +56,7 @@ fn add_chunk(text: &mut Vec<u8>, chunk: &[u8]) -> Result<(), InputFault>
 pub fn read_all<R: Source>(alloc: Global, reader: &mut R) -> Result<Vec<u8>, InputFault>
     requires { R.failed reader.old ≡ false }
     ensures whole { IfOk result (λ text.
-        ReadsAll (R.remaining reader.old) (R.remaining reader.new) text.items) }
+        Consumes (R.remaining reader.old) (R.remaining reader.new) text.items × IsAtEnd (R.remaining reader.new)) }
     ensures limited { IfOk result (λ text. vec_len text ≤ MAX_INPUT) }
     ensures read_fault { (R.failed reader.new ≡ true) ↔ (result ≡ Err InputFault.Read) }
     ensures too_long { result ≡ Err InputFault.TooLong
