@@ -28,5 +28,4 @@ pub mod Turning
 pub mod StepEvents
 pub mod WholeAppends
 pub mod TopLent
-pub mod TopKinds
 pub mod Rooms

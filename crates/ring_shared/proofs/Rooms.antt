@@ -1,13 +1,13 @@
 -- What a call makes of the rooms of a writer's frames.
 use Rattle.std.specs.Prelude.{None, Some, Option, Result, Ok, Err}
-use Rattle.std.proofs.Common.{◌≡◌, ◌≢◌, ℕ, List, [], ◌∷◌, length, refl, sym, ap, ◌∙◌, subst, inl, inr}
+use Rattle.std.proofs.Common.{◌≡◌, ℕ, List, [], ◌∷◌, length, refl, sym, ap, ◌∙◌, subst, inl, inr, arith}
 use Rattle.trace_model.specs.declared.numbers.RecordNo.{RecordNo}
 use Rattle.trace_model.specs.Words.{slot_len}
 use Rattle.trace_model.proofs.collections.Elements.{some_is}
 use Rattle.trace_model.specs.Frames.{Kind, for_record, for_close, FrameState, waiting, reserved, left, Refusal, Frame}
 use Rattle.trace_model.specs.Ring.{Core}
 use Rattle.trace_model.specs.Steps as model
-use Rattle.trace_model.specs.Steps.{end_answer, frames_after_leave}
+use Rattle.trace_model.specs.Steps.{end_answer}
 use Rattle.trace_model.proofs.steps.StepCases.{StepCases, push_step, push_refused, close_step, close_refused, frame_step, frame_lacks, end_step, end_lacks, end_early, read_step, store_wish_step}
 use Rattle.trace_model.proofs.steps.StepSound.{cases_of}
 use Rattle.link_marks.specs.KeptStack.{MayBeIn, IsForRecord}
@@ -19,6 +19,9 @@ use Rattle.nested_writer.specs.declared.stack.leave.Ended.TheVariants.{Pending}
 use Rattle.ring_frames.specs.declared.answer.Answer.{Answer}
 use Rattle.ring_frames.specs.declared.answer.Answer.TheVariants.{Pushed, Going, Reserved, Ended, Gone, Refused}
 use Rattle.ring_frames.specs.Answers.{IsAnswerOf, refusal_of}
+use Rattle.ring_frames.specs.Lens.{IsOneMore, AreOthersLeft}
+use Rattle.ring_frames.proofs.PushedKinds.{kinds_of, KeepsKinds, map_kinds, same_mapped, more_mapped, fewer_mapped, others_mapped, pushed_kinds, closing_kinds, ended_kinds, stepped_kinds}
+use Rattle.ring_frames.proofs.Reported.{IsRefusal}
 use Rattle.ring_steps.specs.declared.rule.Shape.{Shape}
 use Rattle.ring_steps.specs.Views.{Writing}
 use Rattle.ring_shared.specs.Value.{WriterValue}
@@ -26,147 +29,122 @@ use Rattle.ring_shared.specs.Calls.{AreWriterFields, IsCall}
 use Rattle.ring_shared.specs.Lending.{FitsFrame}
 use Rattle.ring_shared.specs.WholeWrites.{IsWritten, IsRefusedWrite}
 use Rattle.ring_shared.specs.Finishing.{MakesSteps, at_once, one_more, Leaves, is_gone, was_refused, FinishesFrame, FinishesTop, Finishes}
-use Rattle.ring_shared.specs.Rooms.{room_of, rooms_of, rooms, IsOneMore, IsTopRoom}
-use Rattle.ring_frames.proofs.Reported.{IsRefusal, is_refusal, is_gone_reported}
-use Rattle.ring_shared.proofs.PushedEnded.{push_answers}
+use Rattle.ring_shared.specs.Rooms.{room_of, rooms_of, rooms, IsTopRoom}
+use Rattle.ring_shared.proofs.Depths.{depth_is}
 use Rattle.ring_shared.proofs.Standing.{kept_now}
 use Rattle.ring_shared.proofs.WholeWrites.{reserved_top}
-use Rattle.ring_shared.proofs.TopAnswers.{none_refused}
-use Rattle.ring_shared.proofs.TopKinds.{TopStep, stays, leaves, top_steps}
 
-abbrev IsClose : model.Event → Type 0
-IsClose (model.pushes moment len) = ⊥
-IsClose model.pushes_close = Unit {0}
-IsClose model.steps = ⊥
-IsClose (model.ends payload) = ⊥
-IsClose model.reads = ⊥
-IsClose model.wishes = ⊥
+-- ---- what is refused
 
-abbrev IsEnd : model.Event → Type 0
-IsEnd (model.pushes moment len) = ⊥
-IsEnd model.pushes_close = ⊥
-IsEnd model.steps = ⊥
-IsEnd (model.ends payload) = Unit {0}
-IsEnd model.reads = ⊥
-IsEnd model.wishes = ⊥
+-- a push or an end: not a step of the frame on top, and not the reader's
+abbrev IsPushOrEnd : model.Event → Type 0
+IsPushOrEnd (model.pushes moment len) = Unit {0}
+IsPushOrEnd model.pushes_close = Unit {0}
+IsPushOrEnd model.steps = ⊥
+IsPushOrEnd (model.ends payload) = Unit {0}
+IsPushOrEnd model.reads = ⊥
+IsPushOrEnd model.wishes = ⊥
 
--- ---- of a state
+end_accepts : (below : List Frame) (why : Refusal) → end_answer below ≡ model.refused why → ⊥
+end_accepts [] why e = let no : model.full ≡ model.refused why = e in cc
+end_accepts (next ∷ below) why e = let no : model.pending ≡ model.refused why = e in cc
 
-refused_not : (answer : model.Answer) (what : model.Answer) (why : Refusal) → answer ≡ model.refused why → answer ≡ what → model.refused why ≡ what
-refused_not answer what why a e = sym a ∙ e
+-- it changes nothing if it is refused
+module _ (n size : ℕ) (c : Core) (event : model.Event) (answer : model.Answer) (after : Core) (may : IsPushOrEnd event) (why : Refusal) (refuses : answer ≡ model.refused why) where
+  accepted : answer ≡ model.pushed → ⊥
+  accepted a = let no : model.pushed ≡ model.refused why = sym a ∙ refuses in cc
 
-module _ (n size : ℕ) (c : Core) (answer : model.Answer) (after : Core) where
-  close_in : StepCases n size c model.pushes_close answer after → answer ≡ model.pushed → rooms_of after.frames ≡ None ∷ rooms_of c.frames
-  close_in (push_step m l e few short early a is) reported = absurd (subst IsClose e tt)
-  close_in (push_refused m l why e why_not a is) reported = absurd (subst IsClose e tt)
-  close_in (close_step e few a is) reported = ap (λ (d : Core). rooms_of d.frames) is
-  close_in (close_refused e many a is) reported = absurd (let both = refused_not answer model.pushed _ a reported in cc)
-  close_in (frame_step frame below e top step) reported = absurd (subst IsClose e tt)
-  close_in (frame_lacks e none a is) reported = absurd (subst IsClose e tt)
-  close_in (end_step payload frame below number m l e top at kind fits a is) reported = absurd (subst IsClose e tt)
-  close_in (end_lacks payload e none a is) reported = absurd (subst IsClose e tt)
-  close_in (end_early payload frame below e top none a is) reported = absurd (subst IsClose e tt)
-  close_in (read_step e step) reported = absurd (subst IsClose e tt)
-  close_in (store_wish_step e a is) reported = absurd (subst IsClose e tt)
-
-  -- a frame that ends above others leaves them
-  above_others : (frame : Frame) (below others : List Frame) → c.frames ≡ frame ∷ below → below ≡ others → answer ≡ end_answer others → answer ≡ model.pending → after.frames ≡ frames_after_leave c frame others → IsOneMore (rooms_of c.frames) (rooms_of after.frames)
-  above_others frame below [] top same a reported is = absurd (let both : model.full ≡ model.pending = sym a ∙ reported in cc)
-  above_others frame below (next ∷ others) top same a reported is =
-      (room_of frame.kind, ap rooms_of top ∙ ap (λ (fs : List Frame). room_of frame.kind ∷ rooms_of fs) (same ∙ sym is))
-
-  end_in : (payload : List ℕ) → StepCases n size c (model.ends payload) answer after → answer ≡ model.pending → IsOneMore (rooms_of c.frames) (rooms_of after.frames)
-  end_in payload (push_step m l e few short early a is) reported = absurd (subst IsEnd e tt)
-  end_in payload (push_refused m l why e why_not a is) reported = absurd (subst IsEnd e tt)
-  end_in payload (close_step e few a is) reported = absurd (subst IsEnd e tt)
-  end_in payload (close_refused e many a is) reported = absurd (subst IsEnd e tt)
-  end_in payload (frame_step frame below e top step) reported = absurd (subst IsEnd e tt)
-  end_in payload (frame_lacks e none a is) reported = absurd (subst IsEnd e tt)
-  end_in payload (end_step p frame below number m l e top at kind fits a is) reported = above_others frame below below top refl a reported (ap (λ (d : Core). d.frames) is)
-  end_in payload (end_lacks p e none a is) reported = absurd (let both = refused_not answer model.pending _ a reported in cc)
-  end_in payload (end_early p frame below e top none a is) reported = absurd (let both = refused_not answer model.pending _ a reported in cc)
-  end_in payload (read_step e step) reported = absurd (subst IsEnd e tt)
-  end_in payload (store_wish_step e a is) reported = absurd (subst IsEnd e tt)
+  same_refused : StepCases n size c event answer after → after ≡ c
+  same_refused (push_step m l e few short early a is) = absurd (accepted a)
+  same_refused (push_refused m l w e why_not a is) = is
+  same_refused (close_step e few a is) = absurd (accepted a)
+  same_refused (close_refused e many a is) = is
+  same_refused (frame_step frame below e top step) = absurd (subst IsPushOrEnd e may)
+  same_refused (frame_lacks e none a is) = is
+  same_refused (end_step payload frame below number m l e top at kind fits a is) = absurd (end_accepts below why (sym a ∙ refuses))
+  same_refused (end_lacks payload e none a is) = is
+  same_refused (end_early payload frame below e top none a is) = is
+  same_refused (read_step e step) = absurd (subst IsPushOrEnd e may)
+  same_refused (store_wish_step e a is) = absurd (subst IsPushOrEnd e may)
 
 -- ---- of the writer's part
 
-module _ (shape : Shape) (before : Writing) (event : model.Event) (result : Answer) (after : Writing) (call : IsCall shape before event result after) where
-  rooms_before : rooms_of call.core.frames ≡ rooms_of before.frames
-  rooms_before = ap (λ (p : Writing). rooms_of p.frames) call.before_is
+rooms_by : (frames : List Frame) → rooms_of frames ≡ map_kinds room_of (kinds_of frames)
+rooms_by [] = refl
+rooms_by (frame ∷ below) = ap (λ (others : List (Option ℕ)). room_of frame.kind ∷ others) (rooms_by below)
 
-  rooms_after : rooms_of call.next.frames ≡ rooms_of after.frames
-  rooms_after = ap (λ (p : Writing). rooms_of p.frames) call.after_is
+module _ (shape : Shape) (before : Writing) (event : model.Event) (result : Answer) (after : Writing) (call : IsCall shape before event result after) where
+  old_is : rooms_of before.frames ≡ map_kinds room_of (kinds_of call.core.frames)
+  old_is = sym (ap (λ (p : Writing). rooms_of p.frames) call.before_is) ∙ rooms_by call.core.frames
+
+  new_is : rooms_of after.frames ≡ map_kinds room_of (kinds_of call.next.frames)
+  new_is = sym (ap (λ (p : Writing). rooms_of p.frames) call.after_is) ∙ rooms_by call.next.frames
 
   reports_so : (to : Answer) → result ≡ to → IsAnswerOf shape.size to call.answer
   reports_so to e = subst (λ (r : Answer). IsAnswerOf shape.size r call.answer) e call.reports
 
-  more_rooms : IsOneMore (rooms_of call.core.frames) (rooms_of call.next.frames) → IsOneMore (rooms_of before.frames) (rooms_of after.frames)
-  more_rooms (room, is) = (room, sym rooms_before ∙ is ∙ ap (λ (rs : List (Option ℕ)). room ∷ rs) rooms_after)
+  -- a push or an end that is refused keeps the rooms
+  refused_call : IsPushOrEnd event → (fault : WriteFault) → result ≡ Refused fault → rooms_of after.frames ≡ rooms_of before.frames
+  refused_call may fault e =
+      same_mapped room_of (kinds_of call.core.frames) (kinds_of call.next.frames) (rooms_of before.frames) (rooms_of after.frames) old_is new_is
+      (ap (λ (c : Core). kinds_of c.frames) (same_refused shape.pages shape.size call.core event call.answer call.next may (refusal_of fault) (reports_so (Refused fault) e) (cases_of call.step)))
 
 module _ (shape : Shape) (before : Writing) (result : Answer) (after : Writing) where
   -- a frame that is pushed has the room of its record
   pub push_rooms : (moment len : ℕ) → IsCall shape before (model.pushes moment len) result after → result ≡ Pushed → rooms_of after.frames ≡ Some (slot_len len) ∷ rooms_of before.frames
   push_rooms moment len call e =
-      let reported : call.answer ≡ model.pushed = reports_so shape before (model.pushes moment len) result after call Pushed e in
-      elim (push_answers shape.pages shape.size call.core moment len call.answer call.next (cases_of call.step)) [
-        | inl p ↦ sym (rooms_after shape before (model.pushes moment len) result after call) ∙ ap rooms_of p.top ∙ ap (λ (k : Kind). room_of k ∷ rooms_of call.core.frames) p.kind_is ∙ ap (λ (rs : List (Option ℕ)). Some (slot_len len) ∷ rs) (rooms_before shape before (model.pushes moment len) result after call)
-        | inr r ↦ absurd (let both = refused_not call.answer model.pushed r.0 r.1 reported in cc)
-      ]
+      let event = model.pushes moment len in
+      more_mapped room_of (kinds_of call.core.frames) (kinds_of call.next.frames) (rooms_of before.frames) (rooms_of after.frames) (old_is shape before event result after call) (new_is shape before event result after call) (for_record moment len)
+      (pushed_kinds shape.pages shape.size call.core call.answer call.next moment len call.step (reports_so shape before event result after call Pushed e))
 
   -- and one that closes has none
   pub close_rooms : IsCall shape before model.pushes_close result after → result ≡ Pushed → rooms_of after.frames ≡ None ∷ rooms_of before.frames
   close_rooms call e =
-      sym (rooms_after shape before model.pushes_close result after call)
-      ∙ close_in shape.pages shape.size call.core call.answer call.next (cases_of call.step) (reports_so shape before model.pushes_close result after call Pushed e)
-      ∙ ap (λ (rs : List (Option ℕ)). None ∷ rs) (rooms_before shape before model.pushes_close result after call)
+      let event = model.pushes_close in
+      more_mapped room_of (kinds_of call.core.frames) (kinds_of call.next.frames) (rooms_of before.frames) (rooms_of after.frames) (old_is shape before event result after call) (new_is shape before event result after call) for_close
+      (closing_kinds shape.pages shape.size call.core call.answer call.next call.step (reports_so shape before event result after call Pushed e))
 
   -- one that ends above others leaves them
   pub end_rooms : (payload : List ℕ) → IsCall shape before (model.ends payload) result after → result ≡ Ended Pending → IsOneMore (rooms_of before.frames) (rooms_of after.frames)
   end_rooms payload call e =
-      more_rooms shape before (model.ends payload) result after call
-      (end_in shape.pages shape.size call.core call.answer call.next payload (cases_of call.step) (reports_so shape before (model.ends payload) result after call (Ended Pending) e))
+      let event = model.ends payload in
+      fewer_mapped room_of (kinds_of call.core.frames) (kinds_of call.next.frames) (rooms_of before.frames) (rooms_of after.frames) (old_is shape before event result after call) (new_is shape before event result after call)
+      (ended_kinds shape.pages shape.size call.core call.answer call.next payload call.step (reports_so shape before event result after call (Ended Pending) e))
+
+  -- what is refused keeps them
+  pub push_refused_rooms : (moment len : ℕ) → IsCall shape before (model.pushes moment len) result after → (fault : WriteFault) → result ≡ Refused fault → rooms_of after.frames ≡ rooms_of before.frames
+  push_refused_rooms moment len call fault e = refused_call shape before (model.pushes moment len) result after call tt fault e
+
+  pub close_refused_rooms : IsCall shape before model.pushes_close result after → (fault : WriteFault) → result ≡ Refused fault → rooms_of after.frames ≡ rooms_of before.frames
+  close_refused_rooms call fault e = refused_call shape before model.pushes_close result after call tt fault e
+
+  pub end_refused_rooms : (payload : List ℕ) → IsCall shape before (model.ends payload) result after → (fault : WriteFault) → result ≡ Refused fault → rooms_of after.frames ≡ rooms_of before.frames
+  end_refused_rooms payload call fault e = refused_call shape before (model.ends payload) result after call tt fault e
 
   module _ (call : IsCall shape before model.steps result after) where
-    frames_in : (frames : List Frame) → before.frames ≡ frames → call.core.frames ≡ frames
-    frames_in frames is = ap (λ (p : Writing). p.frames) call.before_is ∙ is
+    steps_kinds : (to : Answer) (reported : model.Answer) → result ≡ to → (IsAnswerOf shape.size to call.answer → call.answer ≡ reported) → KeepsKinds reported (kinds_of call.core.frames) (kinds_of call.next.frames)
+    steps_kinds to reported e so = stepped_kinds shape.pages shape.size call.core call.answer call.next call.step reported (so (reports_so shape before model.steps result after call to e))
 
-    stands_with : (frame : Frame) (below : List Frame) → before.frames ≡ frame ∷ below → (IsRefusal result → ⊥) → result ≢ Gone → TopStep frame below call.answer call.next.frames → rooms_of after.frames ≡ rooms_of before.frames
-    stands_with frame below top goes_on still (stays next ne is kind) =
-        sym (rooms_after shape before model.steps result after call)
-        ∙ ap rooms_of is
-        ∙ ap (λ (k : Kind). room_of k ∷ rooms_of below) kind
-        ∙ sym (ap rooms_of top)
-    stands_with frame below top goes_on still (leaves (inl gone) is) = absurd (still (is_gone_reported shape.size result call.answer call.reports gone))
-    stands_with frame below top goes_on still (leaves (inr (why, refuses)) is) = absurd (goes_on (is_refusal shape.size result call.answer why call.reports refuses))
+    before_is : rooms_of before.frames ≡ map_kinds room_of (kinds_of call.core.frames)
+    before_is = old_is shape before model.steps result after call
 
-    stands_in : (frames : List Frame) → before.frames ≡ frames → (IsRefusal result → ⊥) → result ≢ Gone → rooms_of after.frames ≡ rooms_of before.frames
-    stands_in [] none goes_on still = absurd (goes_on (none_refused shape before result after call none))
-    stands_in (frame ∷ below) top goes_on still =
-        stands_with frame below top goes_on still (top_steps shape.pages shape.size call.core frame below call.answer call.next (frames_in (frame ∷ below) top) call.step)
+    after_is : rooms_of after.frames ≡ map_kinds room_of (kinds_of call.next.frames)
+    after_is = new_is shape before model.steps result after call
 
-    -- one that makes a step, and is neither gone nor refused, has the same room
-    pub step_rooms : (IsRefusal result → ⊥) → result ≢ Gone → rooms_of after.frames ≡ rooms_of before.frames
-    step_rooms goes_on still = stands_in before.frames refl goes_on still
-
+    -- one that continues or reserves has the same room
     pub going_rooms : result ≡ Going → rooms_of after.frames ≡ rooms_of before.frames
-    going_rooms e = step_rooms (λ (fault, f). let both : Going ≡ Refused fault = sym e ∙ f in cc) (λ g. let both : Going ≡ Gone = sym e ∙ g in cc)
+    going_rooms e = same_mapped room_of (kinds_of call.core.frames) (kinds_of call.next.frames) (rooms_of before.frames) (rooms_of after.frames) before_is after_is (steps_kinds Going model.going e (λ t. t))
 
     pub reserved_rooms : (number : RecordNo) → result ≡ Reserved number → rooms_of after.frames ≡ rooms_of before.frames
-    reserved_rooms number e = step_rooms (λ (fault, f). let both : Reserved number ≡ Refused fault = sym e ∙ f in cc) (λ g. let both : Reserved number ≡ Gone = sym e ∙ g in cc)
-
-    gone_with : (frame : Frame) (below : List Frame) → before.frames ≡ frame ∷ below → result ≡ Gone → TopStep frame below call.answer call.next.frames → IsOneMore (rooms_of before.frames) (rooms_of after.frames)
-    gone_with frame below top e (stays next ne is kind) = absurd (ne (reports_so shape before model.steps result after call Gone e))
-    gone_with frame below top e (leaves how is) =
-        (room_of frame.kind, ap rooms_of top ∙ ap (λ (rs : List (Option ℕ)). room_of frame.kind ∷ rs) (sym (ap rooms_of is) ∙ rooms_after shape before model.steps result after call))
-
-    gone_in : (frames : List Frame) → before.frames ≡ frames → result ≡ Gone → IsOneMore (rooms_of before.frames) (rooms_of after.frames)
-    gone_in [] none e = absurd (let (fault, f) = none_refused shape before result after call none in let both : Gone ≡ Refused fault = sym e ∙ f in cc)
-    gone_in (frame ∷ below) top e =
-        gone_with frame below top e (top_steps shape.pages shape.size call.core frame below call.answer call.next (frames_in (frame ∷ below) top) call.step)
+    reserved_rooms number e = same_mapped room_of (kinds_of call.core.frames) (kinds_of call.next.frames) (rooms_of before.frames) (rooms_of after.frames) before_is after_is (steps_kinds (Reserved number) (model.reserved_as number.0) e (λ t. t))
 
     -- one that is gone leaves those below it
     pub gone_rooms : result ≡ Gone → IsOneMore (rooms_of before.frames) (rooms_of after.frames)
-    gone_rooms e = gone_in before.frames refl e
+    gone_rooms e = fewer_mapped room_of (kinds_of call.core.frames) (kinds_of call.next.frames) (rooms_of before.frames) (rooms_of after.frames) before_is after_is (steps_kinds Gone model.gone e (λ t. t))
+
+    -- and so one that is refused, if there are others
+    pub refused_rooms : (fault : WriteFault) → result ≡ Refused fault → AreOthersLeft (rooms_of before.frames) (rooms_of after.frames)
+    refused_rooms fault e = others_mapped room_of (kinds_of call.core.frames) (kinds_of call.next.frames) (rooms_of before.frames) (rooms_of after.frames) before_is after_is (steps_kinds (Refused fault) (model.refused (refusal_of fault)) e (λ t. t))
 
 -- ---- of a frame that is stepped as far as it gets
 
@@ -212,17 +190,54 @@ module _ (shape : Shape) (before : Writing) (result : Answer) (after : Writing) 
       let (room, is) = gone_rooms shape h.between result after h.last e in
       (room, sym (goes_rooms shape before h.between h.goes) ∙ is)
 
+-- ---- of one that is refused as it is stepped
+
+-- one that leaves is gone at last
+left_frames : (shape : Shape) (below : List Frame) (before : Writing) (answer : Answer) (after : Writing) → Leaves shape below before answer after → after.frames ≡ below
+left_frames shape below _ _ _ (is_gone before between after answer goes call top) = top
+left_frames shape below _ _ _ (was_refused before between next after frame fault answer goes call top is l) = left_frames shape below next answer after l
+
+same_others : (one : Option ℕ) (below : List (Option ℕ)) (top next : Option ℕ) (others : List (Option ℕ)) → one ∷ below ≡ top ∷ next ∷ others → below ≡ next ∷ others
+same_others one below top next others is = cc
+
+module _ (shape : Shape) (fault : WriteFault) (after : Writing) where
+  refused_last : (before between : Writing) (result : Answer) → result ≡ Refused fault → MakesSteps shape before between → IsCall shape between model.steps result after → AreOthersLeft (rooms_of before.frames) (rooms_of after.frames)
+  refused_last before between result reported goes call top next others is =
+      refused_rooms shape between result after call fault reported top next others (goes_rooms shape before between goes ∙ is)
+
+  refused_leaving : (frame : Frame) (below : List Frame) (before : Writing) (answer : Answer) → before.frames ≡ frame ∷ below → Leaves shape below before answer after → AreOthersLeft (rooms_of before.frames) (rooms_of after.frames)
+  refused_leaving frame below before answer at l top next others is =
+      ap rooms_of (left_frames shape below before answer after l) ∙ same_others (room_of frame.kind) (rooms_of below) top next others (sym (ap rooms_of at) ∙ is)
+
+  refused_frame : (kind : Kind) (state : FrameState) (frame : Frame) (below : List Frame) (before : Writing) (result : Answer) → result ≡ Refused fault → before.frames ≡ frame ∷ below → FinishesFrame shape kind state below before result after → AreOthersLeft (rooms_of before.frames) (rooms_of after.frames)
+  refused_frame (for_record moment len) waiting frame below before result reported at r = refused_last before r.between result reported r.goes r.last
+  refused_frame for_close waiting frame below before result reported at l = refused_leaving frame below before result at l
+  refused_frame (for_record moment len) (reserved number) frame below before result reported at call = refused_last before before result reported at_once call
+  refused_frame for_close (reserved number) frame below before result reported at call = refused_last before before result reported at_once call
+  refused_frame (for_record moment len) left frame below before result reported at l = refused_leaving frame below before result at l
+  refused_frame for_close left frame below before result reported at l = refused_leaving frame below before result at l
+
+  refused_top : (frames : List Frame) (before : Writing) (result : Answer) → result ≡ Refused fault → before.frames ≡ frames → FinishesTop shape frames before result after → AreOthersLeft (rooms_of before.frames) (rooms_of after.frames)
+  refused_top [] before result reported at call = refused_last before before result reported at_once call
+  refused_top (frame ∷ below) before result reported at f = refused_frame frame.kind frame.state frame below before result reported at f
+
+-- above others, one that is refused leaves exactly them
+pub finished_refused : (shape : Shape) (before : Writing) (result : Answer) (after : Writing) → Finishes shape before result after → (fault : WriteFault) → result ≡ Refused fault → AreOthersLeft (rooms_of before.frames) (rooms_of after.frames)
+finished_refused shape before result after finishes fault reported = refused_top shape fault after before.frames before result reported refl finishes
+
+-- with no frame there is no room
+pub no_rooms : (v : WriterValue) → AreWriterFields v → v.frames.stack.frames ≡ [] → rooms v ≡ []
+no_rooms v w none = of_none v.part.frames (let deep = depth_is v w in let zero = ap length none in omega arith)
+  where
+    of_none : (frames : List Frame) → length frames ≡ 0 → rooms_of frames ≡ []
+    of_none [] e = refl
+    of_none (frame ∷ below) e = absurd (omega (arith, e))
+
 -- ---- of a record that is written whole
 
 module _ (shape : Shape) (before after : Writing) (moment len : ℕ) where
-  refused_push : (fault : WriteFault) → IsCall shape before (model.pushes moment len) (Refused fault) after → rooms_of after.frames ≡ rooms_of before.frames
-  refused_push fault call = elim (push_answers shape.pages shape.size call.core moment len call.answer call.next (cases_of call.step)) [
-    | inl p ↦ absurd (let reported = call.reports in let both : model.pushed ≡ model.refused (refusal_of fault) = sym p.answer_is ∙ reported in cc)
-    | inr r ↦ sym (rooms_after shape before (model.pushes moment len) (Refused fault) after call) ∙ ap (λ (c : Core). rooms_of c.frames) r.2 ∙ rooms_before shape before (model.pushes moment len) (Refused fault) after call
-  ]
-
   refused_write : (fault : WriteFault) → IsRefusedWrite shape before moment len fault after → rooms_of after.frames ≡ rooms_of before.frames
-  refused_write fault (inl push) = refused_push fault push
+  refused_write fault (inl push) = push_refused_rooms shape before (Refused fault) after moment len push fault refl
   refused_write fault (inr part_way) = ap rooms_of part_way.frames
 
 -- a write keeps the frames on the stack, and so their rooms

@@ -4,12 +4,14 @@ use Rattle.std.specs.Prelude.{◌≡◌, ◌≢◌, List, [], ◌∷◌}
 use Rattle.trace_model.specs.declared.numbers.RecordNo.{RecordNo}
 use Rattle.trace_model.specs.Frames.{Frame}
 use Rattle.link_marks.specs.FrameOutcomes.{IsLeaving}
+use Rattle.nested_writer.specs.declared.fault.WriteFault.{WriteFault}
 use Rattle.ring_frames.specs.declared.answer.Answer.{Answer}
-use Rattle.ring_frames.specs.declared.answer.Answer.TheVariants.{Reserved, Gone}
+use Rattle.ring_frames.specs.declared.answer.Answer.TheVariants.{Reserved, Gone, Refused}
 use Rattle.ring_frames.specs.Answers.{KeepsPayloads, ZerosSlot}
+use Rattle.ring_frames.specs.Lens.{IsOneMore, AreOthersLeft}
 use Rattle.ring_shared.specs.Value.{WriterValue, SameWriter}
 use Rattle.ring_shared.specs.Calls.{IsWriter}
-use Rattle.ring_shared.specs.Rooms.{rooms, IsOneMore}
+use Rattle.ring_shared.specs.Rooms.{rooms}
 use Rattle.ring_shared.specs.Finishing.{Leaves, IsGoneOrRefused}
 
 -- a frame is on the stack of this writer
@@ -23,13 +25,14 @@ pub record HasLeavingTop (v : WriterValue) : Type 0 where
   pub top : (frame : Frame) × (below : List Frame) × (v.part.frames ≡ frame ∷ below) × IsLeaving frame.kind frame.state
 
 -- What an answer says of the slots: the payloads that aren't ended stay in theirs; the slot that this answer reserves
--- holds only zeros; each frame has the same room if the one on top has reserved, and the room of the top one is gone if
--- it is.
+-- holds only zeros; each frame has the same room if the one on top has reserved; and the room of the top one is gone if
+-- that is gone, or if it is refused and others are below it.
 pub record KeepsSlots (old : WriterValue) (result : Answer) (new : WriterValue) : Type 0 where
   pub payloads : KeepsPayloads old.frames.stack new.frames.stack
   pub zeros : ZerosSlot old.frames.stack result new.frames.stack
   pub room : (number : RecordNo) → result ≡ Reserved number → rooms new ≡ rooms old
   pub gone : result ≡ Gone → IsOneMore (rooms old) (rooms new)
+  pub refused : (fault : WriteFault) → result ≡ Refused fault → AreOthersLeft (rooms old) (rooms new)
 
 -- the end stays the writer's of the same ring, and the payloads stay in their slots
 pub record KeepsWriter (old new : WriterValue) : Type 0 where

@@ -17,10 +17,6 @@ rooms_of (frame ∷ below) = room_of frame.kind ∷ rooms_of below
 abbrev pub rooms : WriterValue → List (Option ℕ)
 rooms v = rooms_of v.part.frames
 
--- these are those below, and one more on top
-abbrev pub IsOneMore : List (Option ℕ) → List (Option ℕ) → Type 0
-IsOneMore more rooms = (room : Option ℕ) × (more ≡ room ∷ rooms)
-
 -- the slot of the frame on top takes this number of bytes
 abbrev pub IsTopRoom : WriterValue → ℕ → Type 0
 IsTopRoom v bytes = (below : List (Option ℕ)) × (rooms v ≡ Some bytes ∷ below)

@@ -13,15 +13,17 @@ impl Writer {
     ghost use Rattle.link_marks.specs.Seats.{PhaseIsPrivate};
     ghost use Rattle.nested_writer.specs.Stack.{opened};
     ghost use Rattle.nested_writer.specs.PlainTop.{IsPlainTop};
+    ghost use Rattle.nested_writer.specs.declared.fault.WriteFault.{WriteFault};
     ghost use Rattle.nested_writer.specs.declared.stack.leave.Ended.TheVariants.{Pending};
     ghost use Rattle.ring_frames.specs.declared.phase.Phase.TheVariants.{Idle};
     ghost use Rattle.ring_frames.specs.Value.{phase_of};
     ghost use Rattle.ring_frames.specs.Answers.{top_bytes, EndsPayload, KeepsPayloads, ZerosSlot};
+    ghost use Rattle.ring_frames.specs.Lens.{IsOneMore};
     ghost use Rattle.ring_frames.specs.Phases.{as_answer};
     ghost use Rattle.ring_shared.specs.Value.{SameWriter};
     ghost use Rattle.ring_shared.specs.Calls.{IsWriter, MakesSome};
     ghost use Rattle.ring_shared.specs.Nearer.{IsNearer};
-    ghost use Rattle.ring_shared.specs.Rooms.{rooms, IsOneMore};
+    ghost use Rattle.ring_shared.specs.Rooms.{rooms};
     ghost use Rattle.ring_shared.specs.Promises.{HasFrame};
 
     /// A writer begins: a frame is pushed for a record of this moment, below `MOMENT_LIMIT`, and of a payload of `len`
@@ -33,6 +35,7 @@ impl Writer {
         ensures makes { MakesSome self.old (model.pushes moment len) result self.new }
         ensures payloads { KeepsPayloads self.old.frames.stack self.new.frames.stack }
         ensures room { result ≡ Answer.Pushed → rooms self.new ≡ Some (slot_len len) ∷ rooms self.old }
+        ensures refused { (fault : WriteFault) → result ≡ Answer.Refused fault → rooms self.new ≡ rooms self.old }
         ensures ring { SameWriter self.old self.new }
         ensures writer { IsWriter self.new }
     {
@@ -46,6 +49,7 @@ impl Writer {
         ensures makes { MakesSome self.old model.pushes_close result self.new }
         ensures payloads { KeepsPayloads self.old.frames.stack self.new.frames.stack }
         ensures room { result ≡ Answer.Pushed → rooms self.new ≡ None ∷ rooms self.old }
+        ensures refused { (fault : WriteFault) → result ≡ Answer.Refused fault → rooms self.new ≡ rooms self.old }
         ensures ring { SameWriter self.old self.new }
         ensures writer { IsWriter self.new }
     {
@@ -62,6 +66,7 @@ impl Writer {
             result self.new }
         ensures payloads { EndsPayload self.old.frames.stack self.new.frames.stack }
         ensures rooms { result ≡ Answer.Ended Pending → IsOneMore (rooms self.old) (rooms self.new) }
+        ensures refused { (fault : WriteFault) → result ≡ Answer.Refused fault → rooms self.new ≡ rooms self.old }
         ensures ring { SameWriter self.old self.new }
         ensures writer { IsWriter self.new }
     {

@@ -2,7 +2,7 @@ use Rattle.std.proofs.Common.{refl}
 use Rattle.trace_model.specs.Steps.{pushes}
 use Rattle.ring_steps.specs.Ends.{writing_in}
 use Rattle.ring_shared.proofs.Privately.{push_leads, seen_call}
-use Rattle.ring_shared.proofs.Rooms.{push_rooms}
+use Rattle.ring_shared.proofs.Rooms.{push_rooms, push_refused_rooms}
 use Rattle.ring_shared.specs.Calls.{IsWriter}
 use Rattle.ring_shared.proofs.writer.Writer.begin.Goals as goal
 
@@ -17,6 +17,10 @@ returns-clause-makes c =
 pub returns-clause-room : goal.returns-clause-room
 unfolding IsWriter
 returns-clause-room c pushed = push_rooms _ _ c.push.result _ c.args.moment c.args.len (returns-clause-makes c).call pushed
+
+pub returns-clause-refused : goal.returns-clause-refused
+unfolding IsWriter
+returns-clause-refused c fault refused = push_refused_rooms _ _ c.push.result _ c.args.moment c.args.len (returns-clause-makes c).call fault refused
 
 pub returns-clause-ring : goal.returns-clause-ring
 unfolding IsWriter

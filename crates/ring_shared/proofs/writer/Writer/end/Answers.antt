@@ -3,7 +3,7 @@ use Rattle.trace_model.specs.Steps.{ends}
 use Rattle.ring_frames.specs.Answers.{top_bytes}
 use Rattle.ring_shared.specs.Calls.{IsWriter}
 use Rattle.ring_shared.proofs.Privately.{end_leads, seen_call}
-use Rattle.ring_shared.proofs.Rooms.{end_rooms}
+use Rattle.ring_shared.proofs.Rooms.{end_rooms, end_refused_rooms}
 use Rattle.ring_shared.proofs.writer.Writer.end.Goals as goal
 
 pub note-requires : goal.note-requires
@@ -18,6 +18,10 @@ returns-clause-makes c =
 pub returns-clause-rooms : goal.returns-clause-rooms
 unfolding IsWriter
 returns-clause-rooms c pending = end_rooms _ _ c.end.result _ _ (returns-clause-makes c).call pending
+
+pub returns-clause-refused : goal.returns-clause-refused
+unfolding IsWriter
+returns-clause-refused c fault refused = end_refused_rooms _ _ c.end.result _ _ (returns-clause-makes c).call fault refused
 
 pub returns-clause-ring : goal.returns-clause-ring
 unfolding IsWriter

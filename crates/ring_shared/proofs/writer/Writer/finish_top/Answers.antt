@@ -5,7 +5,7 @@ use Rattle.nested_writer.specs.declared.frame.Frame as stack
 use Rattle.nested_writer.specs.Calls.{top_of}
 use Rattle.nested_writer.specs.declared.frame.Pushed.{Pushed}
 use Rattle.nested_writer.specs.PlainTop.{IsPlainTop}
-use Rattle.ring_frames.specs.declared.answer.Answer.TheVariants.{Reserved, Gone}
+use Rattle.ring_frames.specs.declared.answer.Answer.TheVariants.{Reserved, Gone, Refused}
 use Rattle.ring_frames.specs.declared.phase.Phase.TheVariants.{Wishing}
 use Rattle.ring_shared.specs.declared.writer.finish.Target.TheVariants as target
 use Rattle.ring_shared.specs.Value.{WriterValue}
@@ -15,7 +15,7 @@ use Rattle.ring_shared.specs.contracts.writer.Writer.{the_view}
 use Rattle.ring_shared.proofs.Targets.{IsOnTop, reserving_on_top, finishes_reserving, finishes_leaving}
 use Rattle.ring_shared.proofs.Depths.{reserving_top}
 use Rattle.ring_shared.proofs.Finishes.{reserving_first, reserving_ends}
-use Rattle.ring_shared.proofs.Rooms.{reserved_rooms, finished_rooms, finished_gone}
+use Rattle.ring_shared.proofs.Rooms.{reserved_rooms, finished_rooms, finished_gone, finished_refused}
 use Rattle.ring_shared.proofs.TopAnswers.{wishing_on_top}
 use Rattle.ring_shared.proofs.writer.Writer.finish_top.Goals as goal
 use Rattle.ring_shared.proofs.writer.Writer.finish_top.Goals.{in-Wishing, in_default}
@@ -40,6 +40,7 @@ returns-in-Some-clause-slots c = record {
   zeros = c.reserve_plain.ensures.zeros;
   room = λ number reserved. reserved_rooms _ _ (Reserved c.reserve_plain.result) _ c.reserve_plain.ensures.makes.call number reserved;
   gone = λ gone. absurd (let no : Reserved c.reserve_plain.result ≡ Gone = gone in cc);
+  refused = λ fault refused. absurd (let no : Reserved c.reserve_plain.result ≡ Refused fault = refused in cc);
 }
 
 -- the frame on top looks for the reader's wish, so that it has left
@@ -77,6 +78,7 @@ returns-then-not-is_empty-clause-slots c = record {
   zeros = search rules;
   room = search rules;
   gone = λ gone. finished_gone _ _ c.finish_wishing.result _ (returns-then-not-is_empty-clause-finished c) gone;
+  refused = λ fault refused. finished_refused _ _ c.finish_wishing.result _ (returns-then-not-is_empty-clause-finished c) fault refused;
 }
 
 pub returns-in-Gone-clause-slots : goal.returns-in-Gone-clause-slots
@@ -85,6 +87,7 @@ returns-in-Gone-clause-slots c = record {
   zeros = search rules;
   room = search rules;
   gone = λ gone. finished_gone _ _ Gone _ c.in-Gone.ensures.finished refl;
+  refused = search rules;
 }
 
 pub returns-in-Ok-clause-slots : goal.returns-in-Ok-clause-slots
@@ -94,4 +97,14 @@ returns-in-Ok-clause-slots c = record {
   room = λ number reported. let (slot, on_top, finishes) = c.in-Reserved.ensures.finished in
       finished_rooms _ _ _ _ finishes record { 0 = slot.number } refl;
   gone = search rules;
+  refused = search rules;
+}
+
+pub returns-in-Refused-clause-slots : goal.returns-in-Refused-clause-slots
+returns-in-Refused-clause-slots c = record {
+  payloads = search rules;
+  zeros = search rules;
+  room = search rules;
+  gone = search rules;
+  refused = λ fault refused. finished_refused _ _ (Refused _) _ c.in-Refused.ensures.finished fault refused;
 }
