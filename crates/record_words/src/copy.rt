@@ -1,15 +1,11 @@
-//! A payload copied by chunks that overlap, so that payloads of many lengths take the same way.
+//! A payload copied by parts that overlap, so that payloads of many lengths take the same way, and short ones no call.
 ghost use Rattle.std.specs.Prelude.{◌≡◌, ◌+◌, ◌-◌, ◌≤◌, ◌<◌, ◌*◌, ℕ, length, drop};
-ghost use Rattle.record_words.specs.declared.copy.TheConstants.{CHUNK};
 ghost use Rattle.record_words.specs.declared.format.TheConstants.{SHORT_LIMIT};
 ghost use Rattle.record_words.specs.Puts.{Puts};
 ghost use Rattle.record_words.specs.Copies.{HasFront};
 
 use crate::format::SHORT_LIMIT;
-use std::simd::u8x16;
-
-/// How many bytes a chunk has.
-const CHUNK: usize = 16;
+use std::simd::Simd;
 
 /// Copies the payload to the front.
 #[inline(always)]
@@ -18,56 +14,90 @@ pub(crate) fn copy_to_front(out: &mut [u8], payload: &[u8])
     ensures { Puts out.old out.new payload.now }
 {
     let len = payload.len();
-    if len >= CHUNK && len <= SHORT_LIMIT {
-        return copy_chunks(out, payload);
+    if len > SHORT_LIMIT {
+        out[..len].copy_from_slice(payload);
+    } else if len > 64 {
+        copy_seven(out, payload);
+    } else if len > 32 {
+        copy_four(out, payload);
+    } else {
+        copy_two(out, payload);
     }
-    out[..len].copy_from_slice(payload);
 }
 
-/// `copy_to_front`, for a payload of one to seven chunks: the first and the last of it, and where there may be bytes
-/// between them, five more.
+/// `copy_to_front`, for a payload of 65 to 112 bytes: four parts of 16 bytes at its front, and three at its end.
 #[inline(always)]
-fn copy_chunks(out: &mut [u8], payload: &[u8])
+fn copy_seven(out: &mut [u8], payload: &[u8])
     requires room { length payload.now ≤ length out.old }
-    requires least { CHUNK ≤ length payload.now }
+    requires least { 64 < length payload.now }
     requires most { length payload.now ≤ SHORT_LIMIT }
     ensures { Puts out.old out.new payload.now }
 {
-    let last = payload.len() - CHUNK;
-    copy_chunk(out, payload, 0);
-    if payload.len() <= 2 * CHUNK {
-        return copy_chunk(out, payload, last);
+    let len = payload.len();
+    copy_part::<16>(out, payload, 0);
+    copy_part::<16>(out, payload, 16);
+    copy_part::<16>(out, payload, 32);
+    copy_part::<16>(out, payload, 48);
+    copy_part::<16>(out, payload, len - 48);
+    copy_part::<16>(out, payload, len - 32);
+    copy_part::<16>(out, payload, len - 16);
+}
+
+/// `copy_to_front`, for a payload of 33 to 64 bytes: two parts of 16 bytes at its front, and two at its end.
+#[inline(always)]
+fn copy_four(out: &mut [u8], payload: &[u8])
+    requires room { length payload.now ≤ length out.old }
+    requires least { 32 < length payload.now }
+    requires most { length payload.now ≤ 64 }
+    ensures { Puts out.old out.new payload.now }
+{
+    let len = payload.len();
+    copy_part::<16>(out, payload, 0);
+    copy_part::<16>(out, payload, 16);
+    copy_part::<16>(out, payload, len - 32);
+    copy_part::<16>(out, payload, len - 16);
+}
+
+/// `copy_to_front`, for a payload of at most 32 bytes: a part at its front, and one at its end.
+#[inline(always)]
+fn copy_two(out: &mut [u8], payload: &[u8])
+    requires room { length payload.now ≤ length out.old }
+    requires most { length payload.now ≤ 32 }
+    ensures { Puts out.old out.new payload.now }
+{
+    let len = payload.len();
+    if len > 16 {
+        copy_ends::<16>(out, payload);
+    } else if len > 8 {
+        copy_ends::<8>(out, payload);
+    } else if len > 4 {
+        copy_ends::<4>(out, payload);
+    } else if len > 2 {
+        copy_ends::<2>(out, payload);
+    } else if len > 0 {
+        copy_ends::<1>(out, payload);
     }
-    copy_middle(out, payload);
-    copy_chunk(out, payload, last);
 }
 
-/// Copies what is between the first chunk, which is copied, and the last one, by five chunks. Each begins no later
-/// than the one before it ends, or where the last one does.
+/// `copy_to_front`, for a payload of one to two parts of `N` bytes.
 #[inline(always)]
-fn copy_middle(out: &mut [u8], payload: &[u8])
+fn copy_ends<const N: usize>(out: &mut [u8], payload: &[u8])
     requires room { length payload.now ≤ length out.old }
-    requires least { 2 * CHUNK < length payload.now }
-    requires most { length payload.now ≤ SHORT_LIMIT }
-    requires first { HasFront CHUNK payload.now out.old }
-    ensures front { HasFront (length payload.now - CHUNK) payload.now out.new }
-    ensures behind { drop (length payload.now) out.new ≡ drop (length payload.now) out.old }
+    requires least { N ≤ length payload.now }
+    requires most { length payload.now ≤ 2 * N }
+    ensures { Puts out.old out.new payload.now }
 {
-    let last = payload.len() - CHUNK;
-    copy_chunk(out, payload, CHUNK);
-    copy_chunk(out, payload, last.min(2 * CHUNK));
-    copy_chunk(out, payload, last.min(3 * CHUNK));
-    copy_chunk(out, payload, last.min(4 * CHUNK));
-    copy_chunk(out, payload, last - CHUNK);
+    copy_part::<N>(out, payload, 0);
+    copy_part::<N>(out, payload, payload.len() - N);
 }
 
-/// Copies the chunk at this distance from the front.
+/// Copies the `N` bytes at this distance from the front.
 #[inline(always)]
-fn copy_chunk(out: &mut [u8], payload: &[u8], at: usize)
+fn copy_part<const N: usize>(out: &mut [u8], payload: &[u8], at: usize)
     requires room { length payload.now ≤ length out.old }
-    requires within { at + CHUNK ≤ length payload.now }
-    ensures front { (n : ℕ) → at ≤ n → HasFront n payload.now out.old → HasFront (at + CHUNK) payload.now out.new }
+    requires within { at + N ≤ length payload.now }
+    ensures front { (n : ℕ) → at ≤ n → HasFront n payload.now out.old → HasFront (at + N) payload.now out.new }
     ensures behind { drop (length payload.now) out.new ≡ drop (length payload.now) out.old }
 {
-    u8x16::from_slice(&payload[at..]).copy_to_slice(&mut out[at..]);
+    Simd::<u8, N>::from_slice(&payload[at..]).copy_to_slice(&mut out[at..]);
 }
