@@ -31,7 +31,7 @@ use Rattle.nested_writer.proofs.Dropping.{oldest}
 -- ---- records if the stack is empty
 
 whole_prefix : (h : List HistoryEvent) → (writer_after h).stack ≡ [] → settled_prefix h ≡ h
-whole_prefix h none = let settled : is_settled h ≡ true = rw none refl in whole_front (length h) h (omega arith) settled
+whole_prefix h none = let settled : is_settled h ≡ true = rw (is_settled, none) refl in whole_front (length h) h (omega arith) settled
 
 -- all of them are committed
 all_committed : (h : List HistoryEvent) → (writer_after h).stack ≡ [] → committed_records h ≡ map as_record (reserved_records h)

@@ -47,11 +47,8 @@ last_moment (r ∷ s ∷ records) = last_moment (s ∷ records)
 -- a record of this moment, for a payload of len bytes, after these: a moment below the last one's is
 -- raised to it
 abbrev pub reservation_for : (moment len : ℕ) → List Reservation → Reservation
-reservation_for moment len records = record {
-  moment = max moment (last_moment records);
-  len = slot_len len;
-  bytes = None;
-}
+reservation_for moment len records =
+    record { moment = max moment (last_moment records); len = slot_len len; bytes = None }
 
 -- the record of this number with its bytes, which fill its slot
 abbrev pub records_with_payload : Option ℕ → Option (List ℕ) → List Reservation → List Reservation
@@ -77,16 +74,12 @@ records_after_leave close_frame payload records = records
 
 -- what an event makes of it; if the stack is empty, reserve and leave do nothing
 abbrev pub after_event : List PushedFrame → List Reservation → HistoryEvent → WriterState
-after_event stack records (push moment len) = record {
-  stack = record_frame moment len None ∷ stack;
-  records = records;
-}
+after_event stack records (push moment len) =
+    record { stack = record_frame moment len None ∷ stack; records = records }
 after_event stack records push_close = record { stack = close_frame ∷ stack; records = records }
 after_event (f ∷ stack) records reserve = after_reserve f stack records
-after_event (f ∷ stack) records (leave payload) = record {
-  stack = stack;
-  records = records_after_leave f payload records;
-}
+after_event (f ∷ stack) records (leave payload) =
+    record { stack = stack; records = records_after_leave f payload records }
 after_event stack records _ = record { stack = stack; records = records }
 
 -- what a history leaves, from nothing
@@ -99,11 +92,7 @@ reserved_records history = (writer_after history).records
 
 -- the stack is empty
 abbrev pub is_settled : List HistoryEvent → Bool
-is_settled history = has_none (writer_after history).stack
-  where
-    has_none : List PushedFrame → Bool
-    has_none [] = true
-    has_none (f ∷ stack) = false
+is_settled history = elim (writer_after history).stack [ [] ↦ true | frame ∷ stack ↦ false ]
 
 -- of the prefixes of at most n events, the longest after which the stack is empty
 abbrev pub settled_prefix_within : ℕ → List HistoryEvent → List HistoryEvent

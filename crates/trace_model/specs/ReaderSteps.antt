@@ -2,7 +2,7 @@
 -- After kernel/trace/ring_buffer.c (rb_get_reader_page, rb_head_page_replace).
 use Rattle.std.specs.Prelude.{ℕ, suc, ◌+◌, ◌-◌, ◌%◌, if◌then◌else◌, ◌&&◌, ◌==◌, nat_lt, nat_le, [], ◌∷◌, ◌++◌, length, Some, slice_set}
 use Rattle.trace_model.specs.Links.{Mark, normal, header, update, Link, normal_link, header_link, same_link}
-use Rattle.trace_model.specs.Ring.{empty_page, TakenFill, Reader, ReaderPhase, loading_head, loading_done, storing_spare_link, swapping, Core, link_into, links_with, page_at}
+use Rattle.trace_model.specs.Ring.{PageRecords, empty_page, TakenFill, Reader, ReaderPhase, loading_head, loading_done, storing_spare_link, swapping, Core, link_into, links_with, page_at}
 use Rattle.trace_model.specs.Events.{reading, empty, moving, page_taken, wished_for, Outcome, only_if}
 use Rattle.trace_model.specs.WriterSteps.{contents_of}
 
@@ -49,18 +49,15 @@ store_spare_link n c page fill =
 
 -- what the reader takes with the page of a fill
 abbrev pub taken_fill : Core → ℕ → ℕ → TakenFill
-taken_fill c page fill = record {
-  fill = fill;
-  skipped = (contents_of c page).first - c.reader.expected;
-  held = contents_of c page;
-}
+taken_fill c page fill =
+    let held : PageRecords = contents_of c page in
+    record { fill = fill; skipped = held.first - c.reader.expected; held = held }
 
 -- the reader after a take of this fill
 abbrev pub reader_after : Core → ℕ → ℕ → Reader
-reader_after c page fill = record {
+reader_after c page fill = record c.reader {
   phase = loading_head;
   hint = suc fill;
-  seen = c.reader.seen;
   expected = (contents_of c page).first + length (contents_of c page).records;
   taken = c.reader.taken ++ taken_fill c page fill ∷ [];
 }

@@ -10,10 +10,10 @@ use Rattle.trace_model.specs.HeadMove.{claim_head, load_next, mark_head, clear_u
 use Rattle.trace_model.specs.ReaderSteps.{load_head, load_done, store_spare_link, swap_head, store_wish}
 -- what is said of steps, by one name
 pub use Rattle.trace_model.specs.Events.{Event, pushes, pushes_close, steps, ends, reads, wishes, Answer, pushed, going, reserved_as, pending, full, gone, refused, reading, empty, moving, page_taken, wished_for}
-pub use Rattle.trace_model.specs.WriterSteps.{with_history_event, in_phase, with_link, with_held, contents_of, tail_page, closing_phase, frames_after_leave, leave_answer, held_with_payload, own_number, after_leave, after_begin, begin_answer, with_frame, new_reservation, with_reservation, in_reserved, with_new_tail, end_answer, with_released}
+pub use Rattle.trace_model.specs.WriterSteps.{with_history_event, in_phase, with_link, with_held, contents_of, tail_page, closing_phase, frames_after_leave, leave_answer, held_with_payload, own_number, after_leave, with_frame, new_reservation, with_reservation, in_reserved, with_new_tail, end_answer, with_released}
 pub use Rattle.trace_model.specs.HeadMove.{with_head_claimed, after_next}
 pub use Rattle.trace_model.specs.ReaderSteps.{reader_at, reader_saw, next_header, taken_fill, reader_after, after_swap, with_wish}
-pub use Rattle.trace_model.specs.StepConditions.{MayContinue, NeedsPage, IsGranted, IsTooLong}
+pub use Rattle.trace_model.specs.StepConditions.{MayContinue, NeedsPage, IsGranted, IsTooLong, begin_answer, after_begin}
 
 -- the step of the frame on top, in its phase
 abbrev pub frame_step_of : (n size : ℕ) → Core → Frame → List Frame → Phase → Outcome

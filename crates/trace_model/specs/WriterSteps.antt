@@ -62,12 +62,9 @@ leave_answer (next ∷ below) = gone
 -- what a page holds, with the payload of the record of this number
 abbrev pub held_with_payload : Option ℕ → Option (List ℕ) → PageRecords → PageRecords
 held_with_payload None payload h = h
-held_with_payload (Some number) payload h = record {
-  first = h.first;
+held_with_payload (Some number) payload h = record h {
   records =
-      if nat_lt number h.first
-      then h.records
-      else records_with_payload (Some (number - h.first)) payload h.records;
+      if nat_lt number h.first then h.records else records_with_payload (Some (number - h.first)) payload h.records;
 }
 
 -- the number of the record that a frame reserved
@@ -89,24 +86,18 @@ refuses c frame below why = Some (refused why, after_leave c frame below None)
 
 -- ---- a fill is begun, by this frame or by another
 
--- A record frame tries again; a close frame has what it wanted and leaves; one that has left goes on to close fills.
-abbrev pub after_begin : Kind → FrameState → Core → Frame → List Frame → Core
-after_begin (for_record moment len) waiting c frame below = in_phase c frame below idle
-after_begin for_close waiting c frame below = after_leave c frame below None
-after_begin kind (reserved number) c frame below = in_phase c frame below idle
-after_begin kind left c frame below = in_phase c frame below (closing_phase c)
-
-abbrev pub begin_answer : Kind → FrameState → List Frame → Answer
-begin_answer (for_record moment len) waiting below = going
-begin_answer for_close waiting below = leave_answer below
-begin_answer kind (reserved number) below = going
-begin_answer kind left below = going
+-- What a frame does once its fill is begun: a record frame tries again; a close frame has what it wanted and leaves; one
+-- that has left goes on to close fills.
+abbrev pub begins_again : Kind → FrameState → Core → Frame → List Frame → Outcome
+begins_again (for_record moment len) waiting c frame below = goes_on c frame below idle
+begins_again for_close waiting c frame below = Some (leave_answer below, after_leave c frame below None)
+begins_again kind (reserved number) c frame below = goes_on c frame below idle
+begins_again kind left c frame below = goes_on c frame below (closing_phase c)
 
 -- A frame whose noted fill was begun by another begins again, and does nothing else in that step.
 abbrev pub unless_begun : ℕ → Core → Frame → List Frame → Outcome → Outcome
 unless_begun noted c frame below outcome =
-    if noted == c.opened then outcome
-    else Some (begin_answer frame.kind frame.state below, after_begin frame.kind frame.state c frame below)
+    if noted == c.opened then outcome else begins_again frame.kind frame.state c frame below
 
 -- ---- a push
 
@@ -114,24 +105,18 @@ unless_begun noted c frame below outcome =
 abbrev pub with_frame : Core → Kind → Core
 with_frame c kind = record c { frames = record { kind = kind; state = waiting; phase = idle } ∷ c.frames }
 
--- there is no room for one more frame
-abbrev pub is_full : Core → Bool
-is_full c = nat_le MAX_FRAMES (length c.frames)
-
--- a record of len bytes has no room in an empty page of this size
-abbrev pub is_too_long : (size len : ℕ) → Bool
-is_too_long size len = nat_lt size len || nat_lt size (encoded_len len 0 true)
-
+-- It is refused if there is no room for one more frame, its record has no room in an empty page of this size, or its
+-- moment is too late.
 abbrev pub push_record : (size : ℕ) → Core → (moment len : ℕ) → Outcome
 push_record size c moment len =
-    if is_full c then Some (refused too_deep, c)
-    else (if is_too_long size len then Some (refused too_long, c)
+    if nat_le MAX_FRAMES (length c.frames) then Some (refused too_deep, c)
+    else (if nat_lt size len || nat_lt size (encoded_len len 0 true) then Some (refused too_long, c)
     else (if nat_le MOMENT_LIMIT moment then Some (refused late_moment, c)
     else Some (pushed, with_history_event (with_frame c (for_record moment len)) (push moment len))))
 
 abbrev pub push_close_frame : Core → Outcome
 push_close_frame c =
-    if is_full c then Some (refused too_deep, c)
+    if nat_le MAX_FRAMES (length c.frames) then Some (refused too_deep, c)
     else Some (pushed, with_history_event (with_frame c for_close) push_close)
 
 -- ---- idle, waiting
@@ -144,24 +129,12 @@ new_reservation c moment len = reservation_for moment len (reserved_records c.hi
 abbrev pub with_reservation : Core → Reservation → Core
 with_reservation c r =
     let tail : PageRecords = contents_of c (tail_page c) in
-    let with_record : PageRecords = record { first = tail.first; records = tail.records ++ r ∷ [] } in
-    with_history_event (with_held c (tail_page c) with_record) HistoryEvent.reserve
+    with_history_event (with_held c (tail_page c) (record tail { records = tail.records ++ r ∷ [] })) HistoryEvent.reserve
 
 -- the frame on top has reserved the record of this number
 abbrev pub in_reserved : Core → Frame → List Frame → ℕ → Core
-in_reserved c frame below number = record c {
-  frames = record frame { state = reserved number; phase = idle } ∷ below;
-}
-
--- the record of this reservation fits in the tail page
-abbrev pub fits_in_tail : (size : ℕ) → Core → Reservation → Bool
-fits_in_tail size c r = nat_le (fill_len (tail_of c.history ++ r ∷ [])) size
-
--- The record fits: it gets its number and moment.
-abbrev pub reserves_record : Core → Frame → List Frame → (moment len : ℕ) → Outcome
-reserves_record c frame below moment len =
-    let number : ℕ = length (reserved_records c.history) in
-    Some (reserved_as number, in_reserved (with_reservation c (new_reservation c moment len)) frame below number)
+in_reserved c frame below number =
+    record c { frames = record frame { state = reserved number; phase = idle } ∷ below }
 
 -- A page is needed: no closed page is left to lose, or the tail is the last fill, or the fill to open is noted.
 abbrev pub needs_page : (n : ℕ) → Core → Frame → List Frame → Outcome
@@ -170,10 +143,13 @@ needs_page n c frame below =
     else (if nat_le LINK_FILLS (c.opened + n) then refuses c frame below worn
     else goes_on c frame below (looking c.opened))
 
--- A close frame leaves if the tail is empty.
+-- A record that fits in the tail page gets its number and moment. A close frame leaves if the tail is empty.
 abbrev pub reserve : (n size : ℕ) → Core → Frame → List Frame → Kind → Outcome
 reserve n size c frame below (for_record moment len) =
-    if fits_in_tail size c (new_reservation c moment len) then reserves_record c frame below moment len
+    let r : Reservation = new_reservation c moment len in
+    let number : ℕ = length (reserved_records c.history) in
+    if nat_le (fill_len (tail_of c.history ++ r ∷ [])) size
+    then Some (reserved_as number, in_reserved (with_reservation c r) frame below number)
     else needs_page n c frame below
 reserve n size c frame below for_close =
     if tail_holds c then needs_page n c frame below
@@ -211,11 +187,7 @@ with_new_tail c page =
 
 abbrev pub open_fill : Core → Frame → List Frame → (noted page : ℕ) → Outcome
 open_fill c frame below noted page =
-    unless_begun noted c frame below
-    (Some (
-      begin_answer frame.kind frame.state below,
-      after_begin frame.kind frame.state (with_new_tail c page) frame below,
-    ))
+    unless_begun noted c frame below (begins_again frame.kind frame.state (with_new_tail c page) frame below)
 
 -- ---- idle, reserved: a step, and the end with the payload
 

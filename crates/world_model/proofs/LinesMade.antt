@@ -6,7 +6,8 @@ use Rattle.trace_model.specs.declared.limits.TheConstants.{MOMENT_LIMIT}
 use Rattle.trace_model.specs.Frames.{Frame, no_frame, too_deep, too_long, late_moment}
 use Rattle.trace_model.specs.Ring.{Core}
 use Rattle.trace_model.specs.Events.{Outcome}
-use Rattle.trace_model.specs.WriterSteps.{is_full, is_too_long, push_record, push_close_frame}
+use Rattle.trace_model.specs.WriterSteps.{push_record, push_close_frame}
+use Rattle.trace_model.proofs.steps.StepWords.{is_full, is_too_long}
 use Rattle.trace_model.specs.Steps.{Event, pushes, pushes_close, steps, reads, wishes, Answer, pushed, going, reserved_as, pending, full, gone, refused, reading, empty, moving, page_taken, wished_for, step_of, Step, Exchange}
 use Rattle.trace_model.proofs.steps.StepSound.{cases_of}
 use Rattle.text_model.specs.Script.{Command, begin_frame, step_frame, finish_frame, write, close, step_reader, take_page, wish, deliver}

@@ -10,7 +10,7 @@ use Rattle.trace_model.specs.Frames.{Kind, for_record, for_close, FrameState, wa
 use Rattle.trace_model.specs.Ring.{ReaderPhase, loading_head, loading_done, storing_spare_link, swapping, Core, link_into}
 use Rattle.trace_model.specs.Links.{same_link}
 use Rattle.trace_model.specs.Events.{Event, pushes, pushes_close, steps, ends, reads, wishes, Answer, Outcome, only_if}
-use Rattle.trace_model.specs.WriterSteps.{unless_begun, new_reservation, tail_holds, is_full, is_too_long, push_record, push_close_frame, fits_in_tail, needs_page, reserve, sees_link, load_link, open_fill, idle_step, end_frame, end_top, release_fill, is_granted, load_wish}
+use Rattle.trace_model.specs.WriterSteps.{begins_again, with_new_tail, unless_begun, new_reservation, tail_holds, push_record, push_close_frame, needs_page, reserve, sees_link, load_link, open_fill, idle_step, end_frame, end_top, release_fill, is_granted, load_wish}
 use Rattle.trace_model.specs.HeadMove.{claim_head, unless_passed, load_next, mark_head, clear_update}
 use Rattle.trace_model.specs.ReaderSteps.{reads_link}
 use Rattle.trace_model.specs.Steps.{frame_step_of, top_step_of, read_step_of, step_of, Step}
@@ -22,6 +22,7 @@ use Rattle.link_marks.specs.RingLaws.{MayAsk, EachEventIsAStep}
 use Rattle.link_marks.proofs.links.Positions.{at_position, link_round}
 use Rattle.link_marks.proofs.links.LinkFills.{normal_reports, header_reports, update_reports, owned_by}
 use Rattle.link_marks.proofs.links.FrameChanges.{top_kept}
+use Rattle.trace_model.proofs.steps.StepWords.{is_full, is_too_long, fits_in_tail, begins_as}
 use Rattle.link_marks.proofs.frames.StackSteps.{top_agrees, releasing_left, wishing_left}
 
 abbrev pub Given : Outcome → Type 0
@@ -46,8 +47,11 @@ module _ (n size : ℕ) (c : Core) (frame : Frame) (below : List Frame) (k : Lin
   reserve_given (for_record moment len) = given_if (fits_in_tail size c (new_reservation c moment len)) _ _ (λ e. tt) (λ e. needs_page_given)
   reserve_given for_close = given_if (tail_holds c) _ _ (λ e. needs_page_given) (λ e. tt)
 
+  again_given : (d : Core) → Given (begins_again frame.kind frame.state d frame below)
+  again_given d = subst Given (sym (begins_as frame.kind frame.state d frame below)) tt
+
   begun_given : (noted : ℕ) (o : Outcome) → (noted ≡ c.opened → Given o) → Given (unless_begun noted c frame below o)
-  begun_given noted o now = given_if (noted == c.opened) _ _ (λ e. now (eqb-true noted c.opened e)) (λ e. tt)
+  begun_given noted o now = given_if (noted == c.opened) _ _ (λ e. now (eqb-true noted c.opened e)) (λ e. again_given c)
 
   passed_given : (role : Role) (noted : ℕ) (o : Outcome) → Given o → Given (unless_passed role noted c frame below o)
   passed_given owner noted o given = given
@@ -114,7 +118,7 @@ module _ (n size : ℕ) (c : Core) (frame : Frame) (below : List Frame) (k : Lin
       (λ e. both_ways (nat_le n noted && same_link l own) e (and_from (nat_le n noted) (same_link l own) (le-leb n noted (omega arith)) (same_link_from l own is))) tt
 
   open_fill_given : (noted page : ℕ) → Given (open_fill c frame below noted page)
-  open_fill_given noted page = begun_given noted _ (λ now. tt)
+  open_fill_given noted page = begun_given noted _ (λ now. again_given (with_new_tail c page))
 
   release_fill_given : (fs : List Frame) → fs ≡ [] → c.done + 1 < c.opened → Given (release_fill c frame fs)
   release_fill_given [] alone more = given_if (c.done + 2 == c.opened) _ _ (λ e. tt)

@@ -80,7 +80,7 @@ stack_cases (f ∷ stack) = inr (f, stack, refl)
 
 pub none_stands : (history : List HistoryEvent) → is_settled history ≡ true → (writer_after history).stack ≡ []
 none_stands history h =
-    ⊎_elim (λ e. e) (λ some. let wrong : false ≡ true = rw some.2 at h in cc) (stack_cases (writer_after history).stack)
+    ⊎_elim (λ e. e) (λ some. let wrong : false ≡ true = rw (is_settled, some.2) at h in cc) (stack_cases (writer_after history).stack)
 
 writer_keeps : (front behind : List HistoryEvent) → is_settled front ≡ true → IsPrefix (reserved_records front) (reserved_records (front ++ behind))
 writer_keeps front behind h =

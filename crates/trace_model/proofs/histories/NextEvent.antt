@@ -21,4 +21,4 @@ pub reserved_stack : (h : List HistoryEvent) (moment len : ℕ) (stack : List Pu
 reserved_stack h moment len stack e = ap (λ (w : WriterState). w.stack) (writer_snoc h reserve) ∙ ap (λ (s : List PushedFrame). (after_event s (writer_after h).records reserve).stack) e
 
 pub settled_at_rest : (h : List HistoryEvent) → (writer_after h).stack ≡ [] → IsTrue (is_settled h)
-settled_at_rest h e = rw e refl
+settled_at_rest h e = rw (is_settled, e) refl

@@ -9,10 +9,10 @@ use Rattle.trace_model.specs.Links.{normal_link, header_link, update_link}
 use Rattle.trace_model.specs.Frames.{for_record, for_close, FrameState, waiting, reserved, left, number_of, Role, owner, helper, Phase, idle, looking, claiming, looking_next, marking, clearing, opening, releasing, wishing, Frame, Refusal, too_deep, too_long, late_moment, crowded, worn, no_frame, not_reserved}
 use Rattle.trace_model.specs.Ring.{link_into, ReaderPhase, loading_head, loading_done, storing_spare_link, swapping, Core}
 use Rattle.trace_model.specs.Events.{Event, pushes, pushes_close, steps, ends, reads, wishes, Answer, pushed, going, reserved_as, gone, refused, reading, empty, moving, page_taken, wished_for}
-use Rattle.trace_model.specs.WriterSteps.{with_history_event, in_phase, with_link, leave_answer, after_leave, after_begin, begin_answer, with_frame, new_reservation, with_reservation, in_reserved, with_new_tail, end_answer, with_released}
+use Rattle.trace_model.specs.WriterSteps.{with_history_event, in_phase, with_link, leave_answer, after_leave, with_frame, new_reservation, with_reservation, in_reserved, with_new_tail, end_answer, with_released}
 use Rattle.trace_model.specs.HeadMove.{with_head_claimed, after_next}
 use Rattle.trace_model.specs.ReaderSteps.{reader_at, reader_saw, next_header, taken_fill, after_swap, with_wish}
-use Rattle.trace_model.specs.StepConditions.{MayContinue, NeedsPage, IsGranted, IsTooLong}
+use Rattle.trace_model.specs.StepConditions.{MayContinue, NeedsPage, IsGranted, IsTooLong, begin_answer, after_begin}
 
 -- ---- the steps of a frame, phase by phase
 

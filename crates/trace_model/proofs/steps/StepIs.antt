@@ -6,14 +6,15 @@ use Rattle.trace_model.specs.Words.{encoded_len, slot_len}
 use Rattle.trace_model.specs.History.{Reservation, wished, reserved_records}
 use Rattle.trace_model.specs.Packing.{fill_len, FitsBehind, tail_of}
 use Rattle.trace_model.specs.Links.{Link, normal_link, header_link, update_link, same_link}
-use Rattle.trace_model.specs.Frames.{Kind, for_record, for_close, FrameState, waiting, reserved, left, number_of, Role, owner, helper, Phase, looking, looking_next, marking, releasing, wishing, Frame, Refusal}
+use Rattle.trace_model.specs.Frames.{Kind, for_record, for_close, FrameState, waiting, reserved, left, number_of, Role, owner, helper, Phase, idle, looking, claiming, looking_next, marking, clearing, opening, releasing, wishing, Frame, Refusal}
 use Rattle.trace_model.specs.Ring.{ReaderPhase, loading_head, loading_done, storing_spare_link, swapping, Core, link_into}
 use Rattle.trace_model.specs.Events.{Event, Answer, refused, Outcome, only_if}
-use Rattle.trace_model.specs.WriterSteps.{with_history_event, in_phase, with_link, new_reservation, with_reservation, in_reserved, with_released, tail_holds, unless_begun, is_full, is_too_long, push_record, fits_in_tail, needs_page, reserve, sees_link, load_link, open_fill, idle_step, end_frame, end_top, release_fill, is_granted, load_wish}
+use Rattle.trace_model.specs.WriterSteps.{with_history_event, in_phase, with_link, new_reservation, with_reservation, in_reserved, with_released, with_new_tail, tail_holds, unless_begun, push_record, needs_page, reserve, sees_link, load_link, open_fill, idle_step, end_frame, end_top, release_fill, is_granted, load_wish}
 use Rattle.trace_model.specs.HeadMove.{with_head_claimed, after_next, claim_head, unless_passed, load_next, mark_head, clear_update}
 use Rattle.trace_model.specs.ReaderSteps.{reader_at, reads_link, load_head}
 use Rattle.trace_model.specs.StepConditions.{MayContinue, NeedsPage, IsGranted, IsTooLong}
 use Rattle.trace_model.specs.Steps.{frame_step_of, top_step_of, read_step_of, step_of, Step}
+use Rattle.trace_model.proofs.steps.StepWords.{is_full, is_too_long, fits_in_tail, begins_as}
 use Rattle.trace_model.proofs.steps.StepCases.{BeginsAgain, ReserveStep, reserves, finds_nothing, is_crowded, is_worn, notes, LoadLinkStep, load_link_late, sees_free, sees_header, sees_update, ClaimHeadStep, claim_late, claims, claim_fails, LoadNextStep, load_next_late, sees_normal, sees_other, MarkHeadStep, mark_late, marks, mark_fails, ClearUpdateStep, clears, OpenFillStep, open_late, opens, ReleaseFillStep, releases, releases_last, LoadWishStep, grants, closes_more, goes_away, IdleStep, FrameStep, by_phase, LoadHeadStep, loads_header, loads_update, loads_owed, loads_passed, LoadDoneStep, finds_none, finds_closed, SwapHeadStep, swaps, swap_fails, ReadStep, PushRefused, all_stand, has_no_room, comes_late, StepCases, push_step, push_refused, close_step, close_refused, frame_step, frame_lacks, end_step, end_lacks, end_early, read_step, store_wish_step}
 use Rattle.trace_model.proofs.steps.StepSound.{same_link_true, same_link_from, holds_some, granted_true, granted_from, too_long_true}
 
@@ -66,7 +67,8 @@ module _ (n size : ℕ) (c : Core) (frame : Frame) (below : List Frame) (answer 
       ∙ if_no (nat_le LINK_FILLS (c.opened + n)) _ _ (lt-leb LINK_FILLS (c.opened + n) small) ∙ here _ answer _ after a is
 
   late_is : (noted : ℕ) (o : Outcome) → BeginsAgain c frame below noted answer after → Is (unless_begun noted c frame below o) answer after
-  late_is noted o step = if_no (noted == c.opened) _ _ (ne_eqb noted c.opened step.passed) ∙ here _ answer _ after step.answer_is step.after_is
+  late_is noted o step = if_no (noted == c.opened) _ _ (ne_eqb noted c.opened step.passed)
+      ∙ begins_as frame.kind frame.state c frame below ∙ here _ answer _ after step.answer_is step.after_is
 
   now_is : (noted : ℕ) (o : Outcome) → noted ≡ c.opened → unless_begun noted c frame below o ≡ o
   now_is noted o now = if_yes (noted == c.opened) _ _ (eq-eqb noted c.opened now)
@@ -160,7 +162,8 @@ module _ (n size : ℕ) (c : Core) (frame : Frame) (below : List Frame) (answer 
 
   open_fill_is : (noted page : ℕ) → OpenFillStep n c frame below noted page answer after → Is (open_fill c frame below noted page) answer after
   open_fill_is noted page (open_late step) = late_is noted _ step
-  open_fill_is noted page (opens now a is) = now_is noted _ now ∙ here _ answer _ after a is
+  open_fill_is noted page (opens now a is) =
+      now_is noted _ now ∙ begins_as frame.kind frame.state (with_new_tail c page) frame below ∙ here _ answer _ after a is
 
   release_fill_is : ReleaseFillStep c frame below answer after → Is (release_fill c frame below) answer after
   release_fill_is (releases alone more a is) =

@@ -9,12 +9,13 @@ use Rattle.trace_model.specs.Links.{Mark, normal, header, update, Link, normal_l
 use Rattle.trace_model.specs.Frames.{Kind, for_record, for_close, FrameState, waiting, reserved, left, number_of, Role, owner, helper, Phase, idle, looking, claiming, looking_next, marking, clearing, opening, releasing, wishing, Frame, too_deep, too_long, late_moment}
 use Rattle.trace_model.specs.Ring.{ReaderPhase, loading_head, loading_done, storing_spare_link, swapping, Core, link_into}
 use Rattle.trace_model.specs.Events.{Event, pushes, pushes_close, steps, ends, reads, wishes, Answer, Outcome, only_if}
-use Rattle.trace_model.specs.WriterSteps.{new_reservation, tail_holds, unless_begun, is_full, is_too_long, push_record, push_close_frame, fits_in_tail, needs_page, reserve, sees_link, load_link, open_fill, idle_step, end_frame, end_top, release_fill, is_granted, load_wish}
+use Rattle.trace_model.specs.WriterSteps.{begins_again, with_new_tail, new_reservation, tail_holds, unless_begun, push_record, push_close_frame, needs_page, reserve, sees_link, load_link, open_fill, idle_step, end_frame, end_top, release_fill, is_granted, load_wish}
 use Rattle.trace_model.specs.HeadMove.{claim_head, unless_passed, load_next, mark_head, clear_update}
 use Rattle.trace_model.specs.ReaderSteps.{reads_link}
-use Rattle.trace_model.specs.StepConditions.{MayContinue, NeedsPage, IsGranted, IsTooLong}
+use Rattle.trace_model.specs.StepConditions.{MayContinue, NeedsPage, IsGranted, IsTooLong, begin_answer, after_begin}
 use Rattle.trace_model.specs.Steps.{frame_step_of, top_step_of, read_step_of, step_of, Step}
 use Rattle.trace_model.proofs.words.LinkWords.{mark_of}
+use Rattle.trace_model.proofs.steps.StepWords.{is_full, is_too_long, fits_in_tail, begins_as}
 use Rattle.trace_model.proofs.steps.StepCases.{BeginsAgain, ReserveStep, reserves, finds_nothing, is_crowded, is_worn, notes, LoadLinkStep, load_link_late, sees_free, sees_header, sees_update, ClaimHeadStep, claim_late, claims, claim_fails, LoadNextStep, load_next_late, sees_normal, sees_other, MarkHeadStep, mark_late, marks, mark_fails, ClearUpdateStep, clears, OpenFillStep, open_late, opens, ReleaseFillStep, releases, releases_last, LoadWishStep, grants, closes_more, goes_away, IdleStep, FrameStep, LoadHeadStep, loads_header, loads_update, loads_owed, loads_passed, LoadDoneStep, finds_none, finds_closed, SwapHeadStep, swaps, swap_fails, ReadStep, all_stand, has_no_room, comes_late, StepCases, push_step, push_refused, close_step, close_refused, frame_step, frame_lacks, end_step, end_lacks, end_early, read_step, store_wish_step}
 
 -- what an outcome says, if there is one
@@ -89,11 +90,18 @@ module _ (n size : ℕ) (c : Core) (frame : Frame) (below : List Frame) where
       (λ holds. needs_page_sound (subst (NeedsPage size c) (sym e) (tail_holds_true c holds)))
       (λ none. finds_nothing e (tail_holds_false c none) refl refl)
 
+  -- what a frame does once its fill is begun, in this state
+  begun_by : (P : Answer → Core → Type 0) (d : Core)
+      → P (begin_answer frame.kind frame.state below) (after_begin frame.kind frame.state d frame below)
+      → Sound P (begins_again frame.kind frame.state d frame below)
+  begun_by P d holds = subst (Sound P) (sym (begins_as frame.kind frame.state d frame below)) holds
+
   begun_sound : (P : Answer → Core → Type 0) (noted : ℕ) (o : Outcome) → (noted ≡ c.opened → Sound P o)
       → ((answer : Answer) (after : Core) → BeginsAgain c frame below noted answer after → P answer after)
       → Sound P (unless_begun noted c frame below o)
   begun_sound P noted o now late = by_if P (noted == c.opened) _ _ (λ e. now (eqb-true noted c.opened e))
-      (λ e. late _ _ record { passed = eqb-false noted c.opened e; answer_is = refl; after_is = refl })
+      (λ e. begun_by P c (late (begin_answer frame.kind frame.state below) (after_begin frame.kind frame.state c frame below)
+      record { passed = eqb-false noted c.opened e; answer_is = refl; after_is = refl }))
 
   passed_sound : (P : Answer → Core → Type 0) (role : Role) (noted : ℕ) (o : Outcome) → (MayContinue role noted c.opened → Sound P o)
       → (role ≡ helper → (answer : Answer) (after : Core) → BeginsAgain c frame below noted answer after → P answer after)
@@ -166,7 +174,7 @@ module _ (n size : ℕ) (c : Core) (frame : Frame) (below : List Frame) where
 
   open_fill_sound : (noted page : ℕ) → Sound (OpenFillStep n c frame below noted page) (open_fill c frame below noted page)
   open_fill_sound noted page = begun_sound (OpenFillStep n c frame below noted page) noted _
-      (λ now. opens now refl refl)
+      (λ now. begun_by (OpenFillStep n c frame below noted page) (with_new_tail c page) (opens now refl refl))
       (λ answer after late. open_late late)
 
 release_fill_sound : (c : Core) (frame : Frame) (below : List Frame) → Sound (ReleaseFillStep c frame below) (release_fill c frame below)
