@@ -1,9 +1,11 @@
 -- What calls answer, as numbers of C; and what a handle held, if its end was taken out.
-use Rattle.std.proofs.Common.{◌≡◌, ℕ, ℤ, List, length, Option, Some, None, is_some, IsSomeAnd, refl, sym, ap, ◌∙◌, subst, w32, to_z, of_z}
+use Rattle.std.proofs.Common.{◌≡◌, ℕ, ℤ, pos, List, length, Option, Some, None, is_some, IsSomeAnd, refl, sym, ap, ◌∙◌, subst, w32, to_z, of_z}
 use Rattle.std.proofs.lemmas.Bool.{false≢true}
 use Rattle.nested_writer.specs.declared.fault.WriteFault.{WriteFault}
 use Rattle.ring_shared.specs.Value.{WriterValue}
-use Rattle.ring_shared.specs.WholeWrites.{IsRefusedWrite}
+use Rattle.ring_shared.specs.WholeWrites.{IsWritten, IsRefusedWrite}
+use Rattle.ring_shared.specs.Rooms.{rooms}
+use Rattle.ring_frames.specs.Answers.{KeepsPayloads}
 use Rattle.tracering_c.specs.declared.ends.ReaderEnd.{ReaderEnd}
 use Rattle.tracering_c.specs.declared.taken.Taken.{Taken}
 use Rattle.tracering_c.specs.Codes.{fault_code}
@@ -13,18 +15,29 @@ abbrev fault_or : WriteFault → Option WriteFault → WriteFault
 fault_or fault None = fault
 fault_or fault (Some other) = other
 
-pub refused_so : (old : WriterValue) (moment : ℕ) (payload : List ℕ) (code : ℤ) (new : WriterValue) (fault : WriteFault) → code ≡ fault_code fault → IsRefusedWrite old.shape old.part moment (length payload) fault new.part → WritesSo old moment payload code new
-refused_so old moment payload code new fault code_is is = record {
+pub written_so : (old : WriterValue) (moment : ℕ) (payload : List ℕ) (new : WriterValue) → IsWritten old.shape old.part moment payload new.part → KeepsPayloads old.frames.stack new.frames.stack → rooms new ≡ rooms old → WritesSo old moment payload (pos 0) new
+written_so old moment payload new is payloads same = record {
+  refusal = None;
+  written = λ none. (refl, is);
+  refused = λ fault some. absurd (false≢true (ap is_some some));
+  payloads = payloads;
+  rooms_are = same;
+}
+
+pub refused_so : (old : WriterValue) (moment : ℕ) (payload : List ℕ) (code : ℤ) (new : WriterValue) (fault : WriteFault) → code ≡ fault_code fault → IsRefusedWrite old.shape old.part moment (length payload) fault new.part → KeepsPayloads old.frames.stack new.frames.stack → rooms new ≡ rooms old → WritesSo old moment payload code new
+refused_so old moment payload code new fault code_is is payloads same = record {
   refusal = Some fault;
   written = λ none. absurd (false≢true (sym (ap is_some none)));
-  refused = λ other same. subst (λ (f : WriteFault). (code ≡ fault_code f) × IsRefusedWrite old.shape old.part moment (length payload) f new.part) (ap (fault_or fault) same) (code_is, is);
+  refused = λ other equal. subst (λ (f : WriteFault). (code ≡ fault_code f) × IsRefusedWrite old.shape old.part moment (length payload) f new.part) (ap (fault_or fault) equal) (code_is, is);
+  payloads = payloads;
+  rooms_are = same;
 }
 
 -- the number of a take's answer fits its type
 pub takes_so : (old : ReaderEnd) (out : List ℕ) (was : Taken) (code : ℤ) (left : List ℕ) (reported : Taken) (new : ReaderEnd) → TakesSo old out was code left reported new → TakesSo old out was (to_z w32 (of_z w32 code)) left reported new
-takes_so old out was code left reported new (is_page page missed c t g d) = is_page page missed (ap (λ (n : ℤ). to_z w32 (of_z w32 n)) c) t g d
-takes_so old out was code left reported new (is_empty done c e a o w) = is_empty done (ap (λ (n : ℤ). to_z w32 (of_z w32 n)) c) e a o w
-takes_so old out was code left reported new (is_moving fill c m o w) = is_moving fill (ap (λ (n : ℤ). to_z w32 (of_z w32 n)) c) m o w
+takes_so old out was code left reported new (is_page page missed c t a g d) = is_page page missed (ap (λ (n : ℤ). to_z w32 (of_z w32 n)) c) t a g d
+takes_so old out was code left reported new (is_empty done back c e a o w) = is_empty done back (ap (λ (n : ℤ). to_z w32 (of_z w32 n)) c) e a o w
+takes_so old out was code left reported new (is_moving fill back c m a o w) = is_moving fill back (ap (λ (n : ℤ). to_z w32 (of_z w32 n)) c) m a o w
 takes_so old out was code left reported new (has_no_room c s n o w) = has_no_room (ap (λ (k : ℤ). to_z w32 (of_z w32 k)) c) s n o w
 
 -- an end that was taken out is what the handle held

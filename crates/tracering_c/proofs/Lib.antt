@@ -1,6 +1,6 @@
-pub mod WriterSteps
-pub mod ReaderSteps
-pub mod CollectorSteps
+pub mod HeldSteps
+pub mod HeldWalks
+pub mod HeldKinds
 pub mod FaultCodes
 pub mod Unread
 pub mod CallAnswers

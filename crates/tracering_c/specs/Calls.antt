@@ -1,5 +1,5 @@
 -- What the calls of C make of a ring's ends.
-use Rattle.std.specs.Prelude.{◌≡◌, ◌+◌, ◌<◌, ℕ, ℤ, pos, ◌++◌, List, drop, length, Option, Some, None}
+use Rattle.std.specs.Prelude.{◌≡◌, ◌≢◌, ◌+◌, ◌<◌, ◌≤◌, ℕ, ℤ, pos, ◌++◌, List, [], ◌∷◌, drop, length, Option, Some, None}
 use Rattle.trace_model.specs.declared.numbers.FillNo.{FillNo}
 use Rattle.trace_model.specs.Steps as model
 use Rattle.trace_model.specs.ParcelBytes.{DecodesParcel}
@@ -7,17 +7,25 @@ use Rattle.nested_writer.specs.declared.fault.WriteFault.{WriteFault}
 use Rattle.nested_writer.specs.Lent.{Lent, lent_bytes, with_bytes}
 use Rattle.nested_writer.specs.Lending.{IsLent}
 use Rattle.ring_frames.specs.declared.answer.Answer.{Answer}
-use Rattle.ring_frames.specs.Answers.{top_bytes}
+use Rattle.ring_frames.specs.declared.answer.Answer.TheVariants.{Pushed, Ended}
+use Rattle.nested_writer.specs.declared.stack.leave.Ended.TheVariants.{Pending}
+use Rattle.ring_frames.specs.Answers.{top_bytes, KeepsPayloads, EndsPayload}
 use Rattle.page_image.specs.Contents.{Contents}
 use Rattle.parcel_buffer.specs.Fronts.{HasAtFront}
 use Rattle.page_numbers.specs.Written.{bytes_of_page}
 use Rattle.page_numbers.specs.Parcels.{parcel_of}
-use Rattle.ring_shared.specs.Value.{WriterValue}
+use Rattle.trace_model.specs.declared.limits.TheConstants.{MAX_CPUS}
+use Rattle.trace_model.specs.Ring.{HasRingLimits}
+use Rattle.ring_shared.specs.Value.{WriterValue, ReaderValue}
+use Rattle.ring_shared.specs.Rooms.{rooms, IsOneMore}
+use Rattle.ring_shared.specs.Promises.{KeepsSlots}
+use Rattle.ring_shared.specs.declared.take.Take.{Take}
+use Rattle.ring_shared.specs.declared.take.Take.TheVariants.{Page, Empty, Moving}
 use Rattle.ring_shared.specs.Lending.{with_lent}
 use Rattle.ring_shared.specs.Calls.{MakesSome}
 use Rattle.ring_shared.specs.Finishing.{Finishes}
 use Rattle.ring_shared.specs.WholeWrites.{IsWritten, IsRefusedWrite}
-use Rattle.ring_shared.specs.Takes.{IsPageTaken, IsEmptyFound, IsSentAway}
+use Rattle.ring_shared.specs.Takes.{IsPageTaken, IsEmptyFound, IsSentAway, TakesSteps, empty_of}
 use Rattle.ring_shared.specs.Settling.{IsSettled, unread_page}
 use Rattle.ring_shared.specs.declared.settling.Settled.{Settled}
 use Rattle.tracering_c.specs.declared.ends.ReaderEnd.{ReaderEnd}
@@ -26,29 +34,41 @@ use Rattle.tracering_c.specs.Codes.{fault_code, answer_code}
 
 -- ---- the writer
 
--- The record is written whole, and the answer is 0; or it is refused, and the answer is the refusal's number.
+-- The record is written whole, and the answer is 0; or it is refused, and the answer is the refusal's number. The
+-- payloads that aren't ended stay in their slots, which have the same room.
 pub record WritesSo (old : WriterValue) (moment : ℕ) (payload : List ℕ) (code : ℤ) (new : WriterValue) : Type 0 where
   pub refusal : Option WriteFault
   pub written : refusal ≡ None → (code ≡ pos 0) × IsWritten old.shape old.part moment payload new.part
   pub refused : (fault : WriteFault)
       → refusal ≡ Some fault
       → (code ≡ fault_code fault) × IsRefusedWrite old.shape old.part moment (length payload) fault new.part
+  pub payloads : KeepsPayloads old.frames.stack new.frames.stack
+  pub rooms_are : rooms new ≡ rooms old
 
--- The event's step is made, and the number is that of its answer.
-pub record MakesSo (old : WriterValue) (event : model.Event) (code : ℤ) (new : WriterValue) : Type 0 where
+-- A frame with this room is pushed, or refused. The payloads that aren't ended stay in their slots.
+pub record BeginsSo (old : WriterValue) (event : model.Event) (room : Option ℕ) (code : ℤ) (new : WriterValue)
+    : Type 0 where
   pub answer : Answer
   pub makes : MakesSome old event answer new
   pub code_is : code ≡ answer_code answer
+  pub payloads : KeepsPayloads old.frames.stack new.frames.stack
+  pub room_is : answer ≡ Pushed → rooms new ≡ room ∷ rooms old
 
--- The frame on top is stepped as far as it gets, and the number is that of its answer.
+-- The frame on top is stepped as far as it gets, and the number is that of its answer. The payloads that aren't ended
+-- stay in their slots, and a slot that is reserved holds only zeros.
 pub record FinishesSo (old : WriterValue) (code : ℤ) (new : WriterValue) : Type 0 where
   pub answer : Answer
   pub finishes : Finishes old.shape old.part answer new.part
   pub code_is : code ≡ answer_code answer
+  pub slots : KeepsSlots old answer new
 
--- The frame on top ends with the payload in its slot.
-abbrev pub EndsSo : WriterValue → ℤ → WriterValue → Type 0
-EndsSo old code new = MakesSo old (model.ends (top_bytes old.frames.stack old.frames.stack.frames)) code new
+-- The frame on top ends with the payload in its slot; the payloads of the others stay in theirs.
+pub record EndsSo (old : WriterValue) (code : ℤ) (new : WriterValue) : Type 0 where
+  pub answer : Answer
+  pub makes : MakesSome old (model.ends (top_bytes old.frames.stack old.frames.stack.frames)) answer new
+  pub code_is : code ≡ answer_code answer
+  pub payloads : EndsPayload old.frames.stack new.frames.stack
+  pub room_is : answer ≡ Ended Pending → IsOneMore (rooms old) (rooms new)
 
 -- The bytes are put to the front of the slot of the record on top, and nothing else of the writer changes.
 pub record IsPut (old : WriterValue) (bytes : List ℕ) (new : WriterValue) : Type 0 where
@@ -71,6 +91,11 @@ pub record IsGiven (cpu : ℕ) (page : Contents) (missed : ℕ) (out left : List
   pub bytes : HasAtFront out (bytes_of_page cpu page missed) left
   pub numbers : AreNumbersOf page missed (length (bytes_of_page cpu page missed)) reported
 
+-- The reader has this answer by its steps, and knows since then whether it found nothing.
+pub record AnswersTake (old : ReaderValue) (answer : Take) (new : ReaderValue) : Type 0 where
+  pub steps : TakesSteps old.shape old.part answer new.part
+  pub empty_at : new.empty_at ≡ empty_of answer
+
 -- A page is taken and given, and the answer is 0; or nothing is taken and nothing is given: no closed page is unread,
 -- or a move of the head isn't finished, or the buffer is shorter than a parcel of the ring.
 pub data TakesSo (old : ReaderEnd) (out : List ℕ) (was : Taken) (code : ℤ) (left : List ℕ) (reported : Taken)
@@ -78,19 +103,23 @@ pub data TakesSo (old : ReaderEnd) (out : List ℕ) (was : Taken) (code : ℤ) (
   is_page : (page : Contents) (missed : ℕ)
       → code ≡ pos 0
       → IsPageTaken old.reader.shape old.reader.part page missed new.reader.part
+      → AnswersTake old.reader (Page page missed) new.reader
       → IsGiven old.cpu.0 page missed out left reported
       → DecodesParcel (bytes_of_page old.cpu.0 page missed) (parcel_of old.cpu.0 page missed)
       → TakesSo old out was code left reported new
   is_empty : (done : ℕ)
+      → (back : List ℕ)
       → code ≡ pos 15
       → IsEmptyFound old.reader.shape old.reader.part done new.reader.part
-      → new.reader.empty_at ≡ Some done
+      → AnswersTake old.reader (Empty done back) new.reader
       → left ≡ out
       → reported ≡ was
       → TakesSo old out was code left reported new
   is_moving : (fill : FillNo)
+      → (back : List ℕ)
       → code ≡ pos 16
       → IsSentAway old.reader.shape old.reader.part fill.0 new.reader.part
+      → AnswersTake old.reader (Moving fill back) new.reader
       → left ≡ out
       → reported ≡ was
       → TakesSo old out was code left reported new
@@ -117,3 +146,31 @@ pub record SettlesSo (writer : WriterValue) (end : ReaderEnd) (out left : List �
   pub settled : Settled
   pub is : IsSettled writer.shape writer.part end.reader.part settled
   pub given : IsLastGiven end.cpu.0 (unread_page settled) out left reported
+
+-- Why two ends are settled into a buffer of this room, or aren't: the first of these that holds is answered.
+pub data AnswersSettle (writer : WriterValue) (end : ReaderEnd) (room : ℕ) (code : ℤ) : Type 0 where
+  not_at_rest : code ≡ pos 18 → writer.part.frames ≢ [] → AnswersSettle writer end room code
+  unread : code ≡ pos 19
+      → writer.part.frames ≡ []
+      → end.reader.empty_at ≢ Some writer.part.done
+      → AnswersSettle writer end room code
+  no_room : code ≡ pos 17
+      → writer.part.frames ≡ []
+      → end.reader.empty_at ≡ Some writer.part.done
+      → room < 48 + end.reader.shape.size
+      → AnswersSettle writer end room code
+  settles : code ≡ pos 0
+      → writer.part.frames ≡ []
+      → end.reader.empty_at ≡ Some writer.part.done
+      → 48 + end.reader.shape.size ≤ room
+      → AnswersSettle writer end room code
+
+-- ---- a new ring
+
+-- Why two handles that have nothing get a ring of this CPU and size, or don't: the first of these that holds is
+-- answered.
+pub data AnswersNew (cpu pages size : ℕ) (code : ℤ) : Type 0 where
+  bad_cpu : code ≡ pos 14 → MAX_CPUS ≤ cpu → AnswersNew cpu pages size code
+  bad_size : code ≡ pos 13 → cpu < MAX_CPUS → (HasRingLimits pages size → ⊥) → AnswersNew cpu pages size code
+  no_memory : code ≡ pos 12 → cpu < MAX_CPUS → HasRingLimits pages size → AnswersNew cpu pages size code
+  is_made : code ≡ pos 0 → cpu < MAX_CPUS → HasRingLimits pages size → AnswersNew cpu pages size code

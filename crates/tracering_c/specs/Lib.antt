@@ -1,6 +1,4 @@
-pub mod Writers
-pub mod Readers
-pub mod Collectors
+pub mod Held
 pub mod Codes
 pub mod Ends
 pub mod Calls

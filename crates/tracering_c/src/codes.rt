@@ -1,4 +1,5 @@
-//! The numbers by which C is answered: 0 and below if the call did something, else why it did nothing.
+//! The numbers by which C is answered: 0 and below if the call did what it says, else a positive one: why it didn't;
+//! what is changed all the same, each call says.
 use collector::{AddFault, Added};
 use listed_collector::{Given, Refusal};
 use nested_writer::WriteFault;
@@ -14,8 +15,20 @@ pub const KNOWN: i32 = -2;
 pub const RESERVED: i32 = -1;
 /// The call did what it says.
 pub const DONE: i32 = 0;
+/// Four frames are begun and not completed.
+const TOO_DEEP: i32 = 1;
 /// The payload doesn't fit.
 pub const TOO_LONG: i32 = 2;
+/// The moment has no room in a record.
+const LATE_MOMENT: i32 = 3;
+/// A page is needed, and all are begun and not closed.
+const CROWDED: i32 = 4;
+/// A page is needed, and the ring has begun its last one.
+const WORN: i32 = 5;
+/// Nothing is begun.
+const NO_FRAME: i32 = 6;
+/// The frame on top has no record.
+const NOT_RESERVED: i32 = 7;
 /// The handle has nothing: it is new, or it was freed.
 pub const ABSENT: i32 = 8;
 /// A handle that something new is to go to has something.
@@ -36,6 +49,24 @@ pub const NO_ROOM: i32 = 17;
 pub const NOT_AT_REST: i32 = 18;
 /// The last take didn't find that all closed pages are taken.
 pub const UNREAD: i32 = 19;
+/// There are fewer bytes than an image's header takes.
+const TOO_SHORT: i32 = 20;
+/// The size that an image states is above what follows, or the image is too long.
+const BAD_IMAGE_SIZE: i32 = 21;
+/// A stored count of missed records is stated, and there are no bytes for it.
+const BAD_COUNT: i32 = 22;
+/// The data ends within a word.
+const CUT: i32 = 23;
+/// No word has this length.
+const BAD_LENGTH: i32 = 24;
+/// A moment doesn't fit 64 bits.
+const TIME_OVERFLOW: i32 = 25;
+/// The number after the last record's doesn't fit 64 bits.
+const NUMBER_OVERFLOW: i32 = 26;
+/// More numbers are missing before the first record's than there are.
+const MISSED_TOO_MANY: i32 = 27;
+/// The page states other missed records than the number before it.
+const MISSED_DIFFERS: i32 = 28;
 /// There are two different records of one number.
 pub const CLASH: i32 = 29;
 /// A number has a record and is missing.
@@ -51,13 +82,13 @@ pub fn code_of(fault: WriteFault) -> i32
     ensures { result ≡ fault_code fault }
 {
     match fault {
-        WriteFault::TooDeep => 1,
+        WriteFault::TooDeep => TOO_DEEP,
         WriteFault::TooLong => TOO_LONG,
-        WriteFault::LateMoment => 3,
-        WriteFault::Crowded => 4,
-        WriteFault::Worn => 5,
-        WriteFault::NoFrame => 6,
-        WriteFault::NotReserved => 7,
+        WriteFault::LateMoment => LATE_MOMENT,
+        WriteFault::Crowded => CROWDED,
+        WriteFault::Worn => WORN,
+        WriteFault::NoFrame => NO_FRAME,
+        WriteFault::NotReserved => NOT_RESERVED,
     }
 }
 
@@ -66,9 +97,9 @@ fn code_of_word(fault: WordFault) -> i32
     ensures { result ≡ word_code fault }
 {
     match fault {
-        WordFault::Cut(_) => 23,
-        WordFault::BadLength(_) => 24,
-        WordFault::TimeOverflow(_) => 25,
+        WordFault::Cut(_) => CUT,
+        WordFault::BadLength(_) => BAD_LENGTH,
+        WordFault::TimeOverflow(_) => TIME_OVERFLOW,
     }
 }
 
@@ -77,9 +108,9 @@ fn code_of_image(fault: ImageFault) -> i32
     ensures { result ≡ image_code fault }
 {
     match fault {
-        ImageFault::TooShort => 20,
-        ImageFault::BadSize => 21,
-        ImageFault::BadCount => 22,
+        ImageFault::TooShort => TOO_SHORT,
+        ImageFault::BadSize => BAD_IMAGE_SIZE,
+        ImageFault::BadCount => BAD_COUNT,
         ImageFault::Word(fault) => code_of_word(fault),
         ImageFault::NoMemory => NO_MEMORY,
     }
@@ -91,9 +122,9 @@ fn code_of_parcel(fault: ParcelFault) -> i32
 {
     match fault {
         ParcelFault::Image(fault) => code_of_image(fault),
-        ParcelFault::NumberOverflow => 26,
-        ParcelFault::MissedTooMany => 27,
-        ParcelFault::MissedDiffers => 28,
+        ParcelFault::NumberOverflow => NUMBER_OVERFLOW,
+        ParcelFault::MissedTooMany => MISSED_TOO_MANY,
+        ParcelFault::MissedDiffers => MISSED_DIFFERS,
         ParcelFault::BadCpu => BAD_CPU,
         ParcelFault::NoMemory => NO_MEMORY,
     }

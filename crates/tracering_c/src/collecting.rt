@@ -2,6 +2,7 @@
 ghost use Rattle.std.specs.Prelude.{◌≡◌, ◌≢◌, ◌↔◌, Some, None, IfSome, IsSomeAnd, is_some, true, pos, negsuc};
 ghost use Rattle.trace_model.specs.Collection.{IsSame};
 ghost use Rattle.tracering_c.specs.declared.ends.CollectorEnd.{CollectorEnd as EndValue};
+ghost use Rattle.tracering_c.specs.Held.{collector_of};
 ghost use Rattle.tracering_c.specs.CollectorCalls.{IsEmpty, AddsBytes, MissesSo, IsListed, NextSo};
 
 use crate::codes::{
@@ -17,9 +18,10 @@ use trace_model::CpuId;
 /// A collector without a parcel, for a handle that has none.
 #[unsafe(no_mangle)]
 pub extern "C" fn tracering_raw_collector_new(alloc: Global, c: &mut CollectorHandle) -> i32
-    ensures empty { result ≡ pos 0 → IsSomeAnd c.new.held.value (λ end. IsEmpty end.listed) }
+    ensures empty { result ≡ pos 0 → IsSomeAnd (collector_of c.new.held.value) (λ end. IsEmpty end.listed) }
     ensures stays { result ≢ pos 0 → c.new ≡ c.old }
-    ensures in_use { is_some c.old.held.value ≡ true → result ≡ pos 9 }
+    ensures no_memory { collector_of c.old.held.value ≡ None → result ≢ pos 0 → result ≡ pos 12 }
+    ensures in_use { is_some (collector_of c.old.held.value) ≡ true → result ≡ pos 9 }
 {
     if c.live {
         return IN_USE;
@@ -40,16 +42,17 @@ pub extern "C" fn tracering_raw_collector_add(
     bytes: &[u8],
     at: &mut FaultAt,
 ) -> i32
-    ensures absent { c.old.held.value ≡ None → result ≡ pos 8 }
-    ensures stays { c.old.held.value ≡ None → c.new ≡ c.old }
-    ensures at_stays { c.old.held.value ≡ None → at.new ≡ at.old }
-    ensures adds { (old : EndValue) → c.old.held.value ≡ Some old
-        → IsSomeAnd c.new.held.value (λ new. AddsBytes old.listed bytes.now at.old result at.new new.listed) }
+    ensures absent { collector_of c.old.held.value ≡ None → result ≡ pos 8 }
+    ensures stays { collector_of c.old.held.value ≡ None → c.new ≡ c.old }
+    ensures at_stays { collector_of c.old.held.value ≡ None → at.new ≡ at.old }
+    ensures adds { (old : EndValue) → collector_of c.old.held.value ≡ Some old
+        → IsSomeAnd (collector_of c.new.held.value) (λ new.
+        AddsBytes old.listed bytes.now at.old result at.new new.listed) }
 {
     if !c.live {
         return ABSENT;
     }
-    add_to(alloc, &mut c.held.as_mut().listed, bytes, at)
+    add_to(alloc, &mut c.held.collector().listed, bytes, at)
 }
 
 /// `tracering_raw_collector_add`, of the collector itself.
@@ -69,17 +72,17 @@ pub extern "C" fn tracering_raw_collector_missing(
     out: &mut [Run],
     count: &mut usize,
 ) -> i32
-    ensures absent { c.old.held.value ≡ None → result ≡ pos 8 }
-    ensures out_stays { c.old.held.value ≡ None → out.new ≡ out.old }
-    ensures count_stays { c.old.held.value ≡ None → count.new ≡ count.old }
-    ensures misses { (old : EndValue) → c.old.held.value ≡ Some old
+    ensures absent { collector_of c.old.held.value ≡ None → result ≡ pos 8 }
+    ensures out_stays { collector_of c.old.held.value ≡ None → out.new ≡ out.old }
+    ensures count_stays { collector_of c.old.held.value ≡ None → count.new ≡ count.old }
+    ensures misses { (old : EndValue) → collector_of c.old.held.value ≡ Some old
         → MissesSo old.listed.collector cpu out.old result out.new count.new }
-    ensures stays { c.new.held.value ≡ c.old.held.value }
+    ensures stays { collector_of c.new.held.value ≡ collector_of c.old.held.value }
 {
     if !c.live {
         return ABSENT;
     }
-    missing_of(&c.held.as_mut().listed, cpu, out, count)
+    missing_of(&c.held.collector().listed, cpu, out, count)
 }
 
 /// `tracering_raw_collector_missing`, of the collector itself.
@@ -101,17 +104,17 @@ pub extern "C" fn tracering_raw_collector_list(
     c: &mut CollectorHandle,
     count: &mut usize,
 ) -> i32
-    ensures absent { c.old.held.value ≡ None → result ≡ pos 8 }
-    ensures listed { (old : EndValue) → c.old.held.value ≡ Some old → result ≡ pos 0
-        → IsSomeAnd c.new.held.value (λ new. IsListed old.listed count.new new.listed) }
-    ensures no_memory { (old : EndValue) → c.old.held.value ≡ Some old → result ≢ pos 0 → result ≡ pos 12 }
-    ensures stays { result ≢ pos 0 → c.new.held.value ≡ c.old.held.value }
+    ensures absent { collector_of c.old.held.value ≡ None → result ≡ pos 8 }
+    ensures listed { (old : EndValue) → collector_of c.old.held.value ≡ Some old → result ≡ pos 0
+        → IsSomeAnd (collector_of c.new.held.value) (λ new. IsListed old.listed count.new new.listed) }
+    ensures no_memory { (old : EndValue) → collector_of c.old.held.value ≡ Some old → result ≢ pos 0 → result ≡ pos 12 }
+    ensures stays { result ≢ pos 0 → collector_of c.new.held.value ≡ collector_of c.old.held.value }
     ensures count_stays { result ≢ pos 0 → count.new ≡ count.old }
 {
     if !c.live {
         return ABSENT;
     }
-    list_of(alloc, &mut c.held.as_mut().listed, count)
+    list_of(alloc, &mut c.held.collector().listed, count)
 }
 
 /// `tracering_raw_collector_list`, of the collector itself.
@@ -135,17 +138,18 @@ pub extern "C" fn tracering_raw_collector_next(
     out: &mut [u8],
     line: &mut Listed,
 ) -> i32
-    ensures absent { c.old.held.value ≡ None → result ≡ pos 8 }
-    ensures stays { c.old.held.value ≡ None → c.new ≡ c.old }
-    ensures out_stays { c.old.held.value ≡ None → out.new ≡ out.old }
-    ensures line_stays { c.old.held.value ≡ None → line.new ≡ line.old }
-    ensures next { (old : EndValue) → c.old.held.value ≡ Some old → IsSomeAnd c.new.held.value (λ new.
+    ensures absent { collector_of c.old.held.value ≡ None → result ≡ pos 8 }
+    ensures stays { collector_of c.old.held.value ≡ None → c.new ≡ c.old }
+    ensures out_stays { collector_of c.old.held.value ≡ None → out.new ≡ out.old }
+    ensures line_stays { collector_of c.old.held.value ≡ None → line.new ≡ line.old }
+    ensures next { (old : EndValue) → collector_of c.old.held.value ≡ Some old
+        → IsSomeAnd (collector_of c.new.held.value) (λ new.
         NextSo old.listed out.old line.old result out.new line.new new.listed) }
 {
     if !c.live {
         return ABSENT;
     }
-    next_of(&mut c.held.as_mut().listed, out, line)
+    next_of(&mut c.held.collector().listed, out, line)
 }
 
 /// `tracering_raw_collector_next`, of the collector itself.
@@ -163,21 +167,21 @@ pub extern "C" fn tracering_raw_collector_same(
     c: &mut CollectorHandle,
     other: &mut CollectorHandle,
 ) -> i32
-    ensures absent { c.old.held.value ≡ None → result ≡ pos 8 }
-    ensures other_absent { other.old.held.value ≡ None → result ≡ pos 8 }
+    ensures absent { collector_of c.old.held.value ≡ None → result ≡ pos 8 }
+    ensures other_absent { collector_of other.old.held.value ≡ None → result ≡ pos 8 }
     ensures same { (left : EndValue) (right : EndValue)
-        → c.old.held.value ≡ Some left → other.old.held.value ≡ Some right
+        → collector_of c.old.held.value ≡ Some left → collector_of other.old.held.value ≡ Some right
         → result ≡ pos 0 ↔ IsSame left.listed.collector right.listed.collector }
     ensures different { (left : EndValue) (right : EndValue)
-        → c.old.held.value ≡ Some left → other.old.held.value ≡ Some right
+        → collector_of c.old.held.value ≡ Some left → collector_of other.old.held.value ≡ Some right
         → result ≢ pos 0 → result ≡ negsuc 2 }
-    ensures stays { c.new.held.value ≡ c.old.held.value }
-    ensures other_stays { other.new.held.value ≡ other.old.held.value }
+    ensures stays { collector_of c.new.held.value ≡ collector_of c.old.held.value }
+    ensures other_stays { collector_of other.new.held.value ≡ collector_of other.old.held.value }
 {
     if !c.live || !other.live {
         return ABSENT;
     }
-    same_of(&c.held.as_mut().listed, &other.held.as_mut().listed)
+    same_of(&c.held.collector().listed, &other.held.collector().listed)
 }
 
 /// `tracering_raw_collector_same`, of the collectors themselves.
@@ -191,13 +195,13 @@ fn same_of(left: &ListedCollector, right: &ListedCollector) -> i32
     DIFFERENT
 }
 
-/// Frees the collector.
+/// Frees the collector: it is freed at most once. That its memory is released is tested, and not proved.
 #[unsafe(no_mangle)]
 pub extern "C" fn tracering_raw_collector_free(alloc: Global, c: &mut CollectorHandle) -> i32
-    ensures absent { c.old.held.value ≡ None → result ≡ pos 8 }
-    ensures stays { c.old.held.value ≡ None → c.new ≡ c.old }
-    ensures freed { (x : EndValue) → c.old.held.value ≡ Some x → result ≡ pos 0 }
-    ensures none { c.new.held.value ≡ None }
+    ensures absent { collector_of c.old.held.value ≡ None → result ≡ pos 8 }
+    ensures stays { collector_of c.old.held.value ≡ None → c.new ≡ c.old }
+    ensures freed { (x : EndValue) → collector_of c.old.held.value ≡ Some x → result ≡ pos 0 }
+    ensures none { collector_of c.new.held.value ≡ None }
 {
     let Some(_end) = c.take_out(alloc) else {
         return ABSENT;

@@ -1,11 +1,12 @@
-//! The handles, as C keeps them.
+//! The handles, as C keeps them. Each is a type of its own, since C's types keep them apart.
 ghost use Rattle.std.specs.Prelude.{◌≡◌, true, Some, None, is_some, IsSomeAnd};
 ghost use Rattle.tracering_c.specs.declared.ends.WriterEnd.{WriterEnd as WriterValue};
 ghost use Rattle.tracering_c.specs.declared.ends.ReaderEnd.{ReaderEnd as ReaderValue};
 ghost use Rattle.tracering_c.specs.declared.ends.CollectorEnd.{CollectorEnd as CollectorValue};
+ghost use Rattle.tracering_c.specs.Held.{writer_of, reader_of, collector_of};
 
 use crate::ends::{CollectorEnd, ReaderEnd, WriterEnd};
-use crate::held::{HeldCollector, HeldReader, HeldWriter};
+use crate::held::Held;
 use loose_box::Loose;
 use std::alloc::Global;
 use std::mem::replace;
@@ -14,46 +15,47 @@ use std::mem::replace;
 #[repr(C)]
 #[derive(Drop)]
 pub struct WriterHandle {
-    pub(crate) held: HeldWriter,
+    pub(crate) held: Held,
     /// Whether there is one.
     pub(crate) live: bool,
-    pub ghost tied: { live ≡ is_some held.value },
+    pub ghost tied: { live ≡ is_some (writer_of held.value) },
 }
 
 impl WriterHandle {
     /// No writer.
     pub(crate) fn none() -> WriterHandle
-        ensures { result.held.value ≡ None }
+        ensures { writer_of result.held.value ≡ None }
     {
         WriterHandle {
-            held: HeldWriter::none(),
+            held: Held::none(),
             live: false,
         }
     }
 
     /// This writer.
     pub(crate) fn of(end: Box<WriterEnd, Global>) -> WriterHandle
-        ensures { result.held.value ≡ Some end.value }
+        ensures { writer_of result.held.value ≡ Some end.value }
     {
         WriterHandle {
-            held: HeldWriter::of(Loose::of(end)),
+            held: Held::of_writer(Loose::of(end)),
             live: true,
         }
     }
 
     /// The writer, if there is one: the handle has none then.
     pub(crate) fn take_out(&mut self, alloc: Global) -> Option<Box<WriterEnd, Global>>
-        ensures stays { self.old.held.value ≡ None → self.new ≡ self.old }
-        ensures none { self.old.held.value ≡ None → result ≡ None }
-        ensures left { (x : WriterValue) → self.old.held.value ≡ Some x → self.new.held.value ≡ None }
-        ensures some { (x : WriterValue) → self.old.held.value ≡ Some x
+        ensures stays { writer_of self.old.held.value ≡ None → self.new ≡ self.old }
+        ensures none { writer_of self.old.held.value ≡ None → result ≡ None }
+        ensures left { (x : WriterValue) → writer_of self.old.held.value ≡ Some x
+            → writer_of self.new.held.value ≡ None }
+        ensures some { (x : WriterValue) → writer_of self.old.held.value ≡ Some x
             → IsSomeAnd result (λ end. end.value ≡ x) }
     {
         if !self.live {
             return None;
         }
         let WriterHandle { held, .. } = replace(self, WriterHandle::none());
-        Some(held.into_loose(alloc).into_box())
+        Some(held.into_writer(alloc).into_box())
     }
 }
 
@@ -61,46 +63,47 @@ impl WriterHandle {
 #[repr(C)]
 #[derive(Drop)]
 pub struct ReaderHandle {
-    pub(crate) held: HeldReader,
+    pub(crate) held: Held,
     /// Whether there is one.
     pub(crate) live: bool,
-    pub ghost tied: { live ≡ is_some held.value },
+    pub ghost tied: { live ≡ is_some (reader_of held.value) },
 }
 
 impl ReaderHandle {
     /// No reader.
     pub(crate) fn none() -> ReaderHandle
-        ensures { result.held.value ≡ None }
+        ensures { reader_of result.held.value ≡ None }
     {
         ReaderHandle {
-            held: HeldReader::none(),
+            held: Held::none(),
             live: false,
         }
     }
 
     /// This reader.
     pub(crate) fn of(end: Box<ReaderEnd, Global>) -> ReaderHandle
-        ensures { result.held.value ≡ Some end.value }
+        ensures { reader_of result.held.value ≡ Some end.value }
     {
         ReaderHandle {
-            held: HeldReader::of(Loose::of(end)),
+            held: Held::of_reader(Loose::of(end)),
             live: true,
         }
     }
 
     /// The reader, if there is one: the handle has none then.
     pub(crate) fn take_out(&mut self, alloc: Global) -> Option<Box<ReaderEnd, Global>>
-        ensures stays { self.old.held.value ≡ None → self.new ≡ self.old }
-        ensures none { self.old.held.value ≡ None → result ≡ None }
-        ensures left { (x : ReaderValue) → self.old.held.value ≡ Some x → self.new.held.value ≡ None }
-        ensures some { (x : ReaderValue) → self.old.held.value ≡ Some x
+        ensures stays { reader_of self.old.held.value ≡ None → self.new ≡ self.old }
+        ensures none { reader_of self.old.held.value ≡ None → result ≡ None }
+        ensures left { (x : ReaderValue) → reader_of self.old.held.value ≡ Some x
+            → reader_of self.new.held.value ≡ None }
+        ensures some { (x : ReaderValue) → reader_of self.old.held.value ≡ Some x
             → IsSomeAnd result (λ end. end.value ≡ x) }
     {
         if !self.live {
             return None;
         }
         let ReaderHandle { held, .. } = replace(self, ReaderHandle::none());
-        Some(held.into_loose(alloc).into_box())
+        Some(held.into_reader(alloc).into_box())
     }
 }
 
@@ -108,45 +111,46 @@ impl ReaderHandle {
 #[repr(C)]
 #[derive(Drop)]
 pub struct CollectorHandle {
-    pub(crate) held: HeldCollector,
+    pub(crate) held: Held,
     /// Whether there is one.
     pub(crate) live: bool,
-    pub ghost tied: { live ≡ is_some held.value },
+    pub ghost tied: { live ≡ is_some (collector_of held.value) },
 }
 
 impl CollectorHandle {
     /// No collector.
     pub(crate) fn none() -> CollectorHandle
-        ensures { result.held.value ≡ None }
+        ensures { collector_of result.held.value ≡ None }
     {
         CollectorHandle {
-            held: HeldCollector::none(),
+            held: Held::none(),
             live: false,
         }
     }
 
     /// This collector.
     pub(crate) fn of(end: Box<CollectorEnd, Global>) -> CollectorHandle
-        ensures { result.held.value ≡ Some end.value }
+        ensures { collector_of result.held.value ≡ Some end.value }
     {
         CollectorHandle {
-            held: HeldCollector::of(Loose::of(end)),
+            held: Held::of_collector(Loose::of(end)),
             live: true,
         }
     }
 
     /// The collector, if there is one: the handle has none then.
     pub(crate) fn take_out(&mut self, alloc: Global) -> Option<Box<CollectorEnd, Global>>
-        ensures stays { self.old.held.value ≡ None → self.new ≡ self.old }
-        ensures none { self.old.held.value ≡ None → result ≡ None }
-        ensures left { (x : CollectorValue) → self.old.held.value ≡ Some x → self.new.held.value ≡ None }
-        ensures some { (x : CollectorValue) → self.old.held.value ≡ Some x
+        ensures stays { collector_of self.old.held.value ≡ None → self.new ≡ self.old }
+        ensures none { collector_of self.old.held.value ≡ None → result ≡ None }
+        ensures left { (x : CollectorValue) → collector_of self.old.held.value ≡ Some x
+            → collector_of self.new.held.value ≡ None }
+        ensures some { (x : CollectorValue) → collector_of self.old.held.value ≡ Some x
             → IsSomeAnd result (λ end. end.value ≡ x) }
     {
         if !self.live {
             return None;
         }
         let CollectorHandle { held, .. } = replace(self, CollectorHandle::none());
-        Some(held.into_loose(alloc).into_box())
+        Some(held.into_collector(alloc).into_box())
     }
 }

@@ -1,12 +1,7 @@
 //! A ring's end, or a collector, as a pointer that owns it, or null.
 ghost use Rattle.std.specs.Borrow.{sem};
 ghost use Rattle.std.specs.Prelude.{◌≡◌, Some, None, Option, is_some, true};
-ghost use Rattle.tracering_c.specs.declared.ends.WriterEnd.{WriterEnd as WriterValue};
-ghost use Rattle.tracering_c.specs.declared.ends.ReaderEnd.{ReaderEnd as ReaderValue};
-ghost use Rattle.tracering_c.specs.declared.ends.CollectorEnd.{CollectorEnd as CollectorValue};
-ghost use Rattle.tracering_c.specs.Writers.{held as written};
-ghost use Rattle.tracering_c.specs.Readers.{held as read};
-ghost use Rattle.tracering_c.specs.Collectors.{held as collected};
+ghost use Rattle.tracering_c.specs.Held.{End, held, writer_of, reader_of, collector_of};
 
 use crate::ends::{CollectorEnd, ReaderEnd, WriterEnd};
 use loose_box::Loose;
@@ -19,185 +14,129 @@ pub struct Opaque {
     first: u8,
 }
 
-/// A ring's writer, or nothing.
+/// A writer, a reader or a collector, or nothing. Which of them it is only proofs see: C's types tell them apart.
 #[repr(C)]
 #[derive(Drop)]
-pub struct HeldWriter {
+pub struct Held {
     at: *mut Opaque,
-    pub ghost value: { Option WriterValue },
+    pub ghost value: { Option End },
 }
 
-impl Model for HeldWriter {
-    ghost also_owns = { λ h. written h.at h.value };
+impl Model for Held {
+    ghost also_owns = { λ h. held h.at h.value };
 }
 
-unsafe impl Send for HeldWriter {}
+unsafe impl Send for Held {}
 
-impl HeldWriter {
-    ghost use Rattle.tracering_c.specs.Lending.{LendsWriter};
+impl Held {
+    ghost use Rattle.tracering_c.specs.Lending.{LendsWriter, LendsReader, LendsCollector};
 
-    /// No writer.
+    /// Nothing.
     #[inline(always)]
-    pub(crate) fn none() -> HeldWriter
+    pub(crate) fn none() -> Held
         ensures { result.value ≡ None }
     {
-        HeldWriter {
+        Held {
             at: std::ptr::null_mut(),
         }
     }
 
     /// The writer of this box.
     #[inline(always)]
-    pub(crate) fn of(loose: Loose<WriterEnd, Global>) -> HeldWriter
-        ensures { result.value ≡ Some loose.value }
+    pub(crate) fn of_writer(loose: Loose<WriterEnd, Global>) -> Held
+        ensures { writer_of result.value ≡ Some loose.value }
     {
         let Loose { at, alloc: _alloc } = loose;
-        HeldWriter {
+        Held {
             at: at as *mut Opaque,
         }
     }
 
     /// The writer, if there is one.
     #[inline(always)]
-    pub(crate) fn as_mut(&mut self) -> &mut WriterEnd
-        requires { is_some self.old.value ≡ true }
+    pub(crate) fn writer(&mut self) -> &mut WriterEnd
+        requires { is_some (writer_of self.old.value) ≡ true }
         ensures* writes_back { sem 𝓛 (LendsWriter self.entry result) }
-        ensures value { self.old.value ≡ Some result.now }
+        ensures value { writer_of self.old.value ≡ Some result.now }
     {
         unsafe { &mut *(self.at as *mut WriterEnd) }
     }
 
     /// The writer's box.
     #[inline(always)]
-    pub(crate) fn into_loose(self, alloc: Global) -> Loose<WriterEnd, Global>
-        requires { is_some self.value ≡ true }
-        ensures { self.value ≡ Some result.value }
+    pub(crate) fn into_writer(self, alloc: Global) -> Loose<WriterEnd, Global>
+        requires { is_some (writer_of self.value) ≡ true }
+        ensures { writer_of self.value ≡ Some result.value }
     {
-        let HeldWriter { at } = self;
+        let Held { at } = self;
         Loose {
             at: at as *mut WriterEnd,
             alloc,
         }
     }
-}
-
-/// A ring's reader, or nothing.
-#[repr(C)]
-#[derive(Drop)]
-pub struct HeldReader {
-    at: *mut Opaque,
-    pub ghost value: { Option ReaderValue },
-}
-
-impl Model for HeldReader {
-    ghost also_owns = { λ h. read h.at h.value };
-}
-
-unsafe impl Send for HeldReader {}
-
-impl HeldReader {
-    ghost use Rattle.tracering_c.specs.Lending.{LendsReader};
-
-    /// No reader.
-    #[inline(always)]
-    pub(crate) fn none() -> HeldReader
-        ensures { result.value ≡ None }
-    {
-        HeldReader {
-            at: std::ptr::null_mut(),
-        }
-    }
 
     /// The reader of this box.
     #[inline(always)]
-    pub(crate) fn of(loose: Loose<ReaderEnd, Global>) -> HeldReader
-        ensures { result.value ≡ Some loose.value }
+    pub(crate) fn of_reader(loose: Loose<ReaderEnd, Global>) -> Held
+        ensures { reader_of result.value ≡ Some loose.value }
     {
         let Loose { at, alloc: _alloc } = loose;
-        HeldReader {
+        Held {
             at: at as *mut Opaque,
         }
     }
 
     /// The reader, if there is one.
     #[inline(always)]
-    pub(crate) fn as_mut(&mut self) -> &mut ReaderEnd
-        requires { is_some self.old.value ≡ true }
+    pub(crate) fn reader(&mut self) -> &mut ReaderEnd
+        requires { is_some (reader_of self.old.value) ≡ true }
         ensures* writes_back { sem 𝓛 (LendsReader self.entry result) }
-        ensures value { self.old.value ≡ Some result.now }
+        ensures value { reader_of self.old.value ≡ Some result.now }
     {
         unsafe { &mut *(self.at as *mut ReaderEnd) }
     }
 
     /// The reader's box.
     #[inline(always)]
-    pub(crate) fn into_loose(self, alloc: Global) -> Loose<ReaderEnd, Global>
-        requires { is_some self.value ≡ true }
-        ensures { self.value ≡ Some result.value }
+    pub(crate) fn into_reader(self, alloc: Global) -> Loose<ReaderEnd, Global>
+        requires { is_some (reader_of self.value) ≡ true }
+        ensures { reader_of self.value ≡ Some result.value }
     {
-        let HeldReader { at } = self;
+        let Held { at } = self;
         Loose {
             at: at as *mut ReaderEnd,
             alloc,
         }
     }
-}
-
-/// A collector, or nothing.
-#[repr(C)]
-#[derive(Drop)]
-pub struct HeldCollector {
-    at: *mut Opaque,
-    pub ghost value: { Option CollectorValue },
-}
-
-impl Model for HeldCollector {
-    ghost also_owns = { λ h. collected h.at h.value };
-}
-
-unsafe impl Send for HeldCollector {}
-
-impl HeldCollector {
-    ghost use Rattle.tracering_c.specs.Lending.{LendsCollector};
-
-    /// No collector.
-    #[inline(always)]
-    pub(crate) fn none() -> HeldCollector
-        ensures { result.value ≡ None }
-    {
-        HeldCollector {
-            at: std::ptr::null_mut(),
-        }
-    }
 
     /// The collector of this box.
     #[inline(always)]
-    pub(crate) fn of(loose: Loose<CollectorEnd, Global>) -> HeldCollector
-        ensures { result.value ≡ Some loose.value }
+    pub(crate) fn of_collector(loose: Loose<CollectorEnd, Global>) -> Held
+        ensures { collector_of result.value ≡ Some loose.value }
     {
         let Loose { at, alloc: _alloc } = loose;
-        HeldCollector {
+        Held {
             at: at as *mut Opaque,
         }
     }
 
     /// The collector, if there is one.
     #[inline(always)]
-    pub(crate) fn as_mut(&mut self) -> &mut CollectorEnd
-        requires { is_some self.old.value ≡ true }
+    pub(crate) fn collector(&mut self) -> &mut CollectorEnd
+        requires { is_some (collector_of self.old.value) ≡ true }
         ensures* writes_back { sem 𝓛 (LendsCollector self.entry result) }
-        ensures value { self.old.value ≡ Some result.now }
+        ensures value { collector_of self.old.value ≡ Some result.now }
     {
         unsafe { &mut *(self.at as *mut CollectorEnd) }
     }
 
     /// The collector's box.
     #[inline(always)]
-    pub(crate) fn into_loose(self, alloc: Global) -> Loose<CollectorEnd, Global>
-        requires { is_some self.value ≡ true }
-        ensures { self.value ≡ Some result.value }
+    pub(crate) fn into_collector(self, alloc: Global) -> Loose<CollectorEnd, Global>
+        requires { is_some (collector_of self.value) ≡ true }
+        ensures { collector_of self.value ≡ Some result.value }
     {
-        let HeldCollector { at } = self;
+        let Held { at } = self;
         Loose {
             at: at as *mut CollectorEnd,
             alloc,

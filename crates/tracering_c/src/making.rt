@@ -1,11 +1,14 @@
 //! A new ring, and its ends' end.
-ghost use Rattle.std.specs.Prelude.{◌≡◌, ◌≢◌, Some, None, IfSome, IsSomeAnd, is_some, true, pos};
+ghost use Rattle.std.specs.Prelude.{◌≡◌, ◌≢◌, ◌↔◌, Some, None, IfSome, IsSomeAnd, is_some, true, pos};
 ghost use Rattle.trace_model.specs.declared.limits.TheConstants.{START_FILL};
+ghost use Rattle.trace_model.specs.Ring.{HasRingLimits};
 ghost use Rattle.ring_shared.specs.NewEnds.{AreNewEnds};
 ghost use Rattle.ring_shared.specs.Calls.{IsWriter};
 ghost use Rattle.tracering_c.specs.declared.ends.WriterEnd.{WriterEnd as WriterValue};
 ghost use Rattle.tracering_c.specs.declared.ends.ReaderEnd.{ReaderEnd as ReaderValue};
+ghost use Rattle.tracering_c.specs.Held.{writer_of, reader_of};
 ghost use Rattle.tracering_c.specs.Ends.{IsReaderEnd};
+ghost use Rattle.tracering_c.specs.Calls.{AnswersNew};
 
 use crate::codes::{ABSENT, BAD_CPU, BAD_SIZE, DONE, IN_USE, NO_MEMORY};
 use crate::ends::{ReaderEnd, WriterEnd};
@@ -25,17 +28,20 @@ pub extern "C" fn tracering_raw_new(
     pages: usize,
     size: usize,
 ) -> i32
-    requires writer { IfSome w.old.held.value (λ x. IsWriter x.writer) }
-    requires reader { IfSome r.old.held.value (λ x. IsReaderEnd x) }
-    ensures ring { result ≡ pos 0 → IsSomeAnd w.new.held.value (λ left. IsSomeAnd r.new.held.value (λ right.
+    requires writer { IfSome (writer_of w.old.held.value) (λ x. IsWriter x.writer) }
+    requires reader { IfSome (reader_of r.old.held.value) (λ x. IsReaderEnd x) }
+    ensures ring { result ≡ pos 0
+        → IsSomeAnd (writer_of w.new.held.value) (λ left. IsSomeAnd (reader_of r.new.held.value) (λ right.
         AreNewEnds (record { pages = pages; size = size; start = START_FILL }) left.writer right.reader)) }
-    ensures cpu { result ≡ pos 0 → IsSomeAnd r.new.held.value (λ right. right.cpu.0 ≡ cpu) }
+    ensures cpu { result ≡ pos 0 → IsSomeAnd (reader_of r.new.held.value) (λ right. right.cpu.0 ≡ cpu) }
     ensures writer_stays { result ≢ pos 0 → w.new ≡ w.old }
     ensures reader_stays { result ≢ pos 0 → r.new ≡ r.old }
-    ensures in_use { is_some w.old.held.value ≡ true → result ≡ pos 9 }
-    ensures in_use_too { is_some r.old.held.value ≡ true → result ≡ pos 9 }
-    ensures writer { IfSome w.new.held.value (λ x. IsWriter x.writer) }
-    ensures reader { IfSome r.new.held.value (λ x. IsReaderEnd x) }
+    ensures answers { writer_of w.old.held.value ≡ None → reader_of r.old.held.value ≡ None
+        → AnswersNew cpu pages size result }
+    ensures in_use { is_some (writer_of w.old.held.value) ≡ true → result ≡ pos 9 }
+    ensures in_use_too { is_some (reader_of r.old.held.value) ≡ true → result ≡ pos 9 }
+    ensures writer { IfSome (writer_of w.new.held.value) (λ x. IsWriter x.writer) }
+    ensures reader { IfSome (reader_of r.new.held.value) (λ x. IsReaderEnd x) }
 {
     if w.live || r.live {
         return IN_USE;
@@ -43,10 +49,7 @@ pub extern "C" fn tracering_raw_new(
     if cpu >= MAX_CPUS {
         return BAD_CPU;
     }
-    if pages < MIN_PAGES || pages > MAX_PAGES || size < MIN_SIZE || size > MAX_SIZE {
-        return BAD_SIZE;
-    }
-    if size % 4 != 0 {
+    if !has_limits(pages, size) {
         return BAD_SIZE;
     }
     let Ok((writer, reader)) = ring_shared::ring(alloc, pages, size) else {
@@ -73,14 +76,25 @@ pub extern "C" fn tracering_raw_new(
     DONE
 }
 
-/// Frees the writer.
+/// Whether a ring can have this number of pages, of `size` bytes of data each.
+fn has_limits(pages: usize, size: usize) -> bool
+    ensures { result ≡ true ↔ HasRingLimits pages size }
+{
+    pages >= MIN_PAGES
+        && pages <= MAX_PAGES
+        && size >= MIN_SIZE
+        && size <= MAX_SIZE
+        && size % 4 == 0
+}
+
+/// Frees the writer: it is freed at most once. That its memory is released is tested, and not proved.
 #[unsafe(no_mangle)]
 pub extern "C" fn tracering_raw_writer_free(alloc: Global, w: &mut WriterHandle) -> i32
-    requires writer { IfSome w.old.held.value (λ x. IsWriter x.writer) }
-    ensures absent { w.old.held.value ≡ None → result ≡ pos 8 }
-    ensures stays { w.old.held.value ≡ None → w.new ≡ w.old }
-    ensures freed { (x : WriterValue) → w.old.held.value ≡ Some x → result ≡ pos 0 }
-    ensures none { w.new.held.value ≡ None }
+    requires writer { IfSome (writer_of w.old.held.value) (λ x. IsWriter x.writer) }
+    ensures absent { writer_of w.old.held.value ≡ None → result ≡ pos 8 }
+    ensures stays { writer_of w.old.held.value ≡ None → w.new ≡ w.old }
+    ensures freed { (x : WriterValue) → writer_of w.old.held.value ≡ Some x → result ≡ pos 0 }
+    ensures none { writer_of w.new.held.value ≡ None }
 {
     let Some(_end) = w.take_out(alloc) else {
         return ABSENT;
@@ -88,14 +102,14 @@ pub extern "C" fn tracering_raw_writer_free(alloc: Global, w: &mut WriterHandle)
     DONE
 }
 
-/// Frees the reader.
+/// Frees the reader: it is freed at most once. That its memory is released is tested, and not proved.
 #[unsafe(no_mangle)]
 pub extern "C" fn tracering_raw_reader_free(alloc: Global, r: &mut ReaderHandle) -> i32
-    requires reader { IfSome r.old.held.value (λ x. IsReaderEnd x) }
-    ensures absent { r.old.held.value ≡ None → result ≡ pos 8 }
-    ensures stays { r.old.held.value ≡ None → r.new ≡ r.old }
-    ensures freed { (x : ReaderValue) → r.old.held.value ≡ Some x → result ≡ pos 0 }
-    ensures none { r.new.held.value ≡ None }
+    requires reader { IfSome (reader_of r.old.held.value) (λ x. IsReaderEnd x) }
+    ensures absent { reader_of r.old.held.value ≡ None → result ≡ pos 8 }
+    ensures stays { reader_of r.old.held.value ≡ None → r.new ≡ r.old }
+    ensures freed { (x : ReaderValue) → reader_of r.old.held.value ≡ Some x → result ≡ pos 0 }
+    ensures none { reader_of r.new.held.value ≡ None }
 {
     let Some(_end) = r.take_out(alloc) else {
         return ABSENT;

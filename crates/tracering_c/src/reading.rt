@@ -2,6 +2,7 @@
 ghost use Rattle.std.specs.Prelude.{◌≡◌, ◌+◌, ◌≤◌, None, Some, length, IfSome, IsSomeAnd, pos};
 ghost use Rattle.ring_shared.specs.Takes.{SameRing};
 ghost use Rattle.tracering_c.specs.declared.ends.ReaderEnd.{ReaderEnd as EndValue};
+ghost use Rattle.tracering_c.specs.Held.{reader_of};
 ghost use Rattle.tracering_c.specs.Ends.{IsReaderEnd};
 ghost use Rattle.tracering_c.specs.Calls.{TakesSo};
 
@@ -15,23 +16,23 @@ use ring_shared::Take;
 /// Takes the oldest page that is closed and unread, and puts its parcel to the front of `out`.
 #[unsafe(no_mangle)]
 pub extern "C" fn tracering_raw_take(r: &mut ReaderHandle, out: &mut [u8], taken: &mut Taken) -> i32
-    requires reader { IfSome r.old.held.value (λ x. IsReaderEnd x) }
-    ensures absent { r.old.held.value ≡ None → result ≡ pos 8 }
-    ensures stays { r.old.held.value ≡ None → r.new ≡ r.old }
-    ensures out_stays { r.old.held.value ≡ None → out.new ≡ out.old }
-    ensures taken_stays { r.old.held.value ≡ None → taken.new ≡ taken.old }
-    ensures takes { (old : EndValue) → r.old.held.value ≡ Some old
-        → IsSomeAnd r.new.held.value (λ new. TakesSo old out.old taken.old result out.new taken.new new) }
-    ensures ring { (old : EndValue) → r.old.held.value ≡ Some old
-        → IsSomeAnd r.new.held.value (λ new. SameRing old.reader new.reader) }
-    ensures cpu { (old : EndValue) → r.old.held.value ≡ Some old
-        → IsSomeAnd r.new.held.value (λ new. new.cpu ≡ old.cpu) }
-    ensures reader { IfSome r.new.held.value (λ x. IsReaderEnd x) }
+    requires reader { IfSome (reader_of r.old.held.value) (λ x. IsReaderEnd x) }
+    ensures absent { reader_of r.old.held.value ≡ None → result ≡ pos 8 }
+    ensures stays { reader_of r.old.held.value ≡ None → r.new ≡ r.old }
+    ensures out_stays { reader_of r.old.held.value ≡ None → out.new ≡ out.old }
+    ensures taken_stays { reader_of r.old.held.value ≡ None → taken.new ≡ taken.old }
+    ensures takes { (old : EndValue) → reader_of r.old.held.value ≡ Some old
+        → IsSomeAnd (reader_of r.new.held.value) (λ new. TakesSo old out.old taken.old result out.new taken.new new) }
+    ensures ring { (old : EndValue) → reader_of r.old.held.value ≡ Some old
+        → IsSomeAnd (reader_of r.new.held.value) (λ new. SameRing old.reader new.reader) }
+    ensures cpu { (old : EndValue) → reader_of r.old.held.value ≡ Some old
+        → IsSomeAnd (reader_of r.new.held.value) (λ new. new.cpu ≡ old.cpu) }
+    ensures reader { IfSome (reader_of r.new.held.value) (λ x. IsReaderEnd x) }
 {
     if !r.live {
         return ABSENT;
     }
-    take_into(r.held.as_mut(), out, taken)
+    take_into(r.held.reader(), out, taken)
 }
 
 /// `tracering_raw_take`, of the end itself.
@@ -70,11 +71,12 @@ fn take_into(end: &mut ReaderEnd, out: &mut [u8], taken: &mut Taken) -> i32
 /// Wishes for the tail page to be closed.
 #[unsafe(no_mangle)]
 pub extern "C" fn tracering_raw_wish(r: &mut ReaderHandle) -> i32
-    requires reader { IfSome r.old.held.value (λ x. IsReaderEnd x) }
-    ensures absent { r.old.held.value ≡ None → result ≡ pos 8 }
-    ensures stays { r.old.held.value ≡ None → r.new ≡ r.old }
-    ensures done { (old : EndValue) → r.old.held.value ≡ Some old → result ≡ pos 0 }
-    ensures wished { (old : EndValue) → r.old.held.value ≡ Some old → IsSomeAnd r.new.held.value (λ new. new
+    requires reader { IfSome (reader_of r.old.held.value) (λ x. IsReaderEnd x) }
+    ensures absent { reader_of r.old.held.value ≡ None → result ≡ pos 8 }
+    ensures stays { reader_of r.old.held.value ≡ None → r.new ≡ r.old }
+    ensures done { (old : EndValue) → reader_of r.old.held.value ≡ Some old → result ≡ pos 0 }
+    ensures wished { (old : EndValue) → reader_of r.old.held.value ≡ Some old
+        → IsSomeAnd (reader_of r.new.held.value) (λ new. new
         ≡ record old {
           reader = record old.reader {
             part = record old.reader.part {
@@ -82,11 +84,11 @@ pub extern "C" fn tracering_raw_wish(r: &mut ReaderHandle) -> i32
             };
           };
         }) }
-    ensures reader { IfSome r.new.held.value (λ x. IsReaderEnd x) }
+    ensures reader { IfSome (reader_of r.new.held.value) (λ x. IsReaderEnd x) }
 {
     if !r.live {
         return ABSENT;
     }
-    let _fill = r.held.as_mut().reader.wish();
+    let _fill = r.held.reader().reader.wish();
     DONE
 }

@@ -1,10 +1,11 @@
 //! The two ends of a ring, settled.
-ghost use Rattle.std.specs.Prelude.{◌≡◌, ◌≢◌, ◌+◌, ◌≤◌, ◌<◌, ◌↔◌, [], Some, None, length, IfSome, pos};
+ghost use Rattle.std.specs.Prelude.{◌≡◌, ◌≢◌, ◌+◌, ◌≤◌, [], Some, None, length, IfSome, pos};
 ghost use Rattle.ring_shared.specs.Calls.{IsWriter};
 ghost use Rattle.tracering_c.specs.declared.ends.WriterEnd.{WriterEnd as WriterValue};
 ghost use Rattle.tracering_c.specs.declared.ends.ReaderEnd.{ReaderEnd as ReaderValue};
+ghost use Rattle.tracering_c.specs.Held.{writer_of, reader_of};
 ghost use Rattle.tracering_c.specs.Ends.{IsReaderEnd, AreOfOneRing};
-ghost use Rattle.tracering_c.specs.Calls.{SettlesSo};
+ghost use Rattle.tracering_c.specs.Calls.{SettlesSo, AnswersSettle};
 
 use crate::codes::{ABSENT, DONE, NO_ROOM, NOT_AT_REST, UNREAD};
 use crate::ends::{ReaderEnd, WriterEnd};
@@ -23,30 +24,24 @@ pub extern "C" fn tracering_raw_settle(
     out: &mut [u8],
     taken: &mut Taken,
 ) -> i32
-    requires writer { IfSome w.old.held.value (λ x. IsWriter x.writer) }
-    requires reader { IfSome r.old.held.value (λ x. IsReaderEnd x) }
+    requires writer { IfSome (writer_of w.old.held.value) (λ x. IsWriter x.writer) }
+    requires reader { IfSome (reader_of r.old.held.value) (λ x. IsReaderEnd x) }
     requires one_ring { (left : WriterValue) (right : ReaderValue)
-        → w.old.held.value ≡ Some left → r.old.held.value ≡ Some right
+        → writer_of w.old.held.value ≡ Some left → reader_of r.old.held.value ≡ Some right
         → AreOfOneRing left.writer right.reader }
-    ensures absent { w.old.held.value ≡ None → result ≡ pos 8 }
-    ensures reader_absent { (left : WriterValue) → w.old.held.value ≡ Some left → r.old.held.value ≡ None
-        → result ≡ pos 8 }
+    ensures absent { writer_of w.old.held.value ≡ None → result ≡ pos 8 }
+    ensures reader_absent { (left : WriterValue) → writer_of w.old.held.value ≡ Some left
+        → reader_of r.old.held.value ≡ None → result ≡ pos 8 }
     ensures settled { (left : WriterValue) (right : ReaderValue)
-        → w.old.held.value ≡ Some left → r.old.held.value ≡ Some right
+        → writer_of w.old.held.value ≡ Some left → reader_of r.old.held.value ≡ Some right
         → result ≡ pos 0 → SettlesSo left.writer right out.old out.new taken.new }
-    ensures at_rest { (left : WriterValue) (right : ReaderValue)
-        → w.old.held.value ≡ Some left → r.old.held.value ≡ Some right
-        → result ≡ pos 18 ↔ left.writer.part.frames ≢ [] }
-    ensures unread { (left : WriterValue) (right : ReaderValue)
-        → w.old.held.value ≡ Some left → r.old.held.value ≡ Some right
-        → result ≡ pos 19 → right.reader.empty_at ≢ Some left.writer.part.done }
-    ensures no_room { (left : WriterValue) (right : ReaderValue)
-        → w.old.held.value ≡ Some left → r.old.held.value ≡ Some right
-        → result ≡ pos 17 → length out.old < 48 + right.reader.shape.size }
-    ensures gone { result ≡ pos 0 → w.new.held.value ≡ None }
-    ensures reader_gone { result ≡ pos 0 → r.new.held.value ≡ None }
-    ensures stays { result ≢ pos 0 → w.new.held.value ≡ w.old.held.value }
-    ensures reader_stays { result ≢ pos 0 → r.new.held.value ≡ r.old.held.value }
+    ensures answers { (left : WriterValue) (right : ReaderValue)
+        → writer_of w.old.held.value ≡ Some left → reader_of r.old.held.value ≡ Some right
+        → AnswersSettle left.writer right (length out.old) result }
+    ensures gone { result ≡ pos 0 → writer_of w.new.held.value ≡ None }
+    ensures reader_gone { result ≡ pos 0 → reader_of r.new.held.value ≡ None }
+    ensures stays { result ≢ pos 0 → writer_of w.new.held.value ≡ writer_of w.old.held.value }
+    ensures reader_stays { result ≢ pos 0 → reader_of r.new.held.value ≡ reader_of r.old.held.value }
     ensures out_stays { result ≢ pos 0 → out.new ≡ out.old }
     ensures taken_stays { result ≢ pos 0 → taken.new ≡ taken.old }
 {
@@ -67,13 +62,11 @@ pub extern "C" fn tracering_raw_settle(
     DONE
 }
 
-/// Why these ends can't be settled into a buffer of `room` bytes.
+/// Why these ends can't be settled into a buffer of `room` bytes, or `DONE` if they can.
 fn why_not(left: &WriterEnd, right: &ReaderEnd, room: usize) -> i32
     requires writer { IsWriter left.now.writer }
     requires reader { IsReaderEnd right.now }
-    ensures at_rest { result ≡ pos 18 ↔ left.now.writer.part.frames ≢ [] }
-    ensures unread { result ≡ pos 19 → right.now.reader.empty_at ≢ Some left.now.writer.part.done }
-    ensures no_room { result ≡ pos 17 → room < 48 + right.now.reader.shape.size }
+    ensures answers { AnswersSettle left.now.writer right.now room result }
     ensures read { result ≡ pos 0 → right.now.reader.empty_at ≡ Some left.now.writer.part.done }
     ensures room { result ≡ pos 0 → 48 + right.now.reader.shape.size ≤ room }
     ensures rest { result ≡ pos 0 → left.now.writer.part.frames ≡ [] }
