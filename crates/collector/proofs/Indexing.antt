@@ -13,7 +13,7 @@ use Rattle.collector.specs.declared.ranges.Content.{Content}
 use Rattle.collector.specs.declared.ranges.Content.TheVariants.{Kept, Missing}
 use Rattle.collector.specs.declared.index.Index.{Index}
 use Rattle.collector.specs.Ranges.{IsLaid, IsCopy}
-use Rattle.collector.specs.Index.{ReportsOf, AreAllApart, ReportSameOf, IsIn, IsReported, IsIndexed}
+use Rattle.collector.specs.Index.{ReportsOf, AreAllApart, ReportSameOf, IsIn, IsFoundBy, IsIndexed}
 use Rattle.collector.specs.Shown.{IsContentAt}
 use Rattle.collector.proofs.Places.{get_pushed, get_last, get_within}
 use Rattle.collector.proofs.Indexes.{copies_apart, copies_same}
@@ -175,7 +175,7 @@ module _ (ps : List Parcel) (p : Parcel) (old new : Index) (x : IsIndexed ps old
   missing_of cpu n (missed there alone m) t = misses_own cpu n m
   missing_of cpu n (recorded there alone c from below) t = absurd (let e = alone Missing t in cc)
 
-  old_has : (cpu n : ℕ) (r : Record) → Part cpu n → Has ps cpu n r → IsReported (ps ++ p ∷ []) new cpu n r
+  old_has : (cpu n : ℕ) (r : Record) → Part cpu n → Has ps cpu n r → IsFoundBy (ps ++ p ∷ []) new cpu n r
   old_has cpu n r (elsewhere same not) h = let a = x.has cpu n r h in
       record { kept = a.kept; parcel = a.parcel; reports = (same (Kept a.kept)).0 a.reports; at = get_in_front ps (p ∷ []) a.kept a.parcel a.at; pair = a.pair }
   old_has cpu n r (missed there alone m) h = absurd (agree.not_missing cpu n r ((joined_left ps (p ∷ [])).has cpu n r h) (misses_own cpu n m))
@@ -184,7 +184,7 @@ module _ (ps : List Parcel) (p : Parcel) (old new : Index) (x : IsIndexed ps old
       let e : own.0 ≡ r = agree.one_record cpu n own.0 r (has_own cpu n own.0 own.1) ((joined_left ps (p ∷ [])).has cpu n r h) in
       record { kept = length ps; parcel = p; reports = there; at = get_last ps p; pair = subst (IsPairOf p cpu n) e own.1 }
 
-  own_has : (cpu n : ℕ) (r : Record) → Part cpu n → IsPairOf p cpu n r → IsReported (ps ++ p ∷ []) new cpu n r
+  own_has : (cpu n : ℕ) (r : Record) → Part cpu n → IsPairOf p cpu n r → IsFoundBy (ps ++ p ∷ []) new cpu n r
   own_has cpu n r (elsewhere same not) pair = absurd (not.no_pair r pair)
   own_has cpu n r (missed there alone m) pair = absurd (agree.not_missing cpu n r (has_own cpu n r pair) (misses_own cpu n m))
   own_has cpu n r (recorded there alone c from below) pair =

@@ -35,7 +35,7 @@ pub record IsIn (parcels : List Parcel) (index cpu number : ℕ) : Type 0 where
   pub below : number < parcel.first + length parcel.records
 
 -- some kept parcel has this record under the number, and the index states which
-pub record IsReported (parcels : List Parcel) (index : Index) (cpu number : ℕ) (r : Record) : Type 0 where
+pub record IsFoundBy (parcels : List Parcel) (index : Index) (cpu number : ℕ) (r : Record) : Type 0 where
   pub kept : ℕ
   pub parcel : Parcel
   pub reports : ReportsOf index cpu number (Kept kept)
@@ -50,5 +50,5 @@ pub record IsIndexed (parcels : List Parcel) (index : Index) : Type 0 where
       → ReportsOf index cpu number content → ReportsOf index cpu number other → content ≡ other
   pub kept : (cpu number i : ℕ) → ReportsOf index cpu number (Kept i) → IsIn parcels i cpu number
   pub missing : (cpu number : ℕ) → ReportsOf index cpu number Missing → Misses parcels cpu number
-  pub has : (cpu number : ℕ) (r : Record) → Has parcels cpu number r → IsReported parcels index cpu number r
+  pub has : (cpu number : ℕ) (r : Record) → Has parcels cpu number r → IsFoundBy parcels index cpu number r
   pub misses : (cpu number : ℕ) → Misses parcels cpu number → ReportsOf index cpu number Missing

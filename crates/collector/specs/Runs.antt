@@ -31,8 +31,8 @@ AreMissingRuns parcels cpu runs = AreRuns (Misses parcels cpu) runs
 -- ---- the same, computed
 
 -- the numbers of a pair
-abbrev pub run_reported : RecordNo × RecordNo → ℕ × ℕ
-run_reported run = (run.0.0, run.1.0)
+abbrev pub run_numbers : RecordNo × RecordNo → ℕ × ℕ
+run_numbers run = (run.0.0, run.1.0)
 
 -- whether some of the parcels misses the number
 abbrev pub is_missed : List Parcel → ℕ → ℕ → Bool

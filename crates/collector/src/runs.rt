@@ -86,12 +86,12 @@ fn end_of_run(collector: &Collector, cpu: CpuId, first: u64) -> u64
 
 impl<'a> Iterator for MissingRuns<'a> {
     ghost use Rattle.std.specs.Iterator.{YieldsFirstBy, item_count};
-    ghost use Rattle.collector.specs.Runs.{run_reported};
+    ghost use Rattle.collector.specs.Runs.{run_numbers};
 
     type Item = (RecordNo, RecordNo);
 
     // Each call gives the first of the runs that are left.
-    ghost next_gives = { YieldsFirstBy run_reported (λ left. left) };
+    ghost next_gives = { YieldsFirstBy run_numbers (λ left. left) };
 
     ghost remaining = { item_count (λ left. left) };
 

@@ -5,7 +5,7 @@ use Rattle.std.proofs.lemmas.Bool.{cases_lt}
 use Rattle.std.proofs.lemmas.List.{drop_more, drop_all, take_all, take-append-le, set_at, length-map, length-take-le, map-append, length-append}
 use Rattle.std.proofs.lemmas.Option.{slice_get_within, slice_get-get_or}
 use Rattle.trace_model.specs.declared.numbers.RecordNo.{RecordNo}
-use Rattle.collector.specs.Runs.{AreRuns, run_reported}
+use Rattle.collector.specs.Runs.{AreRuns, run_numbers}
 use Rattle.listed_collector.specs.declared.missing.Run.{Run}
 use Rattle.listed_collector.specs.Missing.{run_of}
 
@@ -81,16 +81,16 @@ put_more out left new runs run are put past = ⊎_elim with_room without (cases_
         past (omega (arith, left_len, front_cut)) ∙ left_is ∙ sym (λ i. same i ++ none_more i)
 
 -- so is the run that a walk yields next
-pub put_next : (out left new : List Run) (yielded : List (RecordNo × RecordNo)) (item : RecordNo × RecordNo) (count : ℕ) → count ≡ length yielded → ArePut out (map run_reported yielded) left → (count < length left → new ≡ slice_set left count (run_of (run_reported item)))
-    → (length left ≤ count → new ≡ left) → (count + 1 ≡ length (yielded ++ item ∷ [])) × ArePut out (map run_reported (yielded ++ item ∷ [])) new
+pub put_next : (out left new : List Run) (yielded : List (RecordNo × RecordNo)) (item : RecordNo × RecordNo) (count : ℕ) → count ≡ length yielded → ArePut out (map run_numbers yielded) left → (count < length left → new ≡ slice_set left count (run_of (run_numbers item)))
+    → (length left ≤ count → new ≡ left) → (count + 1 ≡ length (yielded ++ item ∷ [])) × ArePut out (map run_numbers (yielded ++ item ∷ [])) new
 put_next out left new yielded item count is are put past =
-    let runs : List (ℕ × ℕ) = map run_reported yielded in
-    let run : ℕ × ℕ = run_reported item in
-    let same : length runs ≡ count = length-map yielded run_reported ∙ sym is in
+    let runs : List (ℕ × ℕ) = map run_numbers yielded in
+    let run : ℕ × ℕ = run_numbers item in
+    let same : length runs ≡ count = length-map yielded run_numbers ∙ sym is in
     let more = put_more out left new runs run are
     (λ lt. put (subst (λ (k : ℕ). k < length left) same lt) ∙ ap (λ (k : ℕ). slice_set left k (run_of run)) (sym same))
     (λ le. past (subst (λ (k : ℕ). length left ≤ k) same le)) in
-    let both : runs ++ run ∷ [] ≡ map run_reported (yielded ++ item ∷ []) = sym (map-append run_reported yielded (item ∷ [])) in (
+    let both : runs ++ run ∷ [] ≡ map run_numbers (yielded ++ item ∷ []) = sym (map-append run_numbers yielded (item ∷ [])) in (
       omega (arith, is, length-append yielded (item ∷ [])),
       subst (λ (rs : List (ℕ × ℕ)). ArePut out rs new) both more,
     )

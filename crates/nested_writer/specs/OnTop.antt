@@ -11,25 +11,25 @@ use Rattle.nested_writer.specs.declared.stack.top.Phase.TheVariants.{Idle, Waits
 use Rattle.nested_writer.specs.declared.stack.top.Top.TheInside.{Inside}
 use Rattle.nested_writer.specs.Calls.{HasNoSlot}
 
-abbrev pub frame_reported : Phase → Pushed → Option ℕ → Slot → Frame → Option Frame
-frame_reported Idle pushed noted slot other = None
-frame_reported Waits pushed noted slot other =
+abbrev pub frame_by_phase : Phase → Pushed → Option ℕ → Slot → Frame → Option Frame
+frame_by_phase Idle pushed noted slot other = None
+frame_by_phase Waits pushed noted slot other =
     Some record { purpose = Record pushed.moment pushed.len; progress = Waiting None }
-frame_reported Tries pushed noted slot other =
+frame_by_phase Tries pushed noted slot other =
     Some record { purpose = Record pushed.moment pushed.len; progress = Waiting noted }
-frame_reported Holds pushed noted slot other =
+frame_by_phase Holds pushed noted slot other =
     Some record { purpose = Record pushed.moment pushed.len; progress = Reserved slot }
-frame_reported HoldsClose pushed noted slot other = Some record { purpose = Close; progress = Reserved slot }
-frame_reported Gone pushed noted slot other =
+frame_by_phase HoldsClose pushed noted slot other = Some record { purpose = Close; progress = Reserved slot }
+frame_by_phase Gone pushed noted slot other =
     Some record { purpose = Record pushed.moment pushed.len; progress = Left None }
-frame_reported Other pushed noted slot other = Some other
+frame_by_phase Other pushed noted slot other = Some other
 
 abbrev pub frame_on_top : Inside → Option Frame
-frame_on_top t = frame_reported t.phase t.pushed t.noted t.slot t.other
+frame_on_top t = frame_by_phase t.phase t.pushed t.noted t.slot t.other
 
 -- A frame that waits has a payload of the short form; and one that is kept whole has no slot, and is no record frame
 -- that tried nothing yet.
-pub record IsReported (t : Inside) : Type 0 where
+pub record IsKeptForm (t : Inside) : Type 0 where
   pub some : t.phase ≡ Waits → 1 ≤ t.pushed.len
   pub short : t.phase ≡ Waits → t.pushed.len ≤ SHORT_LIMIT
   pub apart : t.phase ≡ Other

@@ -119,7 +119,7 @@ fn a_tail_is_closed_if_it_is_asked_for(rt: HostRuntime) -> Result<(), Fail> {
 }
 
 #[test]
-fn records_are_reserved_each_part_way_the_one_before(rt: HostRuntime) -> Result<(), Fail> {
+fn records_are_reserved_each_within_the_one_before(rt: HostRuntime) -> Result<(), Fail> {
     let mut stack = WriterStack::new(rt.alloc(), 2, 32)?;
     reserve_all(&mut stack, &[1, 2, 3])?;
     assert!(rt; stack.depth() == 3);

@@ -47,8 +47,8 @@ pub record FitsWord (l : Link) : Type 0 where
   pub fill_fits : l.fill < LINK_FILLS
 
 -- links that fit a word differ in their words
-abbrev pub WordReportsLink : Type 0
-WordReportsLink = (l other : Link) → FitsWord l → FitsWord other → word_of l ≡ word_of other → l ≡ other
+abbrev pub WordDecidesLink : Type 0
+WordDecidesLink = (l other : Link) → FitsWord l → FitsWord other → word_of l ≡ word_of other → l ≡ other
 
 -- the fourth value of the mark's two bits is no link's
 abbrev pub ThreeIsNoMark : Type 0

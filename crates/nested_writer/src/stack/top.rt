@@ -47,13 +47,13 @@ pub(crate) struct Top {
 impl Model for Top {
     ghost use Rattle.std.specs.Prelude.{Option};
     ghost use Rattle.nested_writer.specs.declared.frame.Frame.{Frame};
-    ghost use Rattle.nested_writer.specs.OnTop.{frame_on_top, IsReported};
+    ghost use Rattle.nested_writer.specs.OnTop.{frame_on_top, IsKeptForm};
 
     ghost Value = { Option Frame };
 
     ghost view = { frame_on_top };
 
-    ghost invariant = { IsReported };
+    ghost invariant = { IsKeptForm };
 }
 
 impl Top {

@@ -1,10 +1,10 @@
 //! Laws over the words of links.
-ghost use Rattle.trace_model.specs.Links.{ThreeIsNoMark, WordHasItsBits, WordReportsLink};
+ghost use Rattle.trace_model.specs.Links.{ThreeIsNoMark, WordHasItsBits, WordDecidesLink};
 
 /// The word of a link that fits one determines the link: no other has it. It has 64 bits, and its lowest two are
 /// never both set.
-pub fn words_report_links()
-    ensures one { WordReportsLink }
+pub fn words_decide_links()
+    ensures one { WordDecidesLink }
     ensures bits { WordHasItsBits }
     ensures marks { ThreeIsNoMark }
 {}

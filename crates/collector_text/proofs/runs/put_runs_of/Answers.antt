@@ -1,6 +1,6 @@
 use Rattle.std.proofs.Common.{◌++◌, ◌∙◌, ap, ℕ, List, flat_map}
 use Rattle.std.proofs.lemmas.Iterator.Consumers.{YieldsList-from_first, YieldsList-end}
-use Rattle.collector.specs.Runs.{run_reported}
+use Rattle.collector.specs.Runs.{run_numbers}
 use Rattle.world_model.specs.Printing.{printed_missing}
 use Rattle.collector_text.proofs.runs.put_runs_of.Goals as goal
 
@@ -8,7 +8,7 @@ pub returns-clause-text : goal.returns-clause-text
 returns-clause-text c =
     let runs = c.missing-first-items.result in
     let given = c.into_iter-first-iterator.ensures.into_iter_gives in
-    let all = YieldsList-end (YieldsList-from_first run_reported (λ left. left) runs given) c.loop-first.yielded _
+    let all = YieldsList-end (YieldsList-from_first run_numbers (λ left. left) runs given) c.loop-first.yielded _
     c.loop-first.yielded_by _ _ c.in-None.is c.next.ensures.steps in (
       runs,
       c.missing-first-items.ensures,

@@ -1,6 +1,6 @@
 use Rattle.std.proofs.Common.{ℕ, ◌++◌, ◌∙◌, sym, ap, arith, length, map, take, drop}
 use Rattle.std.proofs.lemmas.Iterator.Consumers.{YieldsList-from_first, YieldsList-turn, YieldsList-end}
-use Rattle.collector.specs.Runs.{run_reported}
+use Rattle.collector.specs.Runs.{run_numbers}
 use Rattle.listed_collector.specs.Missing.{run_of}
 use Rattle.listed_collector.proofs.PutRuns.{is_far_at, put_next}
 use Rattle.listed_collector.proofs.listed.ListedCollector.put_missing.Goals as goal
@@ -9,7 +9,7 @@ pub overflow_add-count : goal.overflow_add-count
 overflow_add-count c =
     let runs = c.missing-first-items.result in
     let given = c.into_iter-first-iterator.ensures.into_iter_gives in
-    let turn = YieldsList-turn (YieldsList-from_first run_reported (λ left. left) runs given) c.loop-first.yielded _
+    let turn = YieldsList-turn (YieldsList-from_first run_numbers (λ left. left) runs given) c.loop-first.yielded _
     c.loop-first.yielded_by _ _ _ c.in-Some.is c.next.ensures.steps in
     let far = is_far_at _ runs c.missing-first-items.ensures (length c.loop-first.yielded) _ turn.0 turn.1 in
     let count = c.loop-first.invariant.0 in
@@ -26,7 +26,7 @@ returns c =
     let runs = c.missing-first-items.result in
     let out = c.args.out.now in
     let given = c.into_iter-first-iterator.ensures.into_iter_gives in
-    let all = YieldsList-end (YieldsList-from_first run_reported (λ left. left) runs given) c.loop-first.yielded _
+    let all = YieldsList-end (YieldsList-from_first run_numbers (λ left. left) runs given) c.loop-first.yielded _
     c.loop-first.yielded_by _ _ c.in-None.is c.next.ensures.steps in
     let count_is = c.loop-first.invariant.0 ∙ all.1 in
     record {

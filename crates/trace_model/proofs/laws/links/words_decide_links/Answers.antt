@@ -1,4 +1,4 @@
-use Rattle.trace_model.proofs.laws.links.words_report_links.Goals as goal
+use Rattle.trace_model.proofs.laws.links.words_decide_links.Goals as goal
 use Rattle.trace_model.proofs.words.LinkWords.{word_reports, no_mark, word_bits}
 
 pub returns : goal.returns
