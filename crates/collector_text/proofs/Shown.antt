@@ -1,8 +1,8 @@
 -- The texts of collectors, one after the other.
-use Rattle.std.proofs.Common.{◌≡◌, ℕ, ◌+◌, ◌-◌, ◌≤◌, List, [], ◌∷◌, ◌++◌, length, take, drop, flat_map, append_assoc, sym, ap, ◌∙◌, subst, arith, length-drop, length-append}
+use Rattle.std.proofs.Common.{◌≡◌, ℕ, ◌+◌, ◌-◌, ◌≤◌, List, [], ◌∷◌, ◌++◌, length, drop, flat_map, append_assoc, sym, ap, ◌∙◌, subst, arith, length-drop, length-append}
 use Rattle.std.specs.List.{slice_range}
-use Rattle.std.proofs.lemmas.List.{drop-append-le, drop-drop, take-append-le, take_all}
-use Rattle.std.proofs.Math.Seq.{drop-append_seam, take-add}
+use Rattle.std.proofs.lemmas.List.{drop-append-le, take-append-le, take_all}
+use Rattle.std.proofs.Math.Seq.{drop-append_seam}
 use Rattle.std.specs.Prelude.{codes}
 use Rattle.std.specs.Fmt.{decimal}
 use Rattle.trace_model.specs.Parcel.{Parcel}
@@ -77,31 +77,6 @@ stands_last parcels text out start end begin last (shown, reports, is) =
     }
 
 -- ---- one part after the other
-
--- the text between two places, cut at a third one
-pub range_more : (text : List ℕ) (start at behind : ℕ) → start ≤ at → at ≤ behind
-    → slice_range text start behind ≡ slice_range text start at ++ slice_range text at behind
-range_more text start at behind low high =
-    let all : behind - start ≡ (at - start) + (behind - at) = omega arith in
-    let reach : start + (at - start) ≡ at = omega arith in
-    let rest : drop (at - start) (drop start text) ≡ drop at text =
-    drop-drop (at - start) start text ∙ ap (λ (n : ℕ). drop n text) reach in
-    ap (λ (n : ℕ). take n (drop start text)) all
-    ∙ take-add (at - start) (behind - at) (drop start text)
-    ∙ ap (λ (t : List ℕ). slice_range text start at ++ take (behind - at) t) rest
-
--- the next part is put after the others
-pub again_more : (text so_far part out : List ℕ) (start at behind : ℕ) → start ≤ at → at ≤ behind
-    → behind ≤ length text → so_far ≡ text ++ slice_range text start at
-    → part ≡ slice_range so_far at behind → out ≡ so_far ++ part
-    → out ≡ text ++ slice_range text start behind
-again_more text so_far part out start at behind low high inside before of put =
-    let kept : slice_range so_far at behind ≡ slice_range text at behind =
-    ap (λ (t : List ℕ). slice_range t at behind) before
-    ∙ range_kept text (slice_range text start at) at behind high inside in
-    put ∙ ap (λ (t : List ℕ). so_far ++ t) (of ∙ kept) ∙ ap (λ (t : List ℕ). t ++ slice_range text at behind) before
-    ∙ append_assoc text (slice_range text start at) (slice_range text at behind)
-    ∙ ap (λ (t : List ℕ). text ++ t) (sym (range_more text start at behind low high))
 
 -- a head line and what is below it are a collector's text
 pub reported_whole : (parcels : List Parcel) (number : ℕ) (before middle out : List ℕ)

@@ -14,9 +14,6 @@ use std::alloc::Global;
 use text_values::put_number;
 use trace_model::NoMemory;
 
-/// How many bytes of a text are copied at once.
-const PART: usize = 1024;
-
 /// Where a part of a text is: its bytes from `start` up to `end`.
 #[derive(Clone, Copy, Debug, PartialEq, Eq)]
 pub struct Span {
@@ -36,22 +33,14 @@ fn put_head(out: &mut Vec<u8>, number: u64) -> Result<(), NoMemory>
     Ok(())
 }
 
-/// Puts this part of the text once more. On an error a part of that may be put.
+/// Puts this part of the text once more, with no room for it but the text's own.
 fn put_again(out: &mut Vec<u8>, span: Span) -> Result<(), NoMemory>
     requires forward { span.start ≤ span.end }
     requires inside { span.end ≤ length out.old.items }
     ensures text { OnOk result (out.new.items ≡ out.old.items ++ slice_range out.old.items span.start span.end) }
     ensures behind { IsPrefix out.old.items out.new.items }
 {
-    let mut buffer = [0u8; PART];
-    let mut at = span.start;
-    while at < span.end {
-        let behind = at + PART.min(span.end - at);
-        let part = &mut buffer[..behind - at];
-        part.copy_from_slice(&out[at..behind]);
-        out.extend_from_slice(part)?;
-        at = behind;
-    }
+    out.extend_from_within(span.start..span.end)?;
     Ok(())
 }
 
