@@ -9,11 +9,14 @@ pub mod LanePayloads
 pub mod LinesMade
 -- worlds: what every line keeps
 pub mod Lookups
+pub mod KeptElements
 pub mod WorldsKept
+pub mod WorldsAt
 pub mod DeliveredLines
 pub mod OneWorld
 pub mod WorldsMade
 pub mod RunEvents
+pub mod LostFills
 pub mod Cuts
 pub mod GenuineWorlds
 -- frames and takes end

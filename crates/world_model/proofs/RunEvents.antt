@@ -35,7 +35,7 @@ no_events : (n : ℕ) (c : Core) → AreEventsOf n c [] c
 no_events n c = record { history_events = sym (append-nil c.history); window = refl; took = sym (append-nil (numbers_of c.reader.taken)) }
 
 -- those of all steps are those of the run
-run_has : (n size : ℕ) (c after : Core) (exchanges : List Exchange) (events : List RingEvent) → AreEventsOfSteps n size c exchanges events after → AreEventsOf n c events after
+pub run_has : (n size : ℕ) (c after : Core) (exchanges : List Exchange) (events : List RingEvent) → AreEventsOfSteps n size c exchanges events after → AreEventsOf n c events after
 run_has n size c after [] events (same, none) = subst (λ (ds : List RingEvent). AreEventsOf n c ds after) (sym none) (subst (AreEventsOf n c []) same (no_events n c))
 run_has n size c after (x ∷ exchanges) events (between, step, own, here, rest, all, more) =
     subst (λ (ds : List RingEvent). AreEventsOf n c ds after) (sym all) (events_on n c between after own rest here (run_has n size between after exchanges rest more))

@@ -1,0 +1,28 @@
+-- Two lists of events of one ring lose the same fills.
+use Rattle.std.proofs.Common.{ℕ, List, [], sym, ◌∙◌, subst, ⊎_elim}
+use Rattle.std.specs.Prelude.{Contains}
+use Rattle.trace_model.specs.History.{HistoryEvent}
+use Rattle.trace_model.specs.Window.{RingEvent, first_window}
+use Rattle.trace_model.specs.Ring.{Core, window_of}
+use Rattle.link_marks.specs.RunsAsEvents.{fills_taken, fills_lost, AreEventsOfRun}
+use Rattle.link_marks.proofs.histories.WindowRuns.{not_both, passed_by, lost_closed}
+use Rattle.world_model.specs.Headline.{IsOverwrittenBefore}
+
+module _ (n start : ℕ) (c : Core) (events others : List RingEvent) (reported : AreEventsOfRun n start c events) (other : AreEventsOfRun n start c others) where
+  taken_same : (f : ℕ) → Contains (fills_taken start others) f → Contains (fills_taken start events) f
+  taken_same f has = subst (λ (l : List ℕ). Contains l f) (other.took ∙ sym reported.took) has
+
+  lost_same : (f : ℕ) → Contains (fills_lost start events) f → Contains (fills_lost start others) f
+  lost_same f has =
+      let (low, high, closed, full) = lost_closed n [] (first_window start) (window_of c) events f reported.window has in
+      ⊎_elim (λ taken. absurd (not_both start events f (taken_same f taken) has)) (λ lost. lost)
+      (passed_by n [] (first_window start) (window_of c) others f other.window low high)
+
+  pub overwritten_same : (history : List HistoryEvent) (fill number : ℕ) → IsOverwrittenBefore history start events fill number → IsOverwrittenBefore history start others fill number
+  overwritten_same history fill number o = record {
+    lost = o.lost;
+    was_lost = lost_same o.lost o.was_lost;
+    stands = o.stands;
+    before = o.before;
+    behind = λ taken has. o.behind taken (taken_same taken has);
+  }
