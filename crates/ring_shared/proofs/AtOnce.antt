@@ -28,12 +28,13 @@ use Rattle.ring_frames.proofs.Reported.{is_going}
 use Rattle.ring_steps.specs.Views.{Writing, writing_of}
 use Rattle.ring_steps.specs.Seats.{Leads}
 use Rattle.ring_steps.specs.Paging.{IsTopIn}
+use Rattle.ring_steps.specs.Notes.{behind}
+use Rattle.ring_steps.proofs.Behind.{behind_is}
 use Rattle.ring_shared.specs.Value.{WriterValue}
 use Rattle.ring_shared.specs.Calls.{AreWriterFields, IsCall}
 use Rattle.ring_shared.specs.Finishing.{at_once, Reserves, Leaves, is_gone}
 use Rattle.ring_shared.specs.WholeWrites.{IsWritten}
-use Rattle.ring_shared.proofs.Behind.{behind, behind_write}
-use Rattle.ring_shared.proofs.Privately.{behind_is}
+use Rattle.ring_shared.proofs.Behind.{behind_write}
 use Rattle.ring_shared.proofs.Standing.{frames_in}
 use Rattle.ring_shared.proofs.Targets.{frames_of}
 use Rattle.ring_shared.proofs.Finishes.{reserving_first, reserving_ends, leaves_behind}

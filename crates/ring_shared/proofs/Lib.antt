@@ -4,7 +4,6 @@ pub mod Called
 pub mod Fields
 pub mod FirstReader
 pub mod GoingOn
-pub mod LinkMoves
 pub mod NewWriter
 pub mod Onward
 pub mod PageMoves

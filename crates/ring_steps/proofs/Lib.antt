@@ -5,6 +5,7 @@ pub mod Allowing
 pub mod Words
 pub mod LinkWords
 pub mod Notes
+pub mod Behind
 pub mod ReaderSteps
 pub mod FirstParts
 pub mod Starts
@@ -14,6 +15,9 @@ pub mod WriterParts
 pub mod Paging
 pub mod Linking
 pub mod LinkBounds
+pub mod WriterMove
+pub mod LinkMoves
+pub mod PartSteps
 pub mod Taking
 pub mod TakeSteps
 pub mod ObservedMore

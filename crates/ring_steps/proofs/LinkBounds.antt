@@ -4,7 +4,7 @@ use Rattle.std.proofs.Common.{◌≡◌, ℕ, ◌+◌, ◌-◌, ◌<◌, ◌≤�
 use Rattle.std.proofs.lemmas.Bool.{eqb-true}
 use Rattle.std.proofs.Math.Logic.{∥∥₁_elim}
 use Rattle.std.proofs.Props.{props}
-use Rattle.trace_model.specs.declared.limits.TheConstants.{MAX_PAGES, LINK_FILLS}
+use Rattle.trace_model.specs.declared.limits.TheConstants.{MAX_PAGES, LINK_PAGES, LINK_FILLS}
 use Rattle.trace_model.specs.Links.{Link, word_of, update_link, FitsWord}
 use Rattle.trace_model.specs.Frames.{Phase, marking, clearing, Frame, noted_fill, owned_update}
 use Rattle.trace_model.specs.Ring.{Core, link_into}
@@ -19,10 +19,12 @@ use Rattle.link_marks.proofs.contents.PageChanges.{page_below}
 use Rattle.link_marks.proofs.frames.TopSteps.{top_stepped}
 use Rattle.link_marks.proofs.partition.RingsKept.{reached_kept}
 use Rattle.ring_steps.specs.declared.rule.Shape.{Shape}
-use Rattle.ring_steps.specs.Views.{Writing, writing_of}
+use Rattle.ring_steps.specs.declared.ends.WriterSeat.{WriterSeat}
+use Rattle.ring_steps.specs.Views.{Writing, writing_of, writing}
 use Rattle.ring_steps.specs.Seats.{Leads, IsWriterStep}
+use Rattle.ring_steps.specs.Ends.{writing_in}
 use Rattle.ring_steps.specs.Paging.{IsWriterReached, IsTopIn}
-use Rattle.ring_steps.specs.Linking.{tail_in, MarksBehind}
+use Rattle.ring_steps.specs.Linking.{tail_in, noted_on_top, role_on_top, MarksBehind}
 use Rattle.ring_steps.proofs.Private.{private_reached}
 use Rattle.ring_steps.proofs.Paging.{top_of}
 use Rattle.ring_steps.proofs.Linking.{link_fits}
@@ -78,7 +80,7 @@ module _ (shape : Shape) (before now : Writing) (known : ∥ IsWriterReached sha
 
   pub behind_fits : (page next behind : ℕ) → MarksBehind shape.pages now page next behind → behind < LINK_FILLS
   behind_fits page next behind due =
-      let (low, numbers, front, some) = passed_bounds (marking due.role due.noted page next) due.noted page due.phase refl refl in let sum = due.behind_is in omega arith
+      let (low, numbers, front, some) = passed_bounds (marking (role_on_top now.frames) (noted_on_top now.frames) page next) (noted_on_top now.frames) page due.phase refl refl in let sum = due.behind_is in omega arith
 
   -- a frame that clears noted a fill whose position had one before
   lost_of_state : (page noted : ℕ) → IsTopIn now.frames (clearing noted page) → StateNow shape now → shape.pages ≤ noted
@@ -89,6 +91,29 @@ module _ (shape : Shape) (before now : Writing) (known : ∥ IsWriterReached sha
 
   pub lost_bounds : (page noted : ℕ) → IsTopIn now.frames (clearing noted page) → shape.pages ≤ noted
   lost_bounds page noted on = ∥∥₁_elim known (Prim.hlevel props) (λ w. lost_of_state page noted on (state_now shape before now w leads))
+
+-- The numbers of a frame that clears its UPDATE have room in a word: its page, the fill that it noted, and the one before
+-- at that position; and the front page has a word.
+pub record ClearFits (shape : Shape) (page noted front : ℕ) : Type 0 where
+  pub round : shape.pages ≤ noted
+  pub page_fits : page < LINK_PAGES
+  pub noted_fits : noted < LINK_FILLS
+  pub lost_fits : noted - shape.pages < LINK_FILLS
+  pub front_fits : front < shape.pages + 1
+
+pub clear_fits : (self : WriterSeat) (page noted front : ℕ) → Leads self.shape (writing self.seat.me.0) (writing_in self) → IsTopIn (writing_in self).frames (clearing noted page)
+    → front ≡ slice_index_or (writing_in self).open_pages (noted - 1 - (writing_in self).done) 0
+    → ClearFits self.shape page noted front
+clear_fits self page noted front leads on front_is =
+    let round : self.shape.pages ≤ noted = lost_bounds self.shape (writing self.seat.me.0) (writing_in self) self.reached leads page noted on in
+    let (low, numbers, front_low, some) = passed_bounds self.shape (writing self.seat.me.0) (writing_in self) self.reached leads (clearing noted page) noted page on refl refl in
+    let few = self.table.pages_fit in record {
+      round = round;
+      page_fits = omega arith;
+      noted_fits = omega arith;
+      lost_fits = omega arith;
+      front_fits = omega arith;
+    }
 
 -- ---- after the step
 

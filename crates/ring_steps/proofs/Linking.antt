@@ -31,7 +31,7 @@ use Rattle.ring_steps.specs.Views.{Writing, writing_of, Reading, writing, passed
 use Rattle.ring_steps.specs.Shown.{page_word, page_before, AreWords, Homes}
 use Rattle.ring_steps.specs.Seats.{Sat, emptied, IsWriting, WriterReported}
 use Rattle.ring_steps.specs.Paging.{IsTopIn}
-use Rattle.ring_steps.specs.Linking.{tail_in, LooksBehind, MarksBehind, number_or_zero, noted_on_top, behind_in, SeesLink, LinkReported, ClaimReported, WishReported}
+use Rattle.ring_steps.specs.Linking.{tail_in, LooksBehind, MarksBehind, number_or_zero, noted_on_top, role_in, role_on_top, behind_in, SeesLink, LinkReported, ClaimReported, WishReported}
 use Rattle.ring_steps.proofs.LinkWords.{with_link_word}
 use Rattle.ring_steps.proofs.Private.{stays_shown}
 use Rattle.ring_steps.proofs.Allowing.{IsShownBy, WriterMoves}
@@ -49,13 +49,34 @@ noted_top : (frames : List Frame) (phase : Phase) (noted : ℕ) → IsTopIn fram
 noted_top [] phase noted top e = absurd top
 noted_top (frame ∷ below) phase noted top e = ap (λ (p : Phase). number_or_zero (noted_fill p)) top ∙ ap number_or_zero e
 
+top_role : (frames : List Frame) (phase : Phase) → IsTopIn frames phase → role_on_top frames ≡ role_in phase
+top_role [] phase top = absurd top
+top_role (frame ∷ below) phase top = ap role_in top
+
+-- the frame on top looks at that link, for this fill
+pub looks_at : (n : ℕ) (w : Writing) (role : Role) (noted page behind : ℕ) → IsTopIn w.frames (looking_next role noted page) → MayContinue role noted w.opened → behind + n ≡ noted + 1 → LooksBehind n w page behind
+looks_at n w role noted page behind at on sum =
+    let mover : role ≡ role_on_top w.frames = sym (top_role w.frames (looking_next role noted page) at) in
+    let fill : noted ≡ noted_on_top w.frames = sym (noted_top w.frames (looking_next role noted page) noted at refl) in record {
+      phase = subst (λ (r : Role). IsTopIn w.frames (looking_next r (noted_on_top w.frames) page)) mover (subst (λ (f : ℕ). IsTopIn w.frames (looking_next role f page)) fill at);
+      goes_on = subst (λ (r : Role). MayContinue r (noted_on_top w.frames) w.opened) mover (subst (λ (f : ℕ). MayContinue role f w.opened) fill on);
+      behind_is = omega arith;
+    }
+
+pub marks_at_next : (n : ℕ) (w : Writing) (role : Role) (noted page next behind : ℕ) → IsTopIn w.frames (marking role noted page next) → MayContinue role noted w.opened → behind + n ≡ noted + 1 → MarksBehind n w page next behind
+marks_at_next n w role noted page next behind at on sum =
+    let mover : role ≡ role_on_top w.frames = sym (top_role w.frames (marking role noted page next) at) in
+    let fill : noted ≡ noted_on_top w.frames = sym (noted_top w.frames (marking role noted page next) noted at refl) in record {
+      phase = subst (λ (r : Role). IsTopIn w.frames (marking r (noted_on_top w.frames) page next)) mover (subst (λ (f : ℕ). IsTopIn w.frames (marking role f page next)) fill at);
+      goes_on = subst (λ (r : Role). MayContinue r (noted_on_top w.frames) w.opened) mover (subst (λ (f : ℕ). MayContinue role f w.opened) fill on);
+      behind_is = omega arith;
+    }
+
 pub looks_behind : (n : ℕ) (w : Writing) (page behind : ℕ) → LooksBehind n w page behind → behind ≡ behind_in n w
-looks_behind n w page behind due =
-    let at = noted_top w.frames (looking_next due.role due.noted page) due.noted due.phase refl in let sum = due.behind_is in omega arith
+looks_behind n w page behind due = let sum = due.behind_is in omega arith
 
 pub marks_behind : (n : ℕ) (w : Writing) (page next behind : ℕ) → MarksBehind n w page next behind → behind ≡ behind_in n w
-marks_behind n w page next behind due =
-    let at = noted_top w.frames (marking due.role due.noted page next) due.noted due.phase refl in let sum = due.behind_is in omega arith
+marks_behind n w page next behind due = let sum = due.behind_is in omega arith
 
 pub clears_noted : (w : Writing) (page noted : ℕ) → IsTopIn w.frames (clearing noted page) → noted ≡ noted_on_top w.frames
 clears_noted w page noted phase = sym (noted_top w.frames (clearing noted page) noted phase refl)
@@ -209,15 +230,22 @@ module _ (shape : Shape) (me : Sat) (is : IsWriting me) (now : Writing) (c : Cor
   nexts page behind frame below role noted answer after e on step (sees_normal lost next x sum at a after_is) = loads page behind frame below (marking role noted page next) answer after e step a after_is
   nexts page behind frame below role noted answer after e on step (sees_other lost x sum other a after_is) = loads page behind frame below (after_next role noted page) answer after e step a after_is
 
+  -- who moves the head, and for which fill, by the frame on top
+  abbrev mover : Role
+  mover = role_on_top now.frames
+
+  abbrev noted : ℕ
+  noted = noted_on_top now.frames
+
   pub load_next_moves : (page behind : ℕ) → LooksBehind shape.pages now page behind → LoadMoves page (behind_in shape.pages now)
   load_next_moves page behind due =
-      let top = top_of c.frames (looking_next due.role due.noted page) (top_now (looking_next due.role due.noted page) due.phase) in
+      let top = top_of c.frames (looking_next mover noted page) (top_now (looking_next mover noted page) due.phase) in
       let (answer, after, step) = each_event_is_a_step shape.pages shape.size shape.start c steps kept tt in
       let known = top_kept shape.pages c top.frame top.below kept.links top.is in
-      let passed = known.passed due.noted page (ap passed_spot top.phase_is) in
+      let passed = known.passed noted page (ap passed_spot top.phase_is) in
       subst (λ (fill : ℕ). LoadMoves page fill) (looks_behind shape.pages now page behind due)
-      (nexts page behind top.frame top.below due.role due.noted answer after (passed_front page due.noted behind passed.2 due.behind_is) (subst (MayContinue due.role due.noted) opened_is due.goes_on) step
-      (top_stepped shape.pages shape.size c top.frame top.below (looking_next due.role due.noted page) answer after top.is top.phase_is step))
+      (nexts page behind top.frame top.below mover noted answer after (passed_front page noted behind passed.2 due.behind_is) (subst (MayContinue mover noted) opened_is due.goes_on) step
+      (top_stepped shape.pages shape.size c top.frame top.below (looking_next mover noted page) answer after top.is top.phase_is step))
 
   -- ---- the wish
 
@@ -348,15 +376,15 @@ module _ (shape : Shape) (me : Sat) (is : IsWriting me) (now : Writing) (c : Cor
   pub mark_moves : (page next behind from to : ℕ) → MarksBehind shape.pages now page next behind → next < LINK_PAGES → from ≡ word_of (normal_link next behind) → to ≡ word_of (header_link next behind)
       → ExchangeMoves page (behind_in shape.pages now) from to
   mark_moves page next behind from to due fits from_is to_is =
-      let top = top_of c.frames (marking due.role due.noted page next) (top_now (marking due.role due.noted page next) due.phase) in
+      let top = top_of c.frames (marking mover noted page next) (top_now (marking mover noted page next) due.phase) in
       let (answer, after, step) = each_event_is_a_step shape.pages shape.size shape.start c steps kept tt in
       let known = top_kept shape.pages c top.frame top.below kept.links top.is in
-      let passed = known.passed due.noted page (ap passed_spot top.phase_is) in
-      let (low, high, room, numbers) = known.noted due.noted (ap noted_fill top.phase_is) in let some = kept.links.some_pages in let sum = due.behind_is in
+      let passed = known.passed noted page (ap passed_spot top.phase_is) in
+      let (low, high, room, numbers) = known.noted noted (ap noted_fill top.phase_is) in let some = kept.links.some_pages in let sum = due.behind_is in
       subst (λ (fill : ℕ). ExchangeMoves page fill from to) (marks_behind shape.pages now page next behind due)
-      (marks_at page next behind from to top.frame top.below due.role due.noted answer after (subst (MayContinue due.role due.noted) opened_is due.goes_on) due.behind_is
-      record { page_fits = fits; fill_fits = omega arith } from_is to_is (passed_front page due.noted behind passed.2 due.behind_is) step
-      (top_stepped shape.pages shape.size c top.frame top.below (marking due.role due.noted page next) answer after top.is top.phase_is step))
+      (marks_at page next behind from to top.frame top.below mover noted answer after (subst (MayContinue mover noted) opened_is due.goes_on) due.behind_is
+      record { page_fits = fits; fill_fits = omega arith } from_is to_is (passed_front page noted behind passed.2 due.behind_is) step
+      (top_stepped shape.pages shape.size c top.frame top.below (marking mover noted page next) answer after top.is top.phase_is step))
 
   clears_at : (before page lost noted from to : ℕ) (frame : Frame) (below : List Frame) (answer : Answer) (after : Core) → lost + shape.pages ≡ noted → from ≡ word_of (update_link page lost) → to ≡ word_of (normal_link page noted)
       → before ≡ page_before shape.pages c.order noted

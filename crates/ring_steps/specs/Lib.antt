@@ -5,5 +5,7 @@ pub mod Ends
 pub mod NewRings
 pub mod Paging
 pub mod Linking
+pub mod Moving
+pub mod Notes
 pub mod Taking
 pub mod Swapping

@@ -1,9 +1,9 @@
 -- What the writer's steps that load and set links ask and show.
-use Rattle.std.specs.Prelude.{◌≡◌, ℕ, ◌+◌, ◌-◌, ◌<◌, ◌≤◌, List, [], ◌∷◌, length, Option, Some, None, slice_index_or}
-use Rattle.trace_model.specs.Links.{word_of}
-use Rattle.trace_model.specs.Frames.{Role, looking_next, marking, Frame, noted_fill}
+use Rattle.std.specs.Prelude.{◌≡◌, ℕ, ◌+◌, ◌-◌, ◌<◌, ◌≤◌, Bool, true, false, List, [], ◌∷◌, length, Option, Some, None, slice_index_or}
+use Rattle.trace_model.specs.Links.{Mark, normal, header, update, word_of}
+use Rattle.trace_model.specs.Frames.{Role, owner, helper, Phase, looking, claiming, looking_next, marking, opening, Frame, noted_fill}
 use Rattle.trace_model.specs.Ring.{link_into, Core}
-use Rattle.trace_model.specs.Steps.{MayContinue, going, Answer}
+use Rattle.trace_model.specs.Steps.{MayContinue, after_next, going, Answer}
 use Rattle.ring_steps.specs.declared.rule.Shape.{Shape}
 use Rattle.ring_steps.specs.Views.{Writing, writing, passed}
 use Rattle.ring_steps.specs.Seats.{Sat, IsWriting, IsWriterStep, WriterReported}
@@ -13,23 +13,6 @@ use Rattle.ring_steps.specs.Paging.{IsTopIn}
 abbrev pub tail_in : Writing → ℕ
 tail_in w = slice_index_or w.open_pages (length w.open_pages - 1) 0
 
--- The frame on top looks at the link after this page, which is into the position of this fill: the head was moved on
--- to it.
-pub record LooksBehind (n : ℕ) (w : Writing) (page behind : ℕ) : Type 0 where
-  pub role : Role
-  pub noted : ℕ
-  pub phase : IsTopIn w.frames (looking_next role noted page)
-  pub goes_on : MayContinue role noted w.opened
-  pub behind_is : behind + n ≡ noted + 1
-
--- and it is about to set the HEADER there
-pub record MarksBehind (n : ℕ) (w : Writing) (page next behind : ℕ) : Type 0 where
-  pub role : Role
-  pub noted : ℕ
-  pub phase : IsTopIn w.frames (marking role noted page next)
-  pub goes_on : MayContinue role noted w.opened
-  pub behind_is : behind + n ≡ noted + 1
-
 abbrev pub number_or_zero : Option ℕ → ℕ
 number_or_zero None = 0
 number_or_zero (Some number) = number
@@ -38,6 +21,29 @@ number_or_zero (Some number) = number
 abbrev pub noted_on_top : List Frame → ℕ
 noted_on_top [] = 0
 noted_on_top (frame ∷ below) = number_or_zero (noted_fill frame.phase)
+
+-- who moves the head there: the frame on top, or one that it helps
+abbrev pub role_in : Phase → Role
+role_in (looking_next role noted page) = role
+role_in (marking role noted page next) = role
+role_in _ = owner
+
+abbrev pub role_on_top : List Frame → Role
+role_on_top [] = owner
+role_on_top (frame ∷ below) = role_in frame.phase
+
+-- The frame on top looks at the link after this page, which is into the position of this fill: the head was moved on
+-- to it.
+pub record LooksBehind (n : ℕ) (w : Writing) (page behind : ℕ) : Type 0 where
+  pub phase : IsTopIn w.frames (looking_next (role_on_top w.frames) (noted_on_top w.frames) page)
+  pub goes_on : MayContinue (role_on_top w.frames) (noted_on_top w.frames) w.opened
+  pub behind_is : behind + n ≡ noted_on_top w.frames + 1
+
+-- and it is about to set the HEADER there
+pub record MarksBehind (n : ℕ) (w : Writing) (page next behind : ℕ) : Type 0 where
+  pub phase : IsTopIn w.frames (marking (role_on_top w.frames) (noted_on_top w.frames) page next)
+  pub goes_on : MayContinue (role_on_top w.frames) (noted_on_top w.frames) w.opened
+  pub behind_is : behind + n ≡ noted_on_top w.frames + 1
 
 -- the fill after the one that is lost for it
 abbrev pub behind_in : ℕ → Writing → ℕ
@@ -65,3 +71,31 @@ pub record WishReported (shape : Shape) (now : Writing) (known found : ℕ) (aft
   pub knows : known ≤ passed after.0
   pub answer : Answer
   pub step : IsWriterStep shape now (λ core. core.wish ≡ found) answer (writing after.0)
+
+-- ---- what such a step makes of the writer's part
+
+-- the frame on top goes on in this phase, and nothing else of the part changes
+abbrev pub frames_in : List Frame → Phase → List Frame
+frames_in [] phase = []
+frames_in (frame ∷ below) phase = record frame { phase = phase } ∷ below
+
+abbrev pub part_in : Writing → Phase → Writing
+part_in w phase = record w { frames = frames_in w.frames phase }
+
+-- the phase in which it goes on by the link that it found into the position of the fill to open
+abbrev pub found_at : Mark → (noted page : ℕ) → Phase
+found_at normal noted page = opening noted page
+found_at header noted page = claiming noted page
+found_at update noted page = looking_next helper noted page
+
+-- by its claim of the head
+abbrev pub claimed_at : (done : Bool) → (noted page : ℕ) → Phase
+claimed_at true noted page = looking_next owner noted page
+claimed_at false noted page = looking noted
+
+-- and by the next link, if that still waits for the HEADER or not: it does if it is a NORMAL of the fill there
+abbrev pub next_at : Mark → (same : Bool) → Role → (noted page next : ℕ) → Phase
+next_at normal true role noted page next = marking role noted page next
+next_at normal false role noted page next = after_next role noted page
+next_at header same role noted page next = after_next role noted page
+next_at update same role noted page next = after_next role noted page

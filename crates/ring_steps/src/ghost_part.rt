@@ -3,8 +3,8 @@ ghost use Rattle.std.specs.Prelude.{◌≡◌};
 ghost use Rattle.std.specs.Borrow.{ftrue};
 ghost use Rattle.ring_steps.specs.Views.{Writing, writing};
 
+use crate::noting::ChosenPart;
 use crate::plays::TableSeat;
-use crate::writer::ChosenPart;
 use std::marker::{Brand, Model};
 
 /// The writer's part of a ring by now, after what it did in private since its last step on a word. It has no bytes.

@@ -10,6 +10,7 @@ mod ghost_part;
 mod laying;
 mod links;
 mod making;
+mod noting;
 mod plays;
 mod reader;
 mod rule;
@@ -20,7 +21,7 @@ mod writer;
 
 pub use ends::{ReaderSeat, WriterSeat};
 pub use making::{seats, seats_at};
+pub use noting::ChosenPart;
 pub use rule::Shape;
 pub use settling::settle;
 pub use views::View;
-pub use writer::ChosenPart;

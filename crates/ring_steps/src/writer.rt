@@ -1,22 +1,26 @@
 //! The writer's steps.
-ghost use Rattle.std.specs.Prelude.{◌≡◌, ◌↔◌, ◌+◌, ◌-◌, ◌<◌, ◌≤◌, ⊤, true, length, slice_index_or};
+ghost use Rattle.std.specs.Prelude.{◌≡◌, ◌≢◌, ◌↔◌, ◌+◌, ◌-◌, ◌<◌, ◌≤◌, ◌==◌, ⊤, true, length, slice_index_or};
+ghost use prog.Atomic.{either};
 ghost use Rattle.trace_model.specs.declared.limits.TheConstants.{LINK_PAGES};
 ghost use Rattle.trace_model.specs.Links.{FitsWord, normal_link, header_link, update_link};
 ghost use Rattle.trace_model.specs.Frames.{looking, claiming, clearing, opening, releasing, wishing};
 ghost use Rattle.trace_model.specs.Ring.{link_into, fill_of};
-ghost use Rattle.trace_model.specs.Steps.{going, Answer};
-ghost use Rattle.link_marks.specs.ModelLinks.{link_of};
+ghost use Rattle.trace_model.specs.Steps.{steps, going, after_next, Answer};
+ghost use Rattle.link_marks.specs.declared.link.Mark.TheVariants.{Normal};
+ghost use Rattle.link_marks.specs.ModelLinks.{mark_of, link_of};
 ghost use Rattle.nested_writer.specs.Released.{IsWrittenPage};
 ghost use Rattle.ring_steps.specs.Views.{writing};
 ghost use Rattle.ring_steps.specs.Seats.{Leads, IsWriterStep};
-ghost use Rattle.ring_steps.specs.Ends.{writing_in, passed_in, SameSeat};
+ghost use Rattle.ring_steps.specs.Ends.{writing_in, passed_in, writer_table, SameSeat};
 ghost use Rattle.ring_steps.specs.Paging.{IsTopIn, begun_answer};
-ghost use Rattle.ring_steps.specs.Linking.{tail_in, LooksBehind, MarksBehind};
+ghost use Rattle.ring_steps.specs.Linking.{tail_in, noted_on_top, role_on_top, LooksBehind, MarksBehind, part_in, found_at, claimed_at, next_at};
+ghost use Rattle.ring_steps.specs.Moving.{IsWriterMove};
+ghost use Rattle.ring_steps.specs.Notes.{behind, behind_wish};
 
 use crate::ends::WriterSeat;
 use crate::ghost_part::{ghost_part_at_rest, ghost_part_of};
 use crate::links::{header_word, link_in, normal_word, update_word};
-use crate::plays::{exchange, load, store};
+use crate::plays::{StepReport, exchange, load, store};
 use crate::rule::{DONE, LINKS, OPENED, WISH};
 use link_marks::Link;
 use page_image::{Body, Page};
@@ -24,24 +28,43 @@ use std::marker::Brand;
 use trace_model::FillNo;
 
 impl WriterSeat {
-    /// Notes what the writer did in private since its last step on a word: by it the writer's part becomes what it
-    /// is by now. No word is loaded or stored, and the next step on one is from there. `given` is what a caller states
-    /// to the proof; no code reads it.
-    #[inline(always)]
-    pub fn note<J: ChosenPart, G>(&mut self, given: &G)
-        requires due { Leads self.old.shape (writing_in self.old) J.now }
-        ensures same { SameSeat self.old self.new }
-        ensures noted { writing_in self.new ≡ J.now }
-    {
-        self.ghost_part = ghost_part_of::<J, G>(given);
-    }
-
     /// What the writer did in private since its last step on a word leads from the part that its seat knows to its
     /// present part.
     #[inline(always)]
     pub(crate) fn recall(&self)
         ensures { Leads self.now.shape (writing self.now.seat.me.0) (writing_in self.now) }
     {}
+
+    /// A load of this word, as a step of the writer.
+    #[inline(always)]
+    fn load_step<J: StepReport>(&mut self, word: usize) -> u64
+        requires word { word < self.old.shape.pages + 4 }
+        requires moves { IsWriterMove self.old.shape self.old.seat.me word (λ n. n) (J.reports self.old.seat.me) }
+        ensures shape { self.new.shape ≡ self.old.shape }
+        ensures table { writer_table self.new ≡ writer_table self.old }
+        ensures rests { writing_in self.new ≡ writing self.new.seat.me.0 }
+        ensures reported { J.reports self.old.seat.me result self.new.seat.me }
+    {
+        let found = load::<J, _>(&self.board, self.shape, &mut self.seat, word, &());
+        self.ghost_part = ghost_part_at_rest(&self.seat);
+        found
+    }
+
+    /// A compare and exchange of this word, as a step of the writer; what the word was.
+    #[inline(always)]
+    fn exchange_step<J: StepReport>(&mut self, word: usize, from: u64, to: u64) -> u64
+        requires word { word < self.old.shape.pages + 4 }
+        requires moves { IsWriterMove self.old.shape self.old.seat.me word (λ n. either (n == from) to n)
+            (J.reports self.old.seat.me) }
+        ensures shape { self.new.shape ≡ self.old.shape }
+        ensures table { writer_table self.new ≡ writer_table self.old }
+        ensures rests { writing_in self.new ≡ writing self.new.seat.me.0 }
+        ensures reported { J.reports self.old.seat.me result self.new.seat.me }
+    {
+        let found = exchange::<J, _>(&self.board, self.shape, &mut self.seat, word, from, to, &());
+        self.ghost_part = ghost_part_at_rest(&self.seat);
+        found
+    }
 
     /// A load of the link into the position of the fill to open, which is in the word of the tail page. What the
     /// seat knew to be passed is at most the head of the state that is seen.
@@ -54,17 +77,13 @@ impl WriterSeat {
             (λ core. (passed_in self.old ≤ core.head)
             × (link_into self.old.shape.pages core.links (writing_in self.old).opened ≡ link_of result)) going
             (writing_in self.new) }
+        ensures next { result.mark ≡ Normal → result.fill ≡ (writing_in self.old).opened }
+        ensures lost { result.mark ≢ Normal → result.fill + self.old.shape.pages ≡ (writing_in self.old).opened }
+        ensures part { writing_in self.new ≡ part_in (writing_in self.old)
+            (found_at (mark_of result.mark) (writing_in self.old).opened result.page) }
     {
         self.recall();
-        let word = tail as usize + LINKS;
-        let found = load::<Brand, _>(
-            &self.board,
-            self.shape,
-            &mut self.seat,
-            word,
-            &self.ghost_part,
-        );
-        self.ghost_part = ghost_part_at_rest(&self.seat);
+        let found = self.load_step::<Brand>(tail as usize + LINKS);
         link_in(found)
     }
 
@@ -77,18 +96,13 @@ impl WriterSeat {
         ensures step { IsWriterStep self.old.shape (writing_in self.old)
             (λ core. link_into self.old.shape.pages core.links behind.0 ≡ link_of result) going
             (writing_in self.new) }
+        ensures part { writing_in self.new ≡ part_in (writing_in self.old)
+            (next_at (mark_of result.mark) (result.fill == behind.0) (role_on_top (writing_in self.old).frames)
+            (noted_on_top (writing_in self.old).frames) page result.page) }
     {
         let _behind = behind;
         self.recall();
-        let word = page as usize + LINKS;
-        let found = load::<Brand, _>(
-            &self.board,
-            self.shape,
-            &mut self.seat,
-            word,
-            &self.ghost_part,
-        );
-        self.ghost_part = ghost_part_at_rest(&self.seat);
+        let found = self.load_step::<Brand>(page as usize + LINKS);
         link_in(found)
     }
 
@@ -99,17 +113,10 @@ impl WriterSeat {
         ensures step { (answer : Answer)
             × IsWriterStep self.old.shape (writing_in self.old) (λ core. core.wish ≡ result) answer
             (writing_in self.new) }
+        ensures part { writing_in self.new ≡ behind_wish self.old.shape (writing_in self.old) result }
     {
         self.recall();
-        let wish = load::<Brand, _>(
-            &self.board,
-            self.shape,
-            &mut self.seat,
-            WISH,
-            &self.ghost_part,
-        );
-        self.ghost_part = ghost_part_at_rest(&self.seat);
-        wish
+        self.load_step::<Brand>(WISH)
     }
 
     /// A compare and exchange of the link in the tail page's word from HEADER to UPDATE, by which the head, this page
@@ -125,21 +132,14 @@ impl WriterSeat {
             (λ core. result ≡ true
             ↔ link_into self.old.shape.pages core.links (writing_in self.old).opened ≡ header_link page lost.0)
             going (writing_in self.new) }
+        ensures part { writing_in self.new ≡ part_in (writing_in self.old)
+            (claimed_at result (writing_in self.old).opened page) }
     {
         self.recall();
         let word = tail as usize + LINKS;
         let from = header_word(page, lost);
         let to = update_word(page, lost);
-        let found = exchange::<Brand, _>(
-            &self.board,
-            self.shape,
-            &mut self.seat,
-            word,
-            from,
-            to,
-            &self.ghost_part,
-        );
-        self.ghost_part = ghost_part_at_rest(&self.seat);
+        let found = self.exchange_step::<Brand>(word, from, to);
         found == from
     }
 
@@ -151,21 +151,14 @@ impl WriterSeat {
         ensures step { IsWriterStep self.old.shape (writing_in self.old)
             (λ core. result ≡ true ↔ link_into self.old.shape.pages core.links behind.0 ≡ normal_link next behind.0)
             going (writing_in self.new) }
+        ensures part { writing_in self.new ≡ part_in (writing_in self.old)
+            (after_next (role_on_top (writing_in self.old).frames) (noted_on_top (writing_in self.old).frames) page) }
     {
         self.recall();
         let word = page as usize + LINKS;
         let from = normal_word(next, behind);
         let to = header_word(next, behind);
-        let found = exchange::<Brand, _>(
-            &self.board,
-            self.shape,
-            &mut self.seat,
-            word,
-            from,
-            to,
-            &self.ghost_part,
-        );
-        self.ghost_part = ghost_part_at_rest(&self.seat);
+        let found = self.exchange_step::<Brand>(word, from, to);
         found == from
     }
 
@@ -180,21 +173,13 @@ impl WriterSeat {
         ensures step { IsWriterStep self.old.shape (writing_in self.old)
             (λ core. result ≡ true ↔ link_into self.old.shape.pages core.links noted.0
             ≡ update_link page (noted.0 - self.old.shape.pages)) going (writing_in self.new) }
+        ensures part { writing_in self.new ≡ part_in (writing_in self.old) (opening noted.0 page) }
     {
         self.recall();
         let word = front as usize + LINKS;
         let from = update_word(page, FillNo(noted.0 - self.shape.pages as u64));
         let to = normal_word(page, noted);
-        let found = exchange::<Brand, _>(
-            &self.board,
-            self.shape,
-            &mut self.seat,
-            word,
-            from,
-            to,
-            &self.ghost_part,
-        );
-        self.ghost_part = ghost_part_at_rest(&self.seat);
+        let found = self.exchange_step::<Brand>(word, from, to);
         found == from
     }
 
@@ -206,6 +191,7 @@ impl WriterSeat {
         ensures same { SameSeat self.old self.new }
         ensures step { IsWriterStep self.old.shape (writing_in self.old) (λ _. ⊤)
             (begun_answer (writing_in self.old).frames) (writing_in self.new) }
+        ensures part { writing_in self.new ≡ behind self.old.shape (writing_in self.old) steps }
         ensures body { length result ≡ self.old.shape.size }
     {
         self.recall();
@@ -235,6 +221,7 @@ impl WriterSeat {
             (fill_of (writing_in self.old).history self.old.shape.start (writing_in self.old).done) page }
         ensures same { SameSeat self.old self.new }
         ensures step { IsWriterStep self.old.shape (writing_in self.old) (λ _. ⊤) going (writing_in self.new) }
+        ensures part { writing_in self.new ≡ behind self.old.shape (writing_in self.old) steps }
     {
         self.recall();
         let fill = page.fill();
@@ -251,18 +238,4 @@ impl WriterSeat {
         );
         self.ghost_part = ghost_part_at_rest(&self.seat);
     }
-}
-
-/// What the writer's part of the ring is by now, after what it did in private since its last step on a word. No code
-/// reads it: a caller picks it for the proof.
-pub trait ChosenPart {
-    ghost use Rattle.ring_steps.specs.Views.{Writing};
-
-    ghost now: { Writing };
-}
-
-impl ChosenPart for Brand {
-    ghost use Rattle.ring_steps.specs.Views.{no_writing};
-
-    ghost now = { no_writing };
 }

@@ -1,7 +1,8 @@
 use Rattle.std.proofs.Common.{refl}
 use Rattle.trace_model.specs.Steps.{pushes}
 use Rattle.ring_steps.specs.Ends.{writing_in}
-use Rattle.ring_shared.proofs.Privately.{push_leads, seen_call}
+use Rattle.ring_steps.proofs.Behind.{push_leads}
+use Rattle.ring_shared.proofs.Privately.{seen_call}
 use Rattle.ring_shared.proofs.Rooms.{push_rooms, push_refused_rooms}
 use Rattle.ring_shared.specs.Calls.{IsWriter}
 use Rattle.ring_shared.proofs.writer.Writer.begin.Goals as goal

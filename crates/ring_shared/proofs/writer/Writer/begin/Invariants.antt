@@ -1,6 +1,6 @@
 use Rattle.trace_model.specs.Steps.{pushes}
 use Rattle.ring_steps.specs.Ends.{writing_in}
-use Rattle.ring_shared.proofs.Behind.{behind}
+use Rattle.ring_steps.specs.Notes.{behind}
 use Rattle.ring_shared.proofs.writer.Writer.begin.Given as goal
 
 abbrev pub ghosts-note : goal.ghosts-note

@@ -17,7 +17,7 @@ use Rattle.ring_shared.proofs.Standing.{phase_shown}
 use Rattle.ring_shared.proofs.Called.{writer_seen, top_seen, phase_seen}
 use Rattle.ring_shared.proofs.Bounds.{opened_now, fits}
 use Rattle.ring_shared.proofs.GoingOn.{Moves, goes_on_called}
-use Rattle.ring_shared.proofs.LinkMoves.{claimed, not_claimed}
+use Rattle.ring_steps.proofs.LinkMoves.{claimed, not_claimed}
 use Rattle.ring_steps.specs.Ends.{passed_in}
 use Rattle.ring_shared.proofs.Nearing.{nearer_claiming}
 use Rattle.ring_shared.proofs.writer.Writer.claim_head.Goals.{then-claim_head, else-claim_head}

@@ -12,7 +12,7 @@ use Rattle.ring_shared.proofs.Standing.{phase_shown}
 use Rattle.ring_shared.proofs.Called.{writer_seen, top_seen, phase_seen}
 use Rattle.ring_shared.proofs.Bounds.{done_now, count_now, noted_bounds}
 use Rattle.ring_shared.proofs.GoingOn.{goes_on_called}
-use Rattle.ring_shared.proofs.LinkMoves.{cleared}
+use Rattle.ring_steps.proofs.LinkMoves.{cleared}
 use Rattle.ring_shared.proofs.Nearing.{stays_near}
 use Rattle.ring_shared.proofs.writer.Writer.clear_update.Goals as goal
 

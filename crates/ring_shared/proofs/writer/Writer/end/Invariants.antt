@@ -1,7 +1,7 @@
 use Rattle.trace_model.specs.Steps.{ends}
 use Rattle.ring_steps.specs.Ends.{writing_in}
+use Rattle.ring_steps.specs.Notes.{behind}
 use Rattle.ring_frames.specs.Answers.{top_bytes}
-use Rattle.ring_shared.proofs.Behind.{behind}
 use Rattle.ring_shared.proofs.writer.Writer.end.Given as goal
 
 abbrev pub ghosts-note : goal.ghosts-note

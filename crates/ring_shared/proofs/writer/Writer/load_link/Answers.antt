@@ -11,7 +11,8 @@ use Rattle.ring_frames.specs.declared.phase.Role.TheVariants.{Helper}
 use Rattle.ring_frames.specs.Phases.{as_answer}
 use Rattle.ring_frames.specs.declared.phase.Phase.{Phase}
 use Rattle.ring_frames.specs.Value.{phase_of}
-use Rattle.ring_steps.specs.Linking.{tail_in}
+use Rattle.ring_steps.specs.Linking.{tail_in, found_at}
+use Rattle.ring_steps.proofs.LinkMoves.{looked}
 use Rattle.ring_shared.specs.Value.{WriterValue}
 use Rattle.ring_shared.specs.Calls.{IsWriter, MakesSome}
 use Rattle.ring_shared.specs.contracts.writer.Writer.{the_view}
@@ -19,7 +20,6 @@ use Rattle.ring_shared.proofs.Standing.{phase_shown}
 use Rattle.ring_shared.proofs.Called.{writer_seen, top_seen, phase_seen}
 use Rattle.ring_shared.proofs.Bounds.{opened_now}
 use Rattle.ring_shared.proofs.GoingOn.{Moves, goes_on_called}
-use Rattle.ring_shared.proofs.LinkMoves.{found_at, looked}
 use Rattle.ring_shared.specs.Nearer.{IsNearer}
 use Rattle.ring_shared.proofs.Nearing.{nearer_looking}
 use Rattle.ring_shared.proofs.writer.Writer.load_link.Goals.{in-Normal, in-Header, in-Update}

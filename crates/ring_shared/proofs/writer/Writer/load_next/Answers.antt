@@ -17,7 +17,8 @@ use Rattle.ring_shared.proofs.Standing.{phase_shown}
 use Rattle.ring_shared.proofs.Called.{writer_seen, top_seen, phase_seen}
 use Rattle.ring_shared.proofs.Bounds.{pages_called, advances_called, opened_now, noted_bounds, advances}
 use Rattle.ring_shared.proofs.GoingOn.{Moves, goes_on_called}
-use Rattle.ring_shared.proofs.LinkMoves.{noted_after, says_normal, waits, is_passed}
+use Rattle.ring_steps.proofs.Linking.{looks_at}
+use Rattle.ring_steps.proofs.LinkMoves.{noted_after, says_normal, waits, is_passed}
 use Rattle.ring_shared.proofs.Nearing.{stays_near}
 use Rattle.ring_shared.proofs.writer.Writer.load_next.Goals.{in-Normal, in_default, in_default-via-in-Normal+else-link-behind, in_default-via-in_default}
 use Rattle.ring_shared.proofs.writer.Writer.load_next.Goals as goal
@@ -45,14 +46,11 @@ load_next-link-requires c =
     let some = top_seen c.self.view_is c.requires.framed.top in
     let at : phase_of v.frames.phase ≡ looking_next (role_of c.args.role) c.args.noted c.args.page = phase_seen c.self.view_is c.requires.phase in
     let pages : c.pages.result ≡ v.shape.pages = c.pages.ensures.pages ∙ w.frames_are.pages_is in
-    let round : v.shape.pages ≤ c.args.noted = advances v w (looking_next (role_of c.args.role) c.args.noted c.args.page) some at in record {
-      phase = record {
-        role = role_of c.args.role;
-        noted = c.args.noted;
-        phase = phase_shown v w (looking_next (role_of c.args.role) c.args.noted c.args.page) some at;
-        goes_on = subst (MayContinue (role_of c.args.role) c.args.noted) (opened_now v w) (c.stops.ensures.goes_on c.if-stops.false);
-        behind_is = omega arith;
-      };
+    let round : v.shape.pages ≤ c.args.noted = advances v w (looking_next (role_of c.args.role) c.args.noted c.args.page) some at in
+    let sum : c.args.noted + 1 - c.pages.result + v.shape.pages ≡ c.args.noted + 1 = omega arith in record {
+      phase = looks_at v.shape.pages v.part (role_of c.args.role) c.args.noted c.args.page (c.args.noted + 1 - c.pages.result)
+          (phase_shown v w (looking_next (role_of c.args.role) c.args.noted c.args.page) some at)
+          (subst (MayContinue (role_of c.args.role) c.args.noted) (opened_now v w) (c.stops.ensures.goes_on c.if-stops.false)) sum;
     }
 
 pub returns-clause-makes : goal.returns-clause-makes

@@ -13,7 +13,8 @@ use Rattle.ring_shared.proofs.Standing.{phase_shown}
 use Rattle.ring_shared.proofs.Called.{writer_seen, top_seen, phase_seen}
 use Rattle.ring_shared.proofs.Bounds.{pages_called, advances_called, opened_now, noted_bounds, advances, fits}
 use Rattle.ring_shared.proofs.GoingOn.{goes_on_called}
-use Rattle.ring_shared.proofs.LinkMoves.{noted_after, marked}
+use Rattle.ring_steps.proofs.Linking.{marks_at_next}
+use Rattle.ring_steps.proofs.LinkMoves.{noted_after, marked}
 use Rattle.ring_shared.proofs.Nearing.{stays_near}
 use Rattle.ring_shared.proofs.writer.Writer.mark_head.Goals as goal
 
@@ -40,13 +41,11 @@ mark_head-marked-requires-clause-phase c =
     let some = top_seen c.self.view_is c.requires.framed.top in
     let at : phase_of v.frames.phase ≡ marking (role_of c.args.role) c.args.noted c.args.page c.args.next = phase_seen c.self.view_is c.requires.phase in
     let pages : c.pages.result ≡ v.shape.pages = c.pages.ensures.pages ∙ w.frames_are.pages_is in
-    let round : v.shape.pages ≤ c.args.noted = advances v w (marking (role_of c.args.role) c.args.noted c.args.page c.args.next) some at in record {
-      role = role_of c.args.role;
-      noted = c.args.noted;
-      phase = phase_shown v w (marking (role_of c.args.role) c.args.noted c.args.page c.args.next) some at;
-      goes_on = subst (MayContinue (role_of c.args.role) c.args.noted) (opened_now v w) (c.stops.ensures.goes_on c.if-stops.false);
-      behind_is = omega arith;
-    }
+    let round : v.shape.pages ≤ c.args.noted = advances v w (marking (role_of c.args.role) c.args.noted c.args.page c.args.next) some at in
+    let sum : c.args.noted + 1 - c.pages.result + v.shape.pages ≡ c.args.noted + 1 = omega arith in
+    marks_at_next v.shape.pages v.part (role_of c.args.role) c.args.noted c.args.page c.args.next (c.args.noted + 1 - c.pages.result)
+    (phase_shown v w (marking (role_of c.args.role) c.args.noted c.args.page c.args.next) some at)
+    (subst (MayContinue (role_of c.args.role) c.args.noted) (opened_now v w) (c.stops.ensures.goes_on c.if-stops.false)) sum
 
 pub mark_head-marked-requires-clause-fits : goal.mark_head-marked-requires-clause-fits
 unfolding IsWriter

@@ -1,6 +1,7 @@
 use Rattle.ring_steps.specs.Views.{passed}
+use Rattle.ring_steps.specs.Ends.{writing_in}
 use Rattle.ring_steps.specs.Linking.{LinkReported}
 use Rattle.ring_steps.proofs.ends.WriterSeat.load_link.Given as goal
 
-abbrev pub ghosts-load : goal.ghosts-load
-ghosts-load a = record { reports = λ before found after. LinkReported a.shape a.given.now.now (passed before.0) a.given.now.now.opened found after }
+abbrev pub ghosts-load_step : goal.ghosts-load_step
+ghosts-load_step a = record { reports = λ before found after. LinkReported a.self.now.shape (writing_in a.self.now) (passed before.0) (writing_in a.self.now).opened found after }

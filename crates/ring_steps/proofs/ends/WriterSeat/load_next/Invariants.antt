@@ -1,6 +1,7 @@
 use Rattle.ring_steps.specs.Views.{passed}
+use Rattle.ring_steps.specs.Ends.{writing_in}
 use Rattle.ring_steps.specs.Linking.{LinkReported, behind_in}
 use Rattle.ring_steps.proofs.ends.WriterSeat.load_next.Given as goal
 
-abbrev pub ghosts-load : goal.ghosts-load
-ghosts-load a = record { reports = λ before found after. LinkReported a.shape a.given.now.now (passed before.0) (behind_in a.shape.pages a.given.now.now) found after }
+abbrev pub ghosts-load_step : goal.ghosts-load_step
+ghosts-load_step a = record { reports = λ before found after. LinkReported a.self.now.shape (writing_in a.self.now) (passed before.0) (behind_in a.self.now.shape.pages (writing_in a.self.now)) found after }

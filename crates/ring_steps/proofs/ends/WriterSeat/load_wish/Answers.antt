@@ -1,23 +1,17 @@
-use Rattle.ring_steps.proofs.Allowing.{writer_allows}
-use Rattle.ring_steps.proofs.WriterParts.{step_reached}
-use Rattle.ring_steps.proofs.Linking.{load_wish_moves}
-use Rattle.ring_steps.proofs.Notes.{rests, step_noted}
 use Rattle.ring_steps.specs.Ends.{writing_in}
+use Rattle.ring_steps.proofs.WriterMove.{wish_stays, writer_move}
+use Rattle.ring_steps.proofs.Linking.{load_wish_moves}
+use Rattle.ring_steps.proofs.Notes.{step_noted}
+use Rattle.ring_steps.proofs.PartSteps.{part_asked}
 use Rattle.ring_steps.proofs.ends.WriterSeat.load_wish.Goals as goal
 
-pub load-wish-requires-clause-allowed : goal.load-wish-requires-clause-allowed
-load-wish-requires-clause-allowed c = let self = c.args.self.now in
-    writer_allows self.shape _ _ self.seat.me (writing_in c.args.self.now) _ _ _ self.is_writing.view c.recall.ensures
-    (λ core r ws homes s now_is pages low. load_wish_moves self.shape self.seat.me self.is_writing (writing_in c.args.self.now) core r ws homes s now_is pages low c.requires.phase)
-
-pub invariant_of-self-clause-is_writing : goal.invariant_of-self-clause-is_writing
-invariant_of-self-clause-is_writing c = c.load-wish.ensures.reported.seat
-
-pub invariant_of-self-clause-reached : goal.invariant_of-self-clause-reached
-invariant_of-self-clause-reached c = ∣ step_reached c.args.self.now.shape _ _ _ _ c.load-wish.ensures.reported.step ∣₁
-
-pub invariant_of-self-clause-pending : goal.invariant_of-self-clause-pending
-invariant_of-self-clause-pending c = rests c.args.self.now.shape _ _ c.ghost_part_at_rest-self.ensures
+pub load_step-requires-clause-moves : goal.load_step-requires-clause-moves
+load_step-requires-clause-moves c = let self = c.args.self.now in
+    writer_move self.shape self.seat.me (writing_in self) _ _ _ self.is_writing c.recall.ensures (λ found after reported. wish_stays after reported)
+    (λ core r ws homes s now_is pages low. load_wish_moves self.shape self.seat.me self.is_writing (writing_in self) core r ws homes s now_is pages low c.requires.phase)
 
 pub returns-clause-step : goal.returns-clause-step
-returns-clause-step c = (c.load-wish.ensures.reported.answer, (step_noted _ _ _ _ _ _ c.ghost_part_at_rest-self.ensures c.load-wish.ensures.reported.step))
+returns-clause-step c = (c.load_step.ensures.reported.answer, (step_noted _ _ _ _ _ _ c.load_step.ensures.rests c.load_step.ensures.reported.step))
+
+pub returns-clause-part : goal.returns-clause-part
+returns-clause-part c = let s = (returns-clause-step c).1 in part_asked s c.load_step.result c.requires.phase s.seen

@@ -5,6 +5,7 @@ use Rattle.ring_steps.specs.Views.{writing}
 use Rattle.ring_steps.proofs.WriterParts.{now_within, step_reached}
 use Rattle.ring_steps.proofs.Paging.{open_allowed, opened_slot, opened_body, opened_size, opened_seat}
 use Rattle.ring_steps.proofs.Notes.{rests, step_noted}
+use Rattle.ring_steps.proofs.PartSteps.{part_begun}
 use Rattle.ring_steps.specs.Ends.{writing_in}
 use Rattle.ring_steps.proofs.ends.WriterSeat.open_fill.Goals as goal
 
@@ -42,3 +43,6 @@ returns-clause-step c = let reported = opened_seat c.args.self.now.shape (writin
 pub returns-clause-body : goal.returns-clause-body
 returns-clause-body c = c.into_body.ensures ∙ opened_size c.args.self.now.shape (writing_in c.args.self.now) _ c.store.new.seat.me c.store.ensures.reported c.args.number c.args.fill.0 c.requires.phase
     c.exchange.result c.in-Some.page c.exchange.ensures.2 c.in-Some.is
+
+pub returns-clause-part : goal.returns-clause-part
+returns-clause-part c = part_begun (returns-clause-step c) c.args.number c.args.fill.0 c.requires.phase c.requires.next

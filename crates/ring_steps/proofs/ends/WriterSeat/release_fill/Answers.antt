@@ -4,6 +4,7 @@ use Rattle.ring_steps.specs.Views.{writing}
 use Rattle.ring_steps.proofs.WriterParts.{now_within, step_reached}
 use Rattle.ring_steps.proofs.Paging.{first_slot, release_allowed}
 use Rattle.ring_steps.proofs.Notes.{rests, step_noted}
+use Rattle.ring_steps.proofs.PartSteps.{part_closed}
 use Rattle.ring_steps.specs.Ends.{writing_in}
 use Rattle.ring_steps.proofs.ends.WriterSeat.release_fill.Goals as goal
 
@@ -31,3 +32,6 @@ invariant_of-self-clause-pending c = rests c.args.self.now.shape _ _ c.ghost_par
 
 pub returns-clause-step : goal.returns-clause-step
 returns-clause-step c = step_noted _ _ _ _ _ _ c.ghost_part_at_rest-self.ensures c.store.ensures.reported.step
+
+pub returns-clause-part : goal.returns-clause-part
+returns-clause-part c = part_closed (returns-clause-step c) c.requires.phase

@@ -1,7 +1,7 @@
 -- What each step on a link's word makes of the writer's part, by what the word stated.
 use Rattle.std.proofs.Common.{◌≡◌, ◌≢◌, ℕ, suc, ◌+◌, List, Some, refl, sym, ap, ◌∙◌, subst, arith}
-use Rattle.trace_model.specs.Links.{Mark, normal, header, update, Link, normal_link, header_link}
-use Rattle.trace_model.specs.Frames.{Role, owner, helper, Phase, claiming, looking_next, marking, opening, looking, Frame, noted_fill}
+use Rattle.trace_model.specs.Links.{normal, Link, normal_link, header_link}
+use Rattle.trace_model.specs.Frames.{Role, owner, helper, Phase, looking_next, marking, opening, looking, Frame, noted_fill}
 use Rattle.trace_model.specs.Ring.{Core, link_into}
 use Rattle.trace_model.specs.Steps.{Answer, MayContinue, in_phase, after_next}
 use Rattle.trace_model.proofs.steps.StepCases.{LoadLinkStep, load_link_late, sees_free, sees_header, sees_update, ClaimHeadStep, claim_late, claims, claim_fails, LoadNextStep, load_next_late, sees_normal, sees_other, MarkHeadStep, mark_late, marks, mark_fails, ClearUpdateStep, clears}
@@ -9,12 +9,7 @@ use Rattle.link_marks.specs.declared.link.Mark as code
 use Rattle.link_marks.specs.declared.link.Mark.TheVariants.{Normal, Header, Update}
 use Rattle.link_marks.specs.ModelLinks.{mark_of}
 use Rattle.ring_steps.specs.Views.{writing_of}
-
--- the phase in which a frame goes on by the link that it found
-abbrev pub found_at : Mark → (noted page : ℕ) → Phase
-found_at normal noted page = opening noted page
-found_at header noted page = claiming noted page
-found_at update noted page = looking_next helper noted page
+use Rattle.ring_steps.specs.Linking.{found_at}
 
 -- what the frame does after the look at the next link is for the same fill
 pub noted_after : (role : Role) (noted page : ℕ) → noted_fill (after_next role noted page) ≡ Some noted

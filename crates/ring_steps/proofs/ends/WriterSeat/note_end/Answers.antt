@@ -1,0 +1,6 @@
+use Rattle.ring_steps.specs.Ends.{writing_in}
+use Rattle.ring_steps.proofs.Behind.{end_leads}
+use Rattle.ring_steps.proofs.ends.WriterSeat.note_end.Goals as goal
+
+pub note-requires : goal.note-requires
+note-requires c = record { due = end_leads c.args.self.now.shape (writing_in c.args.self.now) c.args.payload.now c.requires.fills }

@@ -1,0 +1,6 @@
+use Rattle.ring_steps.specs.Ends.{writing_in}
+use Rattle.ring_steps.proofs.Behind.{step_leads}
+use Rattle.ring_steps.proofs.ends.WriterSeat.note_step.Goals as goal
+
+pub note-requires : goal.note-requires
+note-requires c = record { due = step_leads c.args.self.now.shape (writing_in c.args.self.now) c.requires.private }
