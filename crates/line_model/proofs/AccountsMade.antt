@@ -1,25 +1,32 @@
--- What the lines of a writer have begun is what they add to its history.
-use Rattle.std.proofs.Common.{◌≡◌, ℕ, suc, ◌+◌, ◌-◌, ◌≤◌, ◌⊎◌, Bool, true, false, if◌then◌else◌, List, [], ◌∷◌, ◌++◌, length, map, Some, None, refl, sym, ap, ◌∙◌, subst, inl, inr, arith}
-use Rattle.std.specs.Prelude.{filter}
-use Rattle.std.proofs.lemmas.List.{length-map}
+-- The part of a line is what the line adds in an account.
+use Rattle.std.proofs.Common.{◌≡◌, ◌≢◌, ℕ, suc, ◌+◌, ◌-◌, ◌≤◌, ◌⊎◌, Bool, true, false, if◌then◌else◌, List, [], ◌∷◌, ◌++◌, length, Option, Some, None, refl, sym, ap, ◌∙◌, subst, inl, inr, arith}
+use Rattle.std.specs.Prelude.{⊤}
 use Rattle.trace_model.specs.declared.limits.TheConstants.{MAX_FRAMES}
 use Rattle.trace_model.specs.History.{HistoryEvent, push, push_close, open_fill, reserve, leave, wished}
 use Rattle.trace_model.specs.Window.{Window, RingEvent, acts, closes, takes, loses, history_events_of, opened_one, released_one, took_one, lost_one, window_after}
 use Rattle.text_model.specs.Script.{Command, begin_frame, step_frame, finish_frame, write, close, step_reader, take_page, wish, deliver}
 use Rattle.link_marks.proofs.histories.WindowRuns.{history_events-append}
-use Rattle.line_model.specs.Lines.{OpenFrame, LineState, first_state, frame_count, IsRefusedPush, IsQuiet, IsPush, finishing_after, state_moved, TopRun, with_top_stepped, MayGo, stays_on, goes, TopPart, FinishPart, begins, begins_none, writes, writes_none, LinePart, LineParts, writer_line, writer_lines}
-use Rattle.line_model.specs.Accounts.{Leave, Passes, IsRefused, IsIdle, Adds, AddAll, LinesAdd}
-use Rattle.line_model.proofs.LineWindows.{leads_lines}
+use Rattle.line_model.specs.Lines.{OpenFrame, LineState, frame_count, IsRefusedPush, IsQuiet, IsPush, finishing_after, state_moved, TopRun, with_top_stepped, MayGo, stays_on, goes, TopPart, FinishPart, begins, begins_none, writes, writes_none, LinePart}
+use Rattle.line_model.specs.Accounts.{Frames, Does, IsIdle, IsRefused, Adds, Takes}
 
-abbrev payloads_of : List OpenFrame → List (List ℕ)
-payloads_of frames = map (λ frame. frame.payload) frames
+-- the frames on the stack of a state
+abbrev pub left_of : Bool → Frames
+left_of true = None ∷ []
+left_of false = []
 
-abbrev one_if : Bool → ℕ
-one_if b = if b then 1 else 0
+abbrev pub frames_of : List OpenFrame → Bool → Frames
+frames_of [] finishing = left_of finishing
+frames_of (frame ∷ below) finishing = Some frame.payload ∷ frames_of below finishing
 
-one_if_le : (b : Bool) → one_if b ≤ 1
-one_if_le true = omega arith
-one_if_le false = omega arith
+abbrev pub on_stack : LineState → Frames
+on_stack p = frames_of p.frames p.finishing
+
+pub frames_counted : (frames : List OpenFrame) (finishing : Bool)
+    → length (frames_of frames finishing) ≡ length frames + (if finishing then 1 else 0)
+frames_counted [] true = refl
+frames_counted [] false = refl
+frames_counted (frame ∷ below) finishing = let e = frames_counted below finishing in
+    let it : suc (length (frames_of below finishing)) ≡ suc (length below) + (if finishing then 1 else 0) = omega arith in it
 
 abbrev line_state : List HistoryEvent → Window → List OpenFrame → Bool → LineState
 line_state history window frames finishing = record {
@@ -35,8 +42,8 @@ line_state history window frames finishing = record {
 quiet : (n size depth : ℕ) (s r : LineState) (events : List RingEvent)
     → frame_count s ≤ depth
     → TopRun n size depth s events r
-    → (history_events_of events ≡ []) × (r.frames ≡ s.frames)
-quiet n size depth s r [] few run = (refl, sym (ap (λ (p : LineState). p.frames) run))
+    → (history_events_of events ≡ []) × (on_stack r ≡ on_stack s)
+quiet n size depth s r [] few run = (refl, sym (ap on_stack run))
 quiet n size depth s r (acts a ∷ events) few (count, of_top, may, run) = absurd (let no : ⊥ = omega (arith, few, count) in no)
 quiet n size depth s r (closes ∷ events) few (may, run) =
     quiet n size depth (state_moved s (window_after s.window released_one)) r events few run
@@ -45,10 +52,31 @@ quiet n size depth s r (takes ∷ events) few (may, run) =
 quiet n size depth s r (loses ∷ events) few (may, run) =
     quiet n size depth (state_moved s (window_after s.window lost_one)) r events few run
 
--- what the top frame does: it leaves or not
-record Ran (frames : List OpenFrame) (finishing : Bool) (history : List HistoryEvent) (r : LineState) : Type 0 where
-  leaves : Leave (payloads_of frames) history (payloads_of r.frames)
-  ends : ((length r.frames ≡ length frames) × (r.finishing ≡ finishing)) ⊎ (suc (length r.frames) ≡ length frames)
+-- what the top frame does, and what is then on the stack
+abbrev Ran : Option (List ℕ) → Frames → List HistoryEvent → Frames → Type 0
+Ran top below history after = (next : Option (List ℕ))
+    × Does top history next
+    × (((after ≡ next ∷ below) × (next ≡ None → below ≡ [])) ⊎ ((next ≡ None) × (after ≡ below)))
+
+-- the bottom frame, once it has left
+ran_left : (n size depth : ℕ) (h : List HistoryEvent) (w : Window) (events : List RingEvent) (r : LineState)
+    → TopRun n size depth (line_state h w [] true) events r
+    → Does None (history_events_of events) None × (on_stack r ≡ None ∷ [])
+ran_left n size depth h w [] r run = (refl, sym (ap on_stack run))
+ran_left n size depth h w (acts (push moment len) ∷ events) r (count, of_top, may, run) = absurd of_top
+ran_left n size depth h w (acts push_close ∷ events) r (count, of_top, may, run) = absurd of_top
+ran_left n size depth h w (acts open_fill ∷ events) r (count, of_top, may, run) =
+    ran_left n size depth (h ++ open_fill ∷ []) (window_after w opened_one) events r run
+ran_left n size depth h w (acts reserve ∷ events) r (count, of_top, may, run) =
+    ran_left n size depth (h ++ reserve ∷ []) w events r run
+ran_left n size depth h w (acts (leave None) ∷ events) r (count, of_top, may, run) = absurd of_top
+ran_left n size depth h w (acts (leave (Some bytes)) ∷ events) r (count, of_top, may, run) = absurd of_top
+ran_left n size depth h w (acts wished ∷ events) r (count, of_top, may, run) =
+    ran_left n size depth (h ++ wished ∷ []) w events r run
+ran_left n size depth h w (closes ∷ events) r (may, run) =
+    ran_left n size depth h (window_after w released_one) events r run
+ran_left n size depth h w (takes ∷ events) r (may, run) = ran_left n size depth h (window_after w took_one) events r run
+ran_left n size depth h w (loses ∷ events) r (may, run) = ran_left n size depth h (window_after w lost_one) events r run
 
 finishing_same : (frames : List OpenFrame) (b : Bool)
     → (finishing_after frames b open_fill ≡ b) × (finishing_after frames b reserve ≡ b) × (finishing_after frames b wished ≡ b)
@@ -56,188 +84,254 @@ finishing_same [] b = (refl, refl, refl)
 finishing_same (top ∷ []) b = (refl, refl, refl)
 finishing_same (top ∷ next ∷ below) b = (refl, refl, refl)
 
-with_finishing : (frames : List OpenFrame) (one other : Bool) (r : LineState)
-    → one ≡ other
-    → ((length r.frames ≡ length frames) × (r.finishing ≡ one)) ⊎ (suc (length r.frames) ≡ length frames)
-    → ((length r.frames ≡ length frames) × (r.finishing ≡ other)) ⊎ (suc (length r.frames) ≡ length frames)
-with_finishing frames one other r same (inl (count, is)) = inl (count, is ∙ same)
-with_finishing frames one other r same (inr less) = inr less
+-- a frame that has just left: the bottom one stays, and is finishing, and any other is gone
+after_left : (n size depth : ℕ) (h : List HistoryEvent) (w : Window) (top : OpenFrame) (below : List OpenFrame) (b : Bool)
+    (payload : Option (List ℕ)) (events : List RingEvent) (r : LineState)
+    → suc (length below) + (if b then 1 else 0) ≡ suc depth
+    → TopRun n size depth (line_state h w below (finishing_after (top ∷ below) b (leave payload))) events r
+    → Does None (history_events_of events) None
+    × (((on_stack r ≡ None ∷ frames_of below b) × (frames_of below b ≡ [])) ⊎ (on_stack r ≡ frames_of below b))
+after_left n size depth h w top [] false payload events r count run =
+    let (does, at) = ran_left n size depth h w events r run in (does, inl (at, refl))
+after_left n size depth h w top [] true payload events r count run =
+    let (none, at) = quiet n size depth _ r events (let it : 1 ≤ depth = omega (arith, count) in it) run in
+    (subst (λ (l : List HistoryEvent). Does None l None) (sym none) refl, inr at)
+after_left n size depth h w top (next ∷ below) b payload events r count run =
+    let (none, at) = quiet n size depth _ r events (let it : suc (length below) + (if b then 1 else 0) ≤ depth = omega (arith, count) in it) run in
+    (subst (λ (l : List HistoryEvent). Does None l None) (sym none) refl, inr at)
 
-none_left : (r : LineState) (b : Bool)
-    → ((length r.frames ≡ 0) × (r.finishing ≡ b)) ⊎ (suc (length r.frames) ≡ 0)
-    → suc (length r.frames) ≡ 1
-none_left r b (inl (count, is)) = ap suc count
-none_left r b (inr less) = absurd (let no : ⊥ = omega (arith, less) in no)
+left_ends : (next : Option (List ℕ)) (below after : Frames)
+    → next ≡ None
+    → ((after ≡ None ∷ below) × (below ≡ [])) ⊎ (after ≡ below)
+    → ((after ≡ next ∷ below) × (next ≡ None → below ≡ [])) ⊎ ((next ≡ None) × (after ≡ below))
+left_ends next below after none (inl (is, last)) = inl (is ∙ ap (λ (x : Option (List ℕ)). x ∷ below) (sym none), λ e. last)
+left_ends next below after none (inr is) = inr (none, is)
 
-ran : (n size depth : ℕ) (history : List HistoryEvent) (w : Window) (frames : List OpenFrame) (b : Bool)
+ran_open : (n size depth : ℕ) (h : List HistoryEvent) (w : Window) (top : OpenFrame) (below : List OpenFrame) (b : Bool)
     (events : List RingEvent) (r : LineState)
-    → TopRun n size depth (line_state history w frames b) events r
-    → Ran frames b (history_events_of events) r
-ran n size depth h w frames b [] r run = record {
-  leaves = sym (ap (λ (p : LineState). payloads_of p.frames) run);
-  ends = inl (sym (ap (λ (p : LineState). length p.frames) run), sym (ap (λ (p : LineState). p.finishing) run));
-}
-ran n size depth h w frames b (acts (push moment len) ∷ events) r (count, of_top, may, run) = absurd of_top
-ran n size depth h w frames b (acts push_close ∷ events) r (count, of_top, may, run) = absurd of_top
-ran n size depth h w frames b (acts open_fill ∷ events) r (count, of_top, may, run) =
-    let rest = ran n size depth (h ++ open_fill ∷ []) (window_after w opened_one) frames (finishing_after frames b open_fill) events r run in
-    record { leaves = rest.leaves; ends = with_finishing frames _ b r (finishing_same frames b).0 rest.ends }
-ran n size depth h w frames b (acts reserve ∷ events) r (count, of_top, may, run) =
-    let rest = ran n size depth (h ++ reserve ∷ []) w frames (finishing_after frames b reserve) events r run in
-    record { leaves = rest.leaves; ends = with_finishing frames _ b r (finishing_same frames b).1 rest.ends }
-ran n size depth h w frames b (acts wished ∷ events) r (count, of_top, may, run) =
-    let rest = ran n size depth (h ++ wished ∷ []) w frames (finishing_after frames b wished) events r run in
-    record { leaves = rest.leaves; ends = with_finishing frames _ b r (finishing_same frames b).2 rest.ends }
-ran n size depth h w [] b (acts (leave None) ∷ events) r (count, of_top, may, run) = absurd of_top
-ran n size depth h w [] b (acts (leave (Some bytes)) ∷ events) r (count, of_top, may, run) = absurd of_top
-ran n size depth h w (top ∷ []) b (acts (leave None) ∷ events) r (count, of_top, may, run) =
-    let rest = ran n size depth (h ++ leave None ∷ []) w [] true events r run in
-    record { leaves = rest.leaves; ends = inr (none_left r true rest.ends) }
-ran n size depth h w (top ∷ []) b (acts (leave (Some bytes)) ∷ events) r (count, of_top, may, run) =
-    let rest = ran n size depth (h ++ leave (Some bytes) ∷ []) w [] true events r run in
-    record { leaves = (of_top, rest.leaves); ends = inr (none_left r true rest.ends) }
-ran n size depth h w (top ∷ next ∷ below) b (acts (leave None) ∷ events) r (count, of_top, may, run) =
-    let (none, same) = quiet n size depth _ r events (omega (arith, count)) run in record {
-      leaves = subst (λ (l : List HistoryEvent). Leave (payloads_of (next ∷ below)) l (payloads_of r.frames)) (sym none) (ap payloads_of same);
-      ends = inr (ap (λ (l : List OpenFrame). suc (length l)) same);
-    }
-ran n size depth h w (top ∷ next ∷ below) b (acts (leave (Some bytes)) ∷ events) r (count, of_top, may, run) =
-    let (none, same) = quiet n size depth _ r events (omega (arith, count)) run in record {
-      leaves = (of_top, subst (λ (l : List HistoryEvent). Leave (payloads_of (next ∷ below)) l (payloads_of r.frames)) (sym none) (ap payloads_of same));
-      ends = inr (ap (λ (l : List OpenFrame). suc (length l)) same);
-    }
-ran n size depth h w frames b (closes ∷ events) r (may, run) = ran n size depth h (window_after w released_one) frames b events r run
-ran n size depth h w frames b (takes ∷ events) r (may, run) = ran n size depth h (window_after w took_one) frames b events r run
-ran n size depth h w frames b (loses ∷ events) r (may, run) = ran n size depth h (window_after w lost_one) frames b events r run
+    → TopRun n size depth (line_state h w (top ∷ below) b) events r
+    → Ran (Some top.payload) (frames_of below b) (history_events_of events) (on_stack r)
+ran_open n size depth h w top below b [] r run = (Some top.payload, refl, inl (sym (ap on_stack run), λ none. absurd (let no : ⊥ = cc in no)))
+ran_open n size depth h w top below b (acts (push moment len) ∷ events) r (count, of_top, may, run) = absurd of_top
+ran_open n size depth h w top below b (acts push_close ∷ events) r (count, of_top, may, run) = absurd of_top
+ran_open n size depth h w top below b (acts open_fill ∷ events) r (count, of_top, may, run) =
+    ran_open n size depth (h ++ open_fill ∷ []) (window_after w opened_one) top below b events r
+    (subst (λ (c : Bool). TopRun n size depth (line_state (h ++ open_fill ∷ []) (window_after w opened_one) (top ∷ below) c) events r) (finishing_same (top ∷ below) b).0 run)
+ran_open n size depth h w top below b (acts reserve ∷ events) r (count, of_top, may, run) =
+    ran_open n size depth (h ++ reserve ∷ []) w top below b events r
+    (subst (λ (c : Bool). TopRun n size depth (line_state (h ++ reserve ∷ []) w (top ∷ below) c) events r) (finishing_same (top ∷ below) b).1 run)
+ran_open n size depth h w top below b (acts (leave None) ∷ events) r (count, of_top, may, run) =
+    let (does, ends) = after_left n size depth (h ++ leave None ∷ []) w top below b None events r count run in
+    (None, does, left_ends None (frames_of below b) (on_stack r) refl ends)
+ran_open n size depth h w top below b (acts (leave (Some bytes)) ∷ events) r (count, of_top, may, run) =
+    let (does, ends) = after_left n size depth (h ++ leave (Some bytes) ∷ []) w top below b (Some bytes) events r count run in
+    (None, (of_top, does), left_ends None (frames_of below b) (on_stack r) refl ends)
+ran_open n size depth h w top below b (acts wished ∷ events) r (count, of_top, may, run) =
+    ran_open n size depth (h ++ wished ∷ []) w top below b events r
+    (subst (λ (c : Bool). TopRun n size depth (line_state (h ++ wished ∷ []) w (top ∷ below) c) events r) (finishing_same (top ∷ below) b).2 run)
+ran_open n size depth h w top below b (closes ∷ events) r (may, run) = ran_open n size depth h (window_after w released_one) top below b events r run
+ran_open n size depth h w top below b (takes ∷ events) r (may, run) = ran_open n size depth h (window_after w took_one) top below b events r run
+ran_open n size depth h w top below b (loses ∷ events) r (may, run) = ran_open n size depth h (window_after w lost_one) top below b events r run
 
-stepped_payloads : (frames : List OpenFrame) → payloads_of (with_top_stepped frames) ≡ payloads_of frames
-stepped_payloads [] = refl
-stepped_payloads (top ∷ below) = refl
+-- ---- a part of the top frame
 
-stepped_length : (frames : List OpenFrame) → length (with_top_stepped frames) ≡ length frames
-stepped_length [] = refl
-stepped_length (top ∷ below) = refl
+-- the same, or nothing, if no frame is on the stack
+abbrev Topped : Frames → List HistoryEvent → Frames → Type 0
+Topped [] history after = IsIdle [] history after
+Topped (top ∷ below) history after = Ran top below history after
 
--- the same of a part, after which a frame that is finishing may be gone
-record Parted (before : LineState) (history : List HistoryEvent) (after : LineState) : Type 0 where
-  leaves : Leave (payloads_of before.frames) history (payloads_of after.frames)
-  least : length before.frames ≤ suc (length after.frames)
-  gone : frame_count after ≤ frame_count before - 1 → length after.frames ≡ length before.frames - 1
-
-parted : (n size : ℕ) (before after : LineState) (events : List RingEvent)
-    → TopPart n size before events after
-    → Parted before (history_events_of events) after
-parted n size before after events part = went part.goes ran_on.ends
+ends_on_left : (top : Option (List ℕ)) (below : Frames) (history : List HistoryEvent) (reached : Frames)
+    → length below ≤ 0
+    → reached ≡ None ∷ []
+    → Ran top below history reached
+    → Ran top below history []
+ends_on_left top [] history reached few is (next, does, inl (at, last)) = (next, does, inr (ap (λ (l : Frames). first_of l) (sym at ∙ is), refl))
   where
-    ran_on : Ran (with_top_stepped before.frames) before.finishing (history_events_of events) part.reached
-    ran_on = ran n size (frame_count before - 1) before.history before.window (with_top_stepped before.frames) before.finishing events part.reached part.run
+    first_of : Frames → Option (List ℕ)
+    first_of [] = None
+    first_of (x ∷ xs) = x
+ends_on_left top [] history reached few is (next, does, inr (none, at)) = (next, does, inr (none, refl))
+ends_on_left top (x ∷ below) history reached few is ran = absurd (let no : ⊥ = omega (arith, few) in no)
 
-    leaves : Leave (payloads_of before.frames) (history_events_of events) (payloads_of part.reached.frames)
-    leaves = subst (λ (l : List (List ℕ)). Leave l (history_events_of events) (payloads_of part.reached.frames)) (stepped_payloads before.frames) ran_on.leaves
+module _ (n size : ℕ) (events : List RingEvent) (reached after : LineState) where
+  -- it is gone, if it was finishing, or nothing more happens
+  went : (top : Option (List ℕ)) (below : Frames)
+      → suc (length below) ≤ suc (length (on_stack after))
+      → MayGo reached after
+      → Ran top below (history_events_of events) (on_stack reached)
+      → Ran top below (history_events_of events) (on_stack after)
+  went top below least (stays_on e) ran = subst (λ (p : LineState). Ran top below (history_events_of events) (on_stack p)) (sym e) ran
+  went top below least (goes none finishing last e) ran =
+      let gone : on_stack after ≡ [] = ap on_stack e ∙ ap (λ (l : List OpenFrame). frames_of l false) none in
+      let few : length below ≤ 0 = (let long = ap (λ (l : Frames). length l) gone in omega (arith, least, long)) in
+      subst (λ (l : Frames). Ran top below (history_events_of events) l) (sym gone)
+      (ends_on_left top below (history_events_of events) (on_stack reached) few (λ i. frames_of (none i) (finishing i)) ran)
 
-    went : MayGo part.reached after
-        → ((length part.reached.frames ≡ length (with_top_stepped before.frames)) × (part.reached.finishing ≡ before.finishing)) ⊎ (suc (length part.reached.frames) ≡ length (with_top_stepped before.frames))
-        → Parted before (history_events_of events) after
-    went (stays_on e) (inl (count, same)) =
-        let as_many = stepped_length before.frames in let one = ap one_if same in
-        subst (λ (p : LineState). Parted before (history_events_of events) p) (sym e)
-        record { leaves = leaves; least = omega (arith, count, as_many); gone = λ few. omega (arith, count, as_many, one, few) }
-    went (stays_on e) (inr less) =
-        let as_many = stepped_length before.frames in
-        subst (λ (p : LineState). Parted before (history_events_of events) p) (sym e)
-        record { leaves = leaves; least = omega (arith, less, as_many); gone = λ few. omega (arith, less, as_many) }
-    went (goes none finishing last e) (inl (count, same)) =
-        let as_many = stepped_length before.frames in let zero = ap (λ (l : List OpenFrame). length l) none in
-        subst (λ (p : LineState). Parted before (history_events_of events) p) (sym e)
-        record { leaves = leaves; least = omega (arith, count, as_many); gone = λ few. omega (arith, count, as_many, zero) }
-    went (goes none finishing last e) (inr less) =
-        let as_many = stepped_length before.frames in
-        subst (λ (p : LineState). Parted before (history_events_of events) p) (sym e)
-        record { leaves = leaves; least = omega (arith, less, as_many); gone = λ few. omega (arith, less, as_many) }
+  topped : (h : List HistoryEvent) (w : Window) (frames : List OpenFrame) (b : Bool)
+      → TopRun n size (frame_count (line_state h w frames b) - 1) (line_state h w (with_top_stepped frames) b) events reached
+      → MayGo reached after
+      → length (frames_of frames b) ≤ suc (length (on_stack after))
+      → Topped (frames_of frames b) (history_events_of events) (on_stack after)
+  topped h w [] false run go least = let (none, at) = quiet n size 0 (line_state h w [] false) reached events (omega arith) run in (none, stays go at)
+    where
+      stays : MayGo reached after → on_stack reached ≡ [] → on_stack after ≡ []
+      stays (stays_on e) at = ap on_stack e ∙ at
+      stays (goes none finishing last e) at = ap on_stack e ∙ ap (λ (l : List OpenFrame). frames_of l false) none
+  topped h w [] true run go least = let (does, at) = ran_left n size 0 h w events reached run in
+      went None [] least go (None, does, inl (at, λ none. refl))
+  topped h w (top ∷ below) b run go least =
+      went (Some top.payload) (frames_of below b) least go (ran_open n size _ h w record top { stepped = true } below b events reached run)
+
+part_tops : (n size : ℕ) (before after : LineState) (events : List RingEvent)
+    → TopPart n size before events after
+    → length (on_stack before) ≤ suc (length (on_stack after))
+    → Topped (on_stack before) (history_events_of events) (on_stack after)
+part_tops n size before after events part least =
+    topped n size events part.reached after before.history before.window before.frames before.finishing part.run part.goes least
 
 -- ---- lines
 
-many : (frames : List OpenFrame) → length (payloads_of frames) ≡ length frames
-many frames = length-map frames (λ (frame : OpenFrame). frame.payload)
+counted : (p : LineState) → length (on_stack p) ≡ frame_count p
+counted p = frames_counted p.frames p.finishing
 
-full : (p : LineState) → MAX_FRAMES ≤ frame_count p → MAX_FRAMES ≤ suc (length (payloads_of p.frames))
-full p is = let le = one_if_le p.finishing in let count = many p.frames in omega (arith, is, le, count)
+full : (p : LineState) → MAX_FRAMES ≤ frame_count p → MAX_FRAMES ≤ length (on_stack p)
+full p is = let count = counted p in omega (arith, is, count)
 
-refused : (size moment len : ℕ) (p : LineState) → IsRefusedPush size p moment len → IsRefused size moment len (payloads_of p.frames)
+not_full : (p : LineState) → MAX_FRAMES ≤ length (on_stack p) → MAX_FRAMES ≤ frame_count p
+not_full p is = let count = counted p in omega (arith, is, count)
+
+refused : (size moment len : ℕ) (p : LineState) → IsRefusedPush size p moment len → IsRefused size moment len (on_stack p)
 refused size moment len p (inl is) = inl (full p is)
 refused size moment len p (inr why) = inr why
 
-idle : (n : ℕ) (before after : LineState) (events : List RingEvent) → IsQuiet n before events after → IsIdle (payloads_of before.frames) (history_events_of events) (payloads_of after.frames)
-idle n before after events q = (q.acts_none, ap (λ (p : LineState). payloads_of p.frames) q.after_is)
+not_refused : (size moment len : ℕ) (p : LineState) → IsRefused size moment len (on_stack p) → IsRefusedPush size p moment len
+not_refused size moment len p (inl is) = inl (not_full p is)
+not_refused size moment len p (inr why) = inr why
 
+idle : (n : ℕ) (before after : LineState) (events : List RingEvent) → IsQuiet n before events after → IsIdle (on_stack before) (history_events_of events) (on_stack after)
+idle n before after events q = (q.acts_none, ap on_stack q.after_is)
+
+-- the top frame of a part is gone
+gone_top : (top : Option (List ℕ)) (below after : Frames) (history : List HistoryEvent)
+    → length after ≤ length below
+    → Ran top below history after
+    → Does top history None × (after ≡ below)
+gone_top top below after history few (next, does, inl (at, last)) = absurd (let long = ap (λ (l : Frames). length l) at in let no : ⊥ = omega (arith, few, long) in no)
+gone_top top below after history few (next, does, inr (none, at)) = (subst (Does top history) none does, at)
+
+-- a frame is pushed, and is gone
 passes : (n size : ℕ) (push_is : HistoryEvent) (payload : List ℕ) (before between after : LineState) (front behind : List RingEvent)
     → IsPush n push_is payload before front between
     → FinishPart n size between behind after
-    → Passes push_is payload (payloads_of before.frames) (history_events_of (front ++ behind)) (payloads_of after.frames)
-passes n size push_is payload before between after front behind one rest =
-    let part = parted n size between after behind rest.top in
-    let frames = ap (λ (p : LineState). payloads_of p.frames) one.after_is in
-    let count = ap (λ (p : LineState). length p.frames) one.after_is in
-    let left = part.gone rest.is_gone in let there = many after.frames in let here = many before.frames in (
+    → length (on_stack before) ≤ length (on_stack after)
+    → (rest : List HistoryEvent) × (history_events_of (front ++ behind) ≡ push_is ∷ rest) × Does (Some payload) rest None × (on_stack after ≡ on_stack before)
+passes n size push_is payload before between after front behind one rest least =
+    let pushed : on_stack between ≡ Some payload ∷ on_stack before = ap on_stack one.after_is in
+    let long = ap (λ (l : Frames). length l) pushed in
+    let gone = rest.is_gone in let here = counted after in let there = counted between in
+    let tops = subst (λ (l : Frames). Topped l (history_events_of behind) (on_stack after)) pushed
+    (part_tops n size between after behind rest.top (omega (arith, long, least))) in
+    let (does, same) = gone_top (Some payload) (on_stack before) (on_stack after) (history_events_of behind) (omega (arith, gone, here, there, long)) tops in (
       history_events_of behind,
       history_events-append front behind ∙ ap (λ (l : List HistoryEvent). l ++ history_events_of behind) one.acts_one,
-      subst (λ (l : List (List ℕ)). Leave l (history_events_of behind) (payloads_of after.frames)) frames part.leaves,
-      omega (arith, count, left, there, here),
+      does,
+      same,
     )
 
-line_adds : (n size : ℕ) (line : Command) (before after : LineState) (events : List RingEvent)
-    → LinePart n size line before events after
-    → Adds size line (payloads_of before.frames) (history_events_of events) (payloads_of after.frames)
-line_adds n size (begin_frame cpu moment payload) before after events (begins may one) =
-    inl (one.acts_one, ap (λ (p : LineState). payloads_of p.frames) one.after_is)
-line_adds n size (begin_frame cpu moment payload) before after events (begins_none why none) =
-    inr (refused size moment (length payload) before why, idle n before after events none)
-line_adds n size (step_frame cpu count) before after events part =
-    let top = parted n size before after events part.top in
-    let least = top.least in let there = many after.frames in let here = many before.frames in (top.leaves, omega (arith, least, there, here))
-line_adds n size (finish_frame cpu) before after events part =
-    let top = parted n size before after events part.top in
-    let left = top.gone part.is_gone in let there = many after.frames in let here = many before.frames in (top.leaves, omega (arith, left, there, here))
-line_adds n size (write cpu moment payload) before after events (writes front behind between may cut one rest) =
-    inl (subst (λ (l : List RingEvent). Passes (push moment (length payload)) payload (payloads_of before.frames) (history_events_of l) (payloads_of after.frames)) (sym cut)
-    (passes n size (push moment (length payload)) payload before between after front behind one rest))
-line_adds n size (write cpu moment payload) before after events (writes_none why none) =
-    inr (refused size moment (length payload) before why, idle n before after events none)
-line_adds n size (close cpu) before after events (writes front behind between may cut one rest) =
-    inl (subst (λ (l : List RingEvent). Passes push_close [] (payloads_of before.frames) (history_events_of l) (payloads_of after.frames)) (sym cut)
-    (passes n size push_close [] before between after front behind one rest))
-line_adds n size (close cpu) before after events (writes_none why none) = inr (full before why, idle n before after events none)
-line_adds n size (step_reader cpu count) before after events part = idle n before after events part
-line_adds n size (take_page cpu) before after events part = idle n before after events part
-line_adds n size (wish cpu) before after events part = idle n before after events part
-line_adds n size (deliver collector cpu fill) before after events part = idle n before after events part
+-- how many frames a line may take from the stack
+abbrev pub Spares : Command → ℕ → ℕ → Type 0
+Spares (step_frame cpu count) before after = before ≤ suc after
+Spares (finish_frame cpu) before after = before ≤ suc after
+Spares _ before after = before ≤ after
 
-lines_add_all : (n size : ℕ) (lines : List Command) (before after : LineState) (events : List RingEvent)
-    → LineParts n size lines before events after
-    → AddAll size lines (payloads_of before.frames) (history_events_of events) (payloads_of after.frames)
-lines_add_all n size [] before after events (none, same) = (ap history_events_of none, sym (ap (λ (p : LineState). payloads_of p.frames) same))
-lines_add_all n size (line ∷ lines) before after events (front, behind, between, cut, part, parts) = (
-  history_events_of front,
-  history_events_of behind,
-  payloads_of between.frames,
-  ap history_events_of cut ∙ history_events-append front behind,
-  line_adds n size line before between front part,
-  lines_add_all n size lines between after behind parts,
-)
+-- it is a line of this CPU's ring, or none that only one ring's lines differ by
+abbrev pub IsOn : ℕ → Command → Type 0
+IsOn cpu (begin_frame at moment payload) = at ≡ cpu
+IsOn cpu (step_frame at count) = at ≡ cpu
+IsOn cpu (finish_frame at) = at ≡ cpu
+IsOn cpu (write at moment payload) = at ≡ cpu
+IsOn cpu (close at) = at ≡ cpu
+IsOn cpu (step_reader at count) = at ≡ cpu
+IsOn cpu (take_page at) = at ≡ cpu
+IsOn cpu (wish at) = at ≡ cpu
+IsOn cpu _ = ⊤
 
-pub lines_add : LinesAdd
-lines_add n size start lines history begun =
-    let all = leads_lines n size lines (first_state start) begun.after begun.events begun.parts in (
-      payloads_of begun.after.frames,
-      subst (λ (l : List HistoryEvent). AddAll size lines [] l (payloads_of begun.after.frames)) (sym all.history ∙ sym begun.history_is)
-          (lines_add_all n size lines (first_state start) begun.after begun.events begun.parts),
-    )
+abbrev pub NotOn : ℕ → Command → Type 0
+NotOn cpu (begin_frame at moment payload) = at ≢ cpu
+NotOn cpu (step_frame at count) = at ≢ cpu
+NotOn cpu (finish_frame at) = at ≢ cpu
+NotOn cpu (write at moment payload) = at ≢ cpu
+NotOn cpu (close at) = at ≢ cpu
+NotOn cpu (step_reader at count) = at ≢ cpu
+NotOn cpu (take_page at) = at ≢ cpu
+NotOn cpu (wish at) = at ≢ cpu
+NotOn cpu _ = ⊤
 
--- the lines of a writer are those that pass the test
-pub lines_filtered : (cpu : ℕ) (lines : List Command) → writer_lines cpu lines ≡ filter (writer_line cpu) lines
-lines_filtered cpu [] = refl
-lines_filtered cpu (line ∷ lines) = by_test (writer_line cpu line) refl (lines_filtered cpu lines)
-  where
-    by_test : (b : Bool) → writer_line cpu line ≡ b → writer_lines cpu lines ≡ filter (writer_line cpu) lines → writer_lines cpu (line ∷ lines) ≡ filter (writer_line cpu) (line ∷ lines)
-    by_test true e rest = rw e (ap (λ (l : List Command). line ∷ l) rest)
-    by_test false e rest = rw e rest
+-- another CPU's line
+pub adds_none : (cpu size : ℕ) (command : Command) (frames : Frames) → NotOn cpu command → Adds cpu size command frames [] frames
+adds_none cpu size (begin_frame at moment payload) frames apart = inr (apart, (refl, refl))
+adds_none cpu size (step_frame at count) [] apart = (refl, refl)
+adds_none cpu size (step_frame at count) (top ∷ below) apart = inr (apart, (refl, refl))
+adds_none cpu size (finish_frame at) [] apart = (refl, refl)
+adds_none cpu size (finish_frame at) (top ∷ below) apart = inr (apart, (refl, refl))
+adds_none cpu size (write at moment payload) frames apart = inr (apart, (refl, refl))
+adds_none cpu size (close at) frames apart = inr (apart, (refl, refl))
+adds_none cpu size (step_reader at count) frames apart = (refl, refl)
+adds_none cpu size (take_page at) frames apart = (refl, refl)
+adds_none cpu size (wish at) frames apart = (refl, refl)
+adds_none cpu size (deliver collector at fill) frames apart = (refl, refl)
+
+pub takes_none : (cpu : ℕ) (command : Command) (frames : Frames) (w : Window) → NotOn cpu command → Takes cpu command frames w []
+takes_none cpu (begin_frame at moment payload) frames w apart = refl
+takes_none cpu (step_frame at count) frames w apart = refl
+takes_none cpu (finish_frame at) frames w apart = refl
+takes_none cpu (write at moment payload) frames w apart = refl
+takes_none cpu (close at) frames w apart = refl
+takes_none cpu (step_reader at count) frames w apart = inl refl
+takes_none cpu (take_page at) frames w apart = inr (refl, inl apart)
+takes_none cpu (wish at) frames w apart = refl
+takes_none cpu (deliver collector at fill) frames w apart = refl
+
+module _ (n size cpu : ℕ) (before after : LineState) (events : List RingEvent) where
+  stepped : (at count : ℕ) (frames : Frames)
+      → at ≡ cpu
+      → Topped frames (history_events_of events) (on_stack after)
+      → Adds cpu size (step_frame at count) frames (history_events_of events) (on_stack after)
+  stepped at count [] here tops = tops
+  stepped at count (top ∷ below) here tops = inl (here, tops)
+
+  finished : (at : ℕ) (frames : Frames)
+      → at ≡ cpu
+      → length (on_stack after) ≤ length frames - 1
+      → Topped frames (history_events_of events) (on_stack after)
+      → Adds cpu size (finish_frame at) frames (history_events_of events) (on_stack after)
+  finished at [] here few tops = tops
+  finished at (top ∷ below) here few tops = inl (here, gone_top top below (on_stack after) (history_events_of events) (let it : length (on_stack after) ≤ length below = omega (arith, few) in it) tops)
+
+  pub line_adds : (line : Command)
+      → IsOn cpu line
+      → LinePart n size line before events after
+      → Spares line (length (on_stack before)) (length (on_stack after))
+      → Adds cpu size line (on_stack before) (history_events_of events) (on_stack after)
+  line_adds (begin_frame at moment payload) here (begins may one) least =
+      inl (here, inr ((λ why. may (not_refused size moment (length payload) before why)), [], one.acts_one, (refl, ap on_stack one.after_is)))
+  line_adds (begin_frame at moment payload) here (begins_none why none) least =
+      inl (here, inl (refused size moment (length payload) before why, idle n before after events none))
+  line_adds (step_frame at count) here part least =
+      stepped at count (on_stack before) here (part_tops n size before after events part.top least)
+  line_adds (finish_frame at) here part least =
+      let gone = part.is_gone in let a = counted before in let b = counted after in
+      finished at (on_stack before) here (omega (arith, gone, a, b)) (part_tops n size before after events part.top least)
+  line_adds (write at moment payload) here (writes front behind between may cut one rest) least =
+      let (more, is, does, same) = passes n size (push moment (length payload)) payload before between after front behind one rest least in
+      inl (here, inr ((λ why. may (not_refused size moment (length payload) before why)), more, ap history_events_of cut ∙ is, (does, same)))
+  line_adds (write at moment payload) here (writes_none why none) least =
+      inl (here, inl (refused size moment (length payload) before why, idle n before after events none))
+  line_adds (close at) here (writes front behind between may cut one rest) least =
+      let (more, is, does, same) = passes n size push_close [] before between after front behind one rest least in
+      inl (here, inr ((λ many. may (not_full before many)), more, ap history_events_of cut ∙ is, (does, same)))
+  line_adds (close at) here (writes_none why none) least = inl (here, inl (full before why, idle n before after events none))
+  line_adds (step_reader at count) here part least = idle n before after events part
+  line_adds (take_page at) here part least = idle n before after events part
+  line_adds (wish at) here part least = idle n before after events part
+  line_adds (deliver collector at fill) here part least = idle n before after events part

@@ -26,3 +26,12 @@ pub mod RunCalls
 pub mod ReplayedLines
 -- what lines add
 pub mod AccountsMade
+-- why fills are lost, and frames leave without a record
+pub mod LossesDue
+pub mod EventsDue
+-- what lines take
+pub mod LineTakes
+-- which wishes are found
+pub mod WishesAsked
+-- an account of each CPU
+pub mod AccountsOfWorlds

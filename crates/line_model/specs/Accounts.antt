@@ -1,93 +1,135 @@
 -- What is printed of a script, by the histories of its CPUs alone: which records, under which numbers, and which
--- numbers are missing. Neither links nor pages nor steps of a ring are spoken of.
--- docs/MODEL.md, "What is printed, by histories alone".
-use Rattle.std.specs.Prelude.{◌≡◌, ℕ, suc, ◌-◌, ◌<◌, ◌≤◌, ◌⊎◌, ◌↔◌, Bool, true, false, List, [], ◌∷◌, ◌++◌, length, map, filter, flat_map, Option, Some, None, Contains, slice_index_or}
+-- numbers are missing. Neither links nor steps of a ring are spoken of. docs/MODEL.md, "What is printed, by histories
+-- alone".
+use Rattle.std.specs.Prelude.{◌≡◌, ◌≢◌, ℕ, suc, ◌+◌, ◌<◌, ◌≤◌, ◌⊎◌, ◌↔◌, ⊤, Bool, true, false, List, [], ◌∷◌, ◌++◌, length, flat_map, Option, Some, None, Contains, slice_index_or}
 use Rattle.std.specs.List.{slice_get, enumerate_from, AllZip}
-use Rattle.trace_model.specs.declared.limits.TheConstants.{MAX_FRAMES, MOMENT_LIMIT}
+use Rattle.trace_model.specs.declared.limits.TheConstants.{MAX_FRAMES, MOMENT_LIMIT, LINK_FILLS}
 use Rattle.trace_model.specs.Words.{padded, encoded_len}
-use Rattle.trace_model.specs.History.{HistoryEvent, push, push_close, open_fill, reserve, leave, wished, writer_after, MayLeave, committed_records}
-use Rattle.trace_model.specs.Window.{Window, RingEvent, history_events_of, WindowRun}
+use Rattle.trace_model.specs.History.{HistoryEvent, push, push_close, open_fill, reserve, leave, wished, PushedFrame, record_frame, close_frame, reservation_for, writer_after, reserved_records, committed_records}
+use Rattle.trace_model.specs.Packing.{opens_of, tail_of, fill_len}
+use Rattle.trace_model.specs.Window.{Window, RingEvent, acts, loses, history_events_of, WindowRun}
 use Rattle.trace_model.specs.Listing.{Line, IsTimeOrdered}
 use Rattle.link_marks.specs.RunsAsEvents.{fills_taken}
-use Rattle.text_model.specs.Script.{Command, begin_frame, step_frame, finish_frame, write, close, deliver, Script}
+use Rattle.text_model.specs.Script.{Command, begin_frame, step_frame, finish_frame, write, close, step_reader, take_page, wish, deliver, Script}
 use Rattle.world_model.specs.Headline.{StandsIn, IsOverwrittenBefore}
 use Rattle.world_model.specs.Printing.{Shown, printed_collector}
-use Rattle.line_model.specs.Lines.{writer_line, IsBegunByLines}
 
 -- ---- what lines write
 
--- Events of frames that are on the stack, none a push. Each frame has the payload of its line, the top one's first, and
--- leaves with that payload, in whole words, or without a record.
-abbrev pub Leave : List (List ℕ) → List HistoryEvent → List (List ℕ) → Type 0
-Leave stack [] after = after ≡ stack
-Leave stack (open_fill ∷ history) after = Leave stack history after
-Leave stack (reserve ∷ history) after = Leave stack history after
-Leave stack (wished ∷ history) after = Leave stack history after
-Leave (top ∷ below) (leave None ∷ history) after = Leave below history after
-Leave (top ∷ below) (leave (Some bytes) ∷ history) after = (bytes ≡ padded top) × Leave below history after
-Leave _ _ _ = ⊥
+-- The frames on the stack of a CPU, the top one first: the payload of each until it has left. Only a bottom frame is
+-- still there then, to close fills.
+abbrev pub Frames : Type 0
+Frames = List (Option (List ℕ))
 
--- a frame of this payload is pushed, and leaves
-abbrev pub Passes : HistoryEvent → List ℕ → List (List ℕ) → List HistoryEvent → List (List ℕ) → Type 0
-Passes action payload stack history after =
-    (rest : List HistoryEvent)
-    × (history ≡ action ∷ rest)
-    × Leave (payload ∷ stack) rest after
-    × (length after ≡ length stack)
-
--- A record frame is refused: three frames or more are on the stack, its record is too long, or its moment is too late.
-abbrev pub IsRefused : (size moment len : ℕ) → List (List ℕ) → Type 0
-IsRefused size moment len stack =
-    (MAX_FRAMES ≤ suc (length stack)) ⊎ ((size < len) ⊎ (size < encoded_len len 0 true)) ⊎ (MOMENT_LIMIT ≤ moment)
+-- What the frame on top does: it pushes none, and may leave, once: with the payload of its line, in whole words, or
+-- without a record.
+abbrev pub Does : Option (List ℕ) → List HistoryEvent → Option (List ℕ) → Type 0
+Does frame [] after = after ≡ frame
+Does frame (push moment len ∷ history) after = ⊥
+Does frame (push_close ∷ history) after = ⊥
+Does None (leave payload ∷ history) after = ⊥
+Does (Some own) (leave None ∷ history) after = Does None history after
+Does (Some own) (leave (Some bytes) ∷ history) after = (bytes ≡ padded own) × Does None history after
+Does frame (_ ∷ history) after = Does frame history after
 
 -- nothing is done
-abbrev pub IsIdle : List (List ℕ) → List HistoryEvent → List (List ℕ) → Type 0
-IsIdle stack history after = (history ≡ []) × (after ≡ stack)
+abbrev pub IsIdle : Frames → List HistoryEvent → Frames → Type 0
+IsIdle frames history after = (history ≡ []) × (after ≡ frames)
 
--- What a line adds to its writer's history, if these frames are on the stack: `b` pushes one, `s` has the top one make
--- steps, `f` has it leave, `w` and `c` push one and have it leave.
-abbrev pub Adds : ℕ → Command → List (List ℕ) → List HistoryEvent → List (List ℕ) → Type 0
-Adds size (begin_frame cpu moment payload) stack history after =
-    ((history ≡ push moment (length payload) ∷ []) × (after ≡ payload ∷ stack))
-    ⊎ (IsRefused size moment (length payload) stack × IsIdle stack history after)
-Adds size (step_frame cpu count) stack history after = Leave stack history after × (length stack ≤ suc (length after))
-Adds size (finish_frame cpu) stack history after = Leave stack history after × (length after ≡ length stack - 1)
-Adds size (write cpu moment payload) stack history after =
-    Passes (push moment (length payload)) payload stack history after
-    ⊎ (IsRefused size moment (length payload) stack × IsIdle stack history after)
-Adds size (close cpu) stack history after =
-    Passes push_close [] stack history after ⊎ ((MAX_FRAMES ≤ suc (length stack)) × IsIdle stack history after)
-Adds size _ stack history after = IsIdle stack history after
+-- the line is one of this CPU, and this holds; or nothing is done
+abbrev pub At : (cpu at : ℕ) → Frames → List HistoryEvent → Frames → Type 0 → Type 0
+At cpu at frames history after Here = ((at ≡ cpu) × Here) ⊎ ((at ≢ cpu) × IsIdle frames history after)
 
--- each line adds its part, in their order
-abbrev pub AddAll : ℕ → List Command → List (List ℕ) → List HistoryEvent → List (List ℕ) → Type 0
-AddAll size [] stack history after = IsIdle stack history after
-AddAll size (line ∷ lines) stack history after =
-    (front rest : List HistoryEvent) × (between : List (List ℕ))
-    × (history ≡ front ++ rest)
-    × Adds size line stack front between
-    × AddAll size lines between rest after
+-- a frame is pushed, and then this is done; or it is refused, exactly if it has to be, and nothing is done
+abbrev pub Pushes : Type 0 → HistoryEvent → (List HistoryEvent → Type 0) → Frames → List HistoryEvent → Frames → Type 0
+Pushes Refused event Then frames history after = (Refused × IsIdle frames history after)
+    ⊎ ((Refused → ⊥) × (rest : List HistoryEvent) × (history ≡ event ∷ rest) × Then rest)
 
--- What the lines of a writer have begun is what they add.
-abbrev pub LinesAdd : Type 0
-LinesAdd = (n size start : ℕ) (lines : List Command) (history : List HistoryEvent)
-    → IsBegunByLines n size start lines history
-    → (stack : List (List ℕ)) × AddAll size lines [] history stack
+-- A record frame is refused: the stack is full, its record is too long, or its moment is too late.
+abbrev pub IsRefused : (size moment len : ℕ) → Frames → Type 0
+IsRefused size moment len frames =
+    (MAX_FRAMES ≤ length frames) ⊎ ((size < len) ⊎ (size < encoded_len len 0 true)) ⊎ (MOMENT_LIMIT ≤ moment)
 
--- ---- what becomes of records
+-- What a line adds to a CPU's history, if these frames are on its stack: `b` pushes one, `s` has the top one make
+-- steps, `f` has it go, `w` and `c` push one and have it go.
+abbrev pub Adds : (cpu size : ℕ) → Command → Frames → List HistoryEvent → Frames → Type 0
+Adds cpu size (begin_frame at moment payload) frames history after = At cpu at frames history after
+    (Pushes (IsRefused size moment (length payload) frames) (push moment (length payload))
+    (λ rest. (rest ≡ []) × (after ≡ Some payload ∷ frames)) frames history after)
+Adds cpu size (step_frame at count) (top ∷ below) history after = At cpu at (top ∷ below) history after
+    ((next : Option (List ℕ)) × Does top history next
+    × (((after ≡ next ∷ below) × (next ≡ None → below ≡ [])) ⊎ ((next ≡ None) × (after ≡ below))))
+Adds cpu size (finish_frame at) (top ∷ below) history after = At cpu at (top ∷ below) history after
+    (Does top history None × (after ≡ below))
+Adds cpu size (write at moment payload) frames history after = At cpu at frames history after
+    (Pushes (IsRefused size moment (length payload) frames) (push moment (length payload))
+    (λ rest. Does (Some payload) rest None × (after ≡ frames)) frames history after)
+Adds cpu size (close at) frames history after = At cpu at frames history after
+    (Pushes (MAX_FRAMES ≤ length frames) push_close
+    (λ rest. Does (Some []) rest None × (after ≡ frames)) frames history after)
+Adds cpu size _ frames history after = IsIdle frames history after
 
--- One CPU of a script. The events are what its frames did, and when a fill was closed, taken or lost, in one order, as
--- the window allows. What the frames did is what the lines of the CPU's writer add; and a frame that has reserved a
--- record leaves with it.
-pub record IsAccount (script : Script) (cpu : ℕ) (events : List RingEvent) : Type 0 where
-  pub stack : List (List ℕ)
-  pub written : AddAll script.size (filter (writer_line cpu) (map (λ line. line.1) script.commands))
-      [] (history_events_of events) stack
-  pub leaves : (front behind : List HistoryEvent) (payload : Option (List ℕ))
-      → history_events_of events ≡ front ++ leave payload ∷ behind
-      → MayLeave (writer_after front).stack payload
-  pub window : Window
-  pub run : WindowRun script.pages script.start events window
+-- What a line takes of a CPU, if the window is this one after it. `t` takes a fill, unless a frame is on the stack, or
+-- no fill that is closed is unread. `r` may take one.
+abbrev pub Takes : ℕ → Command → Frames → Window → List ℕ → Type 0
+Takes cpu (take_page at) frames after fills = ((at ≡ cpu) × (length fills ≡ 1))
+    ⊎ ((fills ≡ []) × ((at ≢ cpu) ⊎ ((frames ≢ []) ⊎ (after.head ≡ after.done))))
+Takes cpu (step_reader at count) frames after fills = (fills ≡ []) ⊎ ((at ≡ cpu) × (length fills ≡ 1))
+Takes cpu _ frames after fills = fills ≡ []
+
+-- ---- what is due
+
+-- no page is released, or no number is left for one more fill
+abbrev pub HasNoPage : ℕ → Window → Type 0
+HasNoPage n w = (w.opened ≡ w.done + n) ⊎ (LINK_FILLS ≤ w.opened + n)
+
+-- After a history the frame on top needs a page: a record frame whose record doesn't fit in the tail page; a close
+-- frame, if the tail page has a record; or, if all frames have left, the reader, whose wish was found since the last
+-- fill was begun.
+abbrev pub NeedsPage : ℕ → List HistoryEvent → List PushedFrame → Type 0
+NeedsPage size h [] = (front behind : List HistoryEvent)
+    × (h ≡ front ++ wished ∷ behind) × (opens_of front ≡ opens_of h) × (tail_of h ≢ [])
+NeedsPage size h (record_frame moment len None ∷ below) =
+    size < fill_len (tail_of h ++ reservation_for moment len (reserved_records h) ∷ [])
+NeedsPage size h (record_frame moment len (Some number) ∷ below) = ⊥
+NeedsPage size h (close_frame ∷ below) = tail_of h ≢ []
+
+-- What may happen while these frames have not left. A fill is begun, and one is lost, only if a page is needed, and
+-- there is one. A record is reserved only if none is needed. A frame that has no record yet leaves without one only if
+-- it needs a page, and there is none; one that has its record leaves with it. A close frame leaves only if it needs no
+-- page, or there is none. The reader's wish is found only if it was asked.
+abbrev pub IsDue : (Needs NoPage Asked : Type 0) → List PushedFrame → RingEvent → Type 0
+IsDue Needs NoPage Asked stack loses = Needs × (NoPage → ⊥)
+IsDue Needs NoPage Asked stack (acts open_fill) = Needs × (NoPage → ⊥)
+IsDue Needs NoPage Asked stack (acts wished) = Asked
+IsDue Needs NoPage Asked (record_frame _ _ None ∷ _) (acts reserve) = Needs → ⊥
+IsDue Needs NoPage Asked (record_frame _ _ None ∷ _) (acts (leave payload)) = (payload ≡ None) × Needs × NoPage
+IsDue Needs NoPage Asked (record_frame _ _ (Some number) ∷ _) (acts (leave payload)) = payload ≢ None
+IsDue Needs NoPage Asked (close_frame ∷ _) (acts (leave payload)) = Needs → NoPage
+IsDue Needs NoPage Asked stack event = ⊤
+
+-- One CPU of a script, after each number of its lines: the frames on the stack, and the events so far, which are what
+-- the frames did, and when a fill was closed, taken or lost, in one order, as the window allows. Each line adds its
+-- part and takes what it can; and if no frame is on the stack, all fills but the tail are closed. Each event was due.
+pub record IsAccount (script : Script) (cpu : ℕ) (events : ℕ → List RingEvent) : Type 0 where
+  pub frames : ℕ → Frames
+  pub window : ℕ → Window
+  pub first : (events 0 ≡ []) × (frames 0 ≡ [])
+  pub lines : (k line : ℕ) (command : Command)
+      → slice_get script.commands k ≡ Some (line, command)
+      → (own : List RingEvent)
+      × (events (suc k) ≡ events k ++ own)
+      × Adds cpu script.size command (frames k) (history_events_of own) (frames (suc k))
+      × Takes cpu command (frames k) (window (suc k)) (fills_taken (window k).head own)
+  pub run : (k : ℕ) → WindowRun script.pages script.start (events k) (window k)
+  pub rests : (k : ℕ) → frames k ≡ [] → (window k).done + 1 ≡ (window k).opened
+  pub due : (k : ℕ) (front behind : List RingEvent) (event : RingEvent) (w : Window)
+      → events k ≡ front ++ event ∷ behind
+      → WindowRun script.pages script.start front w
+      → IsDue (NeedsPage script.size (history_events_of front) (writer_after (history_events_of front)).stack)
+      (HasNoPage script.pages w)
+      ((j line : ℕ) × (j < k) × (slice_get script.commands j ≡ Some (line, wish cpu)))
+      (writer_after (history_events_of front)).stack event
 
 -- ---- what is printed
 
@@ -110,20 +152,21 @@ pub record IsShownOf (start : ℕ) (events : ℕ → List RingEvent) (fills : Li
       × IsOverwrittenBefore (history_events_of (events cpu)) start (events cpu) fill number)
 
 -- These bytes are the collectors of the script, each as it is shown, after the log, if that is asked for. There is an
--- account of each CPU; and each fill that was delivered was taken from its CPU's ring, and
--- is one that a line of the script delivers to this collector.
+-- account of each CPU, by the number of lines so far. A fill is delivered to a collector exactly if a line of the
+-- script delivers it, before which it was taken.
 pub record IsAccounted (script : Script) (asked : Bool) (bytes : List ℕ) : Type 0 where
-  pub events : ℕ → List RingEvent
+  pub events : (cpu lines : ℕ) → List RingEvent
   pub accounts : (cpu : ℕ) → cpu < script.cpus → IsAccount script cpu (events cpu)
   pub fills : List (List (ℕ × ℕ))
   pub collectors : length fills ≡ script.collectors
   pub delivered : (collector cpu fill : ℕ) (own : List (ℕ × ℕ))
       → slice_get fills collector ≡ Some own
       → Contains own (cpu, fill)
-      → ((line : ℕ) × Contains script.commands (line, deliver collector cpu fill))
-      × Contains (fills_taken script.start (events cpu)) fill
+      ↔ ((k line : ℕ)
+      × (slice_get script.commands k ≡ Some (line, deliver collector cpu fill))
+      × Contains (fills_taken script.start (events cpu k)) fill)
   pub shown : List Shown
-  pub each : AllZip (IsShownOf script.start events) fills shown
+  pub each : AllZip (IsShownOf script.start (λ cpu. events cpu (length script.commands))) fills shown
   pub log : List ℕ
   pub log_asked : asked ≡ false → log ≡ []
   pub printed : bytes ≡ log ++ flat_map (λ pair. printed_collector pair.0 pair.1) (enumerate_from 0 shown)

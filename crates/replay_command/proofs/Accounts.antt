@@ -1,18 +1,19 @@
 -- The printing of a script's world is an account of it.
-use Rattle.std.proofs.Common.{◌≡◌, ℕ, zero, suc, ◌<◌, ◌≤◌, Bool, if◌then◌else◌, List, [], ◌∷◌, length, map, Some, refl, sym, ap, ◌∙◌, subst, inl, inr, ⊎_elim, arith}
-use Rattle.std.specs.Prelude.{Contains, filter, flat_map, slice_index_or, ◌↔◌, ◌==◌}
+use Rattle.std.proofs.Common.{◌≡◌, ℕ, zero, suc, ◌<◌, ◌≤◌, Bool, if◌then◌else◌, List, [], ◌∷◌, length, map, Some, refl, sym, ap, ◌∙◌, subst, inl, inr, arith}
+use Rattle.std.specs.Prelude.{Contains, flat_map, slice_index_or, ◌↔◌, ◌==◌}
 use Rattle.std.specs.List.{slice_get, AllZip}
 use Rattle.std.proofs.lemmas.List.{length-map}
-use Rattle.std.proofs.lemmas.Option.{slice_get_cases}
-use Rattle.std.proofs.lemmas.Bool.{eq-eqb}
+use Rattle.std.proofs.lemmas.Bool.{eq-eqb, eqb-true}
+use mathlib.Core.Logic.{dite}
+use native.Mathlib.Decide.{dec_le}
 use Rattle.trace_model.specs.Record.{Record}
-use Rattle.trace_model.specs.History.{HistoryEvent, leave, committed_records}
+use Rattle.trace_model.specs.History.{HistoryEvent, committed_records}
 use Rattle.trace_model.specs.Window.{RingEvent, history_events_of}
-use Rattle.trace_model.specs.Ring.{window_of}
 use Rattle.trace_model.specs.Parcel.{Parcel}
 use Rattle.trace_model.specs.Collection.{Has, Misses}
+use Rattle.trace_model.proofs.collections.Elements.{some_is}
 use Rattle.link_marks.specs.RunsAsEvents.{fills_taken}
-use Rattle.text_model.specs.Script.{Command, deliver, Script}
+use Rattle.text_model.specs.Script.{deliver, Script}
 use Rattle.text_model.specs.ScriptLimits.{IsWithinLimits}
 use Rattle.text_model.specs.Printing.{printed_log_line}
 use Rattle.text_model.proofs.ParsedLimits.{ParsesScript-within}
@@ -20,19 +21,19 @@ use Rattle.command_io.specs.CommandRun.{SourceRun, SinkRun, WritesOutput, IsComm
 use Rattle.command_io.specs.declared.status.TheConstants.{DONE, REFUSED}
 use Rattle.collector.specs.Runs.{InRun}
 use Rattle.collector_text.specs.Prints.{runs_of, IsPrintOf}
-use Rattle.world_model.specs.Lanes.{Lane}
-use Rattle.world_model.specs.World.{World, WorldOf}
+use Rattle.world_model.specs.World.{World, WorldOf, IsFill}
 use Rattle.world_model.specs.Headline.{StandsIn, IsOverwrittenBefore, parcels_from, IsOneOf, IsExact, IsGenuineWorld}
 use Rattle.world_model.specs.Printing.{Shown}
 use Rattle.world_model.proofs.Lookups.{element_at, contains_at, get_map, get_from_map, kept_by}
-use Rattle.world_model.proofs.DeliveredLines.{delivered_by_lines}
+use Rattle.world_model.proofs.KeptElements.{kept_from}
+use Rattle.world_model.proofs.WorldsKept.{IsWorldKept, new_kept}
+use Rattle.world_model.proofs.WorldsAt.{world_at, kept_at}
+use Rattle.world_model.proofs.DeliveredLines.{IsHanded, handed_by_lines, hands_lines}
+use Rattle.world_model.proofs.LostFills.{overwritten_same}
 use Rattle.world_model.proofs.GenuineWorlds.{world_genuine}
 use Rattle.world_model.proofs.WorldsMade.{world_of_made}
-use Rattle.line_model.specs.Lines.{writer_line, IsBegunByLines}
-use Rattle.line_model.specs.ReplayedLines.{commands_of}
-use Rattle.line_model.specs.Accounts.{AddAll, IsAccount, IsShownOf, IsAccounted}
-use Rattle.line_model.proofs.ReplayedLines.{worlds_make_lines}
-use Rattle.line_model.proofs.AccountsMade.{lines_add, lines_filtered}
+use Rattle.line_model.specs.Accounts.{IsAccount, IsShownOf, IsAccounted}
+use Rattle.line_model.proofs.AccountsOfWorlds.{events_behind, account_behind, taken_behind, last_reported}
 use Rattle.replay_command.specs.Commands.{AccountGives, IsPrinting, ReplayGives}
 
 -- a parcel's CPU and fill
@@ -55,58 +56,100 @@ module _ (script : Script) (w : World) (limits : IsWithinLimits script) (of : Wo
   -- ---- the events of a CPU
 
   data Known (cpu : ℕ) : Type 0 where
-    known : (lane : Lane) → slice_get w.lanes cpu ≡ Some lane → Known cpu
+    known : cpu < script.cpus → Known cpu
     unknown : script.cpus ≤ cpu → Known cpu
 
   known_at : (cpu : ℕ) → Known cpu
-  known_at cpu = ⊎_elim (λ (lane, low, at, is). known lane at) (λ (past, none). unknown (let count = genuine.cpus in omega (arith, count, past))) (slice_get_cases w.lanes cpu).1
+  known_at cpu = dite (dec_le (suc cpu) script.cpus) (λ low. known low) (λ high. unknown (omega (arith, high)))
 
-  abbrev events_of : (cpu : ℕ) → Known cpu → List RingEvent
-  events_of cpu (known lane at) = (genuine.cut cpu lane at).events
-  events_of cpu (unknown past) = []
+  abbrev events_of : (cpu : ℕ) → Known cpu → ℕ → List RingEvent
+  events_of cpu (known low) k = events_behind script w limits of cpu low k
+  events_of cpu (unknown past) k = []
 
-  abbrev events : ℕ → List RingEvent
-  events cpu = events_of cpu (known_at cpu)
+  abbrev events : ℕ → ℕ → List RingEvent
+  events cpu k = events_of cpu (known_at cpu) k
+
+  -- in the end
+  abbrev all_lines : ℕ
+  all_lines = length script.commands
+
+  abbrev all_of : (cpu : ℕ) → Known cpu → List RingEvent
+  all_of cpu known_cpu = events_of cpu known_cpu all_lines
+
+  abbrev all_events : ℕ → List RingEvent
+  all_events cpu = events cpu all_lines
 
   account : (cpu : ℕ) (k : Known cpu) → cpu < script.cpus → IsAccount script cpu (events_of cpu k)
-  account cpu (known lane at) low =
-      let cut = genuine.cut cpu lane at in
-      let lines : List Command = filter (writer_line cpu) (commands_of script.commands) in
-      let begun = subst (λ (l : List Command). IsBegunByLines script.pages script.size script.start l lane.core.history) (lines_filtered cpu (commands_of script.commands))
-      (worlds_make_lines script w cpu lane limits of at).0 in
-      let (stack, written) = lines_add script.pages script.size script.start lines lane.core.history begun in
-      record {
-        stack = stack;
-        written = subst (λ (l : List HistoryEvent). AddAll script.size lines [] l stack) (sym cut.reported.history_events) written;
-        leaves = λ front behind payload split. cut.is_history front behind (leave payload) (sym cut.reported.history_events ∙ split);
-        window = window_of lane.core;
-        run = cut.reported.window;
-      }
+  account cpu (known low) below = account_behind script w limits of cpu low
   account cpu (unknown past) low = absurd (let no : ⊥ = omega (arith, past, low) in no)
 
   -- ---- what was delivered
 
-  was_taken : (cpu : ℕ) (k : Known cpu) (parcel : Parcel) → parcel.cpu ≡ cpu → Contains w.taken parcel → Contains (fills_taken script.start (events_of cpu k)) parcel.fill
-  was_taken cpu (known lane at) parcel is has =
-      let cut = genuine.cut cpu lane at in
-      let (k, there) = element_at w.taken parcel has in
-      let (j, place) = kept_by (λ p. p.cpu == cpu) w.taken k parcel there (eq-eqb parcel.cpu cpu is) in
-      subst (λ (l : List ℕ). Contains l parcel.fill) (sym cut.took)
-      (contains_at (map (λ p. p.fill) (parcels_from cpu w.taken)) j parcel.fill (get_map (λ (p : Parcel). p.fill) (parcels_from cpu w.taken) j parcel place))
-  was_taken cpu (unknown past) parcel is has = absurd (let low = genuine.of_a_cpu parcel has in let no : ⊥ = omega (arith, past, low, is) in no)
+  -- the world after a number of lines
+  abbrev behind : ℕ → World
+  behind k = world_at script script.commands of.new w of.obeyed k
 
-  -- a line delivers the fill, which was taken
-  abbrev IsDelivered : (collector : ℕ) → ℕ × ℕ → Type 0
-  IsDelivered collector fill = ((line : ℕ) × Contains script.commands (line, deliver collector fill.0 fill.1)) × Contains (fills_taken script.start (events fill.0)) fill.1
+  behind_kept : (k : ℕ) → IsWorldKept script (behind k)
+  behind_kept k = kept_at script script.commands of.new w of.obeyed (new_kept script of.new limits of.is_new) k
 
-  is_delivered : (collector : ℕ) (own : List (ℕ × ℕ)) (fill : ℕ × ℕ) → slice_get (map keys_of w.delivered) collector ≡ Some own → Contains own fill → IsDelivered collector fill
-  is_delivered collector own fill own_at has =
+  was_taken : (cpu : ℕ) (is_known : Known cpu) (k : ℕ) (parcel : Parcel) → parcel.cpu ≡ cpu → Contains (behind k).taken parcel → Contains (fills_taken script.start (events_of cpu is_known k)) parcel.fill
+  was_taken cpu (known low) k parcel is has =
+      let (i, there) = element_at (behind k).taken parcel has in
+      let (j, place) = kept_by (λ p. p.cpu == cpu) (behind k).taken i parcel there (eq-eqb parcel.cpu cpu is) in
+      subst (λ (l : List ℕ). Contains l parcel.fill) (sym (taken_behind script w limits of cpu low k))
+      (contains_at (map (λ p. p.fill) (parcels_from cpu (behind k).taken)) j parcel.fill (get_map (λ (p : Parcel). p.fill) (parcels_from cpu (behind k).taken) j parcel place))
+  was_taken cpu (unknown past) k parcel is has = absurd (let low = (behind_kept k).of_a_cpu parcel has in let no : ⊥ = omega (arith, past, low, is) in no)
+
+  none_in : (x : ℕ) → Contains [] x → ⊥
+  none_in x (k, low, is) = omega (arith, low)
+
+  -- a parcel of the fill was taken
+  IsTaken : (cpu fill k : ℕ) → Type 0
+  IsTaken cpu fill k = (parcel : Parcel) × Contains (behind k).taken parcel × IsFill cpu fill parcel
+
+  taken_from : (cpu : ℕ) (is_known : Known cpu) (fill k : ℕ) → Contains (fills_taken script.start (events_of cpu is_known k)) fill → IsTaken cpu fill k
+  unfolding IsTaken
+  taken_from cpu (known low) fill k has =
+      let (j, at) = element_at (map (λ p. p.fill) (parcels_from cpu (behind k).taken)) fill (subst (λ (l : List ℕ). Contains l fill) (taken_behind script w limits of cpu low k) has) in
+      let (parcel, there, is) = get_from_map (λ (p : Parcel). p.fill) (parcels_from cpu (behind k).taken) j fill at in
+      let (i, place, passes) = kept_from (λ p. p.cpu == cpu) (behind k).taken j parcel there in
+      (parcel, contains_at (behind k).taken i parcel place, (eqb-true parcel.cpu cpu passes, is))
+  taken_from cpu (unknown past) fill k has = absurd (none_in fill has)
+
+  -- a line delivers the fill, which was taken before
+  abbrev IsHandedOver : (collector cpu fill : ℕ) → Type 0
+  IsHandedOver collector cpu fill = (k line : ℕ)
+      × (slice_get script.commands k ≡ Some (line, deliver collector cpu fill))
+      × Contains (fills_taken script.start (events cpu k)) fill
+
+  handed : (collector : ℕ) (parcel : Parcel) → IsHanded script script.commands of.new w of.obeyed collector parcel → IsHandedOver collector parcel.cpu parcel.fill
+  handed collector parcel (k, line, at, taken) = (k, line, at, was_taken parcel.cpu (known_at parcel.cpu) k parcel refl taken)
+
+  is_delivered : (collector : ℕ) (own : List (ℕ × ℕ)) (cpu fill : ℕ)
+      → slice_get (map keys_of w.delivered) collector ≡ Some own
+      → Contains own (cpu, fill)
+      → IsHandedOver collector cpu fill
+  is_delivered collector own cpu fill own_at has =
       let (parcels, at, is) = get_from_map keys_of w.delivered collector own own_at in
-      let (k, there) = element_at own fill has in
-      let (parcel, parcel_at, same) = get_from_map key_of parcels k fill (subst (λ (l : List (ℕ × ℕ)). slice_get l k ≡ Some fill) (sym is) there) in
-      let here = contains_at parcels k parcel parcel_at in
-      subst (IsDelivered collector) same
-      (delivered_by_lines script w collector parcels parcel of at here, was_taken parcel.cpu (known_at parcel.cpu) parcel refl (genuine.delivered collector parcels parcel at here))
+      let (k, there) = element_at own (cpu, fill) has in
+      let (parcel, parcel_at, same) = get_from_map key_of parcels k (cpu, fill) (subst (λ (l : List (ℕ × ℕ)). slice_get l k ≡ Some (cpu, fill)) (sym is) there) in
+      subst (λ (key : ℕ × ℕ). IsHandedOver collector key.0 key.1) same
+      (handed collector parcel (handed_by_lines script w collector parcels parcel of at (contains_at parcels k parcel parcel_at)))
+
+  was_delivered : (collector : ℕ) (own : List (ℕ × ℕ)) (cpu fill : ℕ)
+      → slice_get (map keys_of w.delivered) collector ≡ Some own
+      → IsHandedOver collector cpu fill
+      → Contains own (cpu, fill)
+  unfolding IsTaken
+  was_delivered collector own cpu fill own_at (k, line, at, has) =
+      let (parcel, taken, is) = taken_from cpu (known_at cpu) fill k has in
+      let (other, same, got) = hands_lines script script.commands of.new w of.obeyed k line collector cpu fill parcel at taken is in
+      let (parcels, parcels_at, one) = got in
+      let (i, place) = element_at parcels other one in
+      let own_is : own ≡ keys_of parcels = some_is own (keys_of parcels) (sym own_at ∙ get_map keys_of w.delivered collector parcels parcels_at) in
+      let key : key_of other ≡ (cpu, fill) = (λ i. (same.0 i, same.1 i)) in
+      subst (λ (l : List (ℕ × ℕ)). Contains l (cpu, fill)) (sym own_is)
+      (contains_at (keys_of parcels) i (cpu, fill) (get_map key_of parcels i other place ∙ ap (λ (x : ℕ × ℕ). Some x) key))
 
   -- ---- what is shown
 
@@ -138,21 +181,30 @@ module _ (script : Script) (w : World) (limits : IsWithinLimits script) (of : Wo
           × Contains (keys_of parcels) (cpu, fill)
           × IsOverwrittenBefore (history_events_of of_cpu) script.start of_cpu fill number)
 
-    is_of : (cpu : ℕ) (k : Known cpu) → IsOf cpu (events_of cpu k)
-    is_of cpu (known lane at) =
+    is_of : (cpu : ℕ) (k : Known cpu) → IsOf cpu (all_of cpu k)
+    is_of cpu (known below) =
+        let (lane, at, reported) = last_reported script w limits of cpu below in
         let cut = genuine.cut cpu lane at in
-        let e : IsExact (history_events_of cut.events) script.start cut.events cpu parcels parcels =
-        subst (λ (l : List HistoryEvent). IsExact l script.start cut.events cpu parcels parcels) (sym cut.reported.history_events) (genuine.exact collector cpu parcels lane at_parcels at) in
+        let here : List RingEvent = events_behind script w limits of cpu below all_lines in
+        let h : List HistoryEvent = history_events_of here in
+        let e : IsExact h script.start cut.events cpu parcels parcels =
+        subst (λ (l : List HistoryEvent). IsExact l script.start cut.events cpu parcels parcels) (sym reported.history_events) (genuine.exact collector cpu parcels lane at_parcels at) in
         record {
           has = λ number r. (
             λ there. let (committed, parcel, one, stands) = (e.has number r).0 there in (committed, parcel.fill, key_in cpu parcel one, stands),
             λ (committed, fill, key, stands). let (parcel, one, is) = key_of_one cpu fill key in
-                (e.has number r).1 (committed, parcel, one, subst (λ (f : ℕ). StandsIn (history_events_of cut.events) script.start f number) (sym is) stands),
+                (e.has number r).1 (committed, parcel, one, subst (λ (f : ℕ). StandsIn h script.start f number) (sym is) stands),
           );
           misses = λ number. (
-            λ there. let (parcel, one, over) = (e.misses number).0 there in (parcel.fill, key_in cpu parcel one, over),
+            λ there. let (parcel, one, over) = (e.misses number).0 there in
+                (parcel.fill, key_in cpu parcel one, overwritten_same script.pages script.start lane.core cut.events here cut.reported reported h parcel.fill number over),
             λ (fill, key, over). let (parcel, one, is) = key_of_one cpu fill key in
-                (e.misses number).1 (parcel, one, subst (λ (f : ℕ). IsOverwrittenBefore (history_events_of cut.events) script.start cut.events f number) (sym is) over),
+                (e.misses number).1 (
+                  parcel,
+                  one,
+                  subst (λ (f : ℕ). IsOverwrittenBefore h script.start cut.events f number) (sym is)
+                      (overwritten_same script.pages script.start lane.core here cut.events reported cut.reported h fill number over),
+                ),
           );
         }
     is_of cpu (unknown past) =
@@ -174,7 +226,7 @@ module _ (script : Script) (w : World) (limits : IsWithinLimits script) (of : Wo
       λ (run, has, from, to). let (k, at) = element_at runs run has in record { index = k; run = run; at = at; from = from; to = to },
     )
 
-    is_shown : (shown : Shown) → IsPrintOf parcels shown → IsShownOf script.start events (keys_of parcels) shown
+    is_shown : (shown : Shown) → IsPrintOf parcels shown → IsShownOf script.start all_events (keys_of parcels) shown
     is_shown shown print = record {
       ordered = print.lines.ordered;
       lines = λ line. let here = is_of line.cpu (known_at line.cpu) in let r : Record = record { moment = line.moment; bytes = line.bytes } in (
@@ -190,7 +242,7 @@ module _ (script : Script) (w : World) (limits : IsWithinLimits script) (of : Wo
   all_shown : (delivered : List (List Parcel)) (shown : List Shown)
       → ((k : ℕ) (parcels : List Parcel) → slice_get delivered k ≡ Some parcels → (collector : ℕ) × (slice_get w.delivered collector ≡ Some parcels))
       → AllZip IsPrintOf delivered shown
-      → AllZip (IsShownOf script.start events) (map keys_of delivered) shown
+      → AllZip (IsShownOf script.start all_events) (map keys_of delivered) shown
   all_shown [] [] places all = tt
   all_shown [] (s ∷ shown) places all = absurd all
   all_shown (d ∷ delivered) [] places all = absurd all
@@ -206,7 +258,10 @@ accounted script asked bytes limits p =
       accounts = λ cpu low. account script w limits of genuine cpu (known_at script w limits of genuine cpu) low;
       fills = map keys_of w.delivered;
       collectors = length-map w.delivered keys_of ∙ genuine.collectors;
-      delivered = λ collector cpu fill own at has. is_delivered script w limits of genuine collector own (cpu, fill) at has;
+      delivered = λ collector cpu fill own at. (
+        is_delivered script w limits of genuine collector own cpu fill at,
+        was_delivered script w limits of genuine collector own cpu fill at,
+      );
       shown = p.shown;
       each = all_shown script w limits of genuine w.delivered p.shown (λ k parcels at. (k, at)) p.reported;
       log = if asked then flat_map printed_log_line w.log else [];
@@ -216,11 +271,7 @@ accounted script asked bytes limits p =
 
 -- what `replay` gives with the status 0 is an account
 pub account_given : (asked : Bool) (text bytes : List ℕ) (status : ℕ) → ReplayGives asked text bytes status → status ≡ DONE → AccountGives asked text bytes status
-account_given asked text bytes status (inl p) is = record {
-  script = p.script;
-  spelled = p.spelled;
-  account = accounted p.script asked bytes (ParsesScript-within text p.script p.spelled) p.printing;
-}
+account_given asked text bytes status (inl p) is = (p.script, p.spelled, accounted p.script asked bytes (ParsesScript-within text p.script p.spelled) p.printing)
 account_given asked text bytes status (inr f) is = absurd (let other : DONE ≡ REFUSED = sym is ∙ f.refused in let no : ⊥ = cc in no)
 
 pub account_written : (asked : Bool) (source : SourceRun) (sink : SinkRun) (status : ℕ) → IsCommandRun (ReplayGives asked) source sink status → status ≡ DONE

@@ -13,10 +13,8 @@ use Rattle.collector_text.specs.Prints.{IsPrintOf}
 use Rattle.command_io.specs.declared.status.TheConstants.{DONE, REFUSED}
 
 -- The text spells a script, and these bytes are an account of it, whatever they print of its log.
-pub record AccountGives (asked : Bool) (text bytes : List ℕ) (status : ℕ) : Type 0 where
-  pub script : Script
-  pub spelled : ParsesScript text script
-  pub account : IsAccounted script asked bytes
+abbrev pub AccountGives : (asked : Bool) (text bytes : List ℕ) (status : ℕ) → Type 0
+AccountGives asked text bytes status = (script : Script) × ParsesScript text script × IsAccounted script asked bytes
 
 -- These bytes are the printing of the script's world: its log, if it is asked for, and of each collector what the pages
 -- that were delivered to it have and miss.
