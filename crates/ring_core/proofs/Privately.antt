@@ -15,7 +15,7 @@ use Rattle.ring_frames.specs.declared.answer.Answer.{Answer}
 use Rattle.ring_frames.specs.Value.{FramesValue}
 use Rattle.ring_frames.specs.AreFrames.{AreFrames}
 use Rattle.ring_frames.specs.Steps.{IsPrivateStep, MakesPrivate}
-use Rattle.ring_frames.specs.Fills.{reported_in, IsLookForWish, LooksForWish}
+use Rattle.ring_frames.specs.Fills.{with_frames_and_history, IsLookForWish, LooksForWish}
 use Rattle.ring_core.specs.Value.{CoreValue, frames_of, with_frames}
 use Rattle.ring_core.specs.IsCore.{IsHome, HasStateOf}
 use Rattle.ring_core.specs.Steps.{MakesStep}
@@ -52,5 +52,5 @@ made_privately v event result new makes = λ n size start c core.
 pub looked_for_wish : (v : CoreValue) (result : Answer) (new : FramesValue) → LooksForWish (frames_of v) v.wish result new → MakesStep v model.steps result (with_frames v new)
 looked_for_wish v result new looks = λ n size start c core.
     let p : IsLookForWish n size start c result new = looks n size start c core.reached core.shows.frames core.shows.wish_is in
-    stepped n size start v (with_frames v new) c model.steps result p.answer (reported_in c p.frames p.history) core p.step p.reports
+    stepped n size start v (with_frames v new) c model.steps result p.answer (with_frames_and_history c p.frames p.history) core p.step p.reports
     (shows_reframed n size start v c new p.frames p.history c.held core.shows p.are (λ f low high. refl))

@@ -24,7 +24,7 @@ use Rattle.ring_frames.specs.declared.answer.Answer.TheVariants.{Going, Gone}
 use Rattle.ring_frames.specs.Value.{FramesValue, phase_of}
 use Rattle.ring_frames.specs.AreFrames.{ring_frames, AreBelow, AreNotedAlike, AreFrames, HasFrames}
 use Rattle.ring_frames.specs.Answers.{IsAnswerOf}
-use Rattle.ring_frames.specs.Fills.{reported_in, IsLookForWish, GrantsNone}
+use Rattle.ring_frames.specs.Fills.{with_frames_and_history, IsLookForWish, GrantsNone}
 use Rattle.ring_frames.proofs.Privately.{kept_of}
 use Rattle.ring_frames.proofs.Bottom.{IsAlone, alone}
 use Rattle.ring_frames.proofs.Reshown.{reshown}
@@ -42,14 +42,14 @@ module _ (n size start : ℕ) (v : FramesValue) (c : Core) (core : HasFrames n s
   frame_in : Phase → Frame
   frame_in phase = record { kind = kind_of one.purpose; state = left; phase = phase_of phase }
 
-  looks : (result : Answer) (new : FramesValue) (answer : model.Answer) (frames : List Frame) (history : List HistoryEvent) → cases.LoadWishStep n c (frame_in v.phase) [] answer (reported_in c frames history) → IsAnswerOf size result answer → AreFrames n size start new (reported_in c frames history)
+  looks : (result : Answer) (new : FramesValue) (answer : model.Answer) (frames : List Frame) (history : List HistoryEvent) → cases.LoadWishStep n c (frame_in v.phase) [] answer (with_frames_and_history c frames history) → IsAnswerOf size result answer → AreFrames n size start new (with_frames_and_history c frames history)
       → IsLookForWish n size start c result new
   unfolding frame_in
   looks result new answer frames history step reports shows = record {
     answer = answer;
     frames = frames;
     history = history;
-    step = step_by (cases.frame_step (frame_in v.phase) [] refl one.model (subst (λ (p : Phase). cases.FrameStep n size c (frame_in v.phase) [] (phase_of p) answer (reported_in c frames history)) (sym is) step));
+    step = step_by (cases.frame_step (frame_in v.phase) [] refl one.model (subst (λ (p : Phase). cases.FrameStep n size c (frame_in v.phase) [] (phase_of p) answer (with_frames_and_history c frames history)) (sym is) step));
     reports = reports;
     are = shows;
   }

@@ -50,17 +50,17 @@ Releases old page new = (n size start : ℕ) (c : Core)
     → IsRelease n size start c page new
 
 -- the state with these frames and this history
-abbrev pub reported_in : Core → List Frame → List HistoryEvent → Core
-reported_in c frames history = record c { frames = frames; history = history }
+abbrev pub with_frames_and_history : Core → List Frame → List HistoryEvent → Core
+with_frames_and_history c frames history = record c { frames = frames; history = history }
 
 -- In this state the frame on top looks for the reader's wish, and answers so.
 pub record IsLookForWish (n size start : ℕ) (c : Core) (result : Answer) (new : FramesValue) : Type 0 where
   pub answer : model.Answer
   pub frames : List Frame
   pub history : List HistoryEvent
-  pub step : model.Step n size c model.steps answer (reported_in c frames history)
+  pub step : model.Step n size c model.steps answer (with_frames_and_history c frames history)
   pub reports : IsAnswerOf size result answer
-  pub are : AreFrames n size start new (reported_in c frames history)
+  pub are : AreFrames n size start new (with_frames_and_history c frames history)
 
 -- so in each state whose frames these are, in which the wish is this, and which steps from a new ring reach
 abbrev pub LooksForWish : FramesValue → ℕ → Answer → FramesValue → Type 0

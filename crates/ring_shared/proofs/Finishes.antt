@@ -13,7 +13,7 @@ use Rattle.ring_steps.specs.declared.rule.Shape.{Shape}
 use Rattle.ring_steps.specs.Views.{Writing}
 use Rattle.ring_shared.specs.Value.{WriterValue, SameWriter}
 use Rattle.ring_shared.specs.Calls.{IsWriter, IsCall, MakesSome}
-use Rattle.ring_shared.specs.Finishing.{MakesSteps, at_once, one_more, IsReservedOr, is_reserved, stays_refused, is_refused, Reserves, Leaves, is_gone, was_refused, met_behind, reported_behind, IsGoneOrRefused}
+use Rattle.ring_shared.specs.Finishing.{MakesSteps, at_once, one_more, IsReservedOr, is_reserved, stays_refused, is_refused, Reserves, Leaves, is_gone, was_refused, met_behind, refusal_or_last, IsGoneOrRefused}
 use Rattle.ring_frames.proofs.Reported.{IsRefusal, is_going, is_refusal, is_gone_reported, is_number}
 
 -- a frame that hasn't reserved has no number
@@ -124,7 +124,7 @@ pub record IsStillLeaving (shape : Shape) (below : List Frame) (before : Writing
   pub frame : Frame
   pub top : now.frames ≡ frame ∷ below
   pub leaves : IsLeaving frame.kind frame.state
-  pub ends : (answer : Answer) (after : Writing) → Leaves shape below now answer after → Leaves shape below before (reported_behind met answer) after
+  pub ends : (answer : Answer) (after : Writing) → Leaves shape below now answer after → Leaves shape below before (refusal_or_last met answer) after
 
 pub leaving_first : (shape : Shape) (frame : Frame) (below : List Frame) (before : Writing) → before.frames ≡ frame ∷ below → IsLeaving frame.kind frame.state → IsStillLeaving shape below before None before
 leaving_first shape frame below before top is = record { frame = frame; top = top; leaves = is; ends = λ answer after l. l }
@@ -133,7 +133,7 @@ met_going : (met : Option WriteFault) → met_behind met Going ≡ met
 met_going None = refl
 met_going (Some fault) = refl
 
-reported_refused : (met : Option WriteFault) (fault : WriteFault) (last : Answer) → reported_behind met (Refused fault) ≡ reported_behind (met_behind met (Refused fault)) last
+reported_refused : (met : Option WriteFault) (fault : WriteFault) (last : Answer) → refusal_or_last met (Refused fault) ≡ refusal_or_last (met_behind met (Refused fault)) last
 reported_refused None fault last = refl
 reported_refused (Some first) fault last = refl
 
@@ -144,7 +144,7 @@ module _ (shape : Shape) (below : List Frame) (before : Writing) (met : Option W
     top = top;
     leaves = leaves;
     ends = λ answer after l.
-        subst (λ (m : Option WriteFault). Leaves shape below before (reported_behind m answer) after) (sym (ap (met_behind met) e ∙ met_going met))
+        subst (λ (m : Option WriteFault). Leaves shape below before (refusal_or_last m answer) after) (sym (ap (met_behind met) e ∙ met_going met))
         (a.ends answer after (leaves_behind shape below now next after answer (subst (λ (x : Answer). IsCall shape now model.steps x next) e call) l));
   }
   leaves_with frame top leaves (inr (fault, e)) = record {
@@ -152,7 +152,7 @@ module _ (shape : Shape) (below : List Frame) (before : Writing) (met : Option W
     top = top;
     leaves = leaves;
     ends = λ answer after l.
-        subst (λ (x : Answer). Leaves shape below before x after) (reported_refused met fault answer ∙ ap (λ (x : Answer). reported_behind (met_behind met x) answer) (sym e))
+        subst (λ (x : Answer). Leaves shape below before x after) (reported_refused met fault answer ∙ ap (λ (x : Answer). refusal_or_last (met_behind met x) answer) (sym e))
         (a.ends (Refused fault) after (was_refused now now next after frame fault answer at_once (subst (λ (x : Answer). IsCall shape now model.steps x next) e call) top leaves l));
   }
 
@@ -182,10 +182,10 @@ module _ (shape : Shape) (below : List Frame) (before : Writing) (met : Option W
   gone_to (gone_from how top) less = frames_after shape now next result call below top
 
   -- it is gone
-  pub leaving_ends : length next.frames < length now.frames → Leaves shape below before (reported_behind met result) next
+  pub leaving_ends : length next.frames < length now.frames → Leaves shape below before (refusal_or_last met result) next
   leaving_ends less = a.ends result next (is_gone now now next result at_once call (gone_to step less))
 
-  gone_how : Leaving below call.answer call.next.frames → length next.frames < length now.frames → IsGoneOrRefused (reported_behind met result)
+  gone_how : Leaving below call.answer call.next.frames → length next.frames < length now.frames → IsGoneOrRefused (refusal_or_last met result)
   unfolding IsWriter
   gone_how (leaves_on frame answer_is top leaves) less = let same = ap (length {A = Frame}) (frames_after shape now next result call (frame ∷ below) top) in let w = wide in absurd (omega arith)
   gone_how (gone_from how top) less = reported_how met result (how_reported how)
@@ -194,11 +194,11 @@ module _ (shape : Shape) (below : List Frame) (before : Writing) (met : Option W
       how_reported (inl e) = inl (is_gone_reported shape.size result call.answer call.reports e)
       how_reported (inr (why, e)) = inr (is_refusal shape.size result call.answer why call.reports e)
 
-      reported_how : (met : Option WriteFault) (last : Answer) → IsGoneOrRefused last → IsGoneOrRefused (reported_behind met last)
+      reported_how : (met : Option WriteFault) (last : Answer) → IsGoneOrRefused last → IsGoneOrRefused (refusal_or_last met last)
       reported_how None last how = how
       reported_how (Some fault) last how = inr (fault, refl)
 
-  pub leaving_reported : length next.frames < length now.frames → IsGoneOrRefused (reported_behind met result)
+  pub leaving_reported : length next.frames < length now.frames → IsGoneOrRefused (refusal_or_last met result)
   leaving_reported less = gone_how step less
 
   -- its step answers that it goes on, or that it is gone
@@ -215,7 +215,7 @@ module _ (shape : Shape) (below : List Frame) (before : Writing) (met : Option W
   gone_short (leaves_on frame (inr (why, r)) top leaves) e = let (fault, reported) = is_refusal shape.size result call.answer why call.reports r in absurd (let both : Gone ≡ Refused fault = sym e ∙ reported in cc)
   gone_short (gone_from how top) e = let same = ap (length {A = Frame}) (frames_after shape now next result call below top) in let w = wide in omega arith
 
-  pub leaving_gone : result ≡ Gone → Leaves shape below before (reported_behind met result) next
+  pub leaving_gone : result ≡ Gone → Leaves shape below before (refusal_or_last met result) next
   leaving_gone e = leaving_ends (gone_short step e)
 
 -- ---- of a writer's value

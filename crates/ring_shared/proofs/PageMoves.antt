@@ -14,7 +14,7 @@ use Rattle.ring_frames.specs.declared.answer.Answer.{Answer}
 use Rattle.ring_frames.specs.declared.answer.Answer.TheVariants.{Going}
 use Rattle.ring_frames.specs.Value.{FramesValue, phase_of}
 use Rattle.ring_frames.specs.Answers.{IsAnswerOf}
-use Rattle.ring_frames.specs.Fills.{OpensFill, Releases, released_in, LooksForWish, reported_in}
+use Rattle.ring_frames.specs.Fills.{OpensFill, Releases, released_in, LooksForWish, with_frames_and_history}
 use Rattle.ring_shared.specs.Value.{WriterValue}
 use Rattle.ring_shared.specs.Calls.{IsWriter, AreWriterFields, MakesSome}
 use Rattle.link_marks.proofs.frames.TopSteps.{top_stepped}
@@ -85,7 +85,7 @@ module _ (v new : WriterValue) (w : AreWriterFields v) (some : v.frames.stack.fr
   unfolding IsWriter
   looks_for_wish wish result answer looks pages_is s is_wish =
       let l = looks v.shape.pages v.shape.size v.shape.start s.core s.reached (frames_in v w s.core s.before_is) (is_wish s.seen) in
-      let (same, after_is) = steps_are_determined v.shape.pages v.shape.size s.core model.steps answer l.answer s.next (reported_in s.core l.frames l.history) s.step l.step in
+      let (same, after_is) = steps_are_determined v.shape.pages v.shape.size s.core model.steps answer l.answer s.next (with_frames_and_history s.core l.frames l.history) s.step l.step in
       made v w new sees answer result shape_is table_is s (subst (IsAnswerOf v.shape.size result) (sym same) l.reports) (subst (FramesIn v.shape new.frames) (sym after_is) l.are)
       (ap (λ (c : Core). c.open_pages) after_is ∙ (pages_before answer s ∙ sym pages_is))
 

@@ -164,6 +164,6 @@ abbrev pub IsGoneOrRefused : Answer → Type 0
 IsGoneOrRefused result = (result ≡ Gone) ⊎ ((fault : WriteFault) × (result ≡ Refused fault))
 
 -- it is answered if there is one, or else the last answer is
-abbrev pub reported_behind : Option WriteFault → Answer → Answer
-reported_behind None last = last
-reported_behind (Some fault) last = Refused fault
+abbrev pub refusal_or_last : Option WriteFault → Answer → Answer
+refusal_or_last None last = last
+refusal_or_last (Some fault) last = Refused fault

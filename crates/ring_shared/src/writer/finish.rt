@@ -220,7 +220,7 @@ pub(crate) fn met_first(met: Option<WriteFault>, answer: Answer) -> Option<Write
 
 /// The refusal that was met, or else the last answer.
 fn refusal_or_last(met: Option<WriteFault>, last: Answer) -> Answer
-    ensures { result ≡ reported_behind met last }
+    ensures { result ≡ refusal_or_last met last }
 {
     match met {
         Some(fault) => Answer::Refused(fault),
@@ -247,4 +247,4 @@ fn target_of(top: Option<Frame>) -> Target
 
 ghost use Rattle.std.specs.Prelude.{◌≡◌, ◌≢◌};
 ghost use Rattle.ring_frames.specs.declared.answer.Answer.TheVariants.{Going};
-ghost use Rattle.ring_shared.specs.Finishing.{IsNumberOrRefused, IsOutcomeOf, IsTarget, met_behind, reported_behind};
+ghost use Rattle.ring_shared.specs.Finishing.{IsNumberOrRefused, IsOutcomeOf, IsTarget, met_behind, refusal_or_last};
