@@ -6,7 +6,7 @@ use Rattle.std.proofs.lemmas.List.{append_cancel_left}
 use Rattle.std.proofs.lemmas.Option.{none-some, slice_get_within, slice_get_cases, get_or_from_slice_get}
 use mathlib.Core.Logic.{dite}
 use native.Mathlib.Decide.{ℕ_discrete}
-use Rattle.trace_model.specs.History.{HistoryEvent, push, push_close, open_fill, reserve, leave, wished, Reservation, PushedFrame, record_frame, close_frame, writer_after, reserved_records, reservation_for, MayLeave, IsHistory}
+use Rattle.trace_model.specs.History.{HistoryEvent, push, push_close, open_fill, reserve, leave, wished, Reservation, PushedFrame, record_frame, close_frame, writer_after, reserved_records, reservation_for, MayAct, IsHistory}
 use Rattle.trace_model.specs.Packing.{tail_of, fill_len, FitsBehind, next_reservation, next_reservation_of, MayCloseTail, IsPacked}
 use Rattle.trace_model.specs.Window.{Window, first_window, opened_one, released_one, took_one, lost_one, window_after, RingEvent, acts, closes, takes, loses, history_events_of, window_event_of, window_behind, WindowRun, WindowRunFrom}
 use Rattle.trace_model.specs.Frames.{Frame, Refusal}
@@ -511,8 +511,8 @@ module _ (script : Script) (w : World) (limits : IsWithinLimits script) (of : Wo
       fill_begins cut = packed.begins h (history_events_of behind) (cut_history open_fill cut)
 
       module _ (stack : List PushedFrame) (e : (writer_after h).stack ≡ stack) where
-        may_leave : (payload : Option (List ℕ)) → Cut (acts (leave payload)) → MayLeave stack payload
-        may_leave payload cut = subst (λ (s : List PushedFrame). MayLeave s payload) e (allowed h (history_events_of behind) (leave payload) (cut_history (leave payload) cut))
+        may_act : (event : HistoryEvent) → Cut (acts event) → MayAct stack event
+        may_act event cut = subst (λ (s : List PushedFrame). MayAct s event) e (allowed h (history_events_of behind) event (cut_history event cut))
 
         wants : next_reservation h ≡ next_reservation_of stack (reserved_records h)
         wants = ap (λ (s : List PushedFrame). next_reservation_of s (reserved_records h)) e
@@ -540,27 +540,38 @@ module _ (script : Script) (w : World) (limits : IsWithinLimits script) (of : Wo
 
       -- a record is reserved
       reserves : (stack : List PushedFrame) → (writer_after h).stack ≡ stack → Cut (acts reserve) → Due stack (acts reserve)
-      reserves [] e cut = tt
-      reserves (close_frame ∷ below) e cut = tt
+      reserves [] e cut = may_act [] e reserve cut
+      reserves (close_frame ∷ below) e cut = may_act (close_frame ∷ below) e reserve cut
       reserves (record_frame moment len None ∷ below) e cut = λ needed.
           (let more : script.size < fill_len (tail_of h ++ reservation_for moment len (reserved_records h) ∷ []) = needs_here (record_frame moment len None ∷ below) e needed in
           let fits = packed.reserves h (history_events_of behind) _ (cut_history reserve cut) (wants (record_frame moment len None ∷ below) e) in
           let no : ⊥ = omega (arith, more, fits) in no)
-      reserves (record_frame moment len (Some number) ∷ below) e cut = tt
+      reserves (record_frame moment len (Some number) ∷ below) e cut =
+          let none : Some number ≡ None = may_act (record_frame moment len (Some number) ∷ below) e reserve cut in let no : ⊥ = cc in no
 
       -- a frame leaves
       leaves : (stack : List PushedFrame) → (writer_after h).stack ≡ stack → (payload : Option (List ℕ)) → Cut (acts (leave payload)) → Due stack (acts (leave payload))
-      leaves [] e payload cut = tt
-      leaves (close_frame ∷ below) e None cut = λ needed. ⊎_elim (λ none. absurd (needs_here (close_frame ∷ below) e needed none)) (λ page. page)
-          (why None (wants (close_frame ∷ below) e) cut)
-      leaves (close_frame ∷ below) e (Some bytes) cut = absurd (let may = may_leave (close_frame ∷ below) e (Some bytes) cut in let no : ⊥ = cc in no)
+      leaves [] e payload cut = may_act [] e (leave payload) cut
+      leaves (close_frame ∷ below) e None cut = (
+        refl,
+        λ needed. ⊎_elim (λ none. absurd (needs_here (close_frame ∷ below) e needed none)) (λ page. page)
+            (why None (wants (close_frame ∷ below) e) cut),
+      )
+      leaves (close_frame ∷ below) e (Some bytes) cut = absurd (let may = may_act (close_frame ∷ below) e (leave (Some bytes)) cut in let no : ⊥ = cc in no)
       leaves (record_frame moment len None ∷ below) e None cut =
           let (not, none) = why _ (wants (record_frame moment len None ∷ below) e) cut in
           (refl, needs (record_frame moment len None ∷ below) e (no_room moment len not), none)
       leaves (record_frame moment len None ∷ below) e (Some bytes) cut =
-          absurd (let may = may_leave (record_frame moment len None ∷ below) e (Some bytes) cut in let no : ⊥ = cc in no)
-      leaves (record_frame moment len (Some number) ∷ below) e None cut = absurd (may_leave (record_frame moment len (Some number) ∷ below) e None cut)
+          absurd (let may = may_act (record_frame moment len None ∷ below) e (leave (Some bytes)) cut in let no : ⊥ = cc in no)
+      leaves (record_frame moment len (Some number) ∷ below) e None cut = absurd (may_act (record_frame moment len (Some number) ∷ below) e (leave None) cut)
       leaves (record_frame moment len (Some number) ∷ below) e (Some bytes) cut = λ none. (let no : ⊥ = cc in no)
+
+      -- a wish is found
+      finds : (stack : List PushedFrame) → (writer_after h).stack ≡ stack → Cut (acts wished) → Due stack (acts wished)
+      finds [] e cut = is_asked cut
+      finds (close_frame ∷ below) e cut = may_act (close_frame ∷ below) e wished cut
+      finds (record_frame moment len None ∷ below) e cut = may_act (record_frame moment len None ∷ below) e wished cut
+      finds (record_frame moment len (Some number) ∷ below) e cut = may_act (record_frame moment len (Some number) ∷ below) e wished cut
 
       is_due : (stack : List PushedFrame) → (writer_after h).stack ≡ stack → (event : RingEvent) → Cut event → Due stack event
       is_due stack e loses cut =
@@ -576,7 +587,7 @@ module _ (script : Script) (w : World) (limits : IsWithinLimits script) (of : Wo
             needs stack e (opens stack e cut),
             λ none. ⊎_elim (λ crowded. (let no : ⊥ = omega (arith, crowded, room, order) in no)) (λ worn. (let no : ⊥ = omega (arith, worn, up, fits) in no)) none,
           )
-      is_due stack e (acts wished) cut = is_asked cut
+      is_due stack e (acts wished) cut = finds stack e cut
       is_due stack e (acts reserve) cut = reserves stack e cut
       is_due stack e (acts (leave payload)) cut = leaves stack e payload cut
       is_due stack e (acts (push moment len)) cut = tt

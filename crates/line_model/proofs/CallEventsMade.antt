@@ -24,7 +24,7 @@ use Rattle.line_model.proofs.EventsMade.{Does, last_makes, top_makes, top_leaves
 
 -- ---- an end, whatever frames are below
 
-abbrev IsEnds : Event → Type 0
+abbrev pub IsEnds : Event → Type 0
 IsEnds (pushes moment len) = ⊥
 IsEnds pushes_close = ⊥
 IsEnds steps = ⊥

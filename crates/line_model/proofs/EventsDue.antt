@@ -32,6 +32,7 @@ use Rattle.line_model.specs.CallEvents.{LeavesNone, CallMakes, goes_on, begins, 
 use Rattle.line_model.specs.LineParts.{AreForRecords}
 use Rattle.line_model.specs.Accounts.{HasNoPage}
 use Rattle.line_model.proofs.LossesDue.{IsNeeded, LosesNone, losses_needed}
+use Rattle.line_model.proofs.CallEventsMade.{IsEnds}
 use Rattle.line_model.proofs.StepsMake.{steps_make}
 use Rattle.line_model.proofs.PushParts.{Pushing, pushing_of}
 use Rattle.line_model.proofs.CloseParts.{Closing, closing_of}
@@ -210,14 +211,6 @@ other_frames (first ∷ frames) = frames
 
 same_number : (a b : ℕ) → Some a ≡ Some b → a ≡ b
 same_number a b e = cc
-
-abbrev IsEnds : Event → Type 0
-IsEnds (pushes moment len) = ⊥
-IsEnds pushes_close = ⊥
-IsEnds steps = ⊥
-IsEnds (ends payload) = Unit {0}
-IsEnds reads = ⊥
-IsEnds wishes = ⊥
 
 -- the fill that the frame noted is the next one
 abbrev IsNoted : ℕ → Phase → Type 0

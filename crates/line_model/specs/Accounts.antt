@@ -95,17 +95,21 @@ NeedsPage size h (record_frame moment len (Some number) ∷ below) = ⊥
 NeedsPage size h (close_frame ∷ below) = tail_of h ≢ []
 
 -- What may happen while these frames have not left. A fill is begun, and one is lost, only if a page is needed, and
--- there is one. A record is reserved only if none is needed. A frame that has no record yet leaves without one only if
--- it needs a page, and there is none; one that has its record leaves with it. A close frame leaves only if it needs no
--- page, or there is none. The reader's wish is found only if it was asked.
+-- there is one. A record is reserved only for a record frame that has none yet, and if it needs no page. Such a frame
+-- leaves without a record only if it needs a page, and there is none; one that has its record leaves with it. A close
+-- frame leaves only if it needs no page, or there is none. The reader's wish is found only if it was asked, and every
+-- frame has left.
 abbrev pub IsDue : (Needs NoPage Asked : Type 0) → List PushedFrame → RingEvent → Type 0
 IsDue Needs NoPage Asked stack loses = Needs × (NoPage → ⊥)
 IsDue Needs NoPage Asked stack (acts open_fill) = Needs × (NoPage → ⊥)
-IsDue Needs NoPage Asked stack (acts wished) = Asked
+IsDue Needs NoPage Asked [] (acts wished) = Asked
 IsDue Needs NoPage Asked (record_frame _ _ None ∷ _) (acts reserve) = Needs → ⊥
 IsDue Needs NoPage Asked (record_frame _ _ None ∷ _) (acts (leave payload)) = (payload ≡ None) × Needs × NoPage
 IsDue Needs NoPage Asked (record_frame _ _ (Some number) ∷ _) (acts (leave payload)) = payload ≢ None
-IsDue Needs NoPage Asked (close_frame ∷ _) (acts (leave payload)) = Needs → NoPage
+IsDue Needs NoPage Asked (close_frame ∷ _) (acts (leave payload)) = (payload ≡ None) × (Needs → NoPage)
+IsDue Needs NoPage Asked stack (acts wished) = ⊥
+IsDue Needs NoPage Asked stack (acts reserve) = ⊥
+IsDue Needs NoPage Asked stack (acts (leave payload)) = ⊥
 IsDue Needs NoPage Asked stack event = ⊤
 
 -- One CPU of a script, after each number of its lines: the frames on the stack, and the events so far, which are what
