@@ -26,7 +26,7 @@ use Rattle.ring_frames.specs.Value.{FramesValue}
 use Rattle.ring_frames.specs.AreFrames.{AreFrames}
 use Rattle.ring_frames.specs.Fills.{OpensFill}
 use Rattle.ring_core.specs.Value.{CoreValue, frames_of, with_frames}
-use Rattle.ring_core.specs.Steps.{IsStep}
+use Rattle.ring_core.specs.Steps.{IsReachedCore, IsStep}
 use Rattle.ring_core.specs.IsCore.{IsHome, HasBody, HasStateOf, IsCore}
 use Rattle.ring_frames.proofs.Tops.{topped}
 use Rattle.ring_core.proofs.Stepped.{kept_of, stepped}
@@ -119,8 +119,18 @@ module _ (n size start : ℕ) (v : CoreValue) (c : Core) (core : IsCore n size s
       )))
 
   -- what was taken from the page's home is that page
-  pub comes_out : (out : Option Contents) → out ≡ get_or v.homes page out → (body : Contents) × (out ≡ Some body) × (body.size ≡ v.stack.size)
+  comes_out : (out : Option Contents) → out ≡ get_or v.homes page out → (body : Contents) × (out ≡ Some body) × (body.size ≡ v.stack.size)
   comes_out out at = let (body, there, wide) = home in (body, at ∙ get_or_from_slice_get v.homes page (Some body) out there, wide)
 
-  pub page_low : page < length v.homes
+  page_low : page < length v.homes
   page_low = let (body, there, wide) = home in slice_get_within v.homes page (Some body) there
+
+-- so in each state of the ring
+module _ (v : CoreValue) (page : ℕ) (ring : IsReachedCore v) (some : v.stack.frames ≢ []) (is : v.phase ≡ Opening (opened v.stack) page) where
+  pub home_there : page < length v.homes
+  unfolding IsReachedCore
+  home_there = let (n, size, start, c, core) = ring in page_low n size start v c core some page is
+
+  pub home_holds : (out : Option Contents) → out ≡ get_or v.homes page out → (body : Contents) × (out ≡ Some body) × (body.size ≡ v.stack.size)
+  unfolding IsReachedCore
+  home_holds = let (n, size, start, c, core) = ring in comes_out n size start v c core some page is

@@ -99,11 +99,12 @@ module _ (n size start : ℕ) (v : CoreValue) (c : ring.Core) (core : IsCore n s
   page_is : page ≡ ring.page_at n c.order fill
   page_is = head.page_is ∙ ap (ring.page_at n c.order) (sym head.fill_is)
 
-  pub spare_low : v.spare < length v.links + 1
+  spare_low : v.spare < length v.links + 1
   spare_low = let low = kept.links.apart.spare_below in let same = core.shows.spare_is in let wide = core.shows.positions in omega arith
 
-  pub page_low : page < length v.links + 1
-  page_low = let low = kept.links.apart.each (c.head % n) (mod-lt c.head some) in let same = head.page_is in let wide = core.shows.positions in omega arith
+  -- there is a home for both pages that change places
+  pub homes_low : length v.homes ≡ length v.links + 1 → (v.spare < length v.homes) × (page < length v.homes)
+  homes_low homes = let spare = spare_low in let low = kept.links.apart.each (c.head % n) (mod-lt c.head some) in let same = head.page_is in let wide = core.shows.positions in (omega arith, omega arith)
 
   -- the head's page is at home, and written
   home : IsHome v.homes size page fill (model.contents_of c page)

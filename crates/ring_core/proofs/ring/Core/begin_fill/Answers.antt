@@ -1,4 +1,4 @@
-use Rattle.std.proofs.Common.{◌≡◌, ◌≢◌, [], Option, sym, ap, subst, ◌∙◌, arith}
+use Rattle.std.proofs.Common.{◌≡◌, ◌≢◌, ◌<◌, [], length, get_or, Option, sym, ap, subst, ◌∙◌, arith}
 use Rattle.std.specs.Prelude.{slice_set}
 use Rattle.std.proofs.lemmas.Option.{none-some}
 use Rattle.trace_model.specs.Steps.{steps}
@@ -11,17 +11,13 @@ use Rattle.ring_core.specs.Value.{CoreValue, with_frames}
 use Rattle.ring_core.specs.Inside.{core_of}
 use Rattle.ring_core.specs.IsCore.{IsCore}
 use Rattle.ring_core.specs.Steps.{IsStep, IsReachedCore}
-use Rattle.ring_core.proofs.Beginning.{page_low, comes_out, begun}
+use Rattle.ring_core.proofs.Beginning.{home_there, home_holds, begun}
 use Rattle.ring_core.proofs.ring.Core.begin_fill.Goals as goal
 
 pub index_mut-requires : goal.index_mut-requires
-unfolding IsReachedCore
 index_mut-requires c =
-    let v : CoreValue = core_of c.self.inside in
-    let (n, size, start, m, core) = subst IsReachedCore (sym c.self.view_is) c.requires.ring in
-    let some = subst (λ (x : CoreValue). x.stack.frames ≢ []) (sym c.self.view_is) c.requires.top in
-    let is = subst (λ (x : CoreValue). x.phase ≡ Opening (opened x.stack) c.args.page) (sym c.self.view_is) c.requires.phase in
-    omega (arith, page_low n size start v m core some c.args.page is, c.self.inside.homes.ok.0)
+    let low = subst (λ (x : CoreValue). c.args.page < length x.homes) (sym c.self.view_is) (home_there c.args.self.now c.args.page c.requires.ring c.requires.top c.requires.phase) in
+    omega (arith, low, c.self.inside.homes.ok.0)
 
 pub open_fill-requires-clause-frames : goal.open_fill-requires-clause-frames
 unfolding IsReachedCore
@@ -33,15 +29,11 @@ pub open_fill-requires-clause-phase : goal.open_fill-requires-clause-phase
 open_fill-requires-clause-phase c = (c.args.page, subst (λ (x : CoreValue). x.phase ≡ Opening (opened x.stack) c.args.page) (sym c.self.view_is) c.requires.phase)
 
 pub open_fill-requires-clause-size : goal.open_fill-requires-clause-size
-unfolding IsReachedCore
 open_fill-requires-clause-size c =
-    let v : CoreValue = core_of c.self.inside in
-    let (n, size, start, m, core) = subst IsReachedCore (sym c.self.view_is) c.requires.ring in
-    let some = subst (λ (x : CoreValue). x.stack.frames ≢ []) (sym c.self.view_is) c.requires.top in
-    let is = subst (λ (x : CoreValue). x.phase ≡ Opening (opened x.stack) c.args.page) (sym c.self.view_is) c.requires.phase in
-    let (body, out, wide) = comes_out n size start v m core some c.args.page is c.index_mut.result.now c.index_mut.ensures.value in
+    let (body, out, wide) = home_holds c.args.self.now c.args.page c.requires.ring c.requires.top c.requires.phase c.index_mut.result.now
+    (c.index_mut.ensures.value ∙ ap (λ (x : CoreValue). get_or x.homes c.args.page c.index_mut.result.now) c.self.view_is) in
     let same : c.in-Some.blank ≡ body = some_is c.in-Some.blank body (sym c.in-Some.is ∙ c.take.ensures.value ∙ out) in
-    c.into_body.ensures ∙ ap (λ (p : Contents). p.size) same ∙ wide
+    c.into_body.ensures ∙ ap (λ (p : Contents). p.size) same ∙ wide ∙ ap (λ (x : CoreValue). x.stack.size) (sym c.self.view_is)
 
 pub returns-clause-makes : goal.returns-clause-makes
 returns-clause-makes c = λ n size start m old.
@@ -53,11 +45,7 @@ returns-clause-makes c = λ n size start m old.
     (begun n size start v m core some c.args.page is (as_answer c.open_fill.result) c.open_fill.new.self c.open_fill.ensures.opens)
 
 pub unreachable-requires : goal.unreachable-requires
-unfolding IsReachedCore
 unreachable-requires c =
-    let v : CoreValue = core_of c.self.inside in
-    let (n, size, start, m, core) = subst IsReachedCore (sym c.self.view_is) c.requires.ring in
-    let some = subst (λ (x : CoreValue). x.stack.frames ≢ []) (sym c.self.view_is) c.requires.top in
-    let is = subst (λ (x : CoreValue). x.phase ≡ Opening (opened x.stack) c.args.page) (sym c.self.view_is) c.requires.phase in
-    let (body, out, wide) = comes_out n size start v m core some c.args.page is c.index_mut.result.now c.index_mut.ensures.value in
+    let (body, out, wide) = home_holds c.args.self.now c.args.page c.requires.ring c.requires.top c.requires.phase c.index_mut.result.now
+    (c.index_mut.ensures.value ∙ ap (λ (x : CoreValue). get_or x.homes c.args.page c.index_mut.result.now) c.self.view_is) in
     none-some body (sym c.in-None.is ∙ c.take.ensures.value ∙ out)

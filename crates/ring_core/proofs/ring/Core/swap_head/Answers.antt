@@ -11,7 +11,7 @@ use Rattle.ring_frames.specs.declared.answer.Answer.TheVariants.{Taken}
 use Rattle.ring_core.specs.Value.{CoreValue}
 use Rattle.ring_core.specs.Steps.{IsReachedCore, IsStep}
 use Rattle.ring_core.specs.Taking.{with_spare_home, with_head_taken}
-use Rattle.ring_core.proofs.Taking.{turn_has_number, fails, takes, value_after, spare_low, page_low, written_of, never_none, expected_low, numbers_low}
+use Rattle.ring_core.proofs.Taking.{turn_has_number, fails, takes, value_after, homes_low, written_of, never_none, expected_low, numbers_low}
 use Rattle.ring_core.proofs.ring.Core.swap_head.Goals as goal
 
 pub overflow_add-fill : goal.overflow_add-fill
@@ -30,70 +30,41 @@ returns-then-not-exchange c = record {
   stack = search rules;
 }
 
-pub bring_home-requires-clause-spare : goal.bring_home-requires-clause-spare
+pub bring_home-requires : goal.bring_home-requires
 unfolding IsReachedCore
-bring_home-requires-clause-spare c =
+bring_home-requires c =
     let (n, size, start, state, core) = c.requires.ring in
     let v : CoreValue = c.args.self.now in
-    let at = c.requires.phase in
-    let link = c.exchange.ensures.met.0 c.if-not-exchange.false ∙ c.header.ensures in
     let wide : length v.homes ≡ length v.links + 1 = subst (λ (w : CoreValue). length w.homes ≡ length w.links + 1) c.self.view_is (c.self.invariant.homes ∙ ap (λ (k : ℕ). k + 1) (sym (length-map c.self.inside.links.items link_of))) in
-    let low = spare_low n size start v state core c.args.page c.args.fill at link in
-    subst (λ (x : CoreValue). x.spare < length x.homes) (sym (c.exchange.ensures.exchanged c.if-not-exchange.false)) (let same : v.spare < length v.homes = omega arith in same)
+    let low = homes_low n size start v state core c.args.page c.args.fill c.requires.phase (c.exchange.ensures.met.0 c.if-not-exchange.false ∙ c.header.ensures) wide in
+    let exchanged = sym (c.exchange.ensures.exchanged c.if-not-exchange.false) in
+    record {
+      spare = subst (λ (x : CoreValue). x.spare < length x.homes) exchanged low.0;
+      page = subst (λ (x : CoreValue). c.args.page < length x.homes) exchanged low.1;
+    }
 
-pub bring_home-requires-clause-page : goal.bring_home-requires-clause-page
+pub take-requires : goal.take-requires
 unfolding IsReachedCore
-bring_home-requires-clause-page c =
+take-requires c =
     let (n, size, start, state, core) = c.requires.ring in
     let v : CoreValue = c.args.self.now in
-    let at = c.requires.phase in
-    let link = c.exchange.ensures.met.0 c.if-not-exchange.false ∙ c.header.ensures in
-    let wide : length v.homes ≡ length v.links + 1 = subst (λ (w : CoreValue). length w.homes ≡ length w.links + 1) c.self.view_is (c.self.invariant.homes ∙ ap (λ (k : ℕ). k + 1) (sym (length-map c.self.inside.links.items link_of))) in
-    let low = page_low n size start v state core c.args.page c.args.fill at link in
-    subst (λ (x : CoreValue). c.args.page < length x.homes) (sym (c.exchange.ensures.exchanged c.if-not-exchange.false)) (let same : c.args.page < length v.homes = omega arith in same)
-
-pub take-requires-clause-next : goal.take-requires-clause-next
-unfolding IsReachedCore
-take-requires-clause-next c =
-    let (n, size, start, state, core) = c.requires.ring in
-    let v : CoreValue = c.args.self.now in
-    let at = c.requires.phase in
-    let link = c.exchange.ensures.met.0 c.if-not-exchange.false ∙ c.header.ensures in
-    let below = turn_has_number n size start v state core c.args.page c.args.fill at in
-    let positions = c.positions.ensures.positions in let some = c.positions.ensures.some in let wide = core.shows.positions in omega arith
-
-pub take-requires-clause-expected : goal.take-requires-clause-expected
-unfolding IsReachedCore
-take-requires-clause-expected c =
-    let (n, size, start, state, core) = c.requires.ring in
-    let v : CoreValue = c.args.self.now in
-    let at = c.requires.phase in
     let link = c.exchange.ensures.met.0 c.if-not-exchange.false ∙ c.header.ensures in
     let gone = subst (λ (x : CoreValue). slice_get (with_spare_home x (length c.args.body)) c.args.page ≡ Some c.bring_home.result) (c.exchange.ensures.exchanged c.if-not-exchange.false) c.bring_home.ensures.page in
-    let w = written_of n size start v state core c.args.page c.args.fill at link (Some (blank_page (length c.args.body) 0 0)) c.in-Some.taken (gone ∙ ap Some c.in-Some.is) in
-    let low = expected_low n size start v state core c.args.page c.args.fill at link c.in-Some.taken w in
-    subst (λ (x : CoreValue). x.reader.expected ≤ c.in-Some.taken.first) (sym (c.bring_home.ensures.homes)) (subst (λ (x : CoreValue). x.reader.expected ≤ c.in-Some.taken.first) (sym (c.exchange.ensures.exchanged c.if-not-exchange.false)) low)
-
-pub take-requires-clause-numbers : goal.take-requires-clause-numbers
-unfolding IsReachedCore
-take-requires-clause-numbers c =
-    let (n, size, start, state, core) = c.requires.ring in
-    let v : CoreValue = c.args.self.now in
-    let at = c.requires.phase in
-    let link = c.exchange.ensures.met.0 c.if-not-exchange.false ∙ c.header.ensures in
-    let gone = subst (λ (x : CoreValue). slice_get (with_spare_home x (length c.args.body)) c.args.page ≡ Some c.bring_home.result) (c.exchange.ensures.exchanged c.if-not-exchange.false) c.bring_home.ensures.page in
-    let w = written_of n size start v state core c.args.page c.args.fill at link (Some (blank_page (length c.args.body) 0 0)) c.in-Some.taken (gone ∙ ap Some c.in-Some.is) in
-    let low = numbers_low n size start v state core c.args.page c.args.fill at link c.in-Some.taken w in omega arith
+    let w = written_of n size start v state core c.args.page c.args.fill c.requires.phase link (Some (blank_page (length c.args.body) 0 0)) c.in-Some.taken (gone ∙ ap Some c.in-Some.is) in
+    let low = expected_low n size start v state core c.args.page c.args.fill c.requires.phase link c.in-Some.taken w in
+    record {
+      next = let below = turn_has_number n size start v state core c.args.page c.args.fill c.requires.phase in
+          let positions = c.positions.ensures.positions in let some = c.positions.ensures.some in let wide = core.shows.positions in omega arith;
+      expected = subst (λ (x : CoreValue). x.reader.expected ≤ c.in-Some.taken.first) (sym (c.bring_home.ensures.homes)) (subst (λ (x : CoreValue). x.reader.expected ≤ c.in-Some.taken.first) (sym (c.exchange.ensures.exchanged c.if-not-exchange.false)) low);
+      numbers = let few = numbers_low n size start v state core c.args.page c.args.fill c.requires.phase link c.in-Some.taken w in omega arith;
+    }
 
 pub unreachable-requires : goal.unreachable-requires
 unfolding IsReachedCore
 unreachable-requires c =
     let (n, size, start, state, core) = c.requires.ring in
-    let v : CoreValue = c.args.self.now in
-    let at = c.requires.phase in
-    let link = c.exchange.ensures.met.0 c.if-not-exchange.false ∙ c.header.ensures in
     let gone = subst (λ (x : CoreValue). slice_get (with_spare_home x (length c.args.body)) c.args.page ≡ Some c.bring_home.result) (c.exchange.ensures.exchanged c.if-not-exchange.false) c.bring_home.ensures.page in
-    never_none n size start v state core c.args.page c.args.fill at link (Some (blank_page (length c.args.body) 0 0)) (gone ∙ ap Some c.in-None.is)
+    never_none n size start c.args.self.now state core c.args.page c.args.fill c.requires.phase (c.exchange.ensures.met.0 c.if-not-exchange.false ∙ c.header.ensures) (Some (blank_page (length c.args.body) 0 0)) (gone ∙ ap Some c.in-None.is)
 
 pub returns : goal.returns
 returns c = record {
