@@ -35,7 +35,7 @@ fn a_record_written_alone_leaves_no_frame(rt: HostRuntime) -> Result<(), Fail> {
     assert!(rt; stack.write_alone(9, b"123456789abcdefg") == Nothing);
     assert!(rt; stack.depth() == 0);
     assert!(rt; stack.write_alone(10, b"xy") == Record);
-    stack.stand_again(10, 2);
+    assert!(rt; stack.ask_close_for(10, 2));
     assert!(rt; stack.is_at_bottom());
     assert!(rt; stack.write_alone(11, b"z") == Nothing);
     stack.pop_bottom();

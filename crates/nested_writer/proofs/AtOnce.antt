@@ -1,5 +1,5 @@
 -- A record written at once: its frame is pushed, reserves, gets its payload and leaves.
-use Rattle.std.proofs.Common.{◌≡◌, ℕ, zero, suc, ◌+◌, ◌-◌, ◌<◌, ◌≤◌, max, cond, List, [], ◌∷◌, ◌++◌, length, replicate, Some, None, refl, sym, ap, ◌∙◌, subst, arith, rules, inr, append_assoc}
+use Rattle.std.proofs.Common.{◌≡◌, ℕ, zero, suc, ◌+◌, ◌<◌, ◌≤◌, max, List, [], ◌∷◌, ◌++◌, length, replicate, Some, None, refl, sym, ap, ◌∙◌, subst, arith, rules, inr, append_assoc}
 use Rattle.std.specs.Prelude.{true}
 use Rattle.std.specs.List.{slice_get}
 use Rattle.std.proofs.lemmas.List.{same_lists, places, take_all, length-replicate}
@@ -23,7 +23,7 @@ use Rattle.trace_model.proofs.words.Lengths.{length-padded, padded_whole, slot_l
 use Rattle.trace_model.proofs.words.Overwritten.{length-overwritten}
 use Rattle.trace_model.proofs.words.Places.{EndsInRecord-overwritten, IsPlaceOf-overwritten, overwritten-reads, records_in-overwritten_end}
 use Rattle.trace_model.proofs.packing.OpenPages.{bytes_of_place}
-use Rattle.page_image.specs.Contents.{Contents, IsPage, records_of_page, is_blank}
+use Rattle.page_image.specs.Contents.{Contents, IsPage, records_of_page}
 use Rattle.page_image.specs.Lending.{with_payload}
 use Rattle.record_words.specs.declared.put.Place.{Place}
 use Rattle.nested_writer.specs.declared.frame.Purpose.TheVariants.{Record as ForRecord}
@@ -39,37 +39,25 @@ use Rattle.nested_writer.specs.IsStack.{is_tail, IsStack}
 use Rattle.trace_model.specs.Packing.{opens_of, is_wished}
 use Rattle.nested_writer.proofs.Pushing.{pushed_record, same_of, of_frames}
 use Rattle.nested_writer.proofs.Leaving.{of_left}
-use Rattle.nested_writer.proofs.Reserving.{IsPut, reserved_record}
+use Rattle.nested_writer.proofs.Reserving.{IsPutWith, IsPut, reserved_record}
 use Rattle.nested_writer.proofs.Lending.{in_tail}
 use Rattle.nested_writer.proofs.Written.{written}
 use Rattle.nested_writer.proofs.Ending.{ended}
 
 -- ---- the page
 
--- What a record put after those of a page leaves, with this payload in its slot.
-pub record IsPutWith (tail tail' : Contents) (prev moment len : ℕ) (part : List ℕ) (place : Place) : Type 0 where
-  pub page : IsPage tail → IsPage tail'
-  pub records : IsPage tail → records_of_page tail' ≡ records_of_page tail ++ record { moment = moment; bytes = part } ∷ []
-  pub long : length tail'.bytes ≡ length tail.bytes + encoded_len len (moment - prev) (is_blank tail.bytes)
-  pub time : tail'.time ≡ cond (is_blank tail.bytes) moment tail.time
-  pub count : tail'.count ≡ tail.count + 1
-  pub first : tail'.first ≡ tail.first
-  pub fill : tail'.fill ≡ tail.fill
-  pub size : tail'.size ≡ tail.size
-  pub ends : EndsInRecord tail'.bytes
+-- What a record put at a page's end leaves, with this payload in its slot.
+pub record IsPutLast (tail tail' : Contents) (prev moment len : ℕ) (part : List ℕ) (place : Place) : Type 0 where
+  pub put : IsPutWith tail tail' prev moment len part place
   pub lies : IsPlaceIn tail'.bytes place.start place.len
-  pub number : IsPage tail → IsPlaceOf tail'.bytes tail.count place.start place.len
-  pub places_stay : (number start len : ℕ) → IsPlaceOf tail.bytes number start len → IsPlaceOf tail'.bytes number start len
   pub place_end : place.start + place.len ≡ length tail'.bytes
-  pub len_is : place.len ≡ slot_len len
-  pub fills : length part ≡ slot_len len
 
 -- bytes up to the end, overwritten and then as they were
 written_back : (bytes other : List ℕ) (start len : ℕ) → start + len ≡ length bytes → length other ≡ len → overwritten (overwritten bytes start other) start (bytes_at start len bytes) ≡ bytes
 written_back bytes other start len end same =
     same_lists _ _ (search (rules, places)) (λ k d h. grind (arith, places))
 
-module _ (tail tail' : Contents) (prev moment len : ℕ) (part : List ℕ) (place : Place) (is : IsPage tail) (p : IsPutWith tail tail' prev moment len part place) where
+module _ (tail tail' : Contents) (prev moment len : ℕ) (part : List ℕ) (place : Place) (is : IsPage tail) (p : IsPutLast tail tail' prev moment len part place) where
   abbrev zeros : List ℕ
   zeros = replicate (slot_len len) 0
 
@@ -78,7 +66,7 @@ module _ (tail tail' : Contents) (prev moment len : ℕ) (part : List ℕ) (plac
   zeroed = with_payload tail' place.start zeros
 
   zeros_fill : length zeros ≡ place.len
-  zeros_fill = length-replicate (slot_len len) 0 ∙ sym p.len_is
+  zeros_fill = length-replicate (slot_len len) 0 ∙ sym p.put.len_is
 
   kept : length (overwritten tail'.bytes place.start zeros) ≡ length tail'.bytes
   kept = length-overwritten tail'.bytes place.start place.len p.lies zeros zeros_fill
@@ -88,23 +76,23 @@ module _ (tail tail' : Contents) (prev moment len : ℕ) (part : List ℕ) (plac
 
   pub put_zeroed : IsPut tail zeroed prev moment len place
   put_zeroed = record {
-    page = λ page. let t = p.page page in let h = overwritten-reads tail'.bytes tail'.time (records_of_page tail') place.start place.len zeros p.lies zeros_fill t.reads in record {
+    page = λ page. let t = p.put.page page in let h = overwritten-reads tail'.bytes tail'.time (records_of_page tail') place.start place.len zeros p.lies zeros_fill t.reads in record {
       reads = subst (λ (b : List ℕ). Decodes b tail'.time (records_in tail'.time b)) (sym zeroed_bytes) h.0;
       counted = t.counted ∙ sym h.1 ∙ ap (λ (b : List ℕ). length (records_in tail'.time b)) (sym zeroed_bytes);
       in_time = t.in_time;
     };
     records = λ page. ap (records_in tail'.time) zeroed_bytes
-        ∙ records_in-overwritten_end tail'.bytes tail'.time (records_of_page tail) record { moment = moment; bytes = part } place.start place.len zeros p.lies p.place_end zeros_fill (subst (Decodes tail'.bytes tail'.time) (p.records page) (p.page page).reads);
-    long = ap length zeroed_bytes ∙ kept ∙ p.long;
-    time = p.time;
-    count = p.count;
-    first = p.first;
-    fill = p.fill;
-    size = p.size;
-    ends = subst EndsInRecord (sym zeroed_bytes) (EndsInRecord-overwritten tail'.bytes place.start place.len zeros p.lies zeros_fill p.ends);
-    number = λ page. subst (λ (b : List ℕ). IsPlaceOf b tail.count place.start place.len) (sym zeroed_bytes) (IsPlaceOf-overwritten tail'.bytes tail.count place.start place.len place.start place.len zeros (p.number page) p.lies zeros_fill);
-    places_stay = λ number start len' there. subst (λ (b : List ℕ). IsPlaceOf b number start len') (sym zeroed_bytes) (IsPlaceOf-overwritten tail'.bytes number start len' place.start place.len zeros (p.places_stay number start len' there) p.lies zeros_fill);
-    len_is = p.len_is;
+        ∙ records_in-overwritten_end tail'.bytes tail'.time (records_of_page tail) record { moment = moment; bytes = part } place.start place.len zeros p.lies p.place_end zeros_fill (subst (Decodes tail'.bytes tail'.time) (p.put.records page) (p.put.page page).reads);
+    long = ap length zeroed_bytes ∙ kept ∙ p.put.long;
+    time = p.put.time;
+    count = p.put.count;
+    first = p.put.first;
+    fill = p.put.fill;
+    size = p.put.size;
+    ends = subst EndsInRecord (sym zeroed_bytes) (EndsInRecord-overwritten tail'.bytes place.start place.len zeros p.lies zeros_fill p.put.ends);
+    number = λ page. subst (λ (b : List ℕ). IsPlaceOf b tail.count place.start place.len) (sym zeroed_bytes) (IsPlaceOf-overwritten tail'.bytes tail.count place.start place.len place.start place.len zeros (p.put.number page) p.lies zeros_fill);
+    places_stay = λ number start len' there. subst (λ (b : List ℕ). IsPlaceOf b number start len') (sym zeroed_bytes) (IsPlaceOf-overwritten tail'.bytes number start len' place.start place.len zeros (p.put.places_stay number start len' there) p.lies zeros_fill);
+    len_is = p.put.len_is;
   }
 
   -- the payload is in its place
@@ -112,8 +100,8 @@ module _ (tail tail' : Contents) (prev moment len : ℕ) (part : List ℕ) (plac
   part_at =
       let r : Record = record { moment = moment; bytes = part } in
       let at : tail.count ≡ length (records_of_page tail) + 0 = omega (arith, is.counted) in
-      let last : slice_get (records_of_page tail') tail.count ≡ Some r = ap (λ (rs : List Record). slice_get rs tail.count) (p.records is) ∙ ap (slice_get (records_of_page tail ++ r ∷ [])) at ∙ get_behind (records_of_page tail) (r ∷ []) 0 in
-      sym (bytes_of_place tail'.time tail'.bytes tail.count place.start place.len r (p.page is).reads (p.number is) last)
+      let last : slice_get (records_of_page tail') tail.count ≡ Some r = ap (λ (rs : List Record). slice_get rs tail.count) (p.put.records is) ∙ ap (slice_get (records_of_page tail ++ r ∷ [])) at ∙ get_behind (records_of_page tail) (r ∷ []) 0 in
+      sym (bytes_of_place tail'.time tail'.bytes tail.count place.start place.len r (p.put.page is).reads (p.put.number is) last)
 
   -- and written there it makes the page
   pub written_page : with_payload zeroed place.start part ≡ tail'
@@ -183,7 +171,7 @@ goes_again start h s f top_is gone k = record {
 
 -- ---- the stack
 
-module _ (start : ℕ) (h : List HistoryEvent) (s : Stack) (moment : ℕ) (payload : List ℕ) (tail' : Contents) (place : Place) (none : s.frames ≡ []) (fits : encoded_len (length payload) 0 true ≤ s.size) (early : moment < MOMENT_LIMIT) (low : length tail'.bytes ≤ s.size) (p : IsPutWith s.tail tail' s.last_moment (max moment s.last_moment) (length payload) (padded payload) place) (k : IsStack start h s) where
+module _ (start : ℕ) (h : List HistoryEvent) (s : Stack) (moment : ℕ) (payload : List ℕ) (tail' : Contents) (place : Place) (none : s.frames ≡ []) (fits : encoded_len (length payload) 0 true ≤ s.size) (early : moment < MOMENT_LIMIT) (low : length tail'.bytes ≤ s.size) (p : IsPutLast s.tail tail' s.last_moment (max moment s.last_moment) (length payload) (padded payload) place) (k : IsStack start h s) where
   abbrev raised : ℕ
   raised = max moment s.last_moment
 
@@ -218,14 +206,14 @@ module _ (start : ℕ) (h : List HistoryEvent) (s : Stack) (moment : ℕ) (paylo
   is_allotted : IsStack start ((h ++ push moment (length payload) ∷ []) ++ reserve ∷ []) allotted
   is_allotted =
       let put = put_zeroed s.tail tail' s.last_moment raised (length payload) (padded payload) place k.holds.tail_is.page_reads p in
-      reserved_record start (h ++ push moment (length payload) ∷ []) pushed waits s.frames moment (length payload) None page place refl refl refl (let long = put.long in let long' = p.long in omega arith) put is_pushed
+      reserved_record start (h ++ push moment (length payload) ∷ []) pushed waits s.frames moment (length payload) None page place refl refl refl (let long = put.long in let long' = p.put.long in omega arith) put is_pushed
 
   is_filled : IsStack start ((h ++ push moment (length payload) ∷ []) ++ reserve ∷ []) filled
   is_filled =
       let whole = written_page s.tail tail' s.last_moment raised (length payload) (padded payload) place k.holds.tail_is.page_reads p in
-      let there : slot.fill ≡ page.fill = sym k.holds.tail_is.fill_is ∙ sym p.fill in
+      let there : slot.fill ≡ page.fill = sym k.holds.tail_is.fill_is ∙ sym p.put.fill in
       subst (IsStack start ((h ++ push moment (length payload) ∷ []) ++ reserve ∷ [])) (sym (in_tail allotted slot (padded payload) there) ∙ ap (λ (q : Contents). let t : Stack = record s { tail = q; frames = holds ∷ s.frames; last_moment = raised } in t) whole)
-      (written start ((h ++ push moment (length payload) ∷ []) ++ reserve ∷ []) allotted slot (padded payload) refl (length-padded payload ∙ sym p.len_is) is_allotted)
+      (written start ((h ++ push moment (length payload) ∷ []) ++ reserve ∷ []) allotted slot (padded payload) refl (length-padded payload ∙ sym p.put.len_is) is_allotted)
 
   is_left : IsStack start (((h ++ push moment (length payload) ∷ []) ++ reserve ∷ []) ++ leave (Some payload) ∷ []) (record s { tail = tail'; frames = has_left ∷ []; last_moment = raised })
   is_left =

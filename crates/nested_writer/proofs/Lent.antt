@@ -1,6 +1,6 @@
 -- The payload of the frame on top, which is lent.
 use Rattle.std.proofs.Common.{◌≡◌, ◌⊎◌, inl, ℕ, ◌+◌, ◌-◌, ◌≤◌, eqb, Bool, true, false, cond, List, [], ◌∷◌, ◌++◌, length, take, drop, length-take-le, length-set, Option, None, Some, refl, sym, ap, ◌∙◌, subst, arith}
-use Rattle.std.specs.Prelude.{slice_set}
+use Rattle.std.specs.Prelude.{◌↔◌, slice_set, IsOk, Result, Ok, Err}
 use Rattle.std.specs.List.{slice_get}
 use Rattle.std.proofs.lemmas.List.{drop-take, drop_at, set-get_or, take-take, take_at}
 use Rattle.std.proofs.lemmas.Option.{get_or_from_slice_get}
@@ -16,6 +16,8 @@ use Rattle.trace_model.proofs.words.Overwritten.{place-within}
 use Rattle.record_words.specs.declared.put.Place.{Place}
 use Rattle.page_image.specs.Contents.{Contents}
 use Rattle.page_image.specs.Lending.{with_payload}
+use Rattle.nested_writer.specs.declared.fault.WriteFault.{WriteFault}
+use Rattle.nested_writer.specs.declared.fault.WriteFault.TheVariants.{NoFrame, NotReserved}
 use Rattle.nested_writer.specs.declared.frame.Slot.{Slot}
 use Rattle.nested_writer.specs.declared.frame.Purpose.{Purpose}
 use Rattle.nested_writer.specs.declared.frame.Purpose.TheVariants.{Record, Close}
@@ -201,3 +203,46 @@ lent_written start h s payload part lent fills k = subst (IsStack start h) (sym 
 pub lent_stays : (s : Stack) (payload : Lent) (part : List ℕ) → IsLent s payload → length part ≡ length (lent_bytes payload) → IsReachedStack s → IsReachedStack (with_top s (with_bytes payload part))
 unfolding IsReachedStack
 lent_stays s payload part lent fills (start, h, k) = (start, h, lent_written start h s payload part lent fills k)
+
+-- All that is promised of it, in whichever page it is.
+pub lends_top : {R : Type 0} (r : R) (s : Stack) (slot : Slot) (payload : Lent) → IsTopSlot s.frames slot → payload.place ≡ slot.place → payload.place.start + payload.place.len ≤ length payload.page.bytes → IsLent s payload → with_top s payload ≡ s → IsReachedStack s
+    → record {
+      lends : Unit {0};
+      no_frame : ◌≡◌ {A = Result R WriteFault} (Ok r) (Err NoFrame) ↔ s.frames ≡ [];
+      not_reserved : ◌≡◌ {A = Result R WriteFault} (Ok r) (Err NotReserved) ↔ LacksSlot s.frames;
+      place : (place : Place) → top_place s.frames ≡ Some place → payload.place ≡ place;
+      here : top_place s.frames ≡ Some payload.place;
+      lent : IsLent s payload;
+      unwritten : with_top s payload ≡ s;
+      held : (place : Place) → top_place s.frames ≡ Some place → IsOk {T = R} {E = WriteFault} (Ok r);
+      fits : (len : ℕ) → pushed_len s.frames ≡ Some len → length (lent_bytes payload) ≡ slot_len len;
+      long : length (lent_bytes payload) ≡ payload.place.len;
+      word : 4 ≤ length (lent_bytes payload);
+      holds : (part : List ℕ) → length part ≡ length (lent_bytes payload) → lent_bytes (with_bytes payload part) ≡ part;
+      older : (last : Lent) → length (with_top s last).older ≡ length s.older;
+      alone : (last : Lent) → s.older ≡ [] → (with_top s last).older ≡ [];
+      written : (start : ℕ) (history : List HistoryEvent) → IsStack start history s → (part : List ℕ) → length part ≡ length (lent_bytes payload) → IsStack start history (with_top s (with_bytes payload part));
+      stays : (part : List ℕ) → length part ≡ length (lent_bytes payload) → IsReachedStack (with_top s (with_bytes payload part));
+    }
+unfolding IsReachedStack
+lends_top r s slot payload is place within lent unwritten stands =
+    let (start, h, k) = stands in
+    let len : length (lent_bytes payload) ≡ slot.place.len = lent.long ∙ ap (λ (p : Place). p.len) place in
+    record {
+      lends = tt;
+      no_frame = ((λ e. absurd (let no = e in cc)), (λ none. absurd (some_frame s.frames slot is none)));
+      not_reserved = ((λ e. absurd (let no = e in cc)), (λ lacks. absurd (has_slot s.frames slot is lacks)));
+      place = λ there at. place ∙ slot_place s.frames slot there is at;
+      here = slot_at s.frames slot is ∙ ap Some (sym place);
+      lent = lent;
+      unwritten = unwritten;
+      held = λ there at. refl;
+      fits = λ pushed is'. len ∙ slot_fits start h s slot is k pushed is';
+      long = lent.long;
+      word = let word = slot_word start h s slot is k in omega arith;
+      holds = λ part fills. lent_there payload part within (fills ∙ lent.long);
+      older = λ last. older_long s (top_slot s.frames) last;
+      alone = λ last none. older_none s (top_slot s.frames) last none;
+      written = λ from history old part fills. lent_written from history s payload part lent fills old;
+      stays = λ part fills. lent_stays s payload part lent fills stands;
+    }

@@ -1,24 +1,30 @@
 -- What a call of a writer's stack promises, from what it made of the stack.
-use Rattle.std.proofs.Common.{rules, ◌≡◌, ℕ, suc, ◌<◌, ◌≤◌, List, [], ◌∷◌, ◌++◌, length, None, Result, Ok, refl, sym, ap, ◌∙◌, subst, append-nil, arith}
+use Rattle.std.specs.Prelude.{◌↔◌, IfOk, IfErr, OnOk}
+use Rattle.std.proofs.Common.{rules, ◌≡◌, ℕ, suc, ◌<◌, ◌≤◌, List, [], ◌∷◌, ◌++◌, length, None, Result, Ok, Err, refl, sym, ap, ◌∙◌, subst, append-nil, arith}
 use Rattle.trace_model.specs.declared.limits.TheConstants.{MAX_FRAMES, MOMENT_LIMIT}
 use Rattle.trace_model.specs.History.{HistoryEvent, push}
 use Rattle.trace_model.specs.Steps.{IsTooLong}
 use Rattle.nested_writer.specs.declared.fault.WriteFault.{WriteFault}
+use Rattle.nested_writer.specs.declared.fault.WriteFault.TheVariants.{Crowded, Worn, NoFrame, NotReserved}
 use Rattle.record_words.specs.declared.put.Place.{Place}
+use Rattle.nested_writer.specs.declared.stack.allot.Allot.{Allot}
+use Rattle.nested_writer.specs.declared.stack.allot.Allot.TheVariants as allot
 use Rattle.nested_writer.specs.declared.stack.allot.Allot.TheVariants.{Fits}
 use Rattle.nested_writer.specs.declared.stack.leave.Ended.{Ended}
 use Rattle.nested_writer.specs.declared.stack.leave.Ended.TheVariants.{Pending, Full}
 use Rattle.nested_writer.specs.declared.frame.Frame.{Frame}
-use Rattle.nested_writer.specs.declared.frame.Purpose.TheVariants.{Record}
-use Rattle.nested_writer.specs.declared.frame.Progress.TheVariants.{Waiting}
+use Rattle.nested_writer.specs.declared.frame.Purpose.{Purpose}
+use Rattle.nested_writer.specs.declared.frame.Purpose.TheVariants.{Record, Close}
+use Rattle.nested_writer.specs.declared.frame.Progress.{Progress}
+use Rattle.nested_writer.specs.declared.frame.Progress.TheVariants.{Waiting, Through, Reserved, Left}
 use Rattle.nested_writer.specs.Stack.{Stack}
-use Rattle.nested_writer.specs.Calls.{with_frame, after_leave, IsAtBottom, NeedsPage, HasTopLeft}
+use Rattle.nested_writer.specs.Calls.{with_frame, after_leave, IsAtBottom, IsCrowded, IsWorn, WantsPage, NeedsPage, HasLeft, HasTopLeft}
 use Rattle.nested_writer.specs.AtOnce.{MayStand, with_left}
 use Rattle.nested_writer.specs.Allotted.{HasEvents, IsAllotted}
 use Rattle.nested_writer.specs.Answered.{IsAllotAnswer}
 use Rattle.nested_writer.specs.Kept.{SameFills}
 use Rattle.nested_writer.specs.Ends.{MayEnd, MayEndTop, MayNotEndTop, HasEnded, IsEnd}
-use Rattle.nested_writer.specs.Next.{below_top, IsPlaced, IsSameFrame}
+use Rattle.nested_writer.specs.Next.{below_top, IsPlaced, IsReadyForPage, IsAllottedTo, IsSameFrame, IsRefusedTo}
 use Rattle.nested_writer.specs.IsStack.{IsStack, IsReachedStack}
 use Rattle.nested_writer.specs.Promises.{Begins, Allots, EndsTop, StandsAgain}
 use Rattle.nested_writer.proofs.AtOnce.{fits_page, stands_again}
@@ -122,3 +128,53 @@ allots_place s after place needs_none some stays is answered kept placed same st
   same = same;
   refused = tt;
 }
+
+-- What the answer is for a frame that needs a page.
+pub record MeetsNeed (s : Stack) (result : Result Allot WriteFault) (after : Stack) : Type 0 where
+  pub crowded : result ≡ Err Crowded ↔ IsCrowded s
+  pub worn : result ≡ Err Worn ↔ ((IsCrowded s → ⊥) × IsWorn s)
+  pub noted : result ≡ Ok allot.NeedsPage ↔ ((IsCrowded s → ⊥) × (IsWorn s → ⊥))
+  pub allotted : IsAllotted s s.frames result after
+  pub answered : (start : ℕ) (history : List HistoryEvent) → IsStack start history s → IsAllotAnswer s history s.frames result
+  pub kept : SameFills s after
+  pub page : result ≡ Ok allot.NeedsPage → IsReadyForPage s after
+  pub next : IfOk result (λ a. IsAllottedTo s after a)
+  pub same : OnOk result (IsSameFrame s after)
+  pub refused : IfErr result (λ fault. IsRefusedTo s after fault)
+
+-- the frame on top needs a page
+pub allots_page : (s after : Stack) (result : Result Allot WriteFault) → NeedsPage s s.frames → MeetsNeed s result after → IsReachedStack s → Allots s result after
+allots_page s after result needs meets stands = record {
+  crowded = ((λ e. (needs, meets.crowded.0 e)), (λ n. meets.crowded.1 n.1));
+  worn = ((λ e. let n = meets.worn.0 e in (needs, n.0, n.1)), (λ n. meets.worn.1 (n.1, n.2)));
+  no_frame = ((λ e. absurd (no_other (Err NoFrame) e (λ no. cc) (λ no. cc) (λ no. cc))), (λ none. absurd (subst (NeedsPage s) none needs)));
+  not_reserved = ((λ e. absurd (no_other (Err NotReserved) e (λ no. cc) (λ no. cc) (λ no. cc))), (λ left. absurd (has_not_left s.frames needs left)));
+  needs_page = ((λ e. let n = meets.noted.0 e in (needs, n.0, n.1)), (λ n. meets.noted.1 (n.1, n.2)));
+  after = meets.allotted;
+  stays = allotted_stays s after result meets.allotted stands;
+  answered = meets.answered;
+  kept = meets.kept;
+  fits = λ place e. absurd (no_other (Ok (Fits place)) e (λ no. cc) (λ no. cc) (λ no. cc));
+  page = meets.page;
+  next = meets.next;
+  same = meets.same;
+  refused = meets.refused;
+}
+  where
+    -- it is answered that no page is released, that no fill is left, or that a page is needed
+    no_other : (other : Result Allot WriteFault) → result ≡ other → (other ≡ Err Crowded → ⊥) → (other ≡ Err Worn → ⊥) → (other ≡ Ok allot.NeedsPage → ⊥) → ⊥
+    no_other other is crowded worn noted =
+        let spare : IsCrowded s → ⊥ = λ full. crowded (sym is ∙ meets.crowded.1 full) in
+        let last : IsWorn s → ⊥ = λ gone. worn (sym is ∙ meets.worn.1 (spare, gone)) in
+        noted (sym is ∙ meets.noted.1 (spare, last))
+
+    wants_not_left : (purpose : Purpose) (progress : Progress) → WantsPage s purpose progress → HasLeft progress → ⊥
+    wants_not_left purpose (Waiting noted) wants left = left
+    wants_not_left purpose (Through noted) wants left = left
+    wants_not_left purpose (Reserved slot) wants left = left
+    wants_not_left (Record moment len) (Left noted) wants left = wants
+    wants_not_left Close (Left noted) wants left = wants
+
+    has_not_left : (frames : List Frame) → NeedsPage s frames → HasTopLeft frames → ⊥
+    has_not_left [] needs left = needs
+    has_not_left (top ∷ below) needs left = wants_not_left top.purpose top.progress needs left

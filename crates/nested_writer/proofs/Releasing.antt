@@ -1,7 +1,7 @@
 -- Pages that are passed out while the stack is empty but for a frame that has left, and what they hold.
 use Rattle.std.proofs.Common.{◌≡◌, ◌≢◌, ℕ, zero, suc, ◌+◌, ◌-◌, ◌<◌, ◌≤◌, true, List, [], ◌∷◌, length, get_or, take, drop, map, replicate, Option, Some, None, IfSome, refl, sym, ap, ◌∙◌, subst, arith}
-use Rattle.std.specs.Prelude.{All, IsSomeAnd, unwrap_or}
-use Rattle.std.proofs.lemmas.List.{take_all, take-map, drop-map}
+use Rattle.std.specs.Prelude.{◌↔◌, All, IsSomeAnd, IsTrue, false, unwrap_or}
+use Rattle.std.proofs.lemmas.List.{nil_from_length, take_all, take-map, drop-map}
 use Rattle.std.proofs.lemmas.List.Elements.{All-nil, All-head, All-tail, All-take, All-drop}
 use Rattle.trace_model.specs.Record.{Record}
 use Rattle.trace_model.specs.History.{HistoryEvent, Reservation, HasItsBytes, as_record, writer_after, reserved_records, is_settled, settled_prefix, committed_records, IsHistory}
@@ -184,3 +184,7 @@ tail_empty start h s k none = tail_is h ∙ empty_fill s.tail (tail_at (opens_of
 
 pub tail_holds : (start : ℕ) (h : List HistoryEvent) (s : Stack) → IsStack start h s → s.tail.bytes ≢ [] → tail_of h ≢ []
 tail_holds start h s k some none = tail_some start (opens_of h) (reserved_records h) (is_wished h) s k.holds some (sym (tail_is h) ∙ none)
+
+-- so an empty one isn't closed
+pub none_to_close : (start : ℕ) (h : List HistoryEvent) (s : Stack) → IsStack start h s → length s.tail.bytes ≡ 0 → IsTrue false ↔ tail_of h ≢ []
+none_to_close start h s k none = ((λ truth. absurd (let no = truth in cc)), (λ some. absurd (some (tail_empty start h s k (nil_from_length s.tail.bytes none)))))

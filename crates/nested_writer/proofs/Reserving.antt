@@ -71,10 +71,10 @@ last_moment-push (x ∷ y ∷ xs) r = last_moment-push (y ∷ xs) r
 
 -- ---- the record that is put
 
--- What a record put after those of a page leaves.
-pub record IsPut (tail tail' : Contents) (prev moment len : ℕ) (place : Place) : Type 0 where
+-- What a record put after those of a page leaves, with this payload in its slot.
+pub record IsPutWith (tail tail' : Contents) (prev moment len : ℕ) (part : List ℕ) (place : Place) : Type 0 where
   pub page : IsPage tail → IsPage tail'
-  pub records : IsPage tail → records_of_page tail' ≡ records_of_page tail ++ record { moment = moment; bytes = replicate (slot_len len) 0 } ∷ []
+  pub records : IsPage tail → records_of_page tail' ≡ records_of_page tail ++ record { moment = moment; bytes = part } ∷ []
   pub long : length tail'.bytes ≡ length tail.bytes + encoded_len len (moment - prev) (is_blank tail.bytes)
   pub time : tail'.time ≡ cond (is_blank tail.bytes) moment tail.time
   pub count : tail'.count ≡ tail.count + 1
@@ -85,6 +85,10 @@ pub record IsPut (tail tail' : Contents) (prev moment len : ℕ) (place : Place)
   pub number : IsPage tail → IsPlaceOf tail'.bytes tail.count place.start place.len
   pub places_stay : (number start len : ℕ) → IsPlaceOf tail.bytes number start len → IsPlaceOf tail'.bytes number start len
   pub len_is : place.len ≡ slot_len len
+
+-- with zeros there
+abbrev pub IsPut : (tail tail' : Contents) (prev moment len : ℕ) (place : Place) → Type 0
+IsPut tail tail' prev moment len place = IsPutWith tail tail' prev moment len (replicate (slot_len len) 0) place
 
 blank_none : (bytes : List ℕ) → length bytes ≡ 0 → is_blank bytes ≡ true
 blank_none [] e = refl

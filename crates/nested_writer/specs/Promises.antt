@@ -95,8 +95,7 @@ pub record WritesWhatFits (moment : ℕ) (payload : List ℕ) (old : Stack) (res
   pub nothing : result ≡ at_once.Nothing → new ≡ old
   pub kept : SameFills old new
 
--- `stand_again`: the frame of a record of this moment, and of a payload of len bytes, is alone on the stack, and has
--- left.
+-- The frame of a record of this moment, and of a payload of len bytes, is put on the empty stack, and has left.
 pub record StandsAgain (moment len : ℕ) (old new : Stack) : Type 0 where
   pub left : new ≡ with_left old moment len
   pub stack : HasEvents old [] new

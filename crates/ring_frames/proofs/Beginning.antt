@@ -15,6 +15,7 @@ use Rattle.ring_frames.specs.declared.phase.Phase.{Phase}
 use Rattle.ring_frames.specs.declared.phase.Phase.TheVariants.{Opening}
 use Rattle.ring_frames.specs.Value.{FramesValue, phase_of}
 use Rattle.ring_frames.specs.AreFrames.{ring_frames, AreBelow, AreNotedAlike, AreFrames, HasFrames}
+use Rattle.ring_frames.specs.Steps.{IsFrames}
 use Rattle.ring_frames.proofs.Privately.{kept_of}
 use Rattle.ring_frames.proofs.Tops.{topped}
 
@@ -28,11 +29,15 @@ module _ (n size start : ℕ) (v : FramesValue) (c : Core) (core : HasFrames n s
       subst (PhaseKept n c.links c.order c.head c.done c.opened) (top.phase_is ∙ ap phase_of is ∙ ap (λ (o : ℕ). opening o page) (sym core.are.opened_is))
       (top_kept n c top.frame top.below (kept_of n size start v c core).links top.is_top)
 
-  pub room : length v.stack.older + 1 < v.stack.pages
+  room : length v.stack.older + 1 < v.stack.pages
   room = let s = core.are in let done = s.done_is in let begun = s.opened_is in let pages = s.pages_is in let low = (opens.noted c.opened refl).2 in omega arith
 
-  pub fills : opened v.stack + v.stack.pages < LINK_FILLS
+  fills : opened v.stack + v.stack.pages < LINK_FILLS
   fills = let s = core.are in let begun = s.opened_is in let pages = s.pages_is in let low = (opens.noted c.opened refl).3 in omega arith
+
+-- a page may be added
+pub may_begin : (v : FramesValue) (page : ℕ) → IsFrames v → v.stack.frames ≢ [] → v.phase ≡ Opening (opened v.stack) page → (length v.stack.older + 1 < v.stack.pages) × (opened v.stack + v.stack.pages < LINK_FILLS)
+may_begin v page (n, size, start, c, core) some is = (room n size start v c core some page is, fills n size start v c core some page is)
 
 pub begun : (n size start : ℕ) (v : FramesValue) (c : Core) (page : ℕ) (later : Stack) (first : ℕ) → AreFrames n size start v c → later ≡ with_tail v.stack (blank_page v.stack.size first (opened v.stack)) → HasEvents v.stack (open_fill ∷ []) later
     → AreFrames n size start (record v { stack = later }) (model.with_new_tail c page)

@@ -24,6 +24,7 @@ use Rattle.ring_frames.specs.declared.phase.Phase.TheVariants.{Releasing, Wishin
 use Rattle.ring_frames.specs.Phases.{closing_phase}
 use Rattle.ring_frames.specs.Value.{FramesValue, phase_of}
 use Rattle.ring_frames.specs.AreFrames.{ring_frames, AreBelow, AreNotedAlike, AreFrames, HasFrames}
+use Rattle.ring_frames.specs.Steps.{IsFrames}
 use Rattle.ring_frames.specs.Fills.{released_in, IsRelease}
 use Rattle.ring_frames.proofs.Privately.{kept_of}
 use Rattle.ring_frames.proofs.Bottom.{IsAlone, alone}
@@ -53,7 +54,7 @@ module _ (n size start : ℕ) (v : FramesValue) (c : Core) (core : HasFrames n s
   unfolding frame_in
   more_open = (top_kept n c (frame_in v.phase) [] kept.links one.model).releases (ap phase_of is)
 
-  pub some_older : 0 < length v.stack.older
+  some_older : 0 < length v.stack.older
   some_older = let s = core.are in let done = s.done_is in let begun = s.opened_is in let more = more_open in omega arith
 
   module _ (later : Stack) (page : Contents) (gone : IsLetGo v later page) where
@@ -110,3 +111,7 @@ module _ (n size start : ℕ) (v : FramesValue) (c : Core) (core : HasFrames n s
     pub released : (phase : Phase) → phase ≡ closing_phase later → IsRelease n size start c page (record v { stack = later; phase = phase })
     released phase closes = subst (λ (p : Phase). IsRelease n size start c page (record v { stack = later; phase = p })) (sym closes)
         (released_with ((later.done + 1) == opened later) refl)
+
+-- the stack may let it go
+pub may_let_go : (v : FramesValue) → IsFrames v → v.stack.frames ≢ [] → v.phase ≡ Releasing → (0 < length v.stack.older) × IsAtBottom v.stack.frames
+may_let_go v (n, size, start, c, core) some is = (some_older n size start v c core some is, is_bottom n size start v c core some is)

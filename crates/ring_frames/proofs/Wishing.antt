@@ -32,6 +32,15 @@ use Rattle.ring_frames.proofs.Reshown.{reshown}
 pub no_record : (v : FramesValue) (wish : ℕ) → ((start : ℕ) (history : List HistoryEvent) → IsStack start history v.stack → tail_of history ≢ [] → ⊥) → GrantsNone v wish
 no_record v wish none = λ n size start c are same g. none start c.history are.stack_is g.holds_record
 
+-- a wish that isn't for the tail, or for the last fill
+pub not_for_tail : (v : FramesValue) (wish : ℕ) → ((wish ≡ opened v.stack) × (wish + v.stack.pages < LINK_FILLS) → ⊥) → GrantsNone v wish
+not_for_tail v wish other = λ n size start c are same g.
+    let next : wish ≡ opened v.stack = sym same ∙ g.asks_tail ∙ are.opened_is in
+    let begun = are.opened_is in
+    let pages = are.pages_is in
+    let left = g.numbers_left in
+    other (next, omega arith)
+
 module _ (n size start : ℕ) (v : FramesValue) (c : Core) (core : HasFrames n size start v c) (some : v.stack.frames ≢ []) (is : v.phase ≡ Wishing) where
   one : IsAlone v c
   one = alone n size start v c core.are (kept_of n size start v c core) some (λ kind state may. wishing_left kind state (phase_of v.phase) (ap phase_of is) may)

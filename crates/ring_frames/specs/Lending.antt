@@ -10,7 +10,7 @@ use Rattle.nested_writer.specs.Stack.{Stack}
 use Rattle.nested_writer.specs.declared.fault.WriteFault.{WriteFault}
 use Rattle.nested_writer.specs.declared.fault.WriteFault.TheVariants.{NoFrame, NotReserved}
 use Rattle.record_words.specs.declared.put.Place.{Place}
-use Rattle.nested_writer.specs.Calls.{LacksSlot}
+use Rattle.nested_writer.specs.Calls.{LacksSlot, IsTopSlot}
 use Rattle.nested_writer.specs.Next.{top_place}
 use Rattle.nested_writer.specs.Lent.{Lent, lent_bytes, with_bytes}
 use Rattle.nested_writer.specs.Lending.{IsLent, with_slot, with_top}
@@ -57,7 +57,7 @@ LeavesOthers s slot = (top : Frame) (below : List Frame) (other : Slot) (part : 
     → bytes_in (with_slot s slot part) other ≡ bytes_in s other
 
 -- What is lent of the frame on top: the payload in its slot, of the length that it was pushed for, whose bytes it has,
--- and what is written there is in the slot. There is one if its record is reserved.
+-- and what is written there is in the slot, and nowhere else. There is one if its record is reserved.
 pub record LendsSlot (s : Stack) (result : Result (MutBor Lent) WriteFault) : Type 0 where
   pub no_frame : result ≡ Err NoFrame ↔ s.frames ≡ []
   pub not_reserved : result ≡ Err NotReserved ↔ LacksSlot s.frames
@@ -71,3 +71,4 @@ pub record LendsSlot (s : Stack) (result : Result (MutBor Lent) WriteFault) : Ty
   pub written : IfOk result (λ payload. (part : List ℕ)
       → length part ≡ length (lent_bytes payload.now)
       → top_bytes (with_top s (with_bytes payload.now part)) s.frames ≡ part)
+  pub others : (slot : Slot) → IsTopSlot s.frames slot → LeavesOthers s slot

@@ -13,17 +13,20 @@ pub enum Wrote {
 }
 
 impl WriterStack {
-    ghost use Rattle.std.specs.Prelude.{◌≡◌, ◌-◌, ◌<◌, max, [], ◌∷◌, ◌++◌, Some, length};
+    ghost use Rattle.std.specs.Prelude.{◌≡◌, ◌≢◌, ◌↔◌, ℕ, ◌-◌, ◌<◌, max, [], ◌∷◌, ◌++◌, List, Some, length, IsTrue, false};
     ghost use Rattle.record_words.specs.declared.format.TheConstants.{EXTEND_FROM, SHORT_LIMIT};
     ghost use Rattle.trace_model.specs.declared.limits.TheConstants.{MOMENT_LIMIT};
-    ghost use Rattle.trace_model.specs.History.{push, reserve, leave};
+    ghost use Rattle.trace_model.specs.History.{HistoryEvent, push, reserve, leave, wished};
+    ghost use Rattle.trace_model.specs.Packing.{tail_of};
     ghost use Rattle.trace_model.specs.Words.{padded};
     ghost use Rattle.page_image.specs.Contents.{records_of_page};
     ghost use Rattle.nested_writer.specs.Allotted.{HasEvents};
-    ghost use Rattle.nested_writer.specs.AtOnce.{MayStand, FitsAtOnce, with_written, with_record, IsPlain};
+    ghost use Rattle.nested_writer.specs.AtOnce.{MayStand, FitsAtOnce, with_written, with_left, with_record, IsPlain};
     ghost use Rattle.nested_writer.specs.Promises.{WritesWhatFits, StandsAgain};
-    ghost use Rattle.nested_writer.specs.Calls.{IsAtBottom};
-    ghost use Rattle.nested_writer.specs.IsStack.{IsReachedStack};
+    ghost use Rattle.nested_writer.specs.Stack.{opened};
+    ghost use Rattle.nested_writer.specs.Calls.{with_bottom, IsAtBottom, MayAddPage};
+    ghost use Rattle.nested_writer.specs.Kept.{SamePages};
+    ghost use Rattle.nested_writer.specs.IsStack.{IsStack, IsReachedStack};
 
     /// Writes a record whose moment is raised to `raised`.
     #[inline(always)]
@@ -114,7 +117,7 @@ impl WriterStack {
         self.write_plain(moment, payload)
     }
 
-    /// `stand_again`, in line.
+    /// Puts a frame that has left on the empty stack: that of a record of this moment and of a payload of `len` bytes.
     #[inline(always)]
     fn put_left(&mut self, moment: u64, len: usize)
         requires none { self.old.frames ≡ [] }
@@ -124,15 +127,29 @@ impl WriterStack {
         self.top.leave(moment, len);
     }
 
-    /// Puts a frame that has left on the empty stack: that of a record of this moment and of a
-    /// payload of `len` bytes. Then fills can be closed, or the tail be asked for, until `pop_bottom` takes it off.
+    /// Whether the tail holds a record, so that it can be closed for the reader: then the frame of a record that was
+    /// written alone, of this moment and of a payload of `len` bytes, is put back for it, has left, and a page may be
+    /// added once for it, as after `ask_close`. Otherwise nothing changes.
     #[inline(never)]
-    pub fn stand_again(&mut self, moment: u64, len: usize)
+    pub fn ask_close_for(&mut self, moment: u64, len: usize) -> bool
         requires none { self.old.frames ≡ [] }
         requires may { MayStand self.old moment len }
-        ensures { StandsAgain moment len self.old self.new }
+        ensures holds_record { (start : ℕ) (history : List HistoryEvent)
+            → IsStack start history self.old
+            → (IsTrue result ↔ tail_of history ≢ []) }
+        ensures yes { IsTrue result
+            → self.new ≡ with_bottom (with_left self.old moment len) (Some (opened self.old)) }
+        ensures wished { IsTrue result → HasEvents self.old (wished ∷ []) self.new }
+        ensures stays { IsReachedStack self.old → IsReachedStack self.new }
+        ensures no { result ≡ false → self.new ≡ self.old }
+        ensures kept { SamePages self.old self.new }
+        ensures next { IsTrue result → IsAtBottom self.new.frames × MayAddPage self.new self.new.frames }
     {
+        if self.tail.end() == 0 {
+            return false;
+        }
         self.put_left(moment, len);
+        self.ask_close()
     }
 
     /// Writes a record of this moment and payload in one call, if the stack is empty and it fits in the tail: what

@@ -8,7 +8,7 @@ impl Core {
     ghost use Rattle.nested_writer.specs.declared.frame.Slot.{Slot};
     ghost use Rattle.nested_writer.specs.Calls.{IsTopSlot};
     ghost use Rattle.nested_writer.specs.Lent.{lent_bytes, with_bytes};
-    ghost use Rattle.ring_frames.specs.Lending.{LeavesOthers, LendsSlot};
+    ghost use Rattle.ring_frames.specs.Lending.{LendsSlot};
     ghost use Rattle.ring_core.specs.Lending.{FitsFrame, LendsTop, StaysRing, with_lent};
     ghost use Rattle.ring_core.specs.Steps.{IsReachedCore};
 
@@ -25,7 +25,6 @@ impl Core {
             → length part ≡ length (lent_bytes payload.now)
             → IsReachedCore (with_lent self.old (with_bytes payload.now part))) }
         ensures fits { (slot : Slot) → IsTopSlot self.old.stack.frames slot → FitsFrame self.old slot }
-        ensures others { (slot : Slot) → IsTopSlot self.old.stack.frames slot → LeavesOthers self.old.stack slot }
         ensures stays { (slot : Slot) → IsTopSlot self.old.stack.frames slot → StaysRing self.old }
     {
         self.frames.top_mut()

@@ -6,7 +6,8 @@ use page_image::{Body, Page};
 use trace_model::LINK_FILLS;
 
 impl Frames {
-    ghost use Rattle.std.specs.Prelude.{◌≡◌, ◌≢◌, ℕ, List, [], length, IsTrue, false};
+    ghost use Rattle.std.specs.Prelude.{◌≡◌, ◌≢◌, ◌↔◌, ℕ, ◌+◌, ◌<◌, List, [], length, IsTrue, false};
+    ghost use Rattle.trace_model.specs.declared.limits.TheConstants.{LINK_FILLS};
     ghost use Rattle.trace_model.specs.History.{HistoryEvent};
     ghost use Rattle.trace_model.specs.Ring.{fill_of};
     ghost use Rattle.nested_writer.specs.Stack.{opened};
@@ -94,6 +95,16 @@ impl Frames {
         StepAnswer::Gone
     }
 
+    /// Whether the reader's wish is for the tail, and that isn't the last fill.
+    #[inline(always)]
+    pub(crate) fn may_grant(&self, wish: u64) -> bool
+        ensures { IsTrue result
+            ↔ ((wish ≡ opened self.now.stack) × (wish + self.now.stack.pages < LINK_FILLS)) }
+    {
+        let opened = self.stack.opened();
+        wish == opened && opened + (self.stack.pages() as u64) < LINK_FILLS
+    }
+
     /// Whether the reader's wish is for the tail, which holds a record and isn't the last fill: then the frame notes
     /// the next fill.
     #[inline(always)]
@@ -102,14 +113,13 @@ impl Frames {
         ensures granted { IsTrue result → LooksForWish self.old wish Going self.new }
         ensures refused { result ≡ false → GrantsNone self.old wish × (self.new ≡ self.old) }
     {
-        let opened = self.stack.opened();
-        if wish != opened || opened + self.stack.pages() as u64 >= LINK_FILLS {
+        if !self.may_grant(wish) {
             return false;
         }
         if !self.stack.ask_close() {
             return false;
         }
-        self.phase.put(Phase::Looking { noted: opened });
+        self.phase.put(Phase::Looking { noted: wish });
         true
     }
 }

@@ -8,7 +8,7 @@ impl Frames {
     ghost use Rattle.std.specs.Borrow.{sem};
     ghost use Rattle.nested_writer.specs.declared.frame.Slot.{Slot};
     ghost use Rattle.nested_writer.specs.Calls.{LacksSlot, IsTopSlot};
-    ghost use Rattle.ring_frames.specs.Lending.{FitsFrame, LeavesOthers, LendsSlot, LendsTop, StaysFrames, with_lent};
+    ghost use Rattle.ring_frames.specs.Lending.{FitsFrame, LendsSlot, LendsTop, StaysFrames, with_lent};
     ghost use Rattle.ring_frames.specs.Steps.{AreSomeFrames};
 
     /// Where the record of the frame on top is. Refused with `NoFrame` if there is no frame, and with `NotReserved` if
@@ -33,7 +33,6 @@ impl Frames {
         ensures slot { LendsSlot self.old.stack result }
         ensures unwritten { IfOk result (λ payload. with_lent self.old payload.now ≡ self.old) }
         ensures fits { (slot : Slot) → IsTopSlot self.old.stack.frames slot → FitsFrame self.old slot }
-        ensures others { (slot : Slot) → IsTopSlot self.old.stack.frames slot → LeavesOthers self.old.stack slot }
         ensures stays { (slot : Slot) → IsTopSlot self.old.stack.frames slot → StaysFrames self.old slot }
     {
         self.stack.top_mut()

@@ -1,6 +1,6 @@
 //! A record that is written at once.
 use crate::frames::Frames;
-use crate::phase::StepAnswer;
+use crate::phase::{Phase, StepAnswer};
 use nested_writer::Wrote;
 
 impl Frames {
@@ -44,8 +44,8 @@ impl Frames {
         wish.wrapping_sub(1) == self.stack.done()
     }
 
-    /// The frame of a record of this moment and of `len` bytes, which was written at once and has left, is put at the
-    /// bottom of the stack, and looks for this wish.
+    /// The frame of a record of this moment and of `len` bytes, which was written at once and has left, looks for this
+    /// wish: if it is granted, the frame is put at the bottom of the stack.
     #[inline(never)]
     pub fn stay(&mut self, moment: u64, len: usize, wish: u64) -> StepAnswer
         requires none { self.old.stack.frames ≡ [] }
@@ -55,8 +55,12 @@ impl Frames {
         ensures looks { LooksForWish (with_left_frame self.old moment len) wish (as_answer result) self.new }
         ensures payloads { KeepsPayloads self.old.stack self.new.stack }
     {
-        self.stack.stand_again(moment, len);
-        self.phase.look_for_wish();
-        self.load_wish(wish)
+        if !self.may_grant(wish) {
+            return StepAnswer::Gone;
+        }
+        if self.stack.ask_close_for(moment, len) {
+            return self.go_on(Phase::Looking { noted: wish });
+        }
+        StepAnswer::Gone
     }
 }

@@ -10,30 +10,12 @@ use Rattle.nested_writer.specs.Allotted.{IsAllotted}
 use Rattle.nested_writer.specs.IsStack.{IsReachedStack}
 use Rattle.nested_writer.proofs.Allotting.{waited_through, stayed_through}
 use Rattle.nested_writer.proofs.Answering.{fits_answer, close_answer, through_closes}
-use Rattle.nested_writer.proofs.Promises.{allots_place}
-use Rattle.nested_writer.proofs.Staying.{allotted_stays}
+use Rattle.nested_writer.proofs.Promises.{allots_place, allots_page}
 use Rattle.nested_writer.proofs.stack.WriterStack.allot_again.Goals as goal
 use Rattle.nested_writer.proofs.stack.WriterStack.allot_again.Goals.{in-Waiting, in-Through}
 
 pub returns-then-wants_page : goal.returns-then-wants_page
-returns-then-wants_page c =
-    let s : Stack = c.args.self.now in
-    record {
-      crowded = search rules;
-      worn = search rules;
-      no_frame = search rules;
-      not_reserved = search rules;
-      needs_page = search rules;
-      after = c.note_need.ensures.after;
-      stays = allotted_stays s c.note_need.new.self c.note_need.result c.note_need.ensures.after c.requires.stack;
-      answered = c.note_need.ensures.answered;
-      kept = c.note_need.ensures.kept;
-      fits = search rules;
-      page = c.note_need.ensures.page;
-      next = c.note_need.ensures.next;
-      same = c.note_need.ensures.same;
-      refused = c.note_need.ensures.refused;
-    }
+returns-then-wants_page c = allots_page c.args.self.now c.note_need.new.self c.note_need.result (search rules) (assumption c.note_need.ensures) c.requires.stack
 
 pub returns-in-Record : goal.returns-in-Record
 unfolding IsReachedStack

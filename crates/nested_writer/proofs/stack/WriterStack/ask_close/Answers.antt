@@ -1,12 +1,10 @@
-use Rattle.std.proofs.Common.{◌≡◌, ◌≢◌, ◌∷◌, [], length, refl, sym, ap, ◌∙◌, subst, arith}
-use Rattle.std.specs.Prelude.{IsTrue, false}
-use Rattle.std.proofs.lemmas.List.{nil_from_length}
+use Rattle.std.proofs.Common.{◌≡◌, ◌≢◌, ◌∷◌, [], length, refl, sym, ap, ◌∙◌, subst}
 use Rattle.nested_writer.specs.Stack.{Stack, opened}
 use Rattle.nested_writer.specs.Inside.{stack_of, frames_from}
 use Rattle.nested_writer.specs.Calls.{IsAtBottom}
 use Rattle.nested_writer.specs.IsStack.{IsStack}
 use Rattle.nested_writer.proofs.Leaving.{asked_at}
-use Rattle.nested_writer.proofs.Releasing.{tail_empty, tail_holds}
+use Rattle.nested_writer.proofs.Releasing.{tail_holds, none_to_close}
 use Rattle.trace_model.specs.History.{wished}
 use Rattle.nested_writer.proofs.Staying.{has_events_stays}
 use Rattle.nested_writer.proofs.stack.WriterStack.ask_close.Goals as goal
@@ -21,14 +19,8 @@ returns-in-Some-clause-wished c = λ yes start history old.
     rw c.put.ensures (asked_at start history s c.in-Some.bottom c.self.inside.below.items c.opened-opened.result (c.opened-opened.ensures.begun ∙ ap opened (sym c.self.view_is)) frames bottom some k)
 
 pub returns-then-end-eq0-clause-holds_record : goal.returns-then-end-eq0-clause-holds_record
-returns-then-end-eq0-clause-holds_record c = λ start history old.
-    let s : Stack = stack_of c.self.inside in
-    let k : IsStack start history s = subst (IsStack start history) (sym c.self.view_is) old in
-    let none : s.tail.bytes ≡ [] = nil_from_length s.tail.bytes (omega (arith, c.end.ensures, c.if-end-eq0.true)) in
-    (λ truth. absurd (false_is_not_true truth), λ some. absurd (some (tail_empty start history s k none)))
-  where
-    false_is_not_true : IsTrue false → ⊥
-    false_is_not_true truth = cc
+returns-then-end-eq0-clause-holds_record c = λ start history k.
+    none_to_close start history c.args.self.now k (ap (λ (s : Stack). length s.tail.bytes) (sym c.self.view_is) ∙ sym c.end.ensures ∙ c.if-end-eq0.true)
 
 pub returns-in-Some-clause-holds_record : goal.returns-in-Some-clause-holds_record
 returns-in-Some-clause-holds_record c = λ start history old.

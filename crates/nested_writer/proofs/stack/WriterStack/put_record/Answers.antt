@@ -1,7 +1,6 @@
 use Rattle.std.proofs.Common.{◌≡◌, ℕ, ◌+◌, ◌-◌, ◌≤◌, max, Bool, true, List, [], ◌∷◌, ◌++◌, length, Some, sym, ap, ◌∙◌, subst, arith, rules}
 use Rattle.trace_model.specs.History.{HistoryEvent, push, reserve, leave}
 use Rattle.trace_model.specs.Words.{padded, encoded_len}
-use Rattle.trace_model.proofs.words.Lengths.{length-padded}
 use Rattle.record_words.specs.declared.put.Place.{Place}
 use Rattle.page_image.specs.Contents.{Contents, is_blank}
 use Rattle.nested_writer.specs.Stack.{Stack}
@@ -9,7 +8,7 @@ use Rattle.nested_writer.specs.AtOnce.{FitsAtOnce}
 use Rattle.nested_writer.specs.Inside.{stack_of}
 use Rattle.nested_writer.specs.IsStack.{IsStack, IsReachedStack}
 use Rattle.nested_writer.proofs.Bounds.{stands_ends_at}
-use Rattle.nested_writer.proofs.AtOnce.{IsPutWith, written_at_once, fits_page}
+use Rattle.nested_writer.proofs.AtOnce.{IsPutLast, written_at_once, fits_page}
 use Rattle.nested_writer.proofs.stack.WriterStack.put_record.Goals as goal
 
 pub put_payload-requires : goal.put_payload-requires
@@ -36,10 +35,10 @@ returns-clause-stack c = λ start history old.
     let raised : c.args.raised ≡ max c.args.moment s.last_moment = c.requires.raised ∙ ap (λ (x : Stack). max c.args.moment x.last_moment) (sym c.self.view_is) in
     let fits : FitsAtOnce s c.args.moment (length payload) = subst (λ (x : Stack). FitsAtOnce x c.args.moment (length payload)) (sym c.self.view_is) c.requires.fits in
     let room : length s.tail.bytes + encoded_len (length payload) delta blank ≤ s.size = subst (λ (m : ℕ). length s.tail.bytes + encoded_len (length payload) (m - s.last_moment) blank ≤ s.size) (sym raised) fits.3 in
-    let is : IsPutWith s.tail tail' s.last_moment c.args.raised (length payload) (padded payload) place = assumption (put, length-padded payload) in
+    let is : IsPutLast s.tail tail' s.last_moment c.args.raised (length payload) (padded payload) place = record { put = assumption put; lies = put.place; place_end = put.end } in
     let none : s.frames ≡ [] = fits.0 in
     let short : encoded_len (length payload) 0 true ≤ s.size = fits_page s.size (length payload) fits.1 in
-    let done = written_at_once start history s c.args.moment payload tail' place none short fits.2 (omega (arith, put.longer, room)) (subst (λ (m : ℕ). IsPutWith s.tail tail' s.last_moment m (length payload) (padded payload) place) raised is) k in
+    let done = written_at_once start history s c.args.moment payload tail' place none short fits.2 (omega (arith, put.longer, room)) (subst (λ (m : ℕ). IsPutLast s.tail tail' s.last_moment m (length payload) (padded payload) place) raised is) k in
     let events : List HistoryEvent = push c.args.moment (length payload) ∷ reserve ∷ leave (Some payload) ∷ [] in
     subst (λ (m : ℕ). IsStack start (history ++ events) (record s { tail = tail'; last_moment = m })) (sym raised) done
 

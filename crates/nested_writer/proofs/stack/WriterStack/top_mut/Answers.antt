@@ -1,13 +1,13 @@
-use Rattle.std.proofs.Common.{Some, ◌≡◌, ◌+◌, ◌≤◌, length, refl, sym, ap, ◌∙◌, subst, arith}
+use Rattle.std.proofs.Common.{◌≡◌, ◌+◌, ◌≤◌, length, sym, ap, ◌∙◌, subst}
 use Rattle.record_words.specs.declared.put.Place.{Place}
 use Rattle.nested_writer.specs.declared.frame.Slot.{Slot}
 use Rattle.nested_writer.specs.Stack.{Stack}
 use Rattle.nested_writer.specs.Inside.{stack_of}
-use Rattle.nested_writer.specs.Calls.{IsTopSlot, top_slot}
+use Rattle.nested_writer.specs.Calls.{IsTopSlot}
 use Rattle.nested_writer.specs.Lent.{Lent}
 use Rattle.nested_writer.specs.Lending.{IsLent}
 use Rattle.nested_writer.specs.IsStack.{IsReachedStack}
-use Rattle.nested_writer.proofs.Lent.{same_ends, top_in_tail, top_in_older, some_frame, has_slot, slot_place, slot_at, tail_stays, older_stays, older_long, older_none, tail_within, tail_lent, other_page, older_within, older_lent, slot_fits, slot_word, lent_there, lent_written, lent_stays}
+use Rattle.nested_writer.proofs.Lent.{same_ends, top_in_tail, top_in_older, tail_stays, older_stays, tail_within, tail_lent, other_page, older_within, older_lent, lends_top}
 use Rattle.nested_writer.proofs.stack.WriterStack.top_mut.Goals as goal
 
 pub lend-requires : goal.lend-requires
@@ -33,24 +33,7 @@ returns-then-slot-fill_number c =
     let within = subst (λ (p : Lent). p.place.start + p.place.len ≤ length p.page.bytes) (sym c.lend.ensures) (tail_within stands.0 stands.1 s slot is stands.2 same) in
     rw (← c.self.view_is) (
       same_ends _ _ _ (λ w. top_in_tail s slot w is same),
-      record {
-        lends = tt;
-        no_frame = (λ e. absurd cc, λ none. absurd (some_frame s.frames slot is none));
-        not_reserved = (λ e. absurd cc, λ lacks. absurd (has_slot s.frames slot is lacks));
-        place = λ place' at. place ∙ slot_place s.frames slot place' is at;
-        here = slot_at s.frames slot is ∙ ap Some (sym place);
-        long = lent.long;
-        older = λ w. older_long s (top_slot s.frames) w;
-        alone = λ w none. older_none s (top_slot s.frames) w none;
-        unwritten = tail_stays s slot payload is same (ap (λ (p : Lent). p.page) c.lend.ensures);
-        lent = lent;
-        held = λ place' there. refl;
-        fits = λ len is'. lent.long ∙ ap (λ (p : Place). p.len) place ∙ slot_fits stands.0 stands.1 s slot is stands.2 len is';
-        word = let word = slot_word stands.0 stands.1 s slot is stands.2 in let long = lent.long in let same = ap (λ (p : Place). p.len) place in omega arith;
-        holds = λ part fills. lent_there payload part within (fills ∙ lent.long);
-        written = λ start history k part fills. lent_written start history s payload part lent fills k;
-        stays = λ part fills. lent_stays s payload part lent fills stands;
-      },
+      lends_top _ s slot payload is place within lent (tail_stays s slot payload is same (ap (λ (p : Lent). p.page) c.lend.ensures)) stands,
     )
 
 pub lend-payload-requires-clause-inside : goal.lend-payload-requires-clause-inside
@@ -86,22 +69,5 @@ returns c =
     let within = subst (λ (p : Place). p.start + p.len ≤ length payload.page.bytes) (sym place) (older_within stands.0 stands.1 s slot is stands.2 other payload.page c.lend-payload.ensures.page) in
     rw (← c.self.view_is) (
       same_ends _ _ _ (λ w. top_in_older s slot w is other),
-      record {
-        lends = tt;
-        no_frame = (λ e. absurd cc, λ none. absurd (some_frame s.frames slot is none));
-        not_reserved = (λ e. absurd cc, λ lacks. absurd (has_slot s.frames slot is lacks));
-        place = λ place' at. place ∙ slot_place s.frames slot place' is at;
-        here = slot_at s.frames slot is ∙ ap Some (sym place);
-        long = lent.long;
-        older = λ w. older_long s (top_slot s.frames) w;
-        alone = λ w none. older_none s (top_slot s.frames) w none;
-        unwritten = older_stays s slot payload is other c.lend-payload.ensures.page;
-        lent = lent;
-        held = λ place' there. refl;
-        fits = λ len is'. lent.long ∙ ap (λ (p : Place). p.len) place ∙ slot_fits stands.0 stands.1 s slot is stands.2 len is';
-        word = let word = slot_word stands.0 stands.1 s slot is stands.2 in let long = lent.long in let same = ap (λ (p : Place). p.len) place in omega arith;
-        holds = λ part fills. lent_there payload part within (fills ∙ lent.long);
-        written = λ start history k part fills. lent_written start history s payload part lent fills k;
-        stays = λ part fills. lent_stays s payload part lent fills stands;
-      },
+      lends_top _ s slot payload is place within lent (older_stays s slot payload is other c.lend-payload.ensures.page) stands,
     )

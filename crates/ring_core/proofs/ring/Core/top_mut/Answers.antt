@@ -5,7 +5,7 @@ use Rattle.nested_writer.specs.declared.frame.Slot.{Slot}
 use Rattle.nested_writer.specs.Calls.{IsTopSlot}
 use Rattle.nested_writer.specs.Lent.{Lent, lent_bytes, with_bytes}
 use Rattle.ring_frames.specs.Value.{FramesValue}
-use Rattle.ring_frames.specs.Lending.{LeavesOthers, LendsSlot}
+use Rattle.ring_frames.specs.Lending.{LendsSlot}
 use Rattle.ring_core.specs.Value.{CoreValue, frames_of}
 use Rattle.ring_core.specs.Inside.{core_of}
 use Rattle.ring_core.specs.Lending.{FitsFrame, StaysRing, with_lent}
@@ -36,7 +36,6 @@ returns c =
             (IfOk-weaker c.top_mut.result _ _ (λ p lent part long. (n, size, start, s, lent_stays n size start v s p.now part core lent (lends.stays lent.slot lent.on_top) long)) lends.slot.lent);
         fits = subst (λ (x : CoreValue). (slot : Slot) → IsTopSlot x.stack.frames slot → FitsFrame x slot) c.self.view_is
             (λ slot is n' size' start' s' frame below moment long core' top kind. lends.fits slot is n' size' start' s' frame below moment long core'.shows.frames top kind);
-        others = subst (λ (x : CoreValue). (slot : Slot) → IsTopSlot x.stack.frames slot → LeavesOthers x.stack slot) c.self.view_is lends.others;
         stays = subst (λ (x : CoreValue). (slot : Slot) → IsTopSlot x.stack.frames slot → StaysRing x) c.self.view_is
             (λ slot is n' size' start' s' part core' long. top_stays n' size' start' v s' slot part core' is (lends.stays slot is) (long ∙ top_long n size start (frames_of v) s core.shows.frames slot is));
       },

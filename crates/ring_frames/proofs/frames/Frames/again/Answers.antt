@@ -11,40 +11,22 @@ use Rattle.ring_frames.proofs.Again.{top_from, closes_again, leaver_again, tries
 use Rattle.ring_frames.proofs.frames.Frames.again.Goals as goal
 
 record_not_close : (moment len : ℕ) (purpose : Purpose) → purpose ≡ Record moment len → purpose ≡ Close → ⊥
-record_not_close moment len purpose a b = not_both (sym a ∙ b)
-  where
-    not_both : Record moment len ≡ Close → ⊥
-    not_both e = cc
+record_not_close moment len purpose a b = let e = sym a ∙ b in cc
 
 waiting_not_left : (noted other : Option ℕ) (progress : Progress) → progress ≡ Waiting noted → progress ≡ Left other → ⊥
-waiting_not_left noted other progress a b = not_both (sym a ∙ b)
-  where
-    not_both : Waiting noted ≡ Left other → ⊥
-    not_both e = cc
+waiting_not_left noted other progress a b = let e = sym a ∙ b in cc
 
 -- it has a record, or is through
 abbrev IsBehind : Progress → Type 0
 IsBehind progress = ((noted : ℕ) × (progress ≡ Through noted)) ⊎ ((slot : Slot) × (progress ≡ Reserved slot))
 
 behind_not_waiting : (progress : Progress) (other : Option ℕ) → IsBehind progress → progress ≡ Waiting other → ⊥
-behind_not_waiting progress other (inl (noted, a)) b = not_both (sym a ∙ b)
-  where
-    not_both : Through noted ≡ Waiting other → ⊥
-    not_both e = cc
-behind_not_waiting progress other (inr (slot, a)) b = not_both (sym a ∙ b)
-  where
-    not_both : Reserved slot ≡ Waiting other → ⊥
-    not_both e = cc
+behind_not_waiting progress other (inl (noted, a)) b = let e = sym a ∙ b in cc
+behind_not_waiting progress other (inr (slot, a)) b = let e = sym a ∙ b in cc
 
 behind_not_left : (progress : Progress) (other : Option ℕ) → IsBehind progress → progress ≡ Left other → ⊥
-behind_not_left progress other (inl (noted, a)) b = not_both (sym a ∙ b)
-  where
-    not_both : Through noted ≡ Left other → ⊥
-    not_both e = cc
-behind_not_left progress other (inr (slot, a)) b = not_both (sym a ∙ b)
-  where
-    not_both : Reserved slot ≡ Left other → ⊥
-    not_both e = cc
+behind_not_left progress other (inl (noted, a)) b = let e = sym a ∙ b in cc
+behind_not_left progress other (inr (slot, a)) b = let e = sym a ∙ b in cc
 
 pub returns-in-Record-clause-again : goal.returns-in-Record-clause-again
 returns-in-Record-clause-again c =

@@ -7,7 +7,7 @@ use Rattle.ring_frames.specs.Inside.{frames_in}
 use Rattle.ring_frames.specs.Steps.{IsFrames}
 use Rattle.ring_frames.specs.Fills.{OpensFill}
 use Rattle.ring_frames.specs.Phases.{as_answer}
-use Rattle.ring_frames.proofs.Beginning.{noted_in, room, fills, begun, one_more}
+use Rattle.ring_frames.proofs.Beginning.{noted_in, may_begin, begun, one_more}
 use Rattle.ring_frames.specs.Answers.{KeepsPayloads}
 use Rattle.ring_frames.proofs.Payloads.{added_kept, kept_then}
 use Rattle.ring_frames.proofs.frames.Frames.open_fill.Goals as goal
@@ -18,19 +18,13 @@ IsOpening v = (page : ℕ) × (v.phase ≡ Opening (opened v.stack) page)
 
 pub add_page-requires-clause-room : goal.add_page-requires-clause-room
 add_page-requires-clause-room c =
-    let v : FramesValue = frames_in c.self.inside in
-    let (n, size, start, m, core) = subst IsFrames (sym c.self.view_is) c.requires.frames in
-    let some = subst (λ (x : FramesValue). x.stack.frames ≢ []) (sym c.self.view_is) c.requires.top in
     let (page, is) = subst IsOpening (sym c.self.view_is) c.requires.phase in
-    room n size start v m core some page is
+    (may_begin (frames_in c.self.inside) page (subst IsFrames (sym c.self.view_is) c.requires.frames) (subst (λ (x : FramesValue). x.stack.frames ≢ []) (sym c.self.view_is) c.requires.top) is).0
 
 pub add_page-requires-clause-fills : goal.add_page-requires-clause-fills
 add_page-requires-clause-fills c =
-    let v : FramesValue = frames_in c.self.inside in
-    let (n, size, start, m, core) = subst IsFrames (sym c.self.view_is) c.requires.frames in
-    let some = subst (λ (x : FramesValue). x.stack.frames ≢ []) (sym c.self.view_is) c.requires.top in
     let (page, is) = subst IsOpening (sym c.self.view_is) c.requires.phase in
-    fills n size start v m core some page is
+    (may_begin (frames_in c.self.inside) page (subst IsFrames (sym c.self.view_is) c.requires.frames) (subst (λ (x : FramesValue). x.stack.frames ≢ []) (sym c.self.view_is) c.requires.top) is).1
 
 pub begin_again-requires-clause-shown : goal.begin_again-requires-clause-shown
 begin_again-requires-clause-shown c =

@@ -4,23 +4,15 @@ use Rattle.ring_frames.specs.Inside.{frames_in}
 use Rattle.ring_frames.specs.AreFrames.{AreFrames, HasFrames}
 use Rattle.ring_frames.specs.Phases.{closing_phase}
 use Rattle.ring_frames.specs.Steps.{IsFrames}
-use Rattle.ring_frames.proofs.Releasing.{is_bottom, some_older, released}
+use Rattle.ring_frames.proofs.Releasing.{is_bottom, may_let_go, released}
 use Rattle.ring_frames.proofs.Payloads.{bottom_held}
 use Rattle.ring_frames.proofs.frames.Frames.release_fill.Goals as goal
 
-pub drop_front-page-requires-clause-more : goal.drop_front-page-requires-clause-more
-drop_front-page-requires-clause-more c =
-    let v : FramesValue = frames_in c.self.inside in
-    let (n, size, start, m, core) = subst IsFrames (sym c.self.view_is) c.requires.frames in
-    let some = subst (λ (x : FramesValue). x.stack.frames ≢ []) (sym c.self.view_is) c.requires.top in
-    some_older n size start v m core some (ap (λ (x : FramesValue). x.phase) c.self.view_is ∙ c.requires.phase)
-
-pub drop_front-page-requires-clause-bottom : goal.drop_front-page-requires-clause-bottom
-drop_front-page-requires-clause-bottom c =
-    let v : FramesValue = frames_in c.self.inside in
-    let (n, size, start, m, core) = subst IsFrames (sym c.self.view_is) c.requires.frames in
-    let some = subst (λ (x : FramesValue). x.stack.frames ≢ []) (sym c.self.view_is) c.requires.top in
-    is_bottom n size start v m core some (ap (λ (x : FramesValue). x.phase) c.self.view_is ∙ c.requires.phase)
+pub drop_front-page-requires : goal.drop_front-page-requires
+drop_front-page-requires c =
+    let may = may_let_go (frames_in c.self.inside) (subst IsFrames (sym c.self.view_is) c.requires.frames) (subst (λ (x : FramesValue). x.stack.frames ≢ []) (sym c.self.view_is) c.requires.top)
+    (ap (λ (x : FramesValue). x.phase) c.self.view_is ∙ c.requires.phase) in
+    record { more = may.0; bottom = may.1 }
 
 pub returns-clause-releases : goal.returns-clause-releases
 returns-clause-releases c = λ n size start m reached now.

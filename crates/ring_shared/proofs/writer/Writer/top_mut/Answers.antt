@@ -42,7 +42,7 @@ returns c =
             (λ bytes below is. IfOk-weaker c.top_mut.result _ _ (λ p lent. same_room bytes below v is (length (lent_bytes p.now)) (subst (IsTopRoom v) (sym (lent_len v.frames.stack p.now lent)) (top_room v w lent.slot lent.on_top (fits lent.slot lent.on_top)))) lends.slot.lent);
         written = subst (λ (x : WriterValue). IfOk c.top_mut.result (λ (p : MutBor Lent). (part : List ℕ) → length part ≡ length (lent_bytes p.now) → top_bytes (with_top x.frames.stack (with_bytes p.now part)) x.frames.stack.frames ≡ part)) c.self.view_is lends.slot.written;
         fits = subst (λ (x : WriterValue). (slot : Slot) → IsTopSlot x.frames.stack.frames slot → FitsFrame x slot) c.self.view_is fits;
-        others = subst (λ (x : WriterValue). (slot : Slot) → IsTopSlot x.frames.stack.frames slot → LeavesOthers x.frames.stack slot) c.self.view_is lends.others;
+        others = subst (λ (x : WriterValue). (slot : Slot) → IsTopSlot x.frames.stack.frames slot → LeavesOthers x.frames.stack slot) c.self.view_is lends.slot.others;
         writer = subst (λ (x : WriterValue). IfOk c.top_mut.result (λ (p : MutBor Lent). (part : List ℕ) → length part ≡ length (lent_bytes p.now) → IsWriter (with_lent x (with_bytes p.now part)))) c.self.view_is
             (IfOk-weaker c.top_mut.result _ _ (λ p lent part long. stays_writer v w p.now lent part long (lends.stays lent.slot lent.on_top)) lends.slot.lent);
       },
