@@ -8,9 +8,7 @@ impl Writer {
     ghost use Rattle.std.specs.Borrow.{sem};
     ghost use Rattle.nested_writer.specs.Calls.{LacksSlot, IsTopSlot};
     ghost use Rattle.nested_writer.specs.Lent.{lent_bytes, with_bytes};
-    ghost use Rattle.nested_writer.specs.Lending.{IsLent, with_top};
-    ghost use Rattle.ring_frames.specs.Answers.{top_bytes};
-    ghost use Rattle.ring_frames.specs.Lending.{LeavesOthers};
+    ghost use Rattle.ring_frames.specs.Lending.{LeavesOthers, LendsSlot};
     ghost use Rattle.ring_shared.specs.Calls.{IsWriter};
     ghost use Rattle.ring_shared.specs.Rooms.{rooms, IsTopRoom};
     ghost use Rattle.ring_shared.specs.Lending.{FitsFrame, LendsTop, with_lent};
@@ -34,21 +32,13 @@ impl Writer {
     pub fn top_mut(&mut self) -> Result<&mut Payload, WriteFault>
         requires writer { IsWriter self.old }
         ensures* lends { sem 𝓛 (LendsTop self.entry result) }
-        ensures no_frame { result ≡ Err WriteFault.NoFrame ↔ self.old.frames.stack.frames ≡ [] }
-        ensures not_reserved { result ≡ Err WriteFault.NotReserved ↔ LacksSlot self.old.frames.stack.frames }
+        ensures slot { LendsSlot self.old.frames.stack result }
         ensures held { (slot : Slot) → IsTopSlot self.old.frames.stack.frames slot → IsOk result }
-        ensures lent { IfOk result (λ payload. IsLent self.old.frames.stack payload.now) }
         ensures unwritten { IfOk result (λ payload. with_lent self.old payload.now ≡ self.old) }
-        ensures payload { IfOk result (λ payload.
-            lent_bytes payload.now ≡ top_bytes self.old.frames.stack self.old.frames.stack.frames) }
         ensures room { IfOk result (λ payload. IsTopRoom self.old (length (lent_bytes payload.now))) }
         ensures long { (bytes : ℕ) (below : List (Option ℕ))
             → rooms self.old ≡ Some bytes ∷ below
             → IfOk result (λ payload. length (lent_bytes payload.now) ≡ bytes) }
-        ensures written { IfOk result (λ payload. (part : List ℕ)
-            → length part ≡ length (lent_bytes payload.now)
-            → top_bytes (with_top self.old.frames.stack (with_bytes payload.now part)) self.old.frames.stack.frames
-            ≡ part) }
         ensures fits { (slot : Slot) → IsTopSlot self.old.frames.stack.frames slot → FitsFrame self.old slot }
         ensures others { (slot : Slot)
             → IsTopSlot self.old.frames.stack.frames slot

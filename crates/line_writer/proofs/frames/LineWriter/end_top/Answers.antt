@@ -35,7 +35,7 @@ bounds-self-depth c =
 pub put_padded-requires : goal.put_padded-requires
 put_padded-requires c =
     let p : Lent = c.in_ok-top_mut.field-0.now in
-    let lent : IsLent c.args.self.now.writer.frames.stack p = c.in_ok-top_mut.ensures.lent in
+    let lent : IsLent c.args.self.now.writer.frames.stack p = c.in_ok-top_mut.ensures.slot.lent in
     let wide = ap (length {A = ℕ}) c.deref_mut.ensures.value ∙ lent_len c.args.self.now.writer.frames.stack p lent in
     subst (λ (k : ℕ). length (put_payload c.args.self.now.payloads c.depth.result) ≤ k) (sym wide)
     (has_room c.args.self.now lent.slot (put_payload c.args.self.now.payloads c.depth.result)
@@ -47,7 +47,7 @@ returns-clause-ended c =
     let item = put_payload c.args.self.now.payloads c.depth.result in
     let w : WriterValue = c.args.self.now.writer in
     let p : Lent = c.in_ok-top_mut.field-0.now in
-    let lent : IsLent w.frames.stack p = c.in_ok-top_mut.ensures.lent in
+    let lent : IsLent w.frames.stack p = c.in_ok-top_mut.ensures.slot.lent in
     let part : List ℕ = c.put_padded.new.slot in
     let wide = ap (length {A = ℕ}) c.deref_mut.ensures.value ∙ lent_len w.frames.stack p lent in
     end_called c.args.self.now c.requires.is lent.slot lent.on_top c.end-answer.new.self item
@@ -56,7 +56,7 @@ returns-clause-ended c =
     (c.in_ok-top_mut.ensures.fits lent.slot lent.on_top))
     (c.put_padded.ensures
     ∙ ap (λ (k : ℕ). item ++ replicate (k - length item) 0) wide)
-    (λ long. written_is w p lent part (c.in_ok-top_mut.ensures.written part (long ∙ sym (lent_len w.frames.stack p lent))))
+    (λ long. written_is w p lent part (c.in_ok-top_mut.ensures.slot.written part (long ∙ sym (lent_len w.frames.stack p lent))))
     (subst (λ (x : WriterValue). MakesSome x (ends (top_bytes x.frames.stack x.frames.stack.frames)) c.end-answer.result c.end-answer.new.self) (lent_is w p lent part) c.end-answer.ensures.makes)
 
 pub returns-in_err-top_mut-clause-none : goal.returns-in_err-top_mut-clause-none

@@ -4,10 +4,8 @@ use Rattle.std.proofs.lemmas.Result.{IfOk-weaker}
 use Rattle.nested_writer.specs.declared.frame.Slot.{Slot}
 use Rattle.nested_writer.specs.Calls.{IsTopSlot}
 use Rattle.nested_writer.specs.Lent.{Lent, lent_bytes, with_bytes}
-use Rattle.nested_writer.specs.Lending.{IsLent, with_top}
 use Rattle.ring_frames.specs.Value.{FramesValue}
-use Rattle.ring_frames.specs.Answers.{top_bytes}
-use Rattle.ring_frames.specs.Lending.{LeavesOthers}
+use Rattle.ring_frames.specs.Lending.{LeavesOthers, LendsSlot}
 use Rattle.ring_steps.specs.Views.{Writing}
 use Rattle.ring_shared.specs.Value.{WriterValue}
 use Rattle.ring_shared.specs.Calls.{IsWriter}
@@ -29,18 +27,14 @@ returns c =
       rw (← c.self.view_is) refl,
       record {
         lends = tt;
-        no_frame = rw (← c.self.view_is) lends.slot.no_frame;
-        not_reserved = rw (← c.self.view_is) lends.slot.not_reserved;
+        slot = subst (λ (x : WriterValue). LendsSlot x.frames.stack c.top_mut.result) c.self.view_is lends.slot;
         held = rw (← c.self.view_is) (λ slot is. lends.slot.held slot.place (slot_held v.frames.stack.frames slot is));
-        lent = subst (λ (x : WriterValue). IfOk c.top_mut.result (λ (p : MutBor Lent). IsLent x.frames.stack p.now)) c.self.view_is lends.slot.lent;
         unwritten = subst (λ (x : WriterValue). IfOk c.top_mut.result (λ (p : MutBor Lent). with_lent x p.now ≡ x)) c.self.view_is
             (IfOk-weaker c.top_mut.result _ _ (λ p same. ap (λ (f : FramesValue). record v { frames = f }) same) lends.unwritten);
-        payload = subst (λ (x : WriterValue). IfOk c.top_mut.result (λ (p : MutBor Lent). lent_bytes p.now ≡ top_bytes x.frames.stack x.frames.stack.frames)) c.self.view_is lends.slot.payload;
         room = subst (λ (x : WriterValue). IfOk c.top_mut.result (λ (p : MutBor Lent). IsTopRoom x (length (lent_bytes p.now)))) c.self.view_is
             (IfOk-weaker c.top_mut.result _ _ (λ p lent. subst (IsTopRoom v) (sym (lent_len v.frames.stack p.now lent)) (top_room v w lent.slot lent.on_top (fits lent.slot lent.on_top))) lends.slot.lent);
         long = subst (λ (x : WriterValue). (bytes : ℕ) (below : List (Option ℕ)) → rooms x ≡ Some bytes ∷ below → IfOk c.top_mut.result (λ (p : MutBor Lent). length (lent_bytes p.now) ≡ bytes)) c.self.view_is
             (λ bytes below is. IfOk-weaker c.top_mut.result _ _ (λ p lent. same_room bytes below v is (length (lent_bytes p.now)) (subst (IsTopRoom v) (sym (lent_len v.frames.stack p.now lent)) (top_room v w lent.slot lent.on_top (fits lent.slot lent.on_top)))) lends.slot.lent);
-        written = subst (λ (x : WriterValue). IfOk c.top_mut.result (λ (p : MutBor Lent). (part : List ℕ) → length part ≡ length (lent_bytes p.now) → top_bytes (with_top x.frames.stack (with_bytes p.now part)) x.frames.stack.frames ≡ part)) c.self.view_is lends.slot.written;
         fits = subst (λ (x : WriterValue). (slot : Slot) → IsTopSlot x.frames.stack.frames slot → FitsFrame x slot) c.self.view_is fits;
         others = subst (λ (x : WriterValue). (slot : Slot) → IsTopSlot x.frames.stack.frames slot → LeavesOthers x.frames.stack slot) c.self.view_is lends.slot.others;
         writer = subst (λ (x : WriterValue). IfOk c.top_mut.result (λ (p : MutBor Lent). (part : List ℕ) → length part ≡ length (lent_bytes p.now) → IsWriter (with_lent x (with_bytes p.now part)))) c.self.view_is
