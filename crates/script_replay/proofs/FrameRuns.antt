@@ -12,7 +12,7 @@ use Rattle.text_model.specs.Log as text
 use Rattle.text_model.specs.Script.{step_frame, finish_frame}
 use Rattle.link_marks.specs.Reached.{IsReached}
 use Rattle.link_marks.specs.Ranks.{frame_limit}
-use Rattle.world_model.specs.Lanes.{Lane, lane_behind, event_on_top, FrameRun, IsGone, LacksFrame, lacks_to_step, steps_on, lacks_to_finish, finishes, LineRun}
+use Rattle.world_model.specs.Lanes.{Lane, lane_behind, event_on_top, FrameRun, IsGone, StepsFrame, lacks_to_step, steps_on, FinishesFrame, lacks_to_finish, finishes, LineRun}
 use Rattle.world_model.proofs.FramesMove.{Moves, stays, changes, pops, step_moves}
 use Rattle.world_model.proofs.LanePayloads.{pushes_none}
 use Rattle.world_model.proofs.LineEnds.{frame_runs_short}
@@ -173,28 +173,36 @@ pub some_frames : (n size start cpu : ℕ) (v : LaneValue) (lane : Lane)
 some_frames n size start cpu v lane is some none =
     some (no_length v.core.stack.frames (depth_is n size start cpu v lane is ∙ ap (λ (l : List Frame). length l) none))
 
+some_length : {A : Type 0} (xs : List A) → xs ≢ [] → 1 ≤ length xs
+some_length [] some = absurd (some refl)
+some_length (x ∷ xs) some = omega arith
+
+-- a frame that is to make more steps than any makes finishes
+finish_by : (n size start cpu count : ℕ) (v : LaneValue) (before after : Lane) (xs : List Exchange)
+    → IsLane n size start cpu v before
+    → frame_limit MAX_PAGES < count
+    → StepsFrame n size count before xs after
+    → FinishesFrame n size before xs after
+finish_by n size start cpu count v before after xs is long (lacks_to_step lacks) = lacks_to_finish lacks
+finish_by n size start cpu count v before after xs is long (steps_on frames run stop) =
+    finishes frames run
+    (gone_behind n size start count before after xs is.is_core.reached is.most long
+    (some_length before.core.frames frames) (run, stop))
+
 pub finished : (n size start cpu line count : ℕ) (v new : LaneValue) (lane : Lane) (first log : List LogLine)
     → IsLane n size start cpu v lane
-    → v.core.stack.frames ≢ []
     → frame_limit MAX_PAGES < count
-    → Happens (FollowsFrame count) line cpu n size start lane first new log
+    → Happens (λ n size before exchanges after. LineRun n size (step_frame cpu count) before exchanges after) line cpu n
+    size start lane first new log
     → Happens (λ n size before exchanges after. LineRun n size (finish_frame cpu) before exchanges after) line cpu n
     size start lane first new log
-finished n size start cpu line count v new lane first log is some long h =
-    let frames = some_frames n size start cpu v lane is some in
-    record {
-      exchanges = h.exchanges;
-      after = h.after;
-      happened = finishes frames h.happened.0
-          (gone_behind n size start count lane h.after h.exchanges is.is_core.reached is.most long
-          (some_length lane.core.frames frames) h.happened);
-      is_lane = h.is_lane;
-      log = h.log;
-    }
-  where
-    some_length : {A : Type 0} (xs : List A) → xs ≢ [] → 1 ≤ length xs
-    some_length [] some = absurd (some refl)
-    some_length (x ∷ xs) some = omega arith
+finished n size start cpu line count v new lane first log is long h = record {
+  exchanges = h.exchanges;
+  after = h.after;
+  happened = finish_by n size start cpu count v lane h.after h.exchanges is long h.happened;
+  is_lane = h.is_lane;
+  log = h.log;
+}
 
 pub stepped_on : (n size start cpu line count : ℕ) (v new : LaneValue) (lane : Lane) (first log : List LogLine)
     → IsLane n size start cpu v lane
@@ -212,16 +220,6 @@ stepped_on n size start cpu line count v new lane first log is some h = record {
 
 -- ---- no frame is on the stack
 
-lacked : (n size start cpu : ℕ) (v : LaneValue) (lane : Lane)
-    → IsLane n size start cpu v lane
-    → length v.core.stack.frames ≡ 0
-    → LacksFrame n size lane (record { event = steps; answer = refused no_frame } ∷ []) lane
-lacked n size start cpu v lane is none = record {
-  none = no_length lane.core.frames (sym (depth_is n size start cpu v lane is) ∙ none);
-  exchanges_are = refl;
-  stays = refl;
-}
-
 pub lacks_step : (n size start cpu line count : ℕ) (v : LaneValue) (lane : Lane) (first log : List LogLine)
     → IsLane n size start cpu v lane
     → length v.core.stack.frames ≡ 0
@@ -231,21 +229,11 @@ pub lacks_step : (n size start cpu line count : ℕ) (v : LaneValue) (lane : Lan
 lacks_step n size start cpu line count v lane first log is none reported = record {
   exchanges = record { event = steps; answer = refused no_frame } ∷ [];
   after = lane;
-  happened = lacks_to_step (lacked n size start cpu v lane is none);
-  is_lane = is;
-  log = reported;
-}
-
-pub lacks_finish : (n size start cpu line : ℕ) (v : LaneValue) (lane : Lane) (first log : List LogLine)
-    → IsLane n size start cpu v lane
-    → length v.core.stack.frames ≡ 0
-    → shown_log log ≡ shown_log first ++ text.refused line cpu no_frame ∷ []
-    → Happens (λ n size before exchanges after. LineRun n size (finish_frame cpu) before exchanges after) line cpu n
-    size start lane first v log
-lacks_finish n size start cpu line v lane first log is none reported = record {
-  exchanges = record { event = steps; answer = refused no_frame } ∷ [];
-  after = lane;
-  happened = lacks_to_finish (lacked n size start cpu v lane is none);
+  happened = lacks_to_step record {
+    none = no_length lane.core.frames (sym (depth_is n size start cpu v lane is) ∙ none);
+    exchanges_are = refl;
+    stays = refl;
+  };
   is_lane = is;
   log = reported;
 }

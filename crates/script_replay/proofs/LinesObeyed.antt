@@ -1,5 +1,5 @@
 -- What holds between two lines of a script holds after one line more.
-use Rattle.std.proofs.Common.{◌≡◌, ◌≢◌, ℕ, ◌+◌, ◌<◌, List, [], ◌∷◌, ◌++◌, length, get_or, take, Option, Some, refl, sym, ap, ◌∙◌, subst, ⊎_elim, arith}
+use Rattle.std.proofs.Common.{◌≡◌, ◌≢◌, ℕ, ◌+◌, ◌<◌, List, [], ◌∷◌, ◌++◌, length, get_or, take, Option, Some, refl, sym, ap, ◌∙◌, subst, ⊎_elim, arith, append-nil}
 use Rattle.std.specs.Prelude.{Contains, All, IfSome, slice_set}
 use Rattle.std.specs.List.{slice_get}
 use Rattle.std.proofs.lemmas.Option.{slice_get_within, slice_get-get_or, get_or_from_slice_get}
@@ -17,6 +17,7 @@ use Rattle.text_model.specs.Log.{no_page, delivery_line}
 use Rattle.text_model.specs.Script.{Command, deliver, Script}
 use Rattle.text_model.specs.ScriptLimits.{IsWithinLimits, IsCommandWithin}
 use Rattle.world_model.specs.Log.{log_of}
+use Rattle.world_model.specs.Lanes.{Lane}
 use Rattle.world_model.specs.World.{World, parcels_of, IsFill, Brings, RunsLine, DeliversTaken, DeliversNothing, delivers, lacks}
 use Rattle.world_model.proofs.Lookups.{get_set_here, get_set_other}
 use Rattle.world_model.proofs.WorldsKept.{IsWorldKept, world_kept}
@@ -29,7 +30,7 @@ use Rattle.page_numbers.specs.Parcels.{as_parcels}
 use Rattle.script_replay.specs.declared.replaying.ReplayState.{ReplayState}
 use Rattle.replay_log.specs.LogTypes.{shown_log, shown_log_line}
 use Rattle.script_replay.specs.Value.{LaneValue}
-use Rattle.script_replay.specs.Lanes.{IsLaneOf, HasLine}
+use Rattle.script_replay.specs.Lanes.{IsLane, IsLaneOf, Happens, HasLine}
 use Rattle.script_replay.specs.Places.{lane_at, AreSameBut, IsLaneFrom, IsLaneAt}
 use Rattle.deliveries.specs.Deliveries.{AreRising, Adds}
 use Rattle.script_replay.specs.Collected.{IsFound, delivery_of, IsCollected, AreCollected}
@@ -40,6 +41,18 @@ use Rattle.script_replay.proofs.Placed.{from_is_lane, first_world, new_at, obeys
 
 pub log_more : (log new : List LogLine) (line : LogLine) (reported : model.LogLine) → new ≡ log ++ line ∷ [] → shown_log_line line ≡ reported → shown_log new ≡ shown_log log ++ reported ∷ []
 log_more log new line reported more same = ap shown_log more ∙ map-append shown_log_line log (line ∷ []) ∙ ap (λ (l : model.LogLine). shown_log log ++ l ∷ []) same
+
+-- a delivery asks nothing of a lane
+pub asks_nothing : (n size start cpu line : ℕ) (v : LaneValue) (lane : Lane) (log : List LogLine)
+    → IsLane n size start cpu v lane
+    → Happens (λ n size before exchanges after. (exchanges ≡ []) × (after ≡ before)) line cpu n size start lane log v log
+asks_nothing n size start cpu line v lane log is = record {
+  exchanges = [];
+  after = lane;
+  happened = (refl, refl);
+  is_lane = is;
+  log = sym (append-nil (shown_log log));
+}
 
 -- ---- before the first line
 

@@ -30,7 +30,7 @@ pub(crate) struct ReplayState<'a> {
     log: Vec<LogLine>,
 }
 
-/// A lane does what a command asks of it, which is no delivery.
+/// A lane does what a command asks of it: of a delivery that is nothing.
 #[inline(always)]
 fn run_line<'a>(
     alloc: Global,
@@ -39,8 +39,7 @@ fn run_line<'a>(
     command: Command<'a>,
     log: &mut Vec<LogLine>,
 ) -> Result<(), NoMemory>
-    requires lane { IsLaneOf at.cpu.0 lane.old }
-    requires ring { IsOfRing (shown_command command) }
+    requires { IsLaneOf at.cpu.0 lane.old }
     ensures { OnOk result (HasLine (shown_command command.entry) at.line at.cpu.0
         lane.old log.old.items lane.new log.new.items) }
 {
@@ -61,7 +60,7 @@ fn run_line<'a>(
         Command::StepReader { count, .. } => lane.step_reader(alloc, at, count, log),
         Command::Take { .. } => lane.take(alloc, at, log),
         Command::Wish { .. } => lane.wish(at, log),
-        Command::Deliver { .. } => unreachable!(),
+        Command::Deliver { .. } => Ok(()),
     }
 }
 

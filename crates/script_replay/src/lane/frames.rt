@@ -45,17 +45,14 @@ impl<'a> Lane<'a> {
         self.follow(at, count, log)
     }
 
-    /// Lets the frame on top make steps until it is gone.
+    /// Lets the frame on top make steps until it is gone: no frame makes so many as are asked for.
     #[inline(never)]
     pub(crate) fn finish(&mut self, at: At, log: &mut Vec<LogLine>) -> Result<(), NoMemory>
         requires { IsLaneOf at.cpu.0 self.old }
         ensures { OnOk result (HasLine (finish_frame at.cpu.0) at.line at.cpu.0
             self.old log.old.items self.new log.new.items) }
     {
-        if self.core.depth() == 0 {
-            return report_refusal(at, WriteFault::NoFrame, log);
-        }
-        self.follow(at, MOST_STEPS, log)
+        self.step(at, MOST_STEPS, log)
     }
 
     /// The frame on top makes steps until `count` are made or it is gone, so that fewer payloads are kept.

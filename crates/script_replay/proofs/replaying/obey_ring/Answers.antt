@@ -10,8 +10,8 @@ use Rattle.script_replay.proofs.Placed.{ring_within}
 use Rattle.script_replay.proofs.LinesObeyed.{is_lane_of, ring_leads}
 use Rattle.script_replay.proofs.replaying.obey_ring.Goals as goal
 
-pub run_line-requires-clause-lane : goal.run_line-requires-clause-lane
-run_line-requires-clause-lane c =
+pub run_line-requires : goal.run_line-requires
+run_line-requires c =
     let script = c.args.script.now in
     let ready = c.requires.ready in
     let cpu = c.args.cpu.0 in
