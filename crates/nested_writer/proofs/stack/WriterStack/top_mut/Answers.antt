@@ -36,23 +36,15 @@ returns-then-slot-fill_number c =
       lends_top _ s slot payload is place within lent (tail_stays s slot payload is same (ap (λ (p : Lent). p.page) c.lend.ensures)) stands,
     )
 
-pub lend-payload-requires-clause-inside : goal.lend-payload-requires-clause-inside
+pub lend-payload-requires : goal.lend-payload-requires
 unfolding IsReachedStack
-lend-payload-requires-clause-inside c =
+lend-payload-requires c =
     let s : Stack = stack_of c.self.inside in
     let slot : Slot = c.in_ok-slot.slot in
     let is : IsTopSlot s.frames slot = c.in_ok-slot.ensures.slot in
     let (start, h, k) = subst IsReachedStack (sym c.self.view_is) c.requires.stack in
-    (other_page start h s slot is k (λ same. c.if-slot-fill_number.false (same ∙ sym c.fill_number.ensures))).inside
-
-pub lend-payload-requires-clause-within : goal.lend-payload-requires-clause-within
-unfolding IsReachedStack
-lend-payload-requires-clause-within c =
-    let s : Stack = stack_of c.self.inside in
-    let slot : Slot = c.in_ok-slot.slot in
-    let is : IsTopSlot s.frames slot = c.in_ok-slot.ensures.slot in
-    let (start, h, k) = subst IsReachedStack (sym c.self.view_is) c.requires.stack in
-    older_within start h s slot is k (λ same. c.if-slot-fill_number.false (same ∙ sym c.fill_number.ensures))
+    let other : (slot.fill ≡ s.tail.fill → ⊥) = λ same. c.if-slot-fill_number.false (same ∙ sym c.fill_number.ensures) in
+    record { inside = (other_page start h s slot is k other).inside; within = older_within start h s slot is k other }
 
 pub returns : goal.returns
 unfolding IsReachedStack
