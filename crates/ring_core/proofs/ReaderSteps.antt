@@ -1,11 +1,14 @@
 -- The steps of the reader but the swap: what the value after each of them shows.
-use Rattle.std.proofs.Common.{◌≡◌, ◌≢◌, ℕ, suc, ◌+◌, ◌-◌, ◌%◌, ◌<◌, ◌≤◌, List, length, get_or, refl, sym, ap, ◌∙◌, subst, mod-lt, mod-eq_of_lt, arith}
+use Rattle.std.proofs.Common.{◌≡◌, ◌≢◌, ℕ, suc, ◌+◌, ◌-◌, ◌%◌, ◌<◌, ◌≤◌, List, length, get_or, refl, sym, ap, ◌∙◌, subst, mod-lt, mod-eq_of_lt, arith, Fits, w64}
 use Rattle.trace_model.specs.declared.limits.TheConstants.{LINK_FILLS}
 use Rattle.trace_model.specs.Links.{Link, header_link, normal_link, update_link}
 use Rattle.trace_model.specs.Ring as ring
 use Rattle.trace_model.specs.Steps as model
 use Rattle.trace_model.proofs.steps.StepCases as cases
 use Rattle.trace_model.proofs.steps.StepIs.{step_by}
+use Rattle.link_marks.specs.declared.link.Link.{Link as FoundLink}
+use Rattle.link_marks.specs.declared.link.Mark.{Mark}
+use Rattle.link_marks.specs.ModelLinks.{link_of}
 use Rattle.link_marks.specs.KeptLinks.{ReaderKept, LinkKept, is_normal, is_header, is_update, LinksKept}
 use Rattle.link_marks.proofs.links.LinkFills.{fill_at, normal_reports}
 use Rattle.link_marks.proofs.links.Positions.{at_position}
@@ -18,7 +21,8 @@ use Rattle.ring_frames.specs.ReaderPhases.{reader_phase_of}
 use Rattle.ring_core.specs.Value.{CoreValue, frames_of}
 use Rattle.ring_core.specs.IsCore.{HasStateOf, IsCore}
 use Rattle.ring_frames.specs.Answers.{IsAnswerOf}
-use Rattle.ring_core.specs.Steps.{IsStep, IsSomeCore}
+use Rattle.ring_core.specs.Answers.{GivesBack}
+use Rattle.ring_core.specs.Steps.{IsStep, MakesStep, MakesRead, IsSomeCore, IsReachedCore}
 use Rattle.ring_core.proofs.Stepped.{kept_of, stepped}
 
 -- the reader goes on, and sets its page's link or its wish
@@ -139,3 +143,18 @@ module _ (v : CoreValue) (r : IsSomeCore v) where
       let links = (kept_of n size start v c core).links in
       let known = subst (λ (p : ring.ReaderPhase). ReaderKept n c.links c.order c.spare_link c.head c.done c.reader.hint p) (s.reader_phase_is ∙ ap reader_phase_of at) links.reader in
       let below = known.1 in let open_yet = links.done_lt in let fits = links.fits in omega arith
+
+-- ---- the link that was loaded
+
+-- the fill after the one that it states has a number
+pub next_fits : (v : CoreValue) (r : IsReachedCore v) (hint : ℕ) (link : Link) → link ≡ ring.link_into (length v.links) v.links hint → Fits w64 (link.fill + 1)
+unfolding IsReachedCore
+next_fits v r hint link is = let below = reported_fits v r hint in let same = ap (λ (l : Link). l.fill) is in omega arith
+
+-- it is that of the hint, and has this mark
+pub link_loaded : (v : CoreValue) (hint : ℕ) (link : FoundLink) (mark : Mark) → hint ≡ v.reader.hint → link_of link ≡ ring.link_into (length v.links) v.links hint → link.mark ≡ mark
+    → ring.link_into (length v.links) v.links v.reader.hint ≡ link_of record { mark = mark; page = link.page; fill = link.fill }
+link_loaded v hint link mark same is marked = ap (ring.link_into (length v.links) v.links) (sym same) ∙ sym is ∙ ap (λ (m : Mark). link_of record { mark = m; page = link.page; fill = link.fill }) marked
+
+pub makes_read : (v : CoreValue) (body : List ℕ) (result : Answer) (new : CoreValue) → MakesStep v model.reads result new → GivesBack body result → new.stack ≡ v.stack → MakesRead v body result new
+makes_read v body result new step given_back stack = record { step = step; given_back = given_back; stack = stack }
