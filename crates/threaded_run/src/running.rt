@@ -108,30 +108,6 @@ fn run_in<'s, E, R: Threads + Wait + Sync, G: Gate>(
     })
 }
 
-/// The run, with the places of each CPU's writer lines, and a flag for each CPU.
-fn run_with<R: Threads + Wait + Sync, G: Gate>(
-    rt: &R,
-    alloc: Global,
-    script: &Script,
-    gate: &G,
-    places: &[Places],
-    over: &[AtomicBool],
-) -> Result<Ran, ReplayFault>
-    requires places { ArePlaces script.now places.now }
-    requires over { length over.now ≡ script.now.cpus }
-    ensures ran { IfOk result (IsRan script.now) }
-    ensures shut { IfErr result (IsByGate G.answers gate.now) }
-{
-    thread::scope(
-        thread::scope_env(),
-        rt,
-        |scope| -> Result<Ran, ReplayFault>
-            requires { ArePlaces script.now places.now × (length over.now ≡ script.now.cpus) }
-            ensures { IfOk result (IsRan script.entry.now) × IfErr result (IsByGate G.answers gate.entry.now) }
-        { run_in(rt, scope, alloc, script, gate, places, over) },
-    )
-}
-
 /// Runs a script by threads: for each CPU one that obeys its writer's lines (`b`, `s`, `f`, `w`, `c`) and then finishes
 /// the frames that are left, and one that takes pages meanwhile; for each collector one that adds what was taken. Lines
 /// of readers and deliveries are not obeyed: each page is shared to every collector.
@@ -154,5 +130,14 @@ pub fn run<R: Threads + Wait + Sync, G: Gate>(
 {
     let places = lines_by_cpu(alloc, script)?;
     let over = new_flags(alloc, script.cpus() as usize)?;
-    run_with(rt, alloc, script, gate, places.as_slice(), over.as_slice())
+    let places = places.as_slice();
+    let over = over.as_slice();
+    thread::scope(
+        thread::scope_env(),
+        rt,
+        |scope| -> Result<Ran, ReplayFault>
+            requires { ArePlaces script.now places.now × (length over.now ≡ script.now.cpus) }
+            ensures { IfOk result (IsRan script.entry.now) × IfErr result (IsByGate G.answers gate.entry.now) }
+        { run_in(rt, scope, alloc, script, gate, places, over) },
+    )
 }
