@@ -3,7 +3,7 @@ use Rattle.std.proofs.Common.{◌≡◌, ℕ, List, [], ◌∷◌, ◌++◌, ref
 use mathlib.Core.Bool.{true}
 use seplogic.Ra.Ura.{Ura}
 use base.Fraction.{full_share}
-use mir.Syntax.{Fn, Callee, named, erased, mut, local, value_local, ty_ref, ty_ptr, block, seq, assign, place, rv_opd, copy, deref, field, addr_of, aggregate, return}
+use mir.Syntax.{Fn, Body, Local, Callee, named, erased, mut, local, value_local, ty_ref, ty_ptr, block, seq, assign, place, rv_opd, copy, deref, field, addr_of, aggregate, return}
 use mir.Raw.{raw as bare}
 use mir.Val.{Val, vptr}
 use base.Logic.{SProp, ent, sep, emp, id⊢}
@@ -42,34 +42,26 @@ use Rattle.tracering_c.specs.Held.{heap as the_heap}
 use Rattle.tracering_c.specs.Lending.{LendsEnd}
 use Rattle.tracering_c.proofs.HeldSteps.{Kept, al, one_val, handle_in, handle_out, the_value}
 
+-- a function with no lifetime and no type parameter, of this number of parameters
+abbrev plain_code : (params : ℕ) → List Local → Body → Fn
+plain_code params locals body = record { lifetimes = 0; outlives = []; ty_params = []; givens = 0; params = params; locals = locals; body = body }
+
 module _ (E : Kept) where
   abbrev From : RattleType
   From = loose.Loose E.row Heap.the_row heap.the_row_laws ghosts
 
   -- ---- the code of each call
   abbrev pub of_code : Fn
-  of_code = record {
-    lifetimes = 0;
-    outlives = [];
-    ty_params = [];
-    givens = 0;
-    params = 1;
-    locals = local (lone handle.the_row.mir) value_local ∷ local (lone From.mir) value_local ∷ local ty_ptr value_local ∷ local (lone Heap.the_row.mir) value_local ∷ local ty_ptr value_local ∷ [];
-    body = seq (assign (place 2 []) (rv_opd (copy (place 1 (field 0 ∷ []))))) (seq (assign (place 3 []) (rv_opd (copy (place 1 (field 1 ∷ []))))) (seq (assign (place 4 []) (rv_opd (copy (place 2 []))))
-        (seq (assign (place 0 []) (aggregate (copy (place 4 []) ∷ []))) return)));
-  }
+  of_code = plain_code 1
+      (local (lone handle.the_row.mir) value_local ∷ local (lone From.mir) value_local ∷ local ty_ptr value_local ∷ local (lone Heap.the_row.mir) value_local ∷ local ty_ptr value_local ∷ [])
+      (seq (assign (place 2 []) (rv_opd (copy (place 1 (field 0 ∷ []))))) (seq (assign (place 3 []) (rv_opd (copy (place 1 (field 1 ∷ []))))) (seq (assign (place 4 []) (rv_opd (copy (place 2 []))))
+      (seq (assign (place 0 []) (aggregate (copy (place 4 []) ∷ []))) return))))
 
   abbrev pub into_code : Fn
-  into_code = record {
-    lifetimes = 0;
-    outlives = [];
-    ty_params = [];
-    givens = 0;
-    params = 2;
-    locals = local (lone From.mir) value_local ∷ local (lone handle.the_row.mir) value_local ∷ local (lone Heap.the_row.mir) value_local ∷ local ty_ptr value_local ∷ local ty_ptr value_local ∷ [];
-    body = seq (assign (place 3 []) (rv_opd (copy (place 1 (field 0 ∷ []))))) (seq (assign (place 4 []) (rv_opd (copy (place 3 []))))
-        (seq (assign (place 0 []) (aggregate (copy (place 4 []) ∷ copy (place 2 []) ∷ []))) return));
-  }
+  into_code = plain_code 2
+      (local (lone From.mir) value_local ∷ local (lone handle.the_row.mir) value_local ∷ local (lone Heap.the_row.mir) value_local ∷ local ty_ptr value_local ∷ local ty_ptr value_local ∷ [])
+      (seq (assign (place 3 []) (rv_opd (copy (place 1 (field 0 ∷ []))))) (seq (assign (place 4 []) (rv_opd (copy (place 3 []))))
+      (seq (assign (place 0 []) (aggregate (copy (place 4 []) ∷ copy (place 2 []) ∷ []))) return)))
 
   abbrev pub lend_code : Fn
   lend_code = record {
