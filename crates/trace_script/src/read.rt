@@ -2,7 +2,7 @@
 ghost use Rattle.std.specs.Prelude.{◌≡◌, [], length, IfOk, IfErr};
 ghost use Rattle.text_model.specs.HeaderReading.{numbered_reading, significant_lines_after, end_line_after};
 ghost use Rattle.text_model.specs.Script.{ParsesScript, command_in};
-ghost use Rattle.text_model.specs.ScriptReading.{commands_from, script_from};
+ghost use Rattle.text_model.specs.ScriptReading.{commands_from, script_from, script_in};
 ghost use Rattle.trace_script.specs.Kept.{PutsCommandAt, PutsNext, BeginAsCommands, LeavesLess};
 ghost use Rattle.trace_script.specs.ScriptFaults.{GivesAt, BeginsAsScript, ReportsFirstFault};
 
@@ -128,7 +128,9 @@ fn script_in(alloc: Global, text: &[u8]) -> Result<Script, ScriptFault>
 
 /// The script that a text spells, or its first fault.
 pub fn read_script(alloc: Global, text: &[u8]) -> Result<Script, ScriptFault>
-    // What is read is what the text spells, which is one script.
+    // What is read is the script of the text, or its fault, unless memory was refused.
+    ensures reading { GivesAt (λ script. script) result (script_in text.now) }
+    // So it is what the text spells, which is one script.
     ensures script { IfOk result (λ script. ParsesScript text.now script) }
     // A fault is the text's first one. If memory was refused, the text begins with the lines of a header and at least
     // one command's, and none of these lines has a fault.
