@@ -88,6 +88,35 @@ impl WriterStack {
         Wrote::Record
     }
 
+    /// Writes a record as `write_alone` does, if it is as nearly all are: of 1 to `SHORT_LIMIT` bytes, less than
+    /// `EXTEND_FROM` after the one before it in the tail, and no earlier. Otherwise nothing changes, even if the record
+    /// fits. It calls nothing.
+    #[inline(always)]
+    pub fn write_if_plain(&mut self, moment: u64, payload: &[u8]) -> Wrote
+        requires stack { IsReachedStack self.old }
+        ensures at_once { result ≡ Wrote.Record → WritesWhatFits moment payload.now self.old result self.new }
+        ensures written { result ≡ Wrote.Record → self.new ≡ with_written self.old moment payload.now }
+        ensures nothing { result ≡ Wrote.Nothing → self.new ≡ self.old }
+    {
+        if !self.is_empty() {
+            return Wrote::Nothing;
+        }
+        // Fewer than 1 byte, or more than `SHORT_LIMIT`.
+        if payload.len().wrapping_sub(1) >= SHORT_LIMIT {
+            return Wrote::Nothing;
+        }
+        if self.tail.end() == 0 {
+            return Wrote::Nothing;
+        }
+        if moment >= MOMENT_LIMIT {
+            return Wrote::Nothing;
+        }
+        if moment.wrapping_sub(self.last_moment) >= EXTEND_FROM {
+            return Wrote::Nothing;
+        }
+        self.write_plain(moment, payload)
+    }
+
     /// Writes a record of this moment and payload in one call, if the stack is empty and it fits in the tail: what
     /// `begin`, `allot`, the payload's copy into what `top_mut` lends, `end` and `pop_bottom` do. The stack is empty
     /// after it. Otherwise, and if `begin` would refuse it, nothing changes.
@@ -98,23 +127,10 @@ impl WriterStack {
         ensures written { result ≡ Wrote.Record → self.new ≡ with_written self.old moment payload.now }
         ensures frames { self.new.frames ≡ self.old.frames }
     {
-        if !self.is_empty() {
-            return self.write_any(moment, payload);
+        match self.write_if_plain(moment, payload) {
+            Wrote::Record => Wrote::Record,
+            Wrote::Nothing => self.write_any(moment, payload),
         }
-        // Fewer than 1 byte, or more than `SHORT_LIMIT`.
-        if payload.len().wrapping_sub(1) >= SHORT_LIMIT {
-            return self.write_any(moment, payload);
-        }
-        if self.tail.end() == 0 {
-            return self.write_any(moment, payload);
-        }
-        if moment >= MOMENT_LIMIT {
-            return self.write_any(moment, payload);
-        }
-        if moment.wrapping_sub(self.last_moment) >= EXTEND_FROM {
-            return self.write_any(moment, payload);
-        }
-        self.write_plain(moment, payload)
     }
 
     /// Puts a frame that has left on the empty stack: that of a record of this moment and of a payload of `len` bytes.
