@@ -4,7 +4,7 @@ mod leave;
 mod push;
 mod tail;
 mod top;
-mod write;
+pub mod write;
 
 use crate::phase::{Phase, Role};
 use crate::stage::Stage;

@@ -15,5 +15,6 @@ mod stage;
 
 pub use answer::Answer;
 pub use frames::Frames;
+pub use frames::write::Records;
 pub use phase::{Phase, Role, StepAnswer};
 pub use reader::{Reader, ReaderPhase};

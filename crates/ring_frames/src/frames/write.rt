@@ -3,9 +3,19 @@ use crate::frames::Frames;
 use crate::phase::{Phase, StepAnswer};
 use nested_writer::Wrote;
 
+/// Which records a call writes at once.
+#[derive(Clone, Copy, Debug, PartialEq, Eq)]
+pub enum Records {
+    /// Each that fits.
+    Any,
+    /// Those that are as nearly all are (`WriterStack::write_if_plain`).
+    Plain,
+}
+
 impl Frames {
-    ghost use Rattle.std.specs.Prelude.{◌≡◌, ◌↔◌, ℕ, [], length, false};
+    ghost use Rattle.std.specs.Prelude.{◌≡◌, ℕ, [], length, false};
     ghost use Rattle.nested_writer.specs.AtOnce.{FitsAtOnce};
+    ghost use Rattle.ring_frames.specs.declared.frames.write.Records.TheVariants.{Any};
     ghost use Rattle.ring_frames.specs.declared.phase.Phase.TheVariants.{Wishing};
     ghost use Rattle.ring_frames.specs.declared.answer.Answer.TheVariants.{Gone};
     ghost use Rattle.ring_frames.specs.Answers.{KeepsPayloads};
@@ -14,25 +24,31 @@ impl Frames {
     ghost use Rattle.ring_frames.specs.Fills.{LooksForWish};
     ghost use Rattle.ring_frames.specs.AtOnce.{with_left_frame, WritesAtOnce, IsWrittenAlone};
 
-    /// Writes a record of this moment and payload in one call, if no frame is on the stack and the record fits in the
-    /// tail. No frame is left then, as if the record's frame had left and not looked for the reader's wish yet. The
-    /// caller looks for it by `is_wished` and, if that answers true, by `stay`. In all other cases, and if `push` would
-    /// refuse the record as too long for a page or at too late a moment, nothing changes.
+    /// Writes a record of this moment and payload in one call, if no frame is on the stack, the record fits in the
+    /// tail, and it is one of these. No frame is left then, as if the record's frame had left and not looked for the
+    /// reader's wish yet. The caller looks for it by `is_wished` and, if that answers true, by `stay`. In all other
+    /// cases, and if `push` would refuse the record as too long for a page or at too late a moment, nothing changes.
     #[inline(always)]
-    pub fn write(&mut self, moment: u64, payload: &[u8]) -> Wrote
+    pub fn write(&mut self, records: Records, moment: u64, payload: &[u8]) -> Wrote
         requires frames { IsFrames self.old }
-        ensures fits { result ≡ Wrote.Record ↔ FitsAtOnce self.old.stack moment (length payload.now) }
+        ensures fits { result ≡ Wrote.Record → FitsAtOnce self.old.stack moment (length payload.now) }
+        ensures any { records ≡ Any
+            → FitsAtOnce self.old.stack moment (length payload.now)
+            → result ≡ Wrote.Record }
         ensures wrote { result ≡ Wrote.Record
             → WritesAtOnce self.old moment payload.now (with_left_frame self.new moment (length payload.now)) }
         ensures alone { result ≡ Wrote.Record → IsWrittenAlone self.old moment payload.now self.new }
         ensures nothing { result ≡ Wrote.Nothing → self.new ≡ self.old }
         ensures payloads { KeepsPayloads self.old.stack self.new.stack }
     {
-        self.stack.write_alone(moment, payload)
+        match records {
+            Records::Any => self.stack.write_alone(moment, payload),
+            Records::Plain => self.stack.write_if_plain(moment, payload),
+        }
     }
 
-    /// Whether the reader's wish is for the next fill, if only the tail is open. If it isn't, a frame that has left and
-    /// looks for it is gone.
+    /// Whether the reader's wish may be for the next fill, if only the tail is open. If it isn't, a frame that has left
+    /// and looks for it is gone.
     #[inline(always)]
     pub fn is_wished(&self, wish: u64) -> bool
         ensures unasked { result ≡ false → (moment len : ℕ)
@@ -41,7 +57,7 @@ impl Frames {
             → closing_phase self.now.stack ≡ Wishing
             → LooksForWish (with_left_frame self.now moment len) wish Gone self.now }
     {
-        wish.wrapping_sub(1) == self.stack.done()
+        wish > self.stack.done()
     }
 
     /// The frame of a record of this moment and of `len` bytes, which was written at once and has left, looks for this

@@ -3,7 +3,7 @@ use crate::writer::Writer;
 use crate::writer::finish::met_first;
 use nested_writer::frame::Slot;
 use nested_writer::{Ended, WriteFault, Wrote};
-use ring_frames::{Answer, StepAnswer};
+use ring_frames::{Answer, Records, StepAnswer};
 use std::marker::Brand;
 
 impl Writer {
@@ -29,19 +29,52 @@ impl Writer {
         ensures rooms { rooms self.new ≡ rooms self.old }
         ensures keeps { KeepsWriter self.old self.new }
     {
-        let Wrote::Record = self.frames.write(moment, payload) else {
-            return self.write_by_steps(moment, payload);
+        match self.write_at_once(Records::Plain, moment, payload) {
+            Wrote::Record => Ok(()),
+            Wrote::Nothing => self.write_rarely(moment, payload),
+        }
+    }
+
+    /// `write`, of a record that isn't as nearly all are. So `write` has no call before which it would have to save
+    /// registers.
+    #[cold]
+    #[inline(never)]
+    fn write_rarely(&mut self, moment: u64, payload: &[u8]) -> Result<(), WriteFault>
+        requires writer { IsWriter self.old }
+        ensures written { result ≡ Ok tt → IsWritten self.old.shape self.old.part moment payload.now self.new.part }
+        ensures refused { (fault : WriteFault) → result ≡ Err fault
+            → IsRefusedWrite self.old.shape self.old.part moment (length payload.now) fault self.new.part }
+        ensures keeps { KeepsWriter self.old self.new }
+    {
+        match self.write_at_once(Records::Any, moment, payload) {
+            Wrote::Record => Ok(()),
+            Wrote::Nothing => self.write_by_steps(moment, payload),
+        }
+    }
+
+    /// Writes a record in one call, if it is one of these, no frame is on the stack, and it fits in the tail. Else
+    /// nothing changes.
+    #[inline(always)]
+    fn write_at_once(&mut self, records: Records, moment: u64, payload: &[u8]) -> Wrote
+        requires writer { IsWriter self.old }
+        ensures written { result ≡ Wrote.Record
+            → IsWritten self.old.shape self.old.part moment payload.now self.new.part }
+        ensures nothing { result ≡ Wrote.Nothing → self.new ≡ self.old }
+        ensures keeps { KeepsWriter self.old self.new }
+    {
+        let Wrote::Record = self.frames.write(records, moment, payload) else {
+            return Wrote::Nothing;
         };
         self.seat.note::<Brand, _>(&(moment, payload));
         let wish = self.seat.load_wish();
         if !self.frames.is_wished(wish) {
-            return Ok(());
+            return Wrote::Record;
         }
         match self.frames.stay(moment, payload.len(), wish) {
-            StepAnswer::Gone => Ok(()),
+            StepAnswer::Gone => Wrote::Record,
             StepAnswer::Going => {
                 let _refusal = self.leave_on();
-                Ok(())
+                Wrote::Record
             }
         }
     }

@@ -1,6 +1,9 @@
-use Rattle.std.proofs.Common.{◌≡◌, length, refl, sym, subst}
+use Rattle.std.proofs.Common.{◌≡◌, ℕ, List, length, refl, sym, subst}
 use Rattle.nested_writer.specs.declared.stack.write.Wrote.{Wrote}
 use Rattle.nested_writer.specs.declared.stack.write.Wrote.TheVariants.{Record, Nothing}
+use Rattle.nested_writer.specs.Stack.{Stack}
+use Rattle.nested_writer.specs.AtOnce.{with_written}
+use Rattle.nested_writer.specs.Promises.{WritesWhatFits}
 use Rattle.ring_frames.specs.Value.{FramesValue}
 use Rattle.ring_frames.specs.Inside.{frames_in}
 use Rattle.ring_frames.specs.Steps.{IsFrames}
@@ -10,23 +13,41 @@ use Rattle.ring_frames.specs.Answers.{KeepsPayloads}
 use Rattle.ring_frames.proofs.Payloads.{same_stack, none_held}
 use Rattle.ring_frames.proofs.frames.Frames.write.Goals as goal
 
-pub returns-clause-wrote : goal.returns-clause-wrote
-returns-clause-wrote c = λ is.
-    let v : FramesValue = frames_in c.self.inside in
-    let new : FramesValue = record v { stack = c.write_alone.new.self } in
-    subst (λ (x : FramesValue). WritesAtOnce x c.args.moment c.args.payload.now (with_left_frame new c.args.moment (length c.args.payload.now))) c.self.view_is
-    (writes_at_once v c.write_alone.new.self c.args.moment c.args.payload.now (c.write_alone.ensures.at_once.wrote.0 is) (c.write_alone.ensures.written is) (c.write_alone.ensures.at_once.stack is))
+-- what a record makes of the frames that is written into the stack
+module _ (v seen : FramesValue) (same : v ≡ seen) (new : Stack) (moment : ℕ) (payload : List ℕ) (wrote : Wrote) where
+  steps : wrote ≡ Record → WritesWhatFits moment payload v.stack wrote new → new ≡ with_written v.stack moment payload
+      → WritesAtOnce seen moment payload (with_left_frame (record v { stack = new }) moment (length payload))
+  steps is fits written =
+      subst (λ (x : FramesValue). WritesAtOnce x moment payload (with_left_frame (record v { stack = new }) moment (length payload))) same
+      (writes_at_once v new moment payload (fits.wrote.0 is) written (fits.stack is))
 
-pub returns-clause-alone : goal.returns-clause-alone
-returns-clause-alone c = λ is.
-    let v : FramesValue = frames_in c.self.inside in
-    subst (λ (x : FramesValue). IsWrittenAlone x c.args.moment c.args.payload.now (record v { stack = c.write_alone.new.self })) c.self.view_is
-    (written_alone v c.write_alone.new.self c.args.moment c.args.payload.now (subst IsFrames (sym c.self.view_is) c.requires.frames) (c.write_alone.ensures.at_once.wrote.0 is) (c.write_alone.ensures.written is))
+  alone : IsFrames seen → wrote ≡ Record → WritesWhatFits moment payload v.stack wrote new → new ≡ with_written v.stack moment payload
+      → IsWrittenAlone seen moment payload (record v { stack = new })
+  alone are is fits written =
+      subst (λ (x : FramesValue). IsWrittenAlone x moment payload (record v { stack = new })) same
+      (written_alone v new moment payload (subst IsFrames (sym same) are) (fits.wrote.0 is) written)
 
-pub returns-clause-payloads : goal.returns-clause-payloads
-returns-clause-payloads c =
-    subst (λ (x : FramesValue). KeepsPayloads x.stack c.write_alone.new.self) c.self.view_is (by_result c.write_alone.result refl)
-  where
-    by_result : (wrote : Wrote) → c.write_alone.result ≡ wrote → KeepsPayloads (frames_in c.self.inside).stack c.write_alone.new.self
-    by_result Record is = none_held (frames_in c.self.inside).stack c.write_alone.new.self (c.write_alone.ensures.at_once.wrote.0 is).0
-    by_result Nothing is = same_stack (frames_in c.self.inside).stack c.write_alone.new.self (c.write_alone.ensures.at_once.nothing is)
+  payloads : (wrote ≡ Record → WritesWhatFits moment payload v.stack wrote new) → (wrote ≡ Nothing → new ≡ v.stack) → KeepsPayloads seen.stack new
+  payloads fits nothing = subst (λ (x : FramesValue). KeepsPayloads x.stack new) same (by_result wrote refl)
+    where
+      by_result : (found : Wrote) → wrote ≡ found → KeepsPayloads v.stack new
+      by_result Record is = none_held v.stack new ((fits is).wrote.0 is).0
+      by_result Nothing is = same_stack v.stack new (nothing is)
+
+pub returns-in-Any-clause-wrote : goal.returns-in-Any-clause-wrote
+returns-in-Any-clause-wrote c = λ is. steps (frames_in c.self.inside) _ c.self.view_is c.write_alone.new.self c.args.moment c.args.payload.now c.write_alone.result is c.write_alone.ensures.at_once (c.write_alone.ensures.written is)
+
+pub returns-in-Any-clause-alone : goal.returns-in-Any-clause-alone
+returns-in-Any-clause-alone c = λ is. alone (frames_in c.self.inside) _ c.self.view_is c.write_alone.new.self c.args.moment c.args.payload.now c.write_alone.result c.requires.frames is c.write_alone.ensures.at_once (c.write_alone.ensures.written is)
+
+pub returns-in-Any-clause-payloads : goal.returns-in-Any-clause-payloads
+returns-in-Any-clause-payloads c = payloads (frames_in c.self.inside) _ c.self.view_is c.write_alone.new.self c.args.moment c.args.payload.now c.write_alone.result (λ is. c.write_alone.ensures.at_once) c.write_alone.ensures.at_once.nothing
+
+pub returns-in-Plain-clause-wrote : goal.returns-in-Plain-clause-wrote
+returns-in-Plain-clause-wrote c = λ is. steps (frames_in c.self.inside) _ c.self.view_is c.write_if_plain.new.self c.args.moment c.args.payload.now c.write_if_plain.result is (c.write_if_plain.ensures.at_once is) (c.write_if_plain.ensures.written is)
+
+pub returns-in-Plain-clause-alone : goal.returns-in-Plain-clause-alone
+returns-in-Plain-clause-alone c = λ is. alone (frames_in c.self.inside) _ c.self.view_is c.write_if_plain.new.self c.args.moment c.args.payload.now c.write_if_plain.result c.requires.frames is (c.write_if_plain.ensures.at_once is) (c.write_if_plain.ensures.written is)
+
+pub returns-in-Plain-clause-payloads : goal.returns-in-Plain-clause-payloads
+returns-in-Plain-clause-payloads c = payloads (frames_in c.self.inside) _ c.self.view_is c.write_if_plain.new.self c.args.moment c.args.payload.now c.write_if_plain.result c.write_if_plain.ensures.at_once c.write_if_plain.ensures.nothing

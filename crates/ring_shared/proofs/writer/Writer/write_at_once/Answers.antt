@@ -12,19 +12,14 @@ use Rattle.ring_steps.specs.Paging.{IsTopIn}
 use Rattle.ring_shared.specs.Value.{WriterValue}
 use Rattle.ring_shared.specs.Calls.{IsWriter, MakesSome}
 use Rattle.ring_shared.specs.Finishing.{Leaves}
-use Rattle.ring_shared.specs.Rooms.{rooms, rooms_of}
-use Rattle.ring_shared.proofs.Rooms.{write_rooms}
-use Rattle.ring_shared.specs.WholeWrites.{IsRefusedWrite, IsWritten}
+use Rattle.ring_shared.specs.WholeWrites.{IsWritten}
 use Rattle.ring_shared.specs.contracts.writer.Writer.{the_view}
 use Rattle.ring_shared.proofs.Called.{writer_seen}
 use Rattle.ring_shared.proofs.PageMoves.{looks_for_wish}
 use Rattle.ring_shared.proofs.AtOnce.{mid, leads_write, writer_mid, frames_mid, some_mid, none_left, wishing_mid, written_at_once, stands_still, written_behind}
 use Rattle.ring_frames.specs.Answers.{KeepsPayloads}
 use Rattle.ring_frames.proofs.Payloads.{kept_then}
-use Rattle.ring_shared.proofs.writer.Writer.write.Goals as goal
-
-pub returns-in_default-clause-refused : goal.returns-in_default-clause-refused
-returns-in_default-clause-refused c = λ fault e. subst (λ (x : WriterValue). IsRefusedWrite x.shape x.part c.args.moment (length c.args.payload.now) fault c.write_by_steps.new.self.part) c.self.view_is (c.write_by_steps.ensures.refused fault e)
+use Rattle.ring_shared.proofs.writer.Writer.write_at_once.Goals as goal
 
 -- a step from the part that was noted
 from_noted : {shape noted : Shape} {part now after : Writing} {sees : Core → Type 0} {answer : model.Answer} → noted ≡ shape → part ≡ now → IsWriterStep noted part sees answer after → IsWriterStep shape now sees answer after
@@ -146,12 +141,19 @@ returns-in-Going-clause-written c = λ _.
 
 -- ---- payloads
 
+-- ---- nothing is written
+
+same_writer : (v seen : WriterValue) (same : v ≡ seen) (new : FramesValue) → new ≡ v.frames → record v { frames = new } ≡ seen
+same_writer v seen same new is = ap (λ (f : FramesValue). record v { frames = f }) is ∙ same
+
+pub returns-in_default-clause-nothing : goal.returns-in_default-clause-nothing
+returns-in_default-clause-nothing c = λ _. same_writer (the_view c.self.inside) _ c.self.view_is c.write.new.self (c.write.ensures.nothing c.in_default.is)
+
 pub returns-in_default-clause-keeps : goal.returns-in_default-clause-keeps
 returns-in_default-clause-keeps c = record {
-  payloads = let v : WriterValue = the_view c.self.inside in subst (λ (x : WriterValue). KeepsPayloads x.frames.stack c.write_by_steps.new.self.frames.stack) c.self.view_is
-      (kept_then v.frames.stack c.write.new.self.stack c.write_by_steps.new.self.frames.stack c.write.ensures.payloads c.write_by_steps.ensures.keeps.payloads);
+  payloads = subst (λ (x : WriterValue). KeepsPayloads x.frames.stack c.write.new.self.stack) c.self.view_is c.write.ensures.payloads;
   ring = search rules;
-  writer = search rules;
+  writer = subst IsWriter (sym (same_writer (the_view c.self.inside) _ c.self.view_is c.write.new.self (c.write.ensures.nothing c.in_default.is))) c.requires.writer;
 }
 
 pub returns-in-Going-clause-keeps : goal.returns-in-Going-clause-keeps
@@ -162,22 +164,3 @@ returns-in-Going-clause-keeps c = record {
   ring = search rules;
   writer = search rules;
 }
-
--- ---- rooms
-
-pub returns-in_default-clause-rooms : goal.returns-in_default-clause-rooms
-returns-in_default-clause-rooms c =
-    let v : WriterValue = the_view c.self.inside in
-    write_rooms v.shape v.part c.write_by_steps.new.self.part c.args.moment c.args.payload.now c.write_by_steps.result c.write_by_steps.ensures.written c.write_by_steps.ensures.refused ∙ ap rooms c.self.view_is
-
-pub returns-then-not-is_wished-clause-rooms : goal.returns-then-not-is_wished-clause-rooms
-unfolding IsWriter
-returns-then-not-is_wished-clause-rooms c = ap rooms_of (returns-then-not-is_wished-clause-written c refl).frames
-
-pub returns-in-Gone-clause-rooms : goal.returns-in-Gone-clause-rooms
-unfolding IsWriter
-returns-in-Gone-clause-rooms c = ap rooms_of (returns-in-Gone-clause-written c refl).frames
-
-pub returns-in-Going-clause-rooms : goal.returns-in-Going-clause-rooms
-unfolding IsWriter
-returns-in-Going-clause-rooms c = ap rooms_of (returns-in-Going-clause-written c refl).frames
