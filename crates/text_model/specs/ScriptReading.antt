@@ -15,8 +15,8 @@ commands_from cpus collectors (line ∷ lines) = do
   commands ← commands_from cpus collectors lines
   Ok ((line.0, command) ∷ commands)
 
--- the first fill that the first line gives, if it is a start line, and the lines after it; else the default one, and all
--- lines
+-- the first fill that the first line gives, if it is a start line, and the lines after it; else the default one, and
+-- all lines
 unfoldable pub start_from : ℕ → List NumberedLine → Result (ℕ × List NumberedLine) (ℕ × LineFault)
 start_from pages [] = Ok (START_FILL, [])
 start_from pages (line ∷ lines) =

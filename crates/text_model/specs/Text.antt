@@ -42,8 +42,8 @@ is_decimal text =
     && all_ascii_digits text
     && nat_lt (digits_value 10 text) (2 ^ 64)
 
--- the bytes that pairs of hexadecimal digits spell, in lower or upper case, the high digit first; `-` is half a pair, and
--- so spells none
+-- the bytes that pairs of hexadecimal digits spell, in lower or upper case, the high digit first; `-` is half a pair,
+-- and so spells none
 abbrev pub bytes_of_pairs : List ℕ → List ℕ
 bytes_of_pairs (high ∷ low ∷ digits) = (16 * digit_value high + digit_value low) ∷ bytes_of_pairs digits
 bytes_of_pairs _ = []

@@ -28,9 +28,9 @@ claim_head n c frame below noted page =
 -- ---- looking at the next: a load of the link after the lost fill
 
 -- a helper stops where another frame has begun the fill; the owner doesn't
-abbrev pub unless_passed : Role → ℕ → Core → Frame → List Frame → Outcome → Outcome
-unless_passed owner noted c frame below outcome = outcome
-unless_passed helper noted c frame below outcome = unless_begun noted c frame below outcome
+abbrev pub unless_late : Role → ℕ → Core → Frame → List Frame → Outcome → Outcome
+unless_late owner noted c frame below outcome = outcome
+unless_late helper noted c frame below outcome = unless_begun noted c frame below outcome
 
 -- the next link has its HEADER: only the owner clears
 abbrev pub after_next : Role → ℕ → ℕ → Phase
@@ -42,7 +42,7 @@ abbrev pub load_next : (n : ℕ) → Core → Frame → List Frame → Role → 
 load_next n c frame below role noted page =
     let lost : ℕ = noted - n in
     let l : Link = link_into n c.links (suc lost) in
-    unless_passed role noted c frame below
+    unless_late role noted c frame below
     (only_if (nat_le n noted)
     (if same_link l (normal_link l.page (suc lost))
     then goes_on c frame below (marking role noted page l.page)
@@ -53,7 +53,7 @@ load_next n c frame below role noted page =
 abbrev pub mark_head : (n : ℕ) → Core → Frame → List Frame → Role → (noted page next : ℕ) → Outcome
 mark_head n c frame below role noted page next =
     let lost : ℕ = noted - n in
-    unless_passed role noted c frame below
+    unless_late role noted c frame below
     (only_if (nat_le n noted)
     (if same_link (link_into n c.links (suc lost)) (normal_link next (suc lost))
     then goes_on (with_link n c (suc lost) (header_link next (suc lost))) frame below (after_next role noted page)

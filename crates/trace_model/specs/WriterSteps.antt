@@ -86,8 +86,8 @@ refuses c frame below why = Some (refused why, after_leave c frame below None)
 
 -- ---- a fill is begun, by this frame or by another
 
--- What a frame does once its fill is begun: a record frame tries again; a close frame has what it wanted and leaves; one
--- that has left goes on to close fills.
+-- What a frame does once its fill is begun: a record frame tries again; a close frame has what it wanted and leaves;
+-- one that has left goes on to close fills.
 abbrev pub begins_again : Kind → FrameState → Core → Frame → List Frame → Outcome
 begins_again (for_record moment len) waiting c frame below = goes_on c frame below idle
 begins_again for_close waiting c frame below = Some (leave_answer below, after_leave c frame below None)
@@ -129,7 +129,8 @@ new_reservation c moment len = reservation_for moment len (reserved_records c.hi
 abbrev pub with_reservation : Core → Reservation → Core
 with_reservation c r =
     let tail : PageRecords = contents_of c (tail_page c) in
-    with_history_event (with_held c (tail_page c) (record tail { records = tail.records ++ r ∷ [] })) HistoryEvent.reserve
+    let next : PageRecords = record tail { records = tail.records ++ r ∷ [] } in
+    with_history_event (with_held c (tail_page c) next) HistoryEvent.reserve
 
 -- the frame on top has reserved the record of this number
 abbrev pub in_reserved : Core → Frame → List Frame → ℕ → Core
@@ -137,8 +138,8 @@ in_reserved c frame below number =
     record c { frames = record frame { state = reserved number; phase = idle } ∷ below }
 
 -- A page is needed: no closed page is left to lose, or the tail is the last fill, or the fill to open is noted.
-abbrev pub needs_page : (n : ℕ) → Core → Frame → List Frame → Outcome
-needs_page n c frame below =
+abbrev pub note_fill : (n : ℕ) → Core → Frame → List Frame → Outcome
+note_fill n c frame below =
     if c.opened == c.done + n then refuses c frame below crowded
     else (if nat_le LINK_FILLS (c.opened + n) then refuses c frame below worn
     else goes_on c frame below (looking c.opened))
@@ -150,9 +151,9 @@ reserve n size c frame below (for_record moment len) =
     let number : ℕ = length (reserved_records c.history) in
     if nat_le (fill_len (tail_of c.history ++ r ∷ [])) size
     then Some (reserved_as number, in_reserved (with_reservation c r) frame below number)
-    else needs_page n c frame below
+    else note_fill n c frame below
 reserve n size c frame below for_close =
-    if tail_holds c then needs_page n c frame below
+    if tail_holds c then note_fill n c frame below
     else Some (leave_answer below, after_leave c frame below None)
 
 -- ---- looking: a load of the link into the position of the fill to open

@@ -10,8 +10,8 @@ use Rattle.trace_model.specs.Frames.{Kind, for_record, for_close, FrameState, wa
 use Rattle.trace_model.specs.Ring.{ReaderPhase, loading_head, loading_done, storing_spare_link, swapping, Core, link_into}
 use Rattle.trace_model.specs.Links.{same_link}
 use Rattle.trace_model.specs.Events.{Event, pushes, pushes_close, steps, ends, reads, wishes, Answer, Outcome, only_if}
-use Rattle.trace_model.specs.WriterSteps.{begins_again, with_new_tail, unless_begun, new_reservation, tail_holds, push_record, push_close_frame, needs_page, reserve, sees_link, load_link, open_fill, idle_step, end_frame, end_top, release_fill, is_granted, load_wish}
-use Rattle.trace_model.specs.HeadMove.{claim_head, unless_passed, load_next, mark_head, clear_update}
+use Rattle.trace_model.specs.WriterSteps.{begins_again, with_new_tail, unless_begun, new_reservation, tail_holds, push_record, push_close_frame, note_fill, reserve, sees_link, load_link, open_fill, idle_step, end_frame, end_top, release_fill, is_granted, load_wish}
+use Rattle.trace_model.specs.HeadMove.{claim_head, unless_late, load_next, mark_head, clear_update}
 use Rattle.trace_model.specs.ReaderSteps.{reads_link}
 use Rattle.trace_model.specs.Steps.{frame_step_of, top_step_of, read_step_of, step_of, Step}
 use Rattle.trace_model.proofs.steps.StepSound.{same_link_from}
@@ -40,7 +40,7 @@ given_only false x holds g = holds refl
 -- ---- the steps of a frame
 
 module _ (n size : ℕ) (c : Core) (frame : Frame) (below : List Frame) (k : LinksKept n c) (r : ProgressKept n c) (top : c.frames ≡ frame ∷ below) where
-  needs_page_given : Given (needs_page n c frame below)
+  needs_page_given : Given (note_fill n c frame below)
   needs_page_given = given_if (c.opened == c.done + n) _ _ (λ e. tt) (λ e. given_if (nat_le LINK_FILLS (c.opened + n)) _ _ (λ s. tt) (λ s. tt))
 
   reserve_given : (kind : Kind) → Given (reserve n size c frame below kind)
@@ -53,7 +53,7 @@ module _ (n size : ℕ) (c : Core) (frame : Frame) (below : List Frame) (k : Lin
   begun_given : (noted : ℕ) (o : Outcome) → (noted ≡ c.opened → Given o) → Given (unless_begun noted c frame below o)
   begun_given noted o now = given_if (noted == c.opened) _ _ (λ e. now (eqb-true noted c.opened e)) (λ e. again_given c)
 
-  passed_given : (role : Role) (noted : ℕ) (o : Outcome) → Given o → Given (unless_passed role noted c frame below o)
+  passed_given : (role : Role) (noted : ℕ) (o : Outcome) → Given o → Given (unless_late role noted c frame below o)
   passed_given owner noted o given = given
   passed_given helper noted o given = begun_given noted o (λ now. given)
 

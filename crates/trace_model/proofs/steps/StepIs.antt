@@ -6,11 +6,11 @@ use Rattle.trace_model.specs.Words.{encoded_len, slot_len}
 use Rattle.trace_model.specs.History.{Reservation, wished, reserved_records}
 use Rattle.trace_model.specs.Packing.{fill_len, FitsBehind, tail_of}
 use Rattle.trace_model.specs.Links.{Link, normal_link, header_link, update_link, same_link}
-use Rattle.trace_model.specs.Frames.{Kind, for_record, for_close, FrameState, waiting, reserved, left, number_of, Role, owner, helper, Phase, idle, looking, claiming, looking_next, marking, clearing, opening, releasing, wishing, Frame, Refusal}
+use Rattle.trace_model.specs.Frames.{Kind, for_record, for_close, FrameState, waiting, reserved, left, number_of, Role, owner, helper, Phase, looking, looking_next, marking, releasing, wishing, Frame, Refusal}
 use Rattle.trace_model.specs.Ring.{ReaderPhase, loading_head, loading_done, storing_spare_link, swapping, Core, link_into}
 use Rattle.trace_model.specs.Events.{Event, Answer, refused, Outcome, only_if}
-use Rattle.trace_model.specs.WriterSteps.{with_history_event, in_phase, with_link, new_reservation, with_reservation, in_reserved, with_released, with_new_tail, tail_holds, unless_begun, push_record, needs_page, reserve, sees_link, load_link, open_fill, idle_step, end_frame, end_top, release_fill, is_granted, load_wish}
-use Rattle.trace_model.specs.HeadMove.{with_head_claimed, after_next, claim_head, unless_passed, load_next, mark_head, clear_update}
+use Rattle.trace_model.specs.WriterSteps.{with_history_event, in_phase, with_link, new_reservation, with_reservation, in_reserved, with_released, with_new_tail, tail_holds, unless_begun, push_record, note_fill, reserve, sees_link, load_link, open_fill, idle_step, end_frame, end_top, release_fill, is_granted, load_wish}
+use Rattle.trace_model.specs.HeadMove.{with_head_claimed, after_next, claim_head, unless_late, load_next, mark_head, clear_update}
 use Rattle.trace_model.specs.ReaderSteps.{reader_at, reads_link, load_head}
 use Rattle.trace_model.specs.StepConditions.{MayContinue, NeedsPage, IsGranted, IsTooLong}
 use Rattle.trace_model.specs.Steps.{frame_step_of, top_step_of, read_step_of, step_of, Step}
@@ -40,7 +40,7 @@ same_no a b ne = false_from_ne_true (same_link a b) (λ e. ne (same_link_true a 
 -- ---- the steps of a frame
 
 module _ (n size : ℕ) (c : Core) (frame : Frame) (below : List Frame) (answer : Answer) (after : Core) where
-  needs_is : (kind : Kind) → NeedsPage size c kind → reserve n size c frame below kind ≡ needs_page n c frame below
+  needs_is : (kind : Kind) → NeedsPage size c kind → reserve n size c frame below kind ≡ note_fill n c frame below
   needs_is (for_record moment len) needs =
       let r = new_reservation c moment len in
       if_no (fits_in_tail size c r) _ _ (false_from_ne_true (fits_in_tail size c r) (λ e. needs (leb-true (fill_len (tail_of c.history ++ r ∷ [])) size e)))
@@ -73,10 +73,10 @@ module _ (n size : ℕ) (c : Core) (frame : Frame) (below : List Frame) (answer 
   now_is : (noted : ℕ) (o : Outcome) → noted ≡ c.opened → unless_begun noted c frame below o ≡ o
   now_is noted o now = if_yes (noted == c.opened) _ _ (eq-eqb noted c.opened now)
 
-  passed_is : (role : Role) (noted : ℕ) (o : Outcome) → role ≡ helper → BeginsAgain c frame below noted answer after → Is (unless_passed role noted c frame below o) answer after
-  passed_is role noted o helps step = ap (λ (r : Role). unless_passed r noted c frame below o) helps ∙ late_is noted o step
+  passed_is : (role : Role) (noted : ℕ) (o : Outcome) → role ≡ helper → BeginsAgain c frame below noted answer after → Is (unless_late role noted c frame below o) answer after
+  passed_is role noted o helps step = ap (λ (r : Role). unless_late r noted c frame below o) helps ∙ late_is noted o step
 
-  on_is : (role : Role) (noted : ℕ) (o : Outcome) → MayContinue role noted c.opened → unless_passed role noted c frame below o ≡ o
+  on_is : (role : Role) (noted : ℕ) (o : Outcome) → MayContinue role noted c.opened → unless_late role noted c frame below o ≡ o
   on_is owner noted o on = refl
   on_is helper noted o on = now_is noted o on
 

@@ -9,8 +9,8 @@ use Rattle.trace_model.specs.Links.{Mark, normal, header, update, Link, normal_l
 use Rattle.trace_model.specs.Frames.{Kind, for_record, for_close, FrameState, waiting, reserved, left, number_of, Role, owner, helper, Phase, idle, looking, claiming, looking_next, marking, clearing, opening, releasing, wishing, Frame, too_deep, too_long, late_moment}
 use Rattle.trace_model.specs.Ring.{ReaderPhase, loading_head, loading_done, storing_spare_link, swapping, Core, link_into}
 use Rattle.trace_model.specs.Events.{Event, pushes, pushes_close, steps, ends, reads, wishes, Answer, Outcome, only_if}
-use Rattle.trace_model.specs.WriterSteps.{begins_again, with_new_tail, new_reservation, tail_holds, unless_begun, push_record, push_close_frame, needs_page, reserve, sees_link, load_link, open_fill, idle_step, end_frame, end_top, release_fill, is_granted, load_wish}
-use Rattle.trace_model.specs.HeadMove.{claim_head, unless_passed, load_next, mark_head, clear_update}
+use Rattle.trace_model.specs.WriterSteps.{begins_again, with_new_tail, new_reservation, tail_holds, unless_begun, push_record, push_close_frame, note_fill, reserve, sees_link, load_link, open_fill, idle_step, end_frame, end_top, release_fill, is_granted, load_wish}
+use Rattle.trace_model.specs.HeadMove.{claim_head, unless_late, load_next, mark_head, clear_update}
 use Rattle.trace_model.specs.ReaderSteps.{reads_link}
 use Rattle.trace_model.specs.StepConditions.{MayContinue, NeedsPage, IsGranted, IsTooLong, begin_answer, after_begin}
 use Rattle.trace_model.specs.Steps.{frame_step_of, top_step_of, read_step_of, step_of, Step}
@@ -73,7 +73,7 @@ tail_holds_false c e = is_none (tail_of c.history) e
 -- ---- the steps of a frame
 
 module _ (n size : ℕ) (c : Core) (frame : Frame) (below : List Frame) where
-  needs_page_sound : NeedsPage size c frame.kind → Sound (ReserveStep n size c frame below) (needs_page n c frame below)
+  needs_page_sound : NeedsPage size c frame.kind → Sound (ReserveStep n size c frame below) (note_fill n c frame below)
   needs_page_sound needs = let P = ReserveStep n size c frame below in by_if P (c.opened == c.done + n) _ _
       (λ full. is_crowded needs (eqb-true c.opened (c.done + n) full) refl refl)
       (λ room. by_if P (nat_le LINK_FILLS (c.opened + n)) _ _
@@ -105,7 +105,7 @@ module _ (n size : ℕ) (c : Core) (frame : Frame) (below : List Frame) where
 
   passed_sound : (P : Answer → Core → Type 0) (role : Role) (noted : ℕ) (o : Outcome) → (MayContinue role noted c.opened → Sound P o)
       → (role ≡ helper → (answer : Answer) (after : Core) → BeginsAgain c frame below noted answer after → P answer after)
-      → Sound P (unless_passed role noted c frame below o)
+      → Sound P (unless_late role noted c frame below o)
   passed_sound P owner noted o on late = on tt
   passed_sound P helper noted o on late = begun_sound P noted o on (late refl)
 
