@@ -15,14 +15,20 @@ use trace_model::{CpuId, FillNo, RecordNo};
 /// A record whose payload is so many bytes of this value fills a page of 32 bytes.
 const WHOLE: usize = 28;
 
-/// Writes the payload of the frame on top, all of it.
-fn fill_top(writer: &mut Writer, byte: u8) -> Result<(), WriteFault>
+/// Steps of the frame on top until one answers: the example of a loop at the crate's head.
+fn finish(writer: &mut Writer) -> Answer
     requires writer { IsWriter writer.old }
     ensures writer { IsWriter writer.new }
     ensures ring { SameWriter writer.old writer.new }
 {
-    writer.top_mut()?.fill(byte);
-    Ok(())
+    for made in 0..64 {
+        let _made = made;
+        match writer.step() {
+            Answer::Going => {}
+            answer => return answer,
+        }
+    }
+    Answer::Going
 }
 
 /// Writes a record that fills a page.
@@ -33,7 +39,7 @@ fn write(writer: &mut Writer, moment: u64, byte: u8) -> Result<(), WriteFault>
 {
     let _pushed = writer.begin(moment, WHOLE);
     let _reserved = writer.finish_top();
-    fill_top(writer, byte)?;
+    writer.top_mut()?.fill(byte);
     let _ended = writer.end();
     let _gone = writer.finish_top();
     Ok(())
@@ -81,24 +87,41 @@ fn a_record_is_written_by_its_steps(rt: HostRuntime) -> Result<(), Fail> {
 }
 
 #[test]
-fn what_is_lent_has_the_length_pushed(rt: HostRuntime) -> Result<(), Fail> {
-    let (mut writer, _reader) = ring(rt.alloc(), 2, 32)?;
-    let Answer::Pushed = writer.begin(100, 4) else {
-        return Err(Fail::new("no frame is pushed"));
-    };
-    let Answer::Reserved(_) = writer.finish_top() else {
-        return Err(Fail::new("no record is reserved"));
-    };
-    writer.top_mut()?.copy_from_slice(&[1, 2, 3, 4]);
-    Ok(())
-}
-
-#[test]
 fn what_cannot_be_written_is_refused(rt: HostRuntime) -> Result<(), Fail> {
     let (mut writer, _reader) = ring(rt.alloc(), 2, 32)?;
     assert!(rt; matches!(writer.begin(100, 29), Answer::Refused(WriteFault::TooLong)));
     assert!(rt; matches!(writer.step(), Answer::Refused(WriteFault::NoFrame)));
     assert!(rt; writer.top_mut().err() == Some(WriteFault::NoFrame));
+    Ok(())
+}
+
+#[test]
+fn a_record_goes_on_after_a_push_is_refused(rt: HostRuntime) -> Result<(), Fail> {
+    let (mut writer, _reader) = ring(rt.alloc(), 2, 32)?;
+    let Answer::Pushed = writer.begin(10, 5) else {
+        return Err(Fail::new("no frame is pushed"));
+    };
+    let Answer::Reserved(_) = writer.finish_top() else {
+        return Err(Fail::new("no record is reserved"));
+    };
+    let Answer::Refused(WriteFault::TooLong) = writer.begin(20, 29) else {
+        return Err(Fail::new("a record is begun that no page holds"));
+    };
+    writer.top_mut()?.copy_from_slice(&[1, 2, 3, 4, 5, 0, 0, 0]);
+    assert!(rt; matches!(writer.end(), Answer::Ended(Ended::Full)));
+    Ok(())
+}
+
+#[test]
+fn a_fifth_frame_is_refused(rt: HostRuntime) -> Result<(), Fail> {
+    let (mut writer, _reader) = ring(rt.alloc(), 2, 32)?;
+    let _first = writer.begin(100, 4);
+    let _second = writer.begin(101, 4);
+    let _third = writer.begin(102, 4);
+    let _fourth = writer.begin(103, 4);
+    assert!(rt; matches!(writer.begin(104, 4), Answer::Refused(WriteFault::TooDeep)));
+    assert!(rt; matches!(writer.end(), Answer::Refused(WriteFault::NotReserved)));
+    assert!(rt; writer.top_mut().err() == Some(WriteFault::NotReserved));
     Ok(())
 }
 
@@ -111,7 +134,7 @@ fn a_closed_page_is_taken(rt: HostRuntime) -> Result<(), Fail> {
     };
     assert!(rt; reader.empty_at() == Some(0));
     assert!(rt; matches!(writer.begin_close(), Answer::Pushed));
-    assert!(rt; matches!(writer.finish_top(), Answer::Gone));
+    assert!(rt; matches!(finish(&mut writer), Answer::Gone));
     let Take::Page(page, 0) = reader.take(body) else {
         return Err(Fail::new("a page that is closed isn't taken"));
     };
@@ -164,13 +187,23 @@ fn what_is_unread_is_settled(rt: HostRuntime) -> Result<(), Fail> {
 #[test]
 fn a_nested_record_is_pending(rt: HostRuntime) -> Result<(), Fail> {
     let (mut writer, _reader) = ring(rt.alloc(), 2, 32)?;
-    let _pushed = writer.begin(10, WHOLE);
-    let _reserved = writer.finish_top();
-    let _pushed = writer.begin(20, WHOLE);
-    let _reserved = writer.finish_top();
-    fill_top(&mut writer, 2)?;
-    assert!(rt; matches!(writer.end(), Answer::Ended(Ended::Pending)));
-    fill_top(&mut writer, 1)?;
+    let Answer::Pushed = writer.begin(10, 4) else {
+        return Err(Fail::new("no frame is pushed"));
+    };
+    let Answer::Reserved(_) = writer.finish_top() else {
+        return Err(Fail::new("no record is reserved"));
+    };
+    let Answer::Pushed = writer.begin(20, 4) else {
+        return Err(Fail::new("no frame is pushed amid another one"));
+    };
+    let Answer::Reserved(_) = writer.step() else {
+        return Err(Fail::new("no record is reserved amid another one"));
+    };
+    writer.top_mut()?.copy_from_slice(b"bbbb");
+    let Answer::Ended(Ended::Pending) = writer.end() else {
+        return Err(Fail::new("the frame below is gone"));
+    };
+    writer.top_mut()?.copy_from_slice(b"aaaa");
     assert!(rt; matches!(writer.end(), Answer::Ended(Ended::Full)));
     Ok(())
 }
@@ -184,5 +217,26 @@ fn a_page_more_than_the_ring_has_is_refused(rt: HostRuntime) -> Result<(), Fail>
     let _reserved = writer.finish_top();
     assert!(rt; matches!(writer.begin(3, WHOLE), Answer::Pushed));
     assert!(rt; matches!(writer.finish_top(), Answer::Refused(WriteFault::Crowded)));
+    Ok(())
+}
+
+/// The frame below the one that is refused is on top again.
+#[test]
+fn no_fill_is_begun_after_the_last(rt: HostRuntime) -> Result<(), Fail> {
+    let (mut writer, _reader) = ring_at(rt.alloc(), 2, 32, (1 << 48) - 3)?;
+    let Answer::Pushed = writer.begin(1, WHOLE) else {
+        return Err(Fail::new("no frame is pushed"));
+    };
+    let Answer::Reserved(_) = writer.step() else {
+        return Err(Fail::new("no record is reserved"));
+    };
+    let Answer::Pushed = writer.begin(2, WHOLE) else {
+        return Err(Fail::new("no frame is pushed amid another one"));
+    };
+    let Answer::Refused(WriteFault::Worn) = writer.step() else {
+        return Err(Fail::new("a fill is begun after the last"));
+    };
+    writer.top_mut()?.copy_from_slice(&[1; WHOLE]);
+    assert!(rt; matches!(writer.end(), Answer::Ended(Ended::Full)));
     Ok(())
 }
