@@ -1,4 +1,4 @@
-use Rattle.std.proofs.Common.{◌≡◌, ◌+◌, ◌≤◌, refl, sym, ap, ◌∙◌, subst, arith}
+use Rattle.std.proofs.Common.{◌≡◌, ◌+◌, ◌-◌, ◌≤◌, refl, sym, ap, ◌∙◌, subst, arith}
 use Rattle.trace_model.specs.Frames.{Phase as ModelPhase, marking, noted_fill}
 use Rattle.trace_model.specs.Steps as model
 use Rattle.trace_model.specs.Steps.{MayContinue}
