@@ -137,10 +137,16 @@ enum {
     TRACERING_END = 31           // next: all lines of the listing were given
 };
 
+// A payload, as an export takes it.
+struct tracering_payload {
+    const uint8_t *bytes;
+    size_t len;
+};
+
 // The exports of the library, which the functions below call. They have two more conditions: no pointer is null, and no
 // handle is in another call.
 int32_t tracering_raw_new(struct tracering_held *, struct tracering_held *, uint32_t, size_t, size_t);
-int32_t tracering_raw_write(struct tracering_held *, uint64_t, const uint8_t *, size_t);
+int32_t tracering_raw_write(struct tracering_held *, uint64_t, struct tracering_payload);
 int32_t tracering_raw_begin(struct tracering_held *, uint64_t, size_t);
 int32_t tracering_raw_begin_close(struct tracering_held *);
 int32_t tracering_raw_finish(struct tracering_held *);
@@ -228,7 +234,10 @@ static inline int32_t tracering_write(struct tracering_writer *w, uint64_t momen
         return TRACERING_NULL;
     if (!tracering_enter(&w->in_call))
         return TRACERING_BUSY;
-    return tracering_leave(&w->in_call, tracering_raw_write(&w->held, moment, tracering_bytes(payload), len));
+    struct tracering_payload given;
+    given.bytes = tracering_bytes(payload);
+    given.len = len;
+    return tracering_leave(&w->in_call, tracering_raw_write(&w->held, moment, given));
 }
 
 // A record by its parts, so that others may be written between them: begin, finish, put, end, finish. Each record has a

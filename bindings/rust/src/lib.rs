@@ -13,6 +13,13 @@ struct Handle {
     live: bool,
 }
 
+/// A payload, as the export takes it.
+#[repr(C)]
+struct Payload {
+    bytes: *const u8,
+    len: usize,
+}
+
 /// What is reported of a page that is given. `include/tracering.h` has the units.
 #[repr(C)]
 #[derive(Clone, Copy, Debug, Default, PartialEq, Eq)]
@@ -84,7 +91,7 @@ fn done(code: i32) -> Result<(), Fault> {
 
 extern "C" {
     fn tracering_raw_new(w: *mut Handle, r: *mut Handle, cpu: u32, pages: usize, size: usize) -> i32;
-    fn tracering_raw_write(w: *mut Handle, moment: u64, payload: *const u8, len: usize) -> i32;
+    fn tracering_raw_write(w: *mut Handle, moment: u64, payload: Payload) -> i32;
     fn tracering_raw_begin(w: *mut Handle, moment: u64, len: usize) -> i32;
     fn tracering_raw_begin_close(w: *mut Handle) -> i32;
     fn tracering_raw_finish(w: *mut Handle) -> i32;
@@ -140,7 +147,8 @@ pub fn settle(mut w: Writer, mut r: Reader, out: &mut [u8]) -> Result<Taken, (Wr
 impl Writer {
     /// Writes a record whole.
     pub fn write(&mut self, moment: u64, payload: &[u8]) -> Result<(), Fault> {
-        done(unsafe { tracering_raw_write(&mut self.0, moment, payload.as_ptr(), payload.len()) })
+        let given = Payload { bytes: payload.as_ptr(), len: payload.len() };
+        done(unsafe { tracering_raw_write(&mut self.0, moment, given) })
     }
 
     /// Reserves a record, to be written in parts; if it is refused, nothing of it is left.

@@ -17,14 +17,27 @@ use crate::codes::{ABSENT, DONE, RESERVED, TOO_LONG, code_of};
 use crate::handle::WriterHandle;
 use ring_shared::{Answer, Writer};
 
+/// A payload, as C passes it: the address of its bytes, and how many they are. (If it were passed as a slice, the export
+/// would look first whether the address is null.)
+#[repr(C)]
+#[derive(Clone, Copy)]
+pub struct GivenPayload<'a> {
+    bytes: &'a [u8],
+}
+
 /// Writes a record of this moment and payload whole.
 #[unsafe(no_mangle)]
-pub extern "C" fn tracering_raw_write(w: &mut WriterHandle, moment: u64, payload: &[u8]) -> i32
+pub extern "C" fn tracering_raw_write(
+    w: &mut WriterHandle,
+    moment: u64,
+    payload: GivenPayload<'_>,
+) -> i32
     requires writer { IfSome (writer_of w.old.held.value) (λ x. IsWriter x.writer) }
     ensures absent { writer_of w.old.held.value ≡ None → result ≡ pos 8 }
     ensures stays { writer_of w.old.held.value ≡ None → w.new ≡ w.old }
     ensures writes { (old : EndValue) → writer_of w.old.held.value ≡ Some old
-        → IsSomeAnd (writer_of w.new.held.value) (λ new. WritesSo old.writer moment payload.now result new.writer) }
+        → IsSomeAnd (writer_of w.new.held.value) (λ new.
+            WritesSo old.writer moment payload.entry.bytes.now result new.writer) }
     ensures ring { (old : EndValue) → writer_of w.old.held.value ≡ Some old
         → IsSomeAnd (writer_of w.new.held.value) (λ new. SameWriter old.writer new.writer) }
     ensures writer { IfSome (writer_of w.new.held.value) (λ x. IsWriter x.writer) }
@@ -32,7 +45,7 @@ pub extern "C" fn tracering_raw_write(w: &mut WriterHandle, moment: u64, payload
     if !w.live {
         return ABSENT;
     }
-    write_on(&mut w.held.writer().writer, moment, payload)
+    write_on(&mut w.held.writer().writer, moment, payload.bytes)
 }
 
 /// `tracering_raw_write`, of the writer itself.
