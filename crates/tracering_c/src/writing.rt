@@ -37,7 +37,7 @@ pub extern "C" fn tracering_raw_write(
     ensures stays { writer_of w.old.held.value ≡ None → w.new ≡ w.old }
     ensures writes { (old : EndValue) → writer_of w.old.held.value ≡ Some old
         → IsSomeAnd (writer_of w.new.held.value) (λ new.
-            WritesSo old.writer moment payload.entry.bytes.now result new.writer) }
+        WritesSo old.writer moment payload.entry.bytes.now result new.writer) }
     ensures ring { (old : EndValue) → writer_of w.old.held.value ≡ Some old
         → IsSomeAnd (writer_of w.new.held.value) (λ new. SameWriter old.writer new.writer) }
     ensures writer { IfSome (writer_of w.new.held.value) (λ x. IsWriter x.writer) }
