@@ -3,8 +3,7 @@
 //! it: no proof is written here, but the invariants of loops.
 //!
 //! Each kind of row is here once, and short: a record, a nested one, a close, an overwritten page, a wish, a crowded
-//! ring, a take and a settled ring. All rows of the two rings are in the text of `ring_rows`. Not made here are the
-//! writer's steps of `ring_steps`, for whose proof a caller picks a part of the model.
+//! ring, a take and a settled ring. All rows of the two rings are in the text of `ring_rows`.
 #![tactic(auto)]
 
 #[cfg(test)]

@@ -1,9 +1,16 @@
 //! The two seats of a ring, at which each call is one step.
-use link_marks::{Link, Mark};
+ghost use Rattle.std.specs.Prelude.{◌≡◌, [], ◌∷◌, length, Some, None, IfOk};
+ghost use Rattle.trace_model.specs.History.{push, push_close, reserve, open_fill, leave};
+ghost use Rattle.trace_model.specs.Frames.{for_record, for_close, waiting, reserved, left, owner, idle, looking_next, wishing};
+ghost use Rattle.ring_steps.specs.Ends.{writing_in};
+ghost use Rattle.ring_steps.specs.NewRings.{first_writing};
+
+use link_marks::{Link, Mark, header};
+use page_image::{Body, Page};
 use ring_steps::{ReaderSeat, WriterSeat, seats, settle};
 use std::process::Abort;
 use std::test::Fail;
-use trace_model::FillNo;
+use trace_model::{FillNo, RecordNo};
 
 #[test]
 fn a_link_is_loaded_and_the_seats_are_joined(rt: HostRuntime) -> Result<(), Fail> {
@@ -18,5 +25,168 @@ fn a_link_is_loaded_and_the_seats_are_joined(rt: HostRuntime) -> Result<(), Fail
 fn a_wish_is_stored(rt: HostRuntime) -> Result<(), Fail> {
     let (_writer, mut reader) = seats(rt.alloc(), 2, 32)?;
     reader.store_wish(FillNo(0));
+    Ok(())
+}
+
+#[test]
+fn a_take_goes_by_what_it_finds(rt: HostRuntime) -> Result<(), Fail> {
+    let (_writer, mut reader) = seats(rt.alloc(), 2, 32)?;
+    let spare = Body::new(rt.alloc(), 32)?;
+    let Link {
+        mark: Mark::Header,
+        page: 0,
+        fill: 0,
+    } = reader.load_head(1)
+    else {
+        return Err(Fail::new("the first page isn't the head"));
+    };
+    if reader.load_done() == 0 {
+        let head = reader.load_head(1);
+        assert!(rt; head.mark == Mark::Header && head.page == 0 && head.fill == 0);
+        return Ok(());
+    }
+    reader.store_spare_link(2, header(1, 1));
+    let Err(_spare) = reader.swap_head(1, 0, FillNo(0), 2, spare) else {
+        reader.load_head(2);
+        return Err(Fail::new("a page was closed"));
+    };
+    reader.load_head(0);
+    Err(Fail::new("the head was lost"))
+}
+
+#[test]
+fn a_record_is_noted_and_the_wish_is_loaded(rt: HostRuntime) -> Result<(), Fail> {
+    let (mut writer, _reader) = seats(rt.alloc(), 2, 32)?;
+    writer.note_push(1, 4);
+    writer.note_step();
+    writer.note_end(&[1, 2, 3, 4]);
+    assert!(rt; writer.load_wish() == 0);
+    Ok(())
+}
+
+/// A record in the first page, amid which a close frame begins the second.
+fn begin_second(writer: &mut WriterSeat) -> Result<Body, Fail>
+    requires shape { writer.old.shape ≡ record { pages = 2; size = 32; start = 0 } }
+    requires new { writing_in writer.old ≡ first_writing writer.old.shape }
+    ensures shape { writer.new.shape ≡ writer.old.shape }
+    ensures body { IfOk result (λ body. length body ≡ 32) }
+    ensures part { IfOk result (λ _. writing_in writer.new ≡ record {
+      frames = record { kind = for_record 1 0; state = reserved 0; phase = idle } ∷ [];
+      open_pages = 0 ∷ 1 ∷ [];
+      history = push 1 0 ∷ reserve ∷ push_close ∷ open_fill ∷ leave None ∷ [];
+      done = 0;
+      opened = 2;
+    }) }
+{
+    writer.note_push(1, 0);
+    writer.note_step();
+    writer.note_close();
+    writer.note_step();
+    let Link {
+        mark: Mark::Normal,
+        page: 1,
+        fill: 1,
+    } = writer.load_link(0)
+    else {
+        return Err(Fail::new("the second page isn't free"));
+    };
+    Ok(writer.open_fill(1, FillNo(1)))
+}
+
+/// The record ends, and the first page is closed.
+fn close_first(writer: &mut WriterSeat, body: Body)
+    requires shape { writer.old.shape ≡ record { pages = 2; size = 32; start = 0 } }
+    requires body { length body ≡ 32 }
+    requires part { writing_in writer.old ≡ record {
+      frames = record { kind = for_record 1 0; state = reserved 0; phase = idle } ∷ [];
+      open_pages = 0 ∷ 1 ∷ [];
+      history = push 1 0 ∷ reserve ∷ push_close ∷ open_fill ∷ leave None ∷ [];
+      done = 0;
+      opened = 2;
+    } }
+    ensures shape { writer.new.shape ≡ writer.old.shape }
+    ensures part { writing_in writer.new ≡ record {
+      frames = record { kind = for_record 1 0; state = left; phase = wishing } ∷ [];
+      open_pages = 1 ∷ [];
+      history = push 1 0 ∷ reserve ∷ push_close ∷ open_fill ∷ leave None ∷ leave (Some []) ∷ [];
+      done = 1;
+      opened = 2;
+    } }
+{
+    writer.note_end(&[]);
+    let mut front = Page::fresh(body, RecordNo(0), FillNo(0));
+    front.put(0, 1, 0);
+    writer.release_fill(0, front);
+}
+
+/// Another record, amid which a close frame claims the head.
+fn claim_first(writer: &mut WriterSeat) -> Result<(), Fail>
+    requires shape { writer.old.shape ≡ record { pages = 2; size = 32; start = 0 } }
+    requires part { writing_in writer.old ≡ record {
+      frames = record { kind = for_record 1 0; state = left; phase = wishing } ∷ [];
+      open_pages = 1 ∷ [];
+      history = push 1 0 ∷ reserve ∷ push_close ∷ open_fill ∷ leave None ∷ leave (Some []) ∷ [];
+      done = 1;
+      opened = 2;
+    } }
+    ensures shape { writer.new.shape ≡ writer.old.shape }
+    ensures frames { IfOk result (λ _. (writing_in writer.new).frames
+        ≡ record { kind = for_close; state = waiting; phase = looking_next owner 2 0 }
+        ∷ record { kind = for_record 2 0; state = reserved 1; phase = idle }
+        ∷ record { kind = for_record 1 0; state = left; phase = wishing } ∷ []) }
+    ensures pages { IfOk result (λ _. (writing_in writer.new).open_pages ≡ 1 ∷ []) }
+    ensures counts { IfOk result (λ _. ((writing_in writer.new).done ≡ 1) × ((writing_in writer.new).opened ≡ 2)) }
+{
+    writer.note_push(2, 0);
+    writer.note_step();
+    writer.note_close();
+    writer.note_step();
+    let Link {
+        mark: Mark::Header,
+        page: 0,
+        fill: 0,
+    } = writer.load_link(1)
+    else {
+        return Err(Fail::new("the first page isn't the head"));
+    };
+    if !writer.claim_head(1, 0, FillNo(0)) {
+        return Err(Fail::new("the head was taken"));
+    }
+    Ok(())
+}
+
+/// The second page becomes the head, and a third fill is begun on the first page.
+fn begin_third(writer: &mut WriterSeat) -> Result<Body, Fail>
+    requires shape { writer.old.shape ≡ record { pages = 2; size = 32; start = 0 } }
+    requires frames { (writing_in writer.old).frames
+        ≡ record { kind = for_close; state = waiting; phase = looking_next owner 2 0 }
+        ∷ record { kind = for_record 2 0; state = reserved 1; phase = idle }
+        ∷ record { kind = for_record 1 0; state = left; phase = wishing } ∷ [] }
+    requires pages { (writing_in writer.old).open_pages ≡ 1 ∷ [] }
+    requires counts { ((writing_in writer.old).done ≡ 1) × ((writing_in writer.old).opened ≡ 2) }
+    ensures body { IfOk result (λ body. length body ≡ 32) }
+{
+    let Link {
+        mark: Mark::Normal,
+        page: 1,
+        fill: 1,
+    } = writer.load_next(0, FillNo(1))
+    else {
+        return Err(Fail::new("the second page isn't to be the head"));
+    };
+    writer.mark_head(0, 1, FillNo(1));
+    writer.clear_update(1, 0, FillNo(2));
+    Ok(writer.open_fill(0, FillNo(2)))
+}
+
+/// A record amid which its page is closed; then another, amid which the head is moved past the first page.
+#[test]
+fn a_page_is_closed_and_lost(rt: HostRuntime) -> Result<(), Fail> {
+    let (mut writer, _reader) = seats(rt.alloc(), 2, 32)?;
+    let body = begin_second(&mut writer)?;
+    close_first(&mut writer, body);
+    claim_first(&mut writer)?;
+    let body = begin_third(&mut writer)?;
+    assert!(rt; body.size() == 32);
     Ok(())
 }
