@@ -149,7 +149,7 @@ pub record SettlesSo (writer : WriterValue) (end : ReaderEnd) (out left : List �
 
 -- Why two ends are settled into a buffer of this room, or aren't: the first of these that holds is answered.
 pub data AnswersSettle (writer : WriterValue) (end : ReaderEnd) (room : ℕ) (code : ℤ) : Type 0 where
-  not_at_rest : code ≡ pos 18 → writer.part.frames ≢ [] → AnswersSettle writer end room code
+  frames_left : code ≡ pos 18 → writer.part.frames ≢ [] → AnswersSettle writer end room code
   unread : code ≡ pos 19
       → writer.part.frames ≡ []
       → end.reader.empty_at ≢ Some writer.part.done
@@ -173,4 +173,4 @@ pub data AnswersNew (cpu pages size : ℕ) (code : ℤ) : Type 0 where
   bad_cpu : code ≡ pos 14 → MAX_CPUS ≤ cpu → AnswersNew cpu pages size code
   bad_size : code ≡ pos 13 → cpu < MAX_CPUS → (HasRingLimits pages size → ⊥) → AnswersNew cpu pages size code
   no_memory : code ≡ pos 12 → cpu < MAX_CPUS → HasRingLimits pages size → AnswersNew cpu pages size code
-  is_made : code ≡ pos 0 → cpu < MAX_CPUS → HasRingLimits pages size → AnswersNew cpu pages size code
+  made : code ≡ pos 0 → cpu < MAX_CPUS → HasRingLimits pages size → AnswersNew cpu pages size code
