@@ -16,7 +16,7 @@ use Rattle.link_marks.specs.RunsAsEvents.{fills_taken}
 use Rattle.text_model.specs.Script.{deliver, Script}
 use Rattle.text_model.specs.ScriptLimits.{IsWithinLimits}
 use Rattle.text_model.specs.Printing.{printed_log_line}
-use Rattle.text_model.proofs.ParsedLimits.{ParsesScript-within}
+use Rattle.replay_command.proofs.OneOutput.{script_in-within}
 use Rattle.command_io.specs.CommandRun.{SourceRun, SinkRun, WritesOutput, IsCommandRun}
 use Rattle.command_io.specs.declared.status.TheConstants.{DONE, REFUSED}
 use Rattle.collector.specs.Runs.{InRun}
@@ -271,7 +271,7 @@ accounted script asked bytes limits p =
 
 -- what `replay` gives with the status 0 is an account
 pub account_given : (asked : Bool) (text bytes : List ℕ) (status : ℕ) → ReplayGives asked text bytes status → status ≡ DONE → AccountGives asked text bytes status
-account_given asked text bytes status (inl p) is = (p.script, p.spelled, accounted p.script asked bytes (ParsesScript-within text p.script p.spelled) p.printing)
+account_given asked text bytes status (inl p) is = (p.script, p.spelled, accounted p.script asked bytes (script_in-within text p.script p.spelled) p.printing)
 account_given asked text bytes status (inr f) is = absurd (let other : DONE ≡ REFUSED = sym is ∙ f.refused in let no : ⊥ = cc in no)
 
 pub account_written : (asked : Bool) (source : SourceRun) (sink : SinkRun) (status : ℕ) → IsCommandRun (ReplayGives asked) source sink status → status ≡ DONE

@@ -1,13 +1,14 @@
 -- A text has one output: what a command gives for it are the same bytes, with the same exit status.
-use Rattle.std.proofs.Common.{◌≡◌, ℕ, Bool, List, inl, inr, sym, ap, subst, ◌∙◌}
+use Rattle.std.proofs.Common.{◌≡◌, ℕ, Bool, List, Ok, inl, inr, sym, ap, subst, ◌∙◌}
 use Rattle.std.specs.List.{AllZip}
 use Rattle.text_model.specs.ScriptLines.{LineFault}
 use Rattle.text_model.specs.Printing.{printed_fault}
 use Rattle.text_model.specs.Script.{Script}
 use Rattle.text_model.specs.ScriptLimits.{IsWithinLimits}
-use Rattle.text_model.proofs.ParsedLimits.{ParsesScript-within}
 use Rattle.text_model.proofs.Readings.{same_ok, same_err, ok_is_no_err}
-use Rattle.text_model.proofs.ScriptReads.{script_reads, fault_reads}
+use Rattle.text_model.proofs.ParsedLimits.{ParsesScript-within}
+use Rattle.text_model.proofs.ScriptReads.{script_reads}
+use Rattle.text_model.specs.ScriptReading.{script_in}
 use Rattle.world_model.specs.World.{World, WorldOf}
 use Rattle.world_model.specs.Headline.{IsGenuineWorld}
 use Rattle.world_model.proofs.GenuineWorlds.{world_genuine}
@@ -17,6 +18,10 @@ use Rattle.world_model.proofs.WorldsMade.{world_of_made}
 use Rattle.collector_text.specs.Prints.{IsPrintOf}
 use Rattle.collector_text.proofs.OneText.{one_world_text}
 use Rattle.replay_command.specs.Commands.{IsPrinting, PrintsReplay, PrintsFault, ReplayGives}
+
+-- the script that a text spells is within its limits
+pub script_in-within : (text : List ℕ) (script : Script) → script_in text ≡ Ok script → IsWithinLimits script
+script_in-within text script h = ParsesScript-within text script ((script_reads text script).1 h)
 
 -- a script has one world, whose collectors have one text
 one_printing : (script : Script) (asked : Bool) (bytes others : List ℕ) → IsWithinLimits script
@@ -40,7 +45,7 @@ genuine_replay asked text bytes status replay =
     world_of_made replay.script replay.printing.world replay.printing.of_script in (
       of,
       world_genuine replay.script replay.script.commands replay.printing.world
-          (ParsesScript-within text replay.script replay.spelled) of,
+          (script_in-within text replay.script replay.spelled) of,
     )
 
 same_replays : (asked : Bool) (text bytes others : List ℕ) (status other : ℕ) → PrintsReplay asked text bytes status
@@ -48,9 +53,9 @@ same_replays : (asked : Bool) (text bytes others : List ℕ) (status other : ℕ
 same_replays asked text bytes others status other a b =
     let same : a.script ≡ b.script =
     same_ok a.script b.script
-    (sym ((script_reads text a.script).0 a.spelled) ∙ (script_reads text b.script).0 b.spelled) in
+    (sym a.spelled ∙ b.spelled) in
     let printing = subst (λ (s : Script). IsPrinting s asked bytes) same a.printing in (
-      one_printing b.script asked bytes others (ParsesScript-within text b.script b.spelled) printing b.printing,
+      one_printing b.script asked bytes others (script_in-within text b.script b.spelled) printing b.printing,
       a.done ∙ sym b.done,
     )
 
@@ -59,7 +64,7 @@ same_faults : (text bytes others : List ℕ) (status other : ℕ) → PrintsFaul
 same_faults text bytes others status other a b =
     let same : (a.number, a.fault) ≡ (b.number, b.fault) =
     same_err (a.number, a.fault) (b.number, b.fault)
-    (sym ((fault_reads text a.number a.fault).0 a.first) ∙ (fault_reads text b.number b.fault).0 b.first) in
+    (sym a.first ∙ b.first) in
     (a.printed ∙ ap (λ (e : ℕ × LineFault). printed_fault e.0 e.1) same ∙ sym b.printed, a.refused ∙ sym b.refused)
 
 -- a text that spells a script has no fault
@@ -67,7 +72,7 @@ not_both : (asked : Bool) (text bytes others : List ℕ) (status other : ℕ) �
     → PrintsFault text others other → ⊥
 not_both asked text bytes others status other a b =
     ok_is_no_err a.script (b.number, b.fault)
-    (sym ((script_reads text a.script).0 a.spelled) ∙ (fault_reads text b.number b.fault).0 b.first)
+    (sym a.spelled ∙ b.first)
 
 pub one_replay : (asked : Bool) (text bytes others : List ℕ) (status other : ℕ) → ReplayGives asked text bytes status
     → ReplayGives asked text others other → (bytes ≡ others) × (status ≡ other)

@@ -1,10 +1,11 @@
 -- What the command `replay` prints for a text, with which exit status: first by the histories of the CPUs alone, then
 -- exactly.
-use Rattle.std.specs.Prelude.{◌≡◌, ℕ, Bool, ◌⊎◌, List}
+use Rattle.std.specs.Prelude.{◌≡◌, ℕ, Bool, ◌⊎◌, List, Ok, Err}
 use Rattle.std.specs.List.{AllZip}
 use Rattle.text_model.specs.ScriptLines.{LineFault}
 use Rattle.text_model.specs.Printing.{printed_fault}
-use Rattle.text_model.specs.Script.{Script, ParsesScript, FirstScriptFault}
+use Rattle.text_model.specs.Script.{Script}
+use Rattle.text_model.specs.ScriptReading.{script_in}
 use Rattle.world_model.specs.World.{World}
 use Rattle.world_model.specs.WorldMade.{IsWorldOf}
 use Rattle.world_model.specs.Printing.{Shown, printed_world}
@@ -14,7 +15,7 @@ use Rattle.command_io.specs.declared.status.TheConstants.{DONE, REFUSED}
 
 -- The text spells a script, and these bytes are an account of it, whatever they print of its log.
 abbrev pub AccountGives : (asked : Bool) (text bytes : List ℕ) (status : ℕ) → Type 0
-AccountGives asked text bytes status = (script : Script) × ParsesScript text script × IsAccounted script asked bytes
+AccountGives asked text bytes status = (script : Script) × (script_in text ≡ Ok script) × IsAccounted script asked bytes
 
 -- These bytes are the printing of the script's world: its log, if it is asked for, and of each collector what the pages
 -- that were delivered to it have and miss.
@@ -28,7 +29,7 @@ pub record IsPrinting (script : Script) (asked : Bool) (bytes : List ℕ) : Type
 -- the text spells a script, and these bytes are the printing of its world
 pub record PrintsReplay (asked : Bool) (text bytes : List ℕ) (status : ℕ) : Type 0 where
   pub script : Script
-  pub spelled : ParsesScript text script
+  pub spelled : script_in text ≡ Ok script
   pub printing : IsPrinting script asked bytes
   pub done : status ≡ DONE
 
@@ -36,7 +37,7 @@ pub record PrintsReplay (asked : Bool) (text bytes : List ℕ) (status : ℕ) : 
 pub record PrintsFault (text bytes : List ℕ) (status : ℕ) : Type 0 where
   pub number : ℕ
   pub fault : LineFault
-  pub first : FirstScriptFault text number fault
+  pub first : script_in text ≡ Err (number, fault)
   pub printed : bytes ≡ printed_fault number fault
   pub refused : status ≡ REFUSED
 

@@ -2,11 +2,12 @@
 ghost use Rattle.std.specs.Prelude.{◌≡◌, ℕ, ◌∷◌, ◌++◌, [], List, false, IfOk, IfErr};
 ghost use Rattle.std.specs.List.{AllZip};
 ghost use Rattle.text_model.specs.Script.{ParsesScript};
+ghost use Rattle.text_model.specs.ScriptReading.{script_in};
 ghost use Rattle.world_model.specs.Printing.{Shown, printed_world};
 ghost use Rattle.collector_text.specs.Prints.{IsPrintOf};
 ghost use Rattle.command_io.specs.CommandRun.{IsCommandRun, WritesOutput, source_run, sink_run};
 ghost use Rattle.command_io.specs.Output.{bytes_of, status_of};
-ghost use Rattle.trace_script.specs.ScriptFaults.{ReportsFirstFault, script_fault_text};
+ghost use Rattle.trace_script.specs.ScriptFaults.{GivesAt, ReportsFirstFault, script_fault_text};
 ghost use Rattle.replay_log.specs.LogTypes.{shown_log};
 ghost use Rattle.script_replay.specs.Replay.{IsHeadline};
 ghost use Rattle.replay_command.specs.Commands.{AccountGives, IsPrinting, ReplayGives};
@@ -84,6 +85,7 @@ impl Command for ReplayCommand {
 
 /// The script that a text spells, or its first fault. The text is given back.
 pub fn read_text(alloc: Global, text: Vec<u8>) -> Result<Script, ScriptFault>
+    ensures reading { GivesAt (λ script. script) result (script_in text.items) }
     ensures script { IfOk result (λ script. ParsesScript text.items script) }
     ensures fault { IfErr result (λ fault. ReportsFirstFault text.items fault) }
 {
