@@ -79,7 +79,7 @@ pub fn print_memory_line<W: Sink>(writer: &mut W) -> u8
 
 /// Reads all of the reader and writes the command's output for it. The exit status is the output's, 3 if memory was
 /// refused, and 4 if a read or a write failed or the input was too long.
-pub fn run_command<C: Command, R: Source, W: Sink>(
+pub fn carry_out<C: Command, R: Source, W: Sink>(
     command: &C,
     alloc: Global,
     reader: &mut R,

@@ -5,7 +5,7 @@ ghost use Rattle.command_io.specs.Output.{bytes_of, status_of};
 ghost use Rattle.image_dump.specs.Dumps.{DumpGives};
 
 use crate::printer::{print_image, print_image_fault};
-use command_io::{Command, Output, Sink, Source, run_command};
+use command_io::{Command, Output, Sink, Source, carry_out};
 use page_image::read_image;
 use std::alloc::Global;
 use trace_model::NoMemory;
@@ -41,5 +41,5 @@ pub fn dump_to<R: Source, W: Sink>(alloc: Global, reader: &mut R, writer: &mut W
         (source_run R.remaining R.count R.failed reader.old reader.new)
         (sink_run W.contents W.failed writer.old writer.new) result }
 {
-    run_command(&DumpCommand, alloc, reader, writer)
+    carry_out(&DumpCommand, alloc, reader, writer)
 }

@@ -13,7 +13,7 @@ ghost use Rattle.script_replay.specs.Replay.{IsHeadline};
 ghost use Rattle.replay_command.specs.Commands.{AccountGives, IsPrinting, ReplayGives};
 
 use collector_text::put_collectors;
-use command_io::{Command, DONE, Output, Sink, Source, run_command};
+use command_io::{Command, DONE, Output, Sink, Source, carry_out};
 use replay_log::put_log;
 use script_replay::{World, replay};
 use std::alloc::Global;
@@ -115,5 +115,5 @@ pub fn replay_to<R: Source, W: Sink>(alloc: Global, reader: &mut R, writer: &mut
         (source_run R.remaining R.count R.failed reader.old reader.new)
         (sink_run W.contents W.failed writer.old writer.new) result }
 {
-    run_command(&ReplayCommand { log }, alloc, reader, writer)
+    carry_out(&ReplayCommand { log }, alloc, reader, writer)
 }

@@ -9,7 +9,7 @@ ghost use Rattle.run_text.specs.Printing.{AuditedShown, IsAuditedPrintOf, printe
 ghost use Rattle.threaded_run.specs.Runs.{IsRan};
 ghost use Rattle.run_command.specs.Runs.{IsRunOutput, RunGives};
 
-use command_io::{Command, Output, Sink, Source, run_command};
+use command_io::{Command, Output, Sink, Source, carry_out};
 use line_writer::OpenGate;
 use replay_command::{fault_line, read_text};
 use run_text::put_run;
@@ -115,5 +115,5 @@ pub fn run_to<Rt: Threads + Wait + Sync, R: Source, W: Sink>(
         (source_run R.remaining R.count R.failed reader.old reader.new)
         (sink_run W.contents W.failed writer.old writer.new) result }
 {
-    run_command(&RunCommand { rt }, alloc, reader, writer)
+    carry_out(&RunCommand { rt }, alloc, reader, writer)
 }
