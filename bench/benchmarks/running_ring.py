@@ -12,7 +12,7 @@ ROUND = 8_400
 # The name of a way to write, what it calls, and the most instructions a record that it may take.
 WAYS = (
     ("write", "`write`", 85),
-    ("calls", "`begin`, `finish_top`, `top_mut` and a copy, `end`, `finish_top`", 125),
+    ("calls", "`begin`, `finish_top`, `top_mut` and a copy, `end`, `finish_top`", 127),
     ("steps", "the same with `step` in place of `finish_top`", None),
 )
 TIMED = (("alone", "mixed", "alone, mixed lengths"), ("alone", "turn", "alone, lengths in turn"))
