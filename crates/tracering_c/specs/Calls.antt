@@ -10,6 +10,7 @@ use Rattle.ring_frames.specs.declared.answer.Answer.{Answer}
 use Rattle.ring_frames.specs.declared.answer.Answer.TheVariants.{Pushed, Ended}
 use Rattle.nested_writer.specs.declared.stack.leave.Ended.TheVariants.{Pending}
 use Rattle.ring_frames.specs.Answers.{top_bytes, KeepsPayloads, EndsPayload}
+use Rattle.ring_frames.specs.Lens.{IsOneMore}
 use Rattle.page_image.specs.Contents.{Contents}
 use Rattle.parcel_buffer.specs.Fronts.{HasAtFront}
 use Rattle.page_numbers.specs.Written.{bytes_of_page}
@@ -17,7 +18,7 @@ use Rattle.page_numbers.specs.Parcels.{parcel_of}
 use Rattle.trace_model.specs.declared.limits.TheConstants.{MAX_CPUS}
 use Rattle.trace_model.specs.Ring.{HasRingLimits}
 use Rattle.ring_shared.specs.Value.{WriterValue, ReaderValue}
-use Rattle.ring_shared.specs.Rooms.{rooms, IsOneMore}
+use Rattle.ring_shared.specs.Rooms.{rooms}
 use Rattle.ring_shared.specs.Promises.{KeepsSlots}
 use Rattle.ring_shared.specs.declared.take.Take.{Take}
 use Rattle.ring_shared.specs.declared.take.Take.TheVariants.{Page, Empty, Moving}
