@@ -1,9 +1,12 @@
 -- The part of a line is what the line adds in an account.
-use Rattle.std.proofs.Common.{◌≡◌, ◌≢◌, ℕ, suc, ◌+◌, ◌-◌, ◌≤◌, ◌⊎◌, Bool, true, false, if◌then◌else◌, List, [], ◌∷◌, ◌++◌, length, Option, Some, None, refl, sym, ap, ◌∙◌, subst, inl, inr, arith}
-use Rattle.std.specs.Prelude.{⊤}
+use Rattle.std.proofs.Common.{◌≡◌, ◌≢◌, ℕ, suc, ◌+◌, ◌-◌, ◌<◌, ◌≤◌, ◌⊎◌, Bool, true, false, if◌then◌else◌, List, [], ◌∷◌, ◌++◌, length, Option, Some, None, refl, sym, ap, ◌∙◌, subst, inl, inr, arith}
+use Rattle.std.specs.Prelude.{⊤, nat_le}
 use Rattle.trace_model.specs.declared.limits.TheConstants.{MAX_FRAMES}
+use Rattle.trace_model.specs.Words.{slot_len, encoded_len}
 use Rattle.trace_model.specs.History.{HistoryEvent, push, push_close, open_fill, reserve, leave, wished}
 use Rattle.trace_model.specs.Window.{Window, RingEvent, acts, closes, takes, loses, history_events_of, opened_one, released_one, took_one, lost_one, window_after}
+use Rattle.trace_model.specs.Steps.{IsTooLong}
+use Rattle.trace_model.proofs.words.Lengths.{slot_len_ge}
 use Rattle.text_model.specs.Script.{Command, begin_frame, step_frame, finish_frame, write, close, step_reader, take_page, wish, deliver}
 use Rattle.link_marks.proofs.histories.WindowRuns.{history_events-append}
 use Rattle.line_model.specs.Lines.{OpenFrame, LineState, frame_count, IsRefusedPush, IsQuiet, IsPush, finishing_after, state_moved, TopRun, with_top_stepped, MayGo, stays_on, goes, TopPart, FinishPart, begins, begins_none, writes, writes_none, LinePart}
@@ -55,20 +58,19 @@ quiet n size depth s r (loses ∷ events) few (may, run) =
 -- what the top frame does, and what is then on the stack
 abbrev Ran : Option (List ℕ) → Frames → List HistoryEvent → Frames → Type 0
 Ran top below history after = (next : Option (List ℕ))
-    × Does top history next
+    × Does below top history next
     × (((after ≡ next ∷ below) × (next ≡ None → below ≡ [])) ⊎ ((next ≡ None) × (after ≡ below)))
 
 -- the bottom frame, once it has left
 ran_left : (n size depth : ℕ) (h : List HistoryEvent) (w : Window) (events : List RingEvent) (r : LineState)
     → TopRun n size depth (line_state h w [] true) events r
-    → Does None (history_events_of events) None × (on_stack r ≡ None ∷ [])
+    → Does [] None (history_events_of events) None × (on_stack r ≡ None ∷ [])
 ran_left n size depth h w [] r run = (refl, sym (ap on_stack run))
 ran_left n size depth h w (acts (push moment len) ∷ events) r (count, of_top, may, run) = absurd of_top
 ran_left n size depth h w (acts push_close ∷ events) r (count, of_top, may, run) = absurd of_top
 ran_left n size depth h w (acts open_fill ∷ events) r (count, of_top, may, run) =
     ran_left n size depth (h ++ open_fill ∷ []) (window_after w opened_one) events r run
-ran_left n size depth h w (acts reserve ∷ events) r (count, of_top, may, run) =
-    ran_left n size depth (h ++ reserve ∷ []) w events r run
+ran_left n size depth h w (acts reserve ∷ events) r (count, of_top, may, run) = absurd (of_top refl)
 ran_left n size depth h w (acts (leave None) ∷ events) r (count, of_top, may, run) = absurd of_top
 ran_left n size depth h w (acts (leave (Some bytes)) ∷ events) r (count, of_top, may, run) = absurd of_top
 ran_left n size depth h w (acts wished ∷ events) r (count, of_top, may, run) =
@@ -79,26 +81,26 @@ ran_left n size depth h w (takes ∷ events) r (may, run) = ran_left n size dept
 ran_left n size depth h w (loses ∷ events) r (may, run) = ran_left n size depth h (window_after w lost_one) events r run
 
 finishing_same : (frames : List OpenFrame) (b : Bool)
-    → (finishing_after frames b open_fill ≡ b) × (finishing_after frames b reserve ≡ b) × (finishing_after frames b wished ≡ b)
-finishing_same [] b = (refl, refl, refl)
-finishing_same (top ∷ []) b = (refl, refl, refl)
-finishing_same (top ∷ next ∷ below) b = (refl, refl, refl)
+    → (finishing_after frames b open_fill ≡ b) × (finishing_after frames b reserve ≡ b)
+finishing_same [] b = (refl, refl)
+finishing_same (top ∷ []) b = (refl, refl)
+finishing_same (top ∷ next ∷ below) b = (refl, refl)
 
 -- a frame that has just left: the bottom one stays, and is finishing, and any other is gone
 after_left : (n size depth : ℕ) (h : List HistoryEvent) (w : Window) (top : OpenFrame) (below : List OpenFrame) (b : Bool)
     (payload : Option (List ℕ)) (events : List RingEvent) (r : LineState)
     → suc (length below) + (if b then 1 else 0) ≡ suc depth
     → TopRun n size depth (line_state h w below (finishing_after (top ∷ below) b (leave payload))) events r
-    → Does None (history_events_of events) None
+    → Does (frames_of below b) None (history_events_of events) None
     × (((on_stack r ≡ None ∷ frames_of below b) × (frames_of below b ≡ [])) ⊎ (on_stack r ≡ frames_of below b))
 after_left n size depth h w top [] false payload events r count run =
     let (does, at) = ran_left n size depth h w events r run in (does, inl (at, refl))
 after_left n size depth h w top [] true payload events r count run =
     let (none, at) = quiet n size depth _ r events (let it : 1 ≤ depth = omega (arith, count) in it) run in
-    (subst (λ (l : List HistoryEvent). Does None l None) (sym none) refl, inr at)
+    (subst (λ (l : List HistoryEvent). Does (frames_of [] true) None l None) (sym none) refl, inr at)
 after_left n size depth h w top (next ∷ below) b payload events r count run =
     let (none, at) = quiet n size depth _ r events (let it : suc (length below) + (if b then 1 else 0) ≤ depth = omega (arith, count) in it) run in
-    (subst (λ (l : List HistoryEvent). Does None l None) (sym none) refl, inr at)
+    (subst (λ (l : List HistoryEvent). Does (frames_of (next ∷ below) b) None l None) (sym none) refl, inr at)
 
 left_ends : (next : Option (List ℕ)) (below after : Frames)
     → next ≡ None
@@ -127,8 +129,7 @@ ran_open n size depth h w top below b (acts (leave (Some bytes)) ∷ events) r (
     let (does, ends) = after_left n size depth (h ++ leave (Some bytes) ∷ []) w top below b (Some bytes) events r count run in
     (None, (of_top, does), left_ends None (frames_of below b) (on_stack r) refl ends)
 ran_open n size depth h w top below b (acts wished ∷ events) r (count, of_top, may, run) =
-    ran_open n size depth (h ++ wished ∷ []) w top below b events r
-    (subst (λ (c : Bool). TopRun n size depth (line_state (h ++ wished ∷ []) w (top ∷ below) c) events r) (finishing_same (top ∷ below) b).2 run)
+    absurd (let none : top ∷ below ≡ [] = of_top in let no : ⊥ = cc in no)
 ran_open n size depth h w top below b (closes ∷ events) r (may, run) = ran_open n size depth h (window_after w released_one) top below b events r run
 ran_open n size depth h w top below b (takes ∷ events) r (may, run) = ran_open n size depth h (window_after w took_one) top below b events r run
 ran_open n size depth h w top below b (loses ∷ events) r (may, run) = ran_open n size depth h (window_after w lost_one) top below b events r run
@@ -200,13 +201,23 @@ full p is = let count = counted p in omega (arith, is, count)
 not_full : (p : LineState) → MAX_FRAMES ≤ length (on_stack p) → MAX_FRAMES ≤ frame_count p
 not_full p is = let count = counted p in omega (arith, is, count)
 
+-- a record that is longer than a page has no room there
+no_room : (size len : ℕ) → IsTooLong size len → size < encoded_len len 0 true
+no_room size len (inl more) = behind (if nat_le (slot_len len) 112 then 4 else 8) (slot_len len) (slot_len_ge len)
+  where
+    behind : (front slot : ℕ) → len ≤ slot → size < (0 + front) + slot
+    behind front slot low = omega (arith, more, low)
+no_room size len (inr is) = is
+
 refused : (size moment len : ℕ) (p : LineState) → IsRefusedPush size p moment len → IsRefused size moment len (on_stack p)
 refused size moment len p (inl is) = inl (full p is)
-refused size moment len p (inr why) = inr why
+refused size moment len p (inr (inl long)) = inr (inl (no_room size len long))
+refused size moment len p (inr (inr late)) = inr (inr late)
 
 not_refused : (size moment len : ℕ) (p : LineState) → IsRefused size moment len (on_stack p) → IsRefusedPush size p moment len
 not_refused size moment len p (inl is) = inl (not_full p is)
-not_refused size moment len p (inr why) = inr why
+not_refused size moment len p (inr (inl long)) = inr (inl (inr long))
+not_refused size moment len p (inr (inr late)) = inr (inr late)
 
 idle : (n : ℕ) (before after : LineState) (events : List RingEvent) → IsQuiet n before events after → IsIdle (on_stack before) (history_events_of events) (on_stack after)
 idle n before after events q = (q.acts_none, ap on_stack q.after_is)
@@ -215,16 +226,16 @@ idle n before after events q = (q.acts_none, ap on_stack q.after_is)
 gone_top : (top : Option (List ℕ)) (below after : Frames) (history : List HistoryEvent)
     → length after ≤ length below
     → Ran top below history after
-    → Does top history None × (after ≡ below)
+    → Does below top history None × (after ≡ below)
 gone_top top below after history few (next, does, inl (at, last)) = absurd (let long = ap (λ (l : Frames). length l) at in let no : ⊥ = omega (arith, few, long) in no)
-gone_top top below after history few (next, does, inr (none, at)) = (subst (Does top history) none does, at)
+gone_top top below after history few (next, does, inr (none, at)) = (subst (Does below top history) none does, at)
 
 -- a frame is pushed, and is gone
 passes : (n size : ℕ) (push_is : HistoryEvent) (payload : List ℕ) (before between after : LineState) (front behind : List RingEvent)
     → IsPush n push_is payload before front between
     → FinishPart n size between behind after
     → length (on_stack before) ≤ length (on_stack after)
-    → (rest : List HistoryEvent) × (history_events_of (front ++ behind) ≡ push_is ∷ rest) × Does (Some payload) rest None × (on_stack after ≡ on_stack before)
+    → (rest : List HistoryEvent) × (history_events_of (front ++ behind) ≡ push_is ∷ rest) × Does (on_stack before) (Some payload) rest None × (on_stack after ≡ on_stack before)
 passes n size push_is payload before between after front behind one rest least =
     let pushed : on_stack between ≡ Some payload ∷ on_stack before = ap on_stack one.after_is in
     let long = ap (λ (l : Frames). length l) pushed in

@@ -21,26 +21,27 @@ use Rattle.world_model.specs.Printing.{Shown, printed_collector}
 abbrev pub Frames : Type 0
 Frames = List (Option (List ℕ))
 
--- What the frame on top does: it pushes none, and may leave, once: with the payload of its line, in whole words, or
--- without a record.
-abbrev pub Does : Option (List ℕ) → List HistoryEvent → Option (List ℕ) → Type 0
-Does frame [] after = after ≡ frame
-Does frame (push moment len ∷ history) after = ⊥
-Does frame (push_close ∷ history) after = ⊥
-Does None (leave payload ∷ history) after = ⊥
-Does (Some own) (leave None ∷ history) after = Does None history after
-Does (Some own) (leave (Some bytes) ∷ history) after = (bytes ≡ padded own) × Does None history after
-Does frame (_ ∷ history) after = Does frame history after
+-- What the frame on top does, with these below it: it pushes none, and may leave, once: with the payload of its line,
+-- in whole words, or without a record. When it has left it does nothing more, unless it is the bottom one.
+abbrev pub Does : Frames → Option (List ℕ) → List HistoryEvent → Option (List ℕ) → Type 0
+Does below frame [] after = after ≡ frame
+Does below (Some own) (open_fill ∷ history) after = Does below (Some own) history after
+Does below (Some own) (reserve ∷ history) after = Does below (Some own) history after
+Does below (Some own) (leave None ∷ history) after = Does below None history after
+Does below (Some own) (leave (Some bytes) ∷ history) after = (bytes ≡ padded own) × Does below None history after
+Does [] None (open_fill ∷ history) after = Does [] None history after
+Does [] None (wished ∷ history) after = Does [] None history after
+Does below frame (_ ∷ history) after = ⊥
 
 -- nothing is done
 abbrev pub IsIdle : Frames → List HistoryEvent → Frames → Type 0
 IsIdle frames history after = (history ≡ []) × (after ≡ frames)
 
--- the line is one of this CPU, and this holds; or nothing is done
+-- the line is one of this CPU, and Here holds; or nothing is done
 abbrev pub At : (cpu at : ℕ) → Frames → List HistoryEvent → Frames → Type 0 → Type 0
 At cpu at frames history after Here = ((at ≡ cpu) × Here) ⊎ ((at ≢ cpu) × IsIdle frames history after)
 
--- a frame is pushed, and then this is done; or it is refused, exactly if it has to be, and nothing is done
+-- If Refused holds, nothing is done. Else the first event is that of the push, and Then holds of the events behind it.
 abbrev pub Pushes : Type 0 → HistoryEvent → (List HistoryEvent → Type 0) → Frames → List HistoryEvent → Frames → Type 0
 Pushes Refused event Then frames history after = (Refused × IsIdle frames history after)
     ⊎ ((Refused → ⊥) × (rest : List HistoryEvent) × (history ≡ event ∷ rest) × Then rest)
@@ -48,29 +49,30 @@ Pushes Refused event Then frames history after = (Refused × IsIdle frames histo
 -- A record frame is refused: the stack is full, its record is too long, or its moment is too late.
 abbrev pub IsRefused : (size moment len : ℕ) → Frames → Type 0
 IsRefused size moment len frames =
-    (MAX_FRAMES ≤ length frames) ⊎ ((size < len) ⊎ (size < encoded_len len 0 true)) ⊎ (MOMENT_LIMIT ≤ moment)
+    (MAX_FRAMES ≤ length frames) ⊎ (size < encoded_len len 0 true) ⊎ (MOMENT_LIMIT ≤ moment)
 
 -- What a line adds to a CPU's history, if these frames are on its stack: `b` pushes one, `s` has the top one make
--- steps, `f` has it go, `w` and `c` push one and have it go.
+-- steps, `f` has it go, `w` and `c` push one and have it go. After `s` the top one is still there, or gone. It is still
+-- there when it has left only if it is the bottom one.
 abbrev pub Adds : (cpu size : ℕ) → Command → Frames → List HistoryEvent → Frames → Type 0
 Adds cpu size (begin_frame at moment payload) frames history after = At cpu at frames history after
     (Pushes (IsRefused size moment (length payload) frames) (push moment (length payload))
     (λ rest. (rest ≡ []) × (after ≡ Some payload ∷ frames)) frames history after)
 Adds cpu size (step_frame at count) (top ∷ below) history after = At cpu at (top ∷ below) history after
-    ((next : Option (List ℕ)) × Does top history next
+    ((next : Option (List ℕ)) × Does below top history next
     × (((after ≡ next ∷ below) × (next ≡ None → below ≡ [])) ⊎ ((next ≡ None) × (after ≡ below))))
 Adds cpu size (finish_frame at) (top ∷ below) history after = At cpu at (top ∷ below) history after
-    (Does top history None × (after ≡ below))
+    (Does below top history None × (after ≡ below))
 Adds cpu size (write at moment payload) frames history after = At cpu at frames history after
     (Pushes (IsRefused size moment (length payload) frames) (push moment (length payload))
-    (λ rest. Does (Some payload) rest None × (after ≡ frames)) frames history after)
+    (λ rest. Does frames (Some payload) rest None × (after ≡ frames)) frames history after)
 Adds cpu size (close at) frames history after = At cpu at frames history after
     (Pushes (MAX_FRAMES ≤ length frames) push_close
-    (λ rest. Does (Some []) rest None × (after ≡ frames)) frames history after)
+    (λ rest. Does frames (Some []) rest None × (after ≡ frames)) frames history after)
 Adds cpu size _ frames history after = IsIdle frames history after
 
--- What a line takes of a CPU, if the window is this one after it. `t` takes a fill, unless a frame is on the stack, or
--- no fill that is closed is unread. `r` may take one.
+-- What a line takes of a CPU: these fills, if the window is this one when it has ended. `t` takes a fill, unless a
+-- frame is on the stack, or none is left that is closed and unread. `r` may take one.
 abbrev pub Takes : ℕ → Command → Frames → Window → List ℕ → Type 0
 Takes cpu (take_page at) frames after fills = ((at ≡ cpu) × (length fills ≡ 1))
     ⊎ ((fills ≡ []) × ((at ≢ cpu) ⊎ ((frames ≢ []) ⊎ (after.head ≡ after.done))))
@@ -94,11 +96,11 @@ NeedsPage size h (record_frame moment len None ∷ below) =
 NeedsPage size h (record_frame moment len (Some number) ∷ below) = ⊥
 NeedsPage size h (close_frame ∷ below) = tail_of h ≢ []
 
--- What may happen while these frames have not left. A fill is begun, and one is lost, only if a page is needed, and
--- there is one. A record is reserved only for a record frame that has none yet, and if it needs no page. Such a frame
--- leaves without a record only if it needs a page, and there is none; one that has its record leaves with it. A close
--- frame leaves only if it needs no page, or there is none. The reader's wish is found only if it was asked, and every
--- frame has left.
+-- What may happen while these frames have not left: of the clauses the first that fits counts. A fill is begun, and one
+-- is lost, only if a page is needed, and there is one. A record is reserved only for a record frame that has none yet,
+-- and if it needs no page. Such a frame leaves without a record only if it needs a page, and there is none; one that
+-- has its record leaves with it. A close frame leaves only if it needs no page, or there is none. The reader's wish is
+-- found only if it was asked, and every frame has left.
 abbrev pub IsDue : (Needs NoPage Asked : Type 0) → List PushedFrame → RingEvent → Type 0
 IsDue Needs NoPage Asked stack loses = Needs × (NoPage → ⊥)
 IsDue Needs NoPage Asked stack (acts open_fill) = Needs × (NoPage → ⊥)
@@ -112,9 +114,10 @@ IsDue Needs NoPage Asked stack (acts reserve) = ⊥
 IsDue Needs NoPage Asked stack (acts (leave payload)) = ⊥
 IsDue Needs NoPage Asked stack event = ⊤
 
--- One CPU of a script, after each number of its lines: the frames on the stack, and the events so far, which are what
--- the frames did, and when a fill was closed, taken or lost, in one order, as the window allows. Each line adds its
--- part and takes what it can; and if no frame is on the stack, all fills but the tail are closed. Each event was due.
+-- One CPU of a script, after its first k lines: the frames on the stack, the window, and the events so far, which are
+-- what the frames did, and when a fill was closed, taken or lost, in one order, as the window allows. Each line adds
+-- its part and takes what it can; and if no frame is on the stack, all fills but the tail are closed. Each event was
+-- due.
 pub record IsAccount (script : Script) (cpu : ℕ) (events : ℕ → List RingEvent) : Type 0 where
   pub frames : ℕ → Frames
   pub window : ℕ → Window
