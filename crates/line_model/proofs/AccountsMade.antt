@@ -346,3 +346,30 @@ module _ (n size cpu : ℕ) (before after : LineState) (events : List RingEvent)
   line_adds (take_page at) here part least = idle n before after events part
   line_adds (wish at) here part least = idle n before after events part
   line_adds (deliver collector at fill) here part least = idle n before after events part
+
+-- ---- nested frames
+
+-- a frame that has left, with others below it, does nothing more
+ends_left : (payload next : Option (List ℕ)) (below : Frames) (history : List HistoryEvent)
+    → Does (next ∷ below) None history None
+    → leave payload ∷ history ≡ leave payload ∷ []
+ends_left payload next below [] does = refl
+ends_left payload next below (event ∷ history) does = absurd does
+
+pub nested_frames_end_by_leaving : (own : List ℕ) (next : Option (List ℕ)) (below : Frames) (history : List HistoryEvent)
+    → Does (next ∷ below) (Some own) history None
+    → (front : List HistoryEvent) × (payload : Option (List ℕ)) × (history ≡ front ++ leave payload ∷ [])
+nested_frames_end_by_leaving own next below [] does = absurd (let no : ⊥ = cc in no)
+nested_frames_end_by_leaving own next below (push moment len ∷ history) does = absurd does
+nested_frames_end_by_leaving own next below (push_close ∷ history) does = absurd does
+nested_frames_end_by_leaving own next below (open_fill ∷ history) does =
+    let (front, payload, is) = nested_frames_end_by_leaving own next below history does in
+    (open_fill ∷ front, payload, ap (λ (h : List HistoryEvent). open_fill ∷ h) is)
+nested_frames_end_by_leaving own next below (reserve ∷ history) does =
+    let (front, payload, is) = nested_frames_end_by_leaving own next below history does in
+    (reserve ∷ front, payload, ap (λ (h : List HistoryEvent). reserve ∷ h) is)
+nested_frames_end_by_leaving own next below (leave None ∷ history) does =
+    ([], None, ends_left None next below history does)
+nested_frames_end_by_leaving own next below (leave (Some bytes) ∷ history) (same, does) =
+    ([], Some bytes, ends_left (Some bytes) next below history does)
+nested_frames_end_by_leaving own next below (wished ∷ history) does = absurd does

@@ -1,13 +1,22 @@
 //! What a script's lines make of each CPU, with neither links nor steps of a ring.
-ghost use Rattle.std.specs.Prelude.{◌<◌, ℕ, List};
+ghost use Rattle.std.specs.Prelude.{◌≡◌, ◌<◌, ℕ, List, [], ◌∷◌, ◌++◌, Option, Some, None};
+ghost use Rattle.trace_model.specs.History.{HistoryEvent, leave};
 ghost use Rattle.trace_model.specs.Window.{RingEvent};
 ghost use Rattle.text_model.specs.Script.{Script};
 ghost use Rattle.text_model.specs.ScriptLimits.{IsWithinLimits};
 ghost use Rattle.world_model.specs.World.{World, WorldOf};
-ghost use Rattle.line_model.specs.Accounts.{IsAccount};
+ghost use Rattle.line_model.specs.Accounts.{Frames, Does, IsAccount};
 
 /// In the world of a script there is an account of each of its CPUs.
 pub fn worlds_have_accounts()
     ensures { (script : Script) (w : World) (cpu : ℕ) → IsWithinLimits script → WorldOf script w → cpu < script.cpus →
         (events : ℕ → List RingEvent) × IsAccount script cpu events }
+{}
+
+/// What a line has a frame do until that frame is gone ends with its leave, if there are others below it: none of these
+/// does anything.
+pub fn nested_frames_end_by_leaving()
+    ensures { (own : List ℕ) (next : Option (List ℕ)) (below : Frames) (history : List HistoryEvent) →
+        Does (next ∷ below) (Some own) history None →
+        (front : List HistoryEvent) × (payload : Option (List ℕ)) × (history ≡ front ++ leave payload ∷ []) }
 {}
