@@ -17,8 +17,8 @@ use crate::codes::{ABSENT, DONE, RESERVED, TOO_LONG, code_of};
 use crate::handle::WriterHandle;
 use ring_shared::{Answer, Writer};
 
-/// A payload, as C passes it: the address of its bytes, and how many they are. (If it were passed as a slice, the export
-/// would look first whether the address is null.)
+/// A payload, as C passes it: the address of its bytes, and how many they are. (If it were passed as a slice, the
+/// export would look first whether the address is null.)
 #[repr(C)]
 #[derive(Clone, Copy)]
 pub struct GivenPayload<'a> {
