@@ -182,7 +182,6 @@ static int amid(void)
     bad += tracering_finish(&busy) != TRACERING_BUSY;
     bad += tracering_put(&busy, byte, 1) != TRACERING_BUSY;
     bad += tracering_end(&busy) != TRACERING_BUSY;
-    bad += tracering_depth(&busy) != 0;
     bad += tracering_take(&busy_reader, byte, sizeof byte, &taken) != TRACERING_BUSY;
     bad += tracering_wish(&busy_reader) != TRACERING_BUSY;
     bad += tracering_settle(&busy, &r, byte, sizeof byte, &taken) != TRACERING_BUSY || r.in_call;
@@ -192,7 +191,7 @@ static int amid(void)
     return bad + (!busy.in_call || !busy_reader.in_call);
 }
 
-// A null pointer is refused, but one to no bytes.
+// A null pointer is refused.
 static int nulls(void)
 {
     struct tracering_writer w = {0};
@@ -236,6 +235,9 @@ static int refused_frames(void)
     bad += tracering_begin_close(&w) != TRACERING_TOO_DEEP;
     bad += tracering_write(&w, 5, "deep", 4) != TRACERING_TOO_DEEP;
     bad += tracering_depth(&w) != 4;
+    w.in_call = 1;
+    bad += tracering_depth(&w) != 0;
+    w.in_call = 0;
     bad += tracering_writer_free(&w) != TRACERING_DONE || tracering_reader_free(&r) != TRACERING_DONE;
 
     bad += tracering_new(&w, &r, 0, 2, 64) != TRACERING_DONE;

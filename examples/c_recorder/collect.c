@@ -20,6 +20,8 @@ static int collect(struct tracering_collector *collector)
             return 1;
         }
     }
+    if (ferror(stdin))
+        perror("collect");
     return ferror(stdin) != 0;
 }
 

@@ -47,7 +47,7 @@ static void dump(struct tracering_reader *reader)
 }
 
 // The thread's own page that is written is closed first, unless the fault is amid a call on its ring. Of two threads
-// that are hit, one dumps.
+// that are hit, one dumps; no signal interrupts it.
 static void on_fault(int signal)
 {
     static atomic_flag dumped = ATOMIC_FLAG_INIT;
@@ -79,6 +79,7 @@ int main(void)
             return 1;
     struct sigaction fault = {.sa_handler = on_fault}, other = {.sa_handler = on_signal};
     pthread_t worker;
+    sigfillset(&fault.sa_mask);
     if (sigaction(SIGSEGV, &fault, NULL) || sigaction(SIGUSR1, &other, NULL)
         || pthread_create(&worker, NULL, work, NULL))
         return 1;
