@@ -7,7 +7,7 @@ use Rattle.nested_writer.specs.declared.fault.WriteFault.{WriteFault}
 use Rattle.nested_writer.specs.Lent.{Lent, lent_bytes, with_bytes}
 use Rattle.nested_writer.specs.Lending.{IsLent}
 use Rattle.ring_frames.specs.declared.answer.Answer.{Answer}
-use Rattle.ring_frames.specs.declared.answer.Answer.TheVariants.{Pushed, Ended}
+use Rattle.ring_frames.specs.declared.answer.Answer.TheVariants.{Pushed, Ended, Refused}
 use Rattle.nested_writer.specs.declared.stack.leave.Ended.TheVariants.{Pending}
 use Rattle.ring_frames.specs.Answers.{top_bytes, KeepsPayloads, EndsPayload}
 use Rattle.ring_frames.specs.Lens.{IsOneMore}
@@ -54,6 +54,7 @@ pub record BeginsSo (old : WriterValue) (event : model.Event) (room : Option ℕ
   pub code_is : code ≡ answer_code answer
   pub payloads : KeepsPayloads old.frames.stack new.frames.stack
   pub room_is : answer ≡ Pushed → rooms new ≡ room ∷ rooms old
+  pub refused : (fault : WriteFault) → answer ≡ Refused fault → rooms new ≡ rooms old
 
 -- The frame on top is stepped as far as it gets, and the number is that of its answer. The payloads that aren't ended
 -- stay in their slots, and a slot that is reserved holds only zeros.
@@ -70,6 +71,7 @@ pub record EndsSo (old : WriterValue) (code : ℤ) (new : WriterValue) : Type 0 
   pub code_is : code ≡ answer_code answer
   pub payloads : EndsPayload old.frames.stack new.frames.stack
   pub room_is : answer ≡ Ended Pending → IsOneMore (rooms old) (rooms new)
+  pub refused : (fault : WriteFault) → answer ≡ Refused fault → rooms new ≡ rooms old
 
 -- The bytes are put to the front of the slot of the record on top, and nothing else of the writer changes.
 pub record IsPut (old : WriterValue) (bytes : List ℕ) (new : WriterValue) : Type 0 where

@@ -18,7 +18,7 @@ pub struct WriterHandle {
     pub(crate) held: Held,
     /// Whether there is one.
     pub(crate) live: bool,
-    pub ghost tied: { live ≡ is_some (writer_of held.value) },
+    pub ghost tied: { (live ≡ is_some (writer_of held.value)) × (live ≡ is_some held.value) },
 }
 
 impl WriterHandle {
@@ -66,7 +66,7 @@ pub struct ReaderHandle {
     pub(crate) held: Held,
     /// Whether there is one.
     pub(crate) live: bool,
-    pub ghost tied: { live ≡ is_some (reader_of held.value) },
+    pub ghost tied: { (live ≡ is_some (reader_of held.value)) × (live ≡ is_some held.value) },
 }
 
 impl ReaderHandle {
@@ -114,7 +114,7 @@ pub struct CollectorHandle {
     pub(crate) held: Held,
     /// Whether there is one.
     pub(crate) live: bool,
-    pub ghost tied: { live ≡ is_some (collector_of held.value) },
+    pub ghost tied: { (live ≡ is_some (collector_of held.value)) × (live ≡ is_some held.value) },
 }
 
 impl CollectorHandle {
