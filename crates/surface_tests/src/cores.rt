@@ -9,7 +9,7 @@ use std::process::Abort;
 use std::test::Fail;
 use trace_model::{FillNo, RecordNo};
 
-/// Steps of the frame on top until one answers anything but that it goes on.
+/// Steps of the frame on top until one answers: the example of a loop at the crate's head.
 fn finish(core: &mut Core) -> Answer
     requires ring { IsReachedCore core.old }
     ensures ring { IsReachedCore core.new }
@@ -57,6 +57,51 @@ fn a_record_is_written_by_its_steps(rt: HostRuntime) -> Result<(), Fail> {
     assert!(rt; matches!(core.step(Event::Step), Answer::Gone));
     assert!(rt; core.depth() == 0);
     assert!(rt; core.top_mut().err() == Some(WriteFault::NoFrame));
+    Ok(())
+}
+
+#[test]
+fn a_nested_record_is_pending(rt: HostRuntime) -> Result<(), Fail> {
+    let mut core = Core::new(rt.alloc(), 2, 32)?;
+    let Answer::Pushed = core.step(Event::Push { moment: 10, len: 4 }) else {
+        return Err(Fail::new("no frame is pushed"));
+    };
+    let Answer::Reserved(_) = core.step(Event::Step) else {
+        return Err(Fail::new("no record is reserved"));
+    };
+    let Answer::Pushed = core.step(Event::Push { moment: 20, len: 4 }) else {
+        return Err(Fail::new("no frame is pushed amid another one"));
+    };
+    let Answer::Reserved(_) = core.step(Event::Step) else {
+        return Err(Fail::new("no record is reserved amid another one"));
+    };
+    core.top_mut()?.fill(b'b');
+    let Answer::Ended(Ended::Pending) = core.step(Event::End) else {
+        return Err(Fail::new("the frame below is gone"));
+    };
+    core.top_mut()?.fill(b'a');
+    assert!(rt; matches!(core.step(Event::End), Answer::Ended(Ended::Full)));
+    Ok(())
+}
+
+/// The frame below the one that is refused is on top again.
+#[test]
+fn no_fill_is_begun_after_the_last(rt: HostRuntime) -> Result<(), Fail> {
+    let mut core = Core::new_at(rt.alloc(), 2, 32, (1 << 48) - 3)?;
+    let Answer::Pushed = core.step(Event::Push { moment: 1, len: 28 }) else {
+        return Err(Fail::new("no frame is pushed"));
+    };
+    let Answer::Reserved(_) = core.step(Event::Step) else {
+        return Err(Fail::new("no record is reserved"));
+    };
+    let Answer::Pushed = core.step(Event::Push { moment: 2, len: 28 }) else {
+        return Err(Fail::new("no frame is pushed amid another one"));
+    };
+    let Answer::Refused(WriteFault::Worn) = core.step(Event::Step) else {
+        return Err(Fail::new("a fill is begun after the last"));
+    };
+    core.top_mut()?.fill(1);
+    assert!(rt; matches!(core.step(Event::End), Answer::Ended(Ended::Full)));
     Ok(())
 }
 
