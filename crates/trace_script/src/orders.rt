@@ -1,5 +1,5 @@
 //! The command that a line spells.
-ghost use Rattle.std.specs.Prelude.{◌≡◌, ◌≢◌, ℕ, [], ◌∷◌};
+ghost use Rattle.std.specs.Prelude.{◌≡◌, ◌≢◌, ℕ, false, [], ◌∷◌, bytes_eq, codes};
 ghost use Rattle.text_model.specs.Text.{fields_of};
 ghost use Rattle.text_model.specs.Script.{begin_frame, write, command_of, command_in};
 ghost use Rattle.text_model.specs.CommandReading.{record_in, deliver_in};
@@ -131,8 +131,32 @@ fn order_of_three(
     Err(LineFault::BadLine)
 }
 
+/// The command of a record's four fields, of which the first one isn't the word of a delivery.
+#[inline(always)]
+#[tactic(auto, unfolding(text_model::specs::Script::command_of, text_model::specs::CommandReading::record_in))]
+fn record_of_four(
+    cpus: u32,
+    first: &[u8],
+    second: &[u8],
+    third: &[u8],
+    fourth: &[u8],
+    payloads: &mut Vec<u8>,
+) -> Result<Order, LineFault>
+    requires no_delivery { bytes_eq first.now (codes "d") ≡ false }
+    ensures { (collectors : ℕ) → PutsCommand result payloads.old.items payloads.new.items
+        (command_of cpus collectors (first.now ∷ second.now ∷ third.now ∷ fourth.now ∷ [])) }
+{
+    if is_letter(second, b'b') {
+        return begin_in(cpus, first, third, fourth, payloads);
+    }
+    if is_letter(second, b'w') {
+        return write_in(cpus, first, third, fourth, payloads);
+    }
+    Err(LineFault::BadLine)
+}
+
 /// The command of four fields.
-#[tactic(auto, unfolding(text_model::specs::Script::command_of, text_model::specs::CommandReading::record_in, text_model::specs::CommandReading::deliver_in))]
+#[tactic(auto, unfolding(text_model::specs::Script::command_of, text_model::specs::CommandReading::deliver_in))]
 fn order_of_four(
     cpus: u32,
     collectors: u16,
@@ -148,13 +172,7 @@ fn order_of_four(
     if is_letter(first, b'd') {
         return deliver_in(cpus, collectors, second, third, fourth);
     }
-    if is_letter(second, b'b') {
-        return begin_in(cpus, first, third, fourth, payloads);
-    }
-    if is_letter(second, b'w') {
-        return write_in(cpus, first, third, fourth, payloads);
-    }
-    Err(LineFault::BadLine)
+    record_of_four(cpus, first, second, third, fourth, payloads)
 }
 
 /// The command of a line's fields, with all that follows the third one as one field.
