@@ -12,17 +12,12 @@ pub data LogLine : Type 0 where
   refused : (line cpu : ℕ) (why : Refusal) → LogLine
   taken : (line cpu fill first count missed : ℕ) → LogLine
   empty : (line cpu : ℕ) → LogLine
-  moving : (line cpu fill : ℕ) → LogLine
-  asks : (line cpu fill : ℕ) → LogLine
-  new_delivery : (line collector cpu fill : ℕ) → LogLine
-  known_delivery : (line collector cpu fill : ℕ) → LogLine
-  untaken_delivery : (line collector cpu fill : ℕ) → LogLine
+  moving asks : (line cpu fill : ℕ) → LogLine
+  new_delivery known_delivery untaken_delivery : (line collector cpu fill : ℕ) → LogLine
 
 -- what a delivery brings: a page that the collector hasn't, one that it has, or none
 pub data Delivery : Type 0 where
-  new_page : Delivery
-  known_page : Delivery
-  no_page : Delivery
+  new_page known_page no_page : Delivery
 
 -- what is logged of a delivery
 abbrev pub delivery_line : (line collector cpu fill : ℕ) → Delivery → LogLine

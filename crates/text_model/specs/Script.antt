@@ -12,14 +12,9 @@ use Rattle.text_model.specs.declared.script_limits.TheConstants.{MIN_SCRIPT_CPUS
 -- and finished. step_reader: the reader makes this many steps, or fewer if its take is answered before. take_page: it
 -- makes steps until it answers. wish: the reader asks for the tail. deliver: the collector gets this fill of the CPU.
 pub data Command : Type 0 where
-  begin_frame : (cpu moment : ℕ) (payload : List ℕ) → Command
-  step_frame : (cpu count : ℕ) → Command
-  finish_frame : (cpu : ℕ) → Command
-  write : (cpu moment : ℕ) (payload : List ℕ) → Command
-  close : (cpu : ℕ) → Command
-  step_reader : (cpu count : ℕ) → Command
-  take_page : (cpu : ℕ) → Command
-  wish : (cpu : ℕ) → Command
+  begin_frame write : (cpu moment : ℕ) (payload : List ℕ) → Command
+  step_frame step_reader : (cpu count : ℕ) → Command
+  finish_frame close take_page wish : (cpu : ℕ) → Command
   deliver : (collector cpu fill : ℕ) → Command
 
 -- a script: the values of its header, the number of each ring's first fill, and its commands, each with the number

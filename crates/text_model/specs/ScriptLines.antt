@@ -12,10 +12,7 @@ use Rattle.text_model.specs.declared.script_limits.TheConstants.{SIZE_STEP}
 -- many fields it has, or a field that is to name a CPU and doesn't. bad_number, bad_hex: a field that is no
 -- number, or no bytes. out_of_range: a number outside its limits.
 pub data LineFault : Type 0 where
-  bad_line : LineFault
-  bad_number : LineFault
-  bad_hex : LineFault
-  out_of_range : LineFault
+  bad_line bad_number bad_hex out_of_range : LineFault
 
 -- the one after the other: the first fault is what counts
 infixl 10 ◌>>=◌

@@ -8,29 +8,18 @@ use Rattle.trace_model.specs.Ring.{TakenFill, Core}
 -- none is under way, or wishes for the tail page.
 pub data Event : Type 0 where
   pushes : (moment len : ℕ) → Event
-  pushes_close : Event
-  steps : Event
+  pushes_close steps reads wishes : Event
   ends : (payload : List ℕ) → Event
-  reads : Event
-  wishes : Event
 
 -- going: the frame is on the stack and hasn't reserved. reserved_as: its record has this number. pending, full:
 -- it was ended, with a frame below it or with none. gone: it has left the stack. reading: the take goes
 -- on. empty: no closed fill is unread, and this many are closed. moving: a head move is in progress, and
 -- fills below this one are taken or lost. page_taken: a fill is taken. wished_for: the reader wished for this fill.
 pub data Answer : Type 0 where
-  pushed : Answer
-  going : Answer
-  reserved_as : (number : ℕ) → Answer
-  pending : Answer
-  full : Answer
-  gone : Answer
+  pushed going pending full gone reading : Answer
+  reserved_as empty moving wished_for : ℕ → Answer
   refused : Refusal → Answer
-  reading : Answer
-  empty : (done : ℕ) → Answer
-  moving : (fill : ℕ) → Answer
   page_taken : TakenFill → Answer
-  wished_for : (fill : ℕ) → Answer
 
 -- what a step answers, and the state after it; None: there is no such step
 abbrev pub Outcome : Type 0

@@ -17,9 +17,8 @@ pub data Kind : Type 0 where
 -- left: it was ended or refused, or had nothing more to do, and stays only at the bottom, to close fills and to look
 -- for the reader's wish.
 pub data FrameState : Type 0 where
-  waiting : FrameState
+  waiting left : FrameState
   reserved : (number : ℕ) → FrameState
-  left : FrameState
 
 -- the number of the frame's record, while it has reserved one
 abbrev pub number_of : FrameState → Option ℕ
@@ -51,23 +50,18 @@ pushed_of (frame ∷ below) = pushed_onto frame.kind frame.state (pushed_of belo
 
 -- Who moves the head: the frame that set the UPDATE, or one that found it.
 pub data Role : Type 0 where
-  owner : Role
-  helper : Role
+  owner helper : Role
 
 -- How far a frame has come with the ring's words. idle: it has noted nothing. noted: the number of begun fills
 -- when it found that it needs a page, which is the number of the fill to open. page: the page at that fill's
 -- position. next: the page after that. releasing: it closes fills. wishing: none is left to close, and it looks
 -- for the reader's wish.
 pub data Phase : Type 0 where
-  idle : Phase
+  idle releasing wishing : Phase
   looking : (noted : ℕ) → Phase
-  claiming : (noted page : ℕ) → Phase
+  claiming clearing opening : (noted page : ℕ) → Phase
   looking_next : Role → (noted page : ℕ) → Phase
   marking : Role → (noted page next : ℕ) → Phase
-  clearing : (noted page : ℕ) → Phase
-  opening : (noted page : ℕ) → Phase
-  releasing : Phase
-  wishing : Phase
 
 -- A frame that has left and is about to open a fill closes the tail for the reader.
 pub record Frame : Type 0 where
@@ -106,10 +100,4 @@ owned_update _ = None
 
 -- why a write is refused: docs/FORMATS.md, "Writer frames"
 pub data Refusal : Type 0 where
-  too_deep : Refusal
-  too_long : Refusal
-  late_moment : Refusal
-  crowded : Refusal
-  worn : Refusal
-  no_frame : Refusal
-  not_reserved : Refusal
+  too_deep too_long late_moment crowded worn no_frame not_reserved : Refusal

@@ -11,11 +11,8 @@ use Rattle.trace_model.specs.Words.{slot_len, padded}
 -- left, found that the reader wants the tail page, and goes on to begin the next fill.
 pub data HistoryEvent : Type 0 where
   push : (moment len : ℕ) → HistoryEvent
-  push_close : HistoryEvent
-  open_fill : HistoryEvent
-  reserve : HistoryEvent
+  push_close open_fill reserve wished : HistoryEvent
   leave : (payload : Option (List ℕ)) → HistoryEvent
-  wished : HistoryEvent
 
 -- A record from its reservation on. Its bytes are open until its frame leaves.
 pub record Reservation : Type 0 where

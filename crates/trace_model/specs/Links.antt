@@ -8,9 +8,7 @@ use Rattle.trace_model.specs.declared.limits.TheConstants.{LINK_PAGES, LINK_FILL
 -- normal: nothing is stated of the page. header: the page is the head. update: a writer moves the head
 -- away from the page.
 pub data Mark : Type 0 where
-  normal : Mark
-  header : Mark
-  update : Mark
+  normal header update : Mark
 
 -- page: the number of the page that the link leads to. fill: of which fill the link speaks.
 pub record Link : Type 0 where

@@ -54,9 +54,7 @@ pub record TakenFill : Type 0 where
 -- How far the reader's take has come. fill: the head that it has seen, on this page.
 pub data ReaderPhase : Type 0 where
   loading_head : ReaderPhase
-  loading_done : (page fill : ℕ) → ReaderPhase
-  storing_spare_link : (page fill : ℕ) → ReaderPhase
-  swapping : (page fill : ℕ) → ReaderPhase
+  loading_done storing_spare_link swapping : (page fill : ℕ) → ReaderPhase
 
 -- hint: the least fill that the reader doesn't know to be taken or lost. seen: the greatest number of closed
 -- fills that it has seen. expected: the number after the last record that it took. taken: the fills that it

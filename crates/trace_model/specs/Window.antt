@@ -18,10 +18,7 @@ first_window start = record { head = start; done = start; opened = start + 1 }
 -- A fill is begun; the oldest one that isn't closed is closed; the head is taken by the reader; the
 -- head is lost to a writer.
 pub data WindowEvent : Type 0 where
-  opened_one : WindowEvent
-  released_one : WindowEvent
-  took_one : WindowEvent
-  lost_one : WindowEvent
+  opened_one released_one took_one lost_one : WindowEvent
 
 -- the counts after an event: each moves one of them by one
 abbrev pub window_after : Window → WindowEvent → Window
@@ -49,9 +46,7 @@ pub record WindowStep (n : ℕ) (history : List HistoryEvent) (before : Window) 
 -- a writer. That a fill is begun is a history event of the frames, and an event of the window too.
 pub data RingEvent : Type 0 where
   acts : HistoryEvent → RingEvent
-  closes : RingEvent
-  takes : RingEvent
-  loses : RingEvent
+  closes takes loses : RingEvent
 
 -- the history events among the events
 abbrev pub history_events_of : List RingEvent → List HistoryEvent
