@@ -1,12 +1,12 @@
 -- The world of a script has an account of each CPU.
-use Rattle.std.proofs.Common.{◌≡◌, ◌≢◌, ℕ, zero, suc, ◌+◌, ◌<◌, ◌≤◌, ◌⊎◌, List, [], ◌∷◌, ◌++◌, length, map, Option, Some, None, refl, sym, ap, ◌∙◌, subst, inl, inr, ⊎_elim, arith, append_assoc, append-nil}
-use Rattle.std.specs.Prelude.{All}
+use Rattle.std.proofs.Common.{◌≡◌, ◌≢◌, ℕ, zero, suc, ◌+◌, ◌<◌, ◌≤◌, ◌⊎◌, true, false, List, [], ◌∷◌, ◌++◌, length, map, Option, Some, None, refl, sym, ap, ◌∙◌, subst, inl, inr, ⊎_elim, arith, append_assoc, append-nil}
+use Rattle.std.specs.Prelude.{All, IsTrue}
 use Rattle.std.specs.List.{slice_get}
 use Rattle.std.proofs.lemmas.List.{append_cancel_left}
 use Rattle.std.proofs.lemmas.Option.{none-some, slice_get_within, slice_get_cases, get_or_from_slice_get}
 use mathlib.Core.Logic.{dite}
 use native.Mathlib.Decide.{ℕ_discrete}
-use Rattle.trace_model.specs.History.{HistoryEvent, push, push_close, open_fill, reserve, leave, wished, Reservation, PushedFrame, record_frame, close_frame, writer_after, reserved_records, reservation_for, MayAct, IsHistory}
+use Rattle.trace_model.specs.History.{HistoryEvent, push, push_close, open_fill, reserve, leave, wished, Reservation, PushedFrame, record_frame, close_frame, writer_after, reserved_records, reservation_for, is_settled, MayAct, IsHistory}
 use Rattle.trace_model.specs.Packing.{tail_of, fill_len, FitsBehind, next_reservation, next_reservation_of, MayCloseTail, IsPacked}
 use Rattle.trace_model.specs.Window.{Window, first_window, opened_one, released_one, took_one, lost_one, window_after, RingEvent, acts, closes, takes, loses, history_events_of, window_event_of, window_behind, WindowRun, WindowRunFrom}
 use Rattle.trace_model.specs.Frames.{Frame, Refusal}
@@ -38,7 +38,7 @@ use Rattle.world_model.proofs.WorldsAt.{other_lines, second_world, others_obeyed
 use Rattle.line_model.specs.Lines.{LineState, first_state}
 use Rattle.line_model.specs.WriterCalls.{Writer, writer_of, first_writer, TopCalls, StepsCalls, none_to_step, steps_top, FinishCalls, none_to_finish, finishes_top, begins_frame, begins_none, writes_frame, writes_none, LineCalls}
 use Rattle.line_model.specs.LineParts.{IsBetweenLines}
-use Rattle.line_model.specs.Accounts.{Frames, Adds, Takes, HasNoPage, NeedsPage, IsDue, IsAccount}
+use Rattle.line_model.specs.Accounts.{Frames, Adds, Takes, window_at, HasNoPage, NeedsPage, IsDue, IsAccount}
 use Rattle.line_model.proofs.EventsMade.{count_frames}
 use Rattle.line_model.proofs.CallParts.{call_moves}
 use Rattle.line_model.proofs.PushParts.{Pushing, pushing_of}
@@ -51,6 +51,7 @@ use Rattle.line_model.proofs.AccountsMade.{on_stack, frames_counted, Spares, IsO
 use Rattle.line_model.proofs.EventsDue.{WhyNone, AreReasoned, reasoned_append, reasoned_at, needed_at, line_reasoned}
 use Rattle.line_model.proofs.LossesDue.{is_found}
 use Rattle.line_model.proofs.LineTakes.{taken_of, TakesOne, TakesNone, HasNone, TakesOf, line_takes, line_wishes}
+use Rattle.line_model.proofs.AccountWindows.{run_leads, front_leads}
 use Rattle.line_model.proofs.WishesAsked.{FindsNone, none_at, reached_silent}
 
 -- ---- how many frames a line takes from the stack
@@ -490,7 +491,7 @@ module _ (script : Script) (w : World) (limits : IsWithinLimits script) (of : Wo
       Asked = (j line : ℕ) × (j < k) × (slice_get script.commands j ≡ Some (line, wish cpu))
 
       abbrev Due : List PushedFrame → RingEvent → Type 0
-      Due stack event = IsDue Needs (HasNoPage script.pages u) Asked stack event
+      Due stack event = IsDue script.pages u Needs Asked stack event
 
       -- the window goes on from there
       rest_of : (event : RingEvent) → Cut event → WindowRunFrom script.pages h u (event ∷ behind) (window_of (at_behind k).lane.core)
@@ -566,6 +567,9 @@ module _ (script : Script) (w : World) (limits : IsWithinLimits script) (of : Wo
       leaves (record_frame moment len (Some number) ∷ below) e None cut = absurd (may_act (record_frame moment len (Some number) ∷ below) e (leave None) cut)
       leaves (record_frame moment len (Some number) ∷ below) e (Some bytes) cut = λ none. (let no : ⊥ = cc in no)
 
+      unsettled : (frame : PushedFrame) (below : List PushedFrame) → (writer_after h).stack ≡ frame ∷ below → IsTrue (is_settled h) → ⊥
+      unsettled frame below e settled = let off : is_settled h ≡ false = rw (is_settled, e) refl in let no : ⊥ = cc in no
+
       -- a wish is found
       finds : (stack : List PushedFrame) → (writer_after h).stack ≡ stack → Cut (acts wished) → Due stack (acts wished)
       finds [] e cut = is_asked cut
@@ -573,11 +577,16 @@ module _ (script : Script) (w : World) (limits : IsWithinLimits script) (of : Wo
       finds (record_frame moment len None ∷ below) e cut = may_act (record_frame moment len None ∷ below) e wished cut
       finds (record_frame moment len (Some number) ∷ below) e cut = may_act (record_frame moment len (Some number) ∷ below) e wished cut
 
+      -- a fill is closed
+      closes_at : (stack : List PushedFrame) → (writer_after h).stack ≡ stack → Cut closes → Due stack closes
+      closes_at [] e cut = (rest_of closes cut).0.0
+      closes_at (frame ∷ below) e cut = unsettled frame below e (rest_of closes cut).0.1
+
       is_due : (stack : List PushedFrame) → (writer_after h).stack ≡ stack → (event : RingEvent) → Cut event → Due stack event
       is_due stack e loses cut =
           let (needed, left) = needed_at script.pages script.size [] (first_window script.start) u front behind (reasons loses cut) run in
           let (closed, full) = (rest_of loses cut).0 in
-          (needed, λ none. ⊎_elim (λ crowded. (let no : ⊥ = omega (arith, crowded, closed, full) in no)) (λ worn. (let no : ⊥ = omega (arith, worn, left) in no)) none)
+          (needed, λ none. ⊎_elim (λ crowded. (let no : ⊥ = omega (arith, crowded, closed, full) in no)) (λ worn. (let no : ⊥ = omega (arith, worn, left) in no)) none, closed, full)
       is_due stack e (acts open_fill) cut =
           let (room, more) = rest_of (acts open_fill) cut in
           let rises = run_rises script.pages (h ++ open_fill ∷ []) (window_after u opened_one) (window_of (at_behind k).lane.core) behind more in
@@ -586,28 +595,52 @@ module _ (script : Script) (w : World) (limits : IsWithinLimits script) (of : Wo
           let order = (window_kept script.pages script.start front u (let least = limits.min_pages in omega (arith, least)) run).head_le in (
             needs stack e (opens stack e cut),
             λ none. ⊎_elim (λ crowded. (let no : ⊥ = omega (arith, crowded, room, order) in no)) (λ worn. (let no : ⊥ = omega (arith, worn, up, fits) in no)) none,
+            room,
           )
       is_due stack e (acts wished) cut = finds stack e cut
       is_due stack e (acts reserve) cut = reserves stack e cut
       is_due stack e (acts (leave payload)) cut = leaves stack e payload cut
       is_due stack e (acts (push moment len)) cut = tt
       is_due stack e (acts push_close) cut = tt
-      is_due stack e closes cut = tt
-      is_due stack e takes cut = tt
+      is_due stack e closes cut = closes_at stack e cut
+      is_due stack e takes cut = (rest_of takes cut).0
 
   pub events_behind : ℕ → List RingEvent
   events_behind k = so_far k
+
+  -- the window of the ring is that of its events
+  window_is : (k : ℕ) → window_at script.start (so_far k) ≡ window_of (at_behind k).lane.core
+  window_is k = run_leads script.pages [] (first_window script.start) (window_of (at_behind k).lane.core) (so_far k) (at_behind k).stands.reported.window
+
+  front_run : (k : ℕ) (front behind : List RingEvent) (event : RingEvent) → so_far k ≡ front ++ event ∷ behind → WindowRun script.pages script.start front (window_at script.start front)
+  front_run k front behind event cut = front_leads script.pages [] (first_window script.start) (window_of (at_behind k).lane.core) front (event ∷ behind)
+      (subst (λ (l : List RingEvent). WindowRun script.pages script.start l (window_of (at_behind k).lane.core)) cut (at_behind k).stands.reported.window)
+
+  -- what a line makes of the events
+  leads : (k line : ℕ) (command : Command)
+      → slice_get script.commands k ≡ Some (line, command)
+      → (own : List RingEvent)
+      × (so_far (suc k) ≡ so_far k ++ own)
+      × Adds cpu script.size command (on_stack (at_behind k).state) (history_events_of own) (on_stack (at_behind (suc k)).state)
+      × Takes cpu command (on_stack (at_behind k).state) (window_at script.start (so_far (suc k))) (fills_taken (window_at script.start (so_far k)).head own)
+  leads k line command at =
+      let (own, is, adds, took) = line_leads script cpu script.commands of.new w limits.each_command first_kept of.obeyed first_at k line command at in (
+        own,
+        is,
+        adds,
+        subst (λ (v : Window). Takes cpu command (on_stack (at_behind k).state) v (fills_taken (window_at script.start (so_far k)).head own)) (sym (window_is (suc k)))
+            (subst (λ (v : Window). Takes cpu command (on_stack (at_behind k).state) (window_of (at_behind (suc k)).lane.core) (fills_taken v.head own)) (sym (window_is k)) took),
+      )
 
   pub account_behind : IsAccount script cpu events_behind
   unfolding events_behind first_at
   account_behind = record {
     frames = λ k. on_stack (at_behind k).state;
-    window = λ k. window_of (at_behind k).lane.core;
     first = (refl, refl);
-    lines = λ k line command at. line_leads script cpu script.commands of.new w limits.each_command first_kept of.obeyed first_at k line command at;
-    run = λ k. (at_behind k).stands.reported.window;
-    rests = rest;
-    due = λ k front behind event u cut run. is_due k front behind u run (writer_after (history_events_of front)).stack refl event cut;
+    lines = λ k line command at. leads k line command at;
+    rests = λ k none. subst (λ (v : Window). v.done + 1 ≡ v.opened) (sym (window_is k)) (rest k none);
+    due = λ k front behind event cut.
+        is_due k front behind (window_at script.start front) (front_run k front behind event cut) (writer_after (history_events_of front)).stack refl event cut;
   }
 
   -- the fills that are taken so far are those of the parcels

@@ -34,4 +34,5 @@ pub mod LineTakes
 -- which wishes are found
 pub mod WishesAsked
 -- an account of each CPU
+pub mod AccountWindows
 pub mod AccountsOfWorlds

@@ -1,13 +1,14 @@
 -- What is printed of a script, by the histories of its CPUs alone: which records, under which numbers, and which
 -- numbers are missing. Neither links nor steps of a ring are spoken of. docs/MODEL.md, "What is printed, by histories
 -- alone".
-use Rattle.std.specs.Prelude.{◌≡◌, ◌≢◌, ℕ, suc, ◌+◌, ◌<◌, ◌≤◌, ◌⊎◌, ◌↔◌, ⊤, Bool, true, false, List, [], ◌∷◌, ◌++◌, length, flat_map, Option, Some, None, Contains, slice_index_or}
+use Rattle.std.specs.Prelude.{◌≡◌, ◌≢◌, ℕ, suc, ◌+◌, ◌<◌, ◌≤◌, ◌⊎◌, ◌↔◌, ⊤, Bool, true, false, fold, List, [], ◌∷◌, ◌++◌, length, flat_map, Option, Some, None, Contains, slice_index_or}
 use Rattle.std.specs.List.{slice_get, enumerate_from, AllZip}
 use Rattle.trace_model.specs.declared.limits.TheConstants.{MAX_FRAMES, MOMENT_LIMIT, LINK_FILLS}
 use Rattle.trace_model.specs.Words.{padded, encoded_len}
 use Rattle.trace_model.specs.History.{HistoryEvent, push, push_close, open_fill, reserve, leave, wished, PushedFrame, record_frame, close_frame, reservation_for, writer_after, reserved_records, committed_records}
 use Rattle.trace_model.specs.Packing.{opens_of, tail_of, fill_len}
-use Rattle.trace_model.specs.Window.{Window, RingEvent, acts, loses, history_events_of, WindowRun}
+use Rattle.trace_model.specs.Window.{Window, first_window, RingEvent, acts, closes, takes, loses, history_events_of}
+use Rattle.trace_model.specs.Runs.{AreRuns}
 use Rattle.trace_model.specs.Listing.{Line, IsTimeOrdered}
 use Rattle.link_marks.specs.RunsAsEvents.{fills_taken}
 use Rattle.text_model.specs.Script.{Command, begin_frame, step_frame, finish_frame, write, close, step_reader, take_page, wish, deliver, Script}
@@ -81,6 +82,17 @@ Takes cpu _ frames after fills = fills ≡ []
 
 -- ---- what is due
 
+-- the window after an event of the ring: one fill more is begun, closed, or taken or lost; or it stays as it is
+abbrev pub moved : Window → RingEvent → Window
+moved w (acts open_fill) = record w { opened = w.opened + 1 }
+moved w (acts event) = w
+moved w closes = record w { done = w.done + 1 }
+moved w _ = record w { head = w.head + 1 }
+
+-- the window after the events of a ring whose first fill has this number
+abbrev pub window_at : ℕ → List RingEvent → Window
+window_at start events = fold moved (first_window start) events
+
 -- no page is released, or no number is left for one more fill
 abbrev pub HasNoPage : ℕ → Window → Type 0
 HasNoPage n w = (w.opened ≡ w.done + n) ⊎ (LINK_FILLS ≤ w.opened + n)
@@ -96,53 +108,55 @@ NeedsPage size h (record_frame moment len None ∷ below) =
 NeedsPage size h (record_frame moment len (Some number) ∷ below) = ⊥
 NeedsPage size h (close_frame ∷ below) = tail_of h ≢ []
 
--- What may happen while these frames have not left: of the clauses the first that fits counts. A fill is begun, and one
--- is lost, only if a page is needed, and there is one. A record is reserved only for a record frame that has none yet,
--- and if it needs no page. Such a frame leaves without a record only if it needs a page, and there is none; one that
--- has its record leaves with it. A close frame leaves only if it needs no page, or there is none. The reader's wish is
--- found only if it was asked, and every frame has left.
-abbrev pub IsDue : (Needs NoPage Asked : Type 0) → List PushedFrame → RingEvent → Type 0
-IsDue Needs NoPage Asked stack loses = Needs × (NoPage → ⊥)
-IsDue Needs NoPage Asked stack (acts open_fill) = Needs × (NoPage → ⊥)
-IsDue Needs NoPage Asked [] (acts wished) = Asked
-IsDue Needs NoPage Asked (record_frame _ _ None ∷ _) (acts reserve) = Needs → ⊥
-IsDue Needs NoPage Asked (record_frame _ _ None ∷ _) (acts (leave payload)) = (payload ≡ None) × Needs × NoPage
-IsDue Needs NoPage Asked (record_frame _ _ (Some number) ∷ _) (acts (leave payload)) = payload ≢ None
-IsDue Needs NoPage Asked (close_frame ∷ _) (acts (leave payload)) = (payload ≡ None) × (Needs → NoPage)
-IsDue Needs NoPage Asked stack (acts wished) = ⊥
-IsDue Needs NoPage Asked stack (acts reserve) = ⊥
-IsDue Needs NoPage Asked stack (acts (leave payload)) = ⊥
-IsDue Needs NoPage Asked stack event = ⊤
+-- What may happen at this window of a ring of n positions, while these frames have not left: of the clauses the first
+-- that fits counts. A fill is begun, and one is lost, only if a page is needed, and there is one; it is begun only if a
+-- position is free, and lost only if it is closed and the ring is full. A fill is taken only if it is closed; and one
+-- is closed only if it isn't the tail, and every frame has left. The reader's wish is found only if it was asked, and
+-- every frame has left. A record is reserved only for a record frame that has none yet, and if it needs no page. Such a
+-- frame leaves without a record only if it needs a page, and there is none; one that has its record leaves with it. A
+-- close frame leaves only if it needs no page, or there is none. A frame may be pushed at any time.
+abbrev pub IsDue : (n : ℕ) → Window → (Needs Asked : Type 0) → List PushedFrame → RingEvent → Type 0
+IsDue n w Needs Asked stack loses = Needs × (HasNoPage n w → ⊥) × (w.head < w.done) × (w.opened ≡ w.head + n)
+IsDue n w Needs Asked stack (acts open_fill) = Needs × (HasNoPage n w → ⊥) × (w.opened < w.head + n)
+IsDue n w Needs Asked stack takes = w.head < w.done
+IsDue n w Needs Asked [] closes = w.done + 1 < w.opened
+IsDue n w Needs Asked [] (acts wished) = Asked
+IsDue n w Needs Asked (record_frame _ _ None ∷ _) (acts reserve) = Needs → ⊥
+IsDue n w Needs Asked (record_frame _ _ None ∷ _) (acts (leave payload)) = (payload ≡ None) × Needs × HasNoPage n w
+IsDue n w Needs Asked (record_frame _ _ (Some number) ∷ _) (acts (leave payload)) = payload ≢ None
+IsDue n w Needs Asked (close_frame ∷ _) (acts (leave payload)) = (payload ≡ None) × (Needs → HasNoPage n w)
+IsDue n w Needs Asked stack (acts (push moment len)) = ⊤
+IsDue n w Needs Asked stack (acts push_close) = ⊤
+IsDue n w Needs Asked stack event = ⊥
 
--- One CPU of a script, after its first k lines: the frames on the stack, the window, and the events so far, which are
--- what the frames did, and when a fill was closed, taken or lost, in one order, as the window allows. Each line adds
--- its part and takes what it can; and if no frame is on the stack, all fills but the tail are closed. Each event was
--- due.
+-- One CPU of a script, after its first k lines: the frames on the stack, and the events so far, which are what the
+-- frames did, and when a fill was closed, taken or lost, in one order. Each line adds its part and takes what it can;
+-- and if no frame is on the stack, all fills but the tail are closed. Each event was due after those before it.
 pub record IsAccount (script : Script) (cpu : ℕ) (events : ℕ → List RingEvent) : Type 0 where
   pub frames : ℕ → Frames
-  pub window : ℕ → Window
   pub first : (events 0 ≡ []) × (frames 0 ≡ [])
   pub lines : (k line : ℕ) (command : Command)
       → slice_get script.commands k ≡ Some (line, command)
       → (own : List RingEvent)
       × (events (suc k) ≡ events k ++ own)
       × Adds cpu script.size command (frames k) (history_events_of own) (frames (suc k))
-      × Takes cpu command (frames k) (window (suc k)) (fills_taken (window k).head own)
-  pub run : (k : ℕ) → WindowRun script.pages script.start (events k) (window k)
-  pub rests : (k : ℕ) → frames k ≡ [] → (window k).done + 1 ≡ (window k).opened
-  pub due : (k : ℕ) (front behind : List RingEvent) (event : RingEvent) (w : Window)
+      × Takes cpu command (frames k) (window_at script.start (events (suc k)))
+      (fills_taken (window_at script.start (events k)).head own)
+  pub rests : (k : ℕ)
+      → frames k ≡ []
+      → (window_at script.start (events k)).done + 1 ≡ (window_at script.start (events k)).opened
+  pub due : (k : ℕ) (front behind : List RingEvent) (event : RingEvent)
       → events k ≡ front ++ event ∷ behind
-      → WindowRun script.pages script.start front w
-      → IsDue (NeedsPage script.size (history_events_of front) (writer_after (history_events_of front)).stack)
-      (HasNoPage script.pages w)
+      → IsDue script.pages (window_at script.start front)
+      (NeedsPage script.size (history_events_of front) (writer_after (history_events_of front)).stack)
       ((j line : ℕ) × (j < k) × (slice_get script.commands j ≡ Some (line, wish cpu)))
       (writer_after (history_events_of front)).stack event
 
 -- ---- what is printed
 
 -- What is shown of a collector, by the fills that were delivered to it, each with its CPU. A line is a committed record
--- of one of these fills, under its own CPU and number, and each such record has its line. The runs have the numbers
--- that were overwritten unread before one of these fills, and no others.
+-- of one of these fills, under its own CPU and number, and each such record has its line. The runs of a CPU are those of
+-- the numbers that were overwritten unread before one of these fills.
 pub record IsShownOf (start : ℕ) (events : ℕ → List RingEvent) (fills : List (ℕ × ℕ)) (shown : Shown) : Type 0 where
   pub ordered : IsTimeOrdered shown.lines
   pub lines : (line : Line)
@@ -152,11 +166,11 @@ pub record IsShownOf (start : ℕ) (events : ℕ → List RingEvent) (fills : Li
       × (fill : ℕ)
       × Contains fills (line.cpu, fill)
       × StandsIn (history_events_of (events line.cpu)) start fill line.number)
-  pub missing : (cpu number : ℕ)
-      → ((run : ℕ × ℕ) × Contains (slice_index_or shown.runs cpu []) run × (run.0 ≤ number) × (number ≤ run.1))
-      ↔ ((fill : ℕ)
+  pub missing : (cpu : ℕ)
+      → AreRuns (λ number. (fill : ℕ)
       × Contains fills (cpu, fill)
       × IsOverwrittenBefore (history_events_of (events cpu)) start (events cpu) fill number)
+      (slice_index_or shown.runs cpu [])
 
 -- These bytes are the collectors of the script, each as it is shown, after the log, if that is asked for. There is an
 -- account of each CPU, by the number of lines so far. A fill is delivered to a collector exactly if a line of the

@@ -19,7 +19,7 @@ use Rattle.text_model.specs.Printing.{printed_log_line}
 use Rattle.replay_command.proofs.OneOutput.{script_in-within}
 use Rattle.command_io.specs.CommandRun.{SourceRun, SinkRun, WritesOutput, IsCommandRun}
 use Rattle.command_io.specs.declared.status.TheConstants.{DONE, REFUSED}
-use Rattle.collector.specs.Runs.{InRun}
+use Rattle.collector.specs.Runs.{AreRuns}
 use Rattle.collector_text.specs.Prints.{runs_of, IsPrintOf}
 use Rattle.world_model.specs.World.{World, WorldOf, IsFill}
 use Rattle.world_model.specs.Headline.{StandsIn, IsOverwrittenBefore, parcels_from, IsOneOf, IsExact, IsGenuineWorld}
@@ -43,9 +43,14 @@ key_of parcel = (parcel.cpu, parcel.fill)
 abbrev keys_of : List Parcel → List (ℕ × ℕ)
 keys_of parcels = map key_of parcels
 
--- the runs have the number
-abbrev IsInRuns : List (ℕ × ℕ) → ℕ → Type 0
-IsInRuns runs number = (run : ℕ × ℕ) × Contains runs run × (run.0 ≤ number) × (number ≤ run.1)
+-- of the same numbers the runs are the same
+same_runs : (holds other : ℕ → Type 0) (runs : List (ℕ × ℕ)) → ((number : ℕ) → holds number ↔ other number) → AreRuns holds runs → AreRuns other runs
+same_runs holds other runs both are = record {
+  forward = are.forward;
+  apart = are.apart;
+  of_them = λ number within. (both number).0 (are.of_them number within);
+  whole = λ number has. are.whole number ((both number).1 has);
+}
 
 runs_are : (runs : List (List (ℕ × ℕ))) (cpu : ℕ) → runs_of runs cpu ≡ slice_index_or runs cpu []
 runs_are [] cpu = refl
@@ -220,12 +225,6 @@ module _ (script : Script) (w : World) (limits : IsWithinLimits script) (of : Wo
           );
         }
 
-    in_runs : (runs : List (ℕ × ℕ)) (number : ℕ) → InRun runs number ↔ IsInRuns runs number
-    in_runs runs number = (
-      λ i. (i.run, contains_at runs i.index i.run i.at, i.from, i.to),
-      λ (run, has, from, to). let (k, at) = element_at runs run has in record { index = k; run = run; at = at; from = from; to = to },
-    )
-
     is_shown : (shown : Shown) → IsPrintOf parcels shown → IsShownOf script.start all_events (keys_of parcels) shown
     is_shown shown print = record {
       ordered = print.lines.ordered;
@@ -233,10 +232,9 @@ module _ (script : Script) (w : World) (limits : IsWithinLimits script) (of : Wo
         λ has. let (k, at) = element_at shown.lines line has in (here.has line.number r).0 (print.lines.of_them k line at),
         λ there. let (k, at) = print.lines.whole line.cpu line.number r ((here.has line.number r).1 there) in contains_at shown.lines k line at,
       );
-      missing = λ cpu number. let here = is_of cpu (known_at cpu) in let runs = print.runs cpu in (
-        λ has. (here.misses number).0 (runs.of_them number ((in_runs (runs_of shown.runs cpu) number).1 (subst (λ (l : List (ℕ × ℕ)). IsInRuns l number) (sym (runs_are shown.runs cpu)) has))),
-        λ there. subst (λ (l : List (ℕ × ℕ)). IsInRuns l number) (runs_are shown.runs cpu) ((in_runs (runs_of shown.runs cpu) number).0 (runs.whole number ((here.misses number).1 there))),
-      );
+      missing = λ cpu. subst (AreRuns (λ number. (fill : ℕ) × Contains (keys_of parcels) (cpu, fill)
+          × IsOverwrittenBefore (history_events_of (all_events cpu)) script.start (all_events cpu) fill number))
+          (runs_are shown.runs cpu) (same_runs _ _ (runs_of shown.runs cpu) (is_of cpu (known_at cpu)).misses (print.runs cpu));
     }
 
   all_shown : (delivered : List (List Parcel)) (shown : List Shown)

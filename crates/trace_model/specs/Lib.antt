@@ -32,3 +32,4 @@ pub mod Parcel
 pub mod ParcelBytes
 pub mod Collection
 pub mod Listing
+pub mod Runs
