@@ -53,6 +53,7 @@ use Rattle.line_model.proofs.LossesDue.{is_found}
 use Rattle.line_model.proofs.LineTakes.{taken_of, TakesOne, TakesNone, HasNone, TakesOf, line_takes, line_wishes}
 use Rattle.line_model.proofs.AccountWindows.{run_leads, front_leads}
 use Rattle.line_model.proofs.WishesAsked.{FindsNone, none_at, reached_silent}
+use Rattle.line_model.proofs.WishesServed.{rests_unneeded}
 
 -- ---- how many frames a line takes from the stack
 
@@ -453,14 +454,21 @@ module _ (script : Script) (w : World) (limits : IsWithinLimits script) (of : Wo
     allowed : IsHistory (history_events_of (so_far k))
     allowed = subst IsHistory (sym (at_behind k).stands.reported.history_events) ring.history.allowed
 
-    rest : on_stack (at_behind k).state ≡ [] → (window_of (at_behind k).lane.core).done + 1 ≡ (window_of (at_behind k).lane.core).opened
-    rest none = closed_at_rest script.pages script.size script.start (at_behind k).lane.core ring
-        (is_none (at_behind k).lane.core.frames (sym (stack_count script.pages script.size script.start (at_behind k).state (at_behind k).lane.payloads (writer_of (at_behind k).lane.core) (at_behind k).stands.between)
-        ∙ ap (λ (l : Frames). length l) none))
+    none_on : on_stack (at_behind k).state ≡ [] → (at_behind k).lane.core.frames ≡ []
+    none_on none = is_none (at_behind k).lane.core.frames (sym (stack_count script.pages script.size script.start (at_behind k).state (at_behind k).lane.payloads (writer_of (at_behind k).lane.core) (at_behind k).stands.between)
+        ∙ ap (λ (l : Frames). length l) none)
       where
         is_none : (l : List Frame) → length l ≡ 0 → l ≡ []
         is_none [] e = refl
         is_none (frame ∷ l) e = absurd (let no : ⊥ = omega (arith, e) in no)
+
+    rest : on_stack (at_behind k).state ≡ [] → (window_of (at_behind k).lane.core).done + 1 ≡ (window_of (at_behind k).lane.core).opened
+    rest none = closed_at_rest script.pages script.size script.start (at_behind k).lane.core ring (none_on none)
+
+    unneeded : on_stack (at_behind k).state ≡ [] → NeedsPage script.size (history_events_of (so_far k)) [] → ⊥
+    unneeded none needed = rests_unneeded script.pages script.size script.start (at_behind k).lane.core
+        ((kept_at script script.commands of.new w of.obeyed first_kept k).reached cpu (at_behind k).lane (at_behind k).stands.at) (none_on none)
+        (subst (λ (h : List HistoryEvent). NeedsPage script.size h []) (at_behind k).stands.reported.history_events needed)
 
     asked : ((at_behind k).lane.core.wish ≡ 0) ⊎ ((j line : ℕ) × (j < k) × (slice_get script.commands j ≡ Some (line, wish cpu)))
     unfolding first_at
@@ -638,7 +646,7 @@ module _ (script : Script) (w : World) (limits : IsWithinLimits script) (of : Wo
     frames = λ k. on_stack (at_behind k).state;
     first = (refl, refl);
     lines = λ k line command at. leads k line command at;
-    rests = λ k none. subst (λ (v : Window). v.done + 1 ≡ v.opened) (sym (window_is k)) (rest k none);
+    rests = λ k none. (subst (λ (v : Window). v.done + 1 ≡ v.opened) (sym (window_is k)) (rest k none), unneeded k none);
     due = λ k front behind event cut.
         is_due k front behind (window_at script.start front) (front_run k front behind event cut) (writer_after (history_events_of front)).stack refl event cut;
   }

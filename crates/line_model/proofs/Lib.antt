@@ -33,6 +33,7 @@ pub mod EventsDue
 pub mod LineTakes
 -- which wishes are found
 pub mod WishesAsked
+pub mod WishesServed
 -- an account of each CPU
 pub mod AccountWindows
 pub mod AccountsOfWorlds

@@ -131,7 +131,8 @@ IsDue n w Needs Asked stack event = ⊥
 
 -- One CPU of a script, after its first k lines: the frames on the stack, and the events so far, which are what the
 -- frames did, and when a fill was closed, taken or lost, in one order. Each line adds its part and takes what it can;
--- and if no frame is on the stack, all fills but the tail are closed. Each event was due after those before it.
+-- and if no frame is on the stack, all fills but the tail are closed, and no page is needed. Each event was due after
+-- those before it.
 pub record IsAccount (script : Script) (cpu : ℕ) (events : ℕ → List RingEvent) : Type 0 where
   pub frames : ℕ → Frames
   pub first : (events 0 ≡ []) × (frames 0 ≡ [])
@@ -144,7 +145,8 @@ pub record IsAccount (script : Script) (cpu : ℕ) (events : ℕ → List RingEv
       (fills_taken (window_at script.start (events k)).head own)
   pub rests : (k : ℕ)
       → frames k ≡ []
-      → (window_at script.start (events k)).done + 1 ≡ (window_at script.start (events k)).opened
+      → ((window_at script.start (events k)).done + 1 ≡ (window_at script.start (events k)).opened)
+      × (NeedsPage script.size (history_events_of (events k)) [] → ⊥)
   pub due : (k : ℕ) (front behind : List RingEvent) (event : RingEvent)
       → events k ≡ front ++ event ∷ behind
       → IsDue script.pages (window_at script.start front)
