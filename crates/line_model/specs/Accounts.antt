@@ -1,8 +1,8 @@
 -- What is printed of a script, by the histories of its CPUs alone: which records, under which numbers, and which
 -- numbers are missing. Neither links nor steps of a ring are spoken of. docs/MODEL.md, "What is printed, by histories
 -- alone".
-use Rattle.std.specs.Prelude.{◌≡◌, ◌≢◌, ℕ, suc, ◌+◌, ◌<◌, ◌≤◌, ◌⊎◌, ◌↔◌, ⊤, Bool, true, false, fold, List, [], ◌∷◌, ◌++◌, length, flat_map, Option, Some, None, Contains, slice_index_or}
-use Rattle.std.specs.List.{slice_get, enumerate_from, AllZip}
+use Rattle.std.specs.Prelude.{◌≡◌, ◌≢◌, ℕ, suc, ◌+◌, ◌<◌, ◌≤◌, ◌⊎◌, ◌↔◌, ⊤, Bool, true, false, fold, List, [], ◌∷◌, ◌++◌, length, Option, Some, None, Contains, slice_index_or}
+use Rattle.std.specs.List.{slice_get, AllZip}
 use Rattle.trace_model.specs.declared.limits.TheConstants.{MAX_FRAMES, MOMENT_LIMIT, LINK_FILLS}
 use Rattle.trace_model.specs.Words.{padded, encoded_len}
 use Rattle.trace_model.specs.History.{HistoryEvent, push, push_close, open_fill, reserve, leave, wished, PushedFrame, record_frame, close_frame, reservation_for, writer_after, reserved_records, committed_records}
@@ -11,9 +11,10 @@ use Rattle.trace_model.specs.Window.{Window, first_window, RingEvent, acts, clos
 use Rattle.trace_model.specs.Runs.{AreRuns}
 use Rattle.trace_model.specs.Listing.{Line, IsTimeOrdered}
 use Rattle.link_marks.specs.RunsAsEvents.{fills_taken}
+use Rattle.text_model.specs.Log.{LogLine}
 use Rattle.text_model.specs.Script.{Command, begin_frame, step_frame, finish_frame, write, close, step_reader, take_page, wish, deliver, Script}
 use Rattle.world_model.specs.Headline.{StandsIn, IsOverwrittenBefore}
-use Rattle.world_model.specs.Printing.{Shown, printed_collector}
+use Rattle.world_model.specs.Printing.{Shown, printed_world}
 
 -- ---- what lines write
 
@@ -174,9 +175,9 @@ pub record IsShownOf (start : ℕ) (events : ℕ → List RingEvent) (fills : Li
       × IsOverwrittenBefore (history_events_of (events cpu)) start (events cpu) fill number)
       (slice_index_or shown.runs cpu [])
 
--- These bytes are the collectors of the script, each as it is shown, after the log, if that is asked for. There is an
--- account of each CPU, by the number of lines so far. A fill is delivered to a collector exactly if a line of the
--- script delivers it, before which it was taken.
+-- These bytes are the collectors of the script, each as it is shown, after the lines of some log, if that is asked for.
+-- There is an account of each CPU, by the number of lines so far. A fill is delivered to a collector exactly if a line
+-- of the script delivers it, before which it was taken.
 pub record IsAccounted (script : Script) (asked : Bool) (bytes : List ℕ) : Type 0 where
   pub events : (cpu lines : ℕ) → List RingEvent
   pub accounts : (cpu : ℕ) → cpu < script.cpus → IsAccount script cpu (events cpu)
@@ -190,6 +191,5 @@ pub record IsAccounted (script : Script) (asked : Bool) (bytes : List ℕ) : Typ
       × Contains (fills_taken script.start (events cpu k)) fill)
   pub shown : List Shown
   pub each : AllZip (IsShownOf script.start (λ cpu. events cpu (length script.commands))) fills shown
-  pub log : List ℕ
-  pub log_asked : asked ≡ false → log ≡ []
-  pub printed : bytes ≡ log ++ flat_map (λ pair. printed_collector pair.0 pair.1) (enumerate_from 0 shown)
+  pub log : List LogLine
+  pub printed : bytes ≡ printed_world asked log shown

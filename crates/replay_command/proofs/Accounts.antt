@@ -262,8 +262,7 @@ accounted script asked bytes limits p =
       );
       shown = p.shown;
       each = all_shown script w limits of genuine w.delivered p.shown (λ k parcels at. (k, at)) p.reported;
-      log = if asked then flat_map printed_log_line w.log else [];
-      log_asked = λ not. ap (λ (b : Bool). if b then flat_map printed_log_line w.log else []) not;
+      log = w.log;
       printed = p.printed;
     }
 
