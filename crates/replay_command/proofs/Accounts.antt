@@ -20,7 +20,7 @@ use Rattle.replay_command.proofs.OneOutput.{script_in-within}
 use Rattle.command_io.specs.CommandRun.{SourceRun, SinkRun, WritesOutput, IsCommandRun}
 use Rattle.command_io.specs.declared.status.TheConstants.{DONE, REFUSED}
 use Rattle.collector.specs.Runs.{InRun}
-use Rattle.collector_text.specs.Prints.{runs_of, IsPrintOf}
+use Rattle.collector_text.specs.Prints.{IsPrintOf}
 use Rattle.world_model.specs.World.{World, WorldOf, IsFill}
 use Rattle.world_model.specs.Headline.{StandsIn, IsOverwrittenBefore, parcels_from, IsOneOf, IsExact, IsGenuineWorld}
 use Rattle.world_model.specs.Printing.{Shown}
@@ -46,11 +46,6 @@ keys_of parcels = map key_of parcels
 -- the runs have the number
 abbrev IsInRuns : List (ℕ × ℕ) → ℕ → Type 0
 IsInRuns runs number = (run : ℕ × ℕ) × Contains runs run × (run.0 ≤ number) × (number ≤ run.1)
-
-runs_are : (runs : List (List (ℕ × ℕ))) (cpu : ℕ) → runs_of runs cpu ≡ slice_index_or runs cpu []
-runs_are [] cpu = refl
-runs_are (r ∷ runs) zero = refl
-runs_are (r ∷ runs) (suc cpu) = runs_are runs cpu
 
 module _ (script : Script) (w : World) (limits : IsWithinLimits script) (of : WorldOf script w) (genuine : IsGenuineWorld script w) where
   -- ---- the events of a CPU
@@ -234,8 +229,8 @@ module _ (script : Script) (w : World) (limits : IsWithinLimits script) (of : Wo
         λ there. let (k, at) = print.lines.whole line.cpu line.number r ((here.has line.number r).1 there) in contains_at shown.lines k line at,
       );
       missing = λ cpu number. let here = is_of cpu (known_at cpu) in let runs = print.runs cpu in (
-        λ has. (here.misses number).0 (runs.of_them number ((in_runs (runs_of shown.runs cpu) number).1 (subst (λ (l : List (ℕ × ℕ)). IsInRuns l number) (sym (runs_are shown.runs cpu)) has))),
-        λ there. subst (λ (l : List (ℕ × ℕ)). IsInRuns l number) (runs_are shown.runs cpu) ((in_runs (runs_of shown.runs cpu) number).0 (runs.whole number ((here.misses number).1 there))),
+        λ has. (here.misses number).0 (runs.of_them number ((in_runs (slice_index_or shown.runs cpu []) number).1 has)),
+        λ there. (in_runs (slice_index_or shown.runs cpu []) number).0 (runs.whole number ((here.misses number).1 there)),
       );
     }
 
