@@ -1,7 +1,7 @@
 -- What a collector has and misses decides its text.
 use Rattle.std.proofs.Common.{◌≡◌, ◌⊎◌, inl, inr, ⊎_elim, ℕ, zero, suc, ◌+◌, ◌<◌, ◌≤◌, List, [], ◌∷◌, ◌++◌, flat_map, Some, refl}
 use Rattle.std.proofs.Common.{sym, ap, ◌∙◌, subst, arith}
-use Rattle.std.specs.Prelude.{⊤, Bool, if◌then◌else◌}
+use Rattle.std.specs.Prelude.{⊤, Bool, if◌then◌else◌, slice_index_or}
 use Rattle.std.specs.List.{AllZip, enumerate_from, slice_get}
 use Rattle.std.proofs.lemmas.Bool.{cases_lt}
 use Rattle.trace_model.specs.Parcel.{Parcel}
@@ -13,7 +13,7 @@ use Rattle.collector.specs.Runs.{InRun, AreRuns}
 use Rattle.text_model.specs.Log.{LogLine}
 use Rattle.text_model.specs.Printing.{printed_log_line}
 use Rattle.world_model.specs.Printing.{Shown, printed_missing, printed_collector, printed_world}
-use Rattle.collector_text.specs.Prints.{IsPrintOf, runs_of}
+use Rattle.collector_text.specs.Prints.{IsPrintOf}
 
 -- ---- runs of the same numbers are the same
 
@@ -137,13 +137,13 @@ abbrev runs_text : ℕ → List (List (ℕ × ℕ)) → List ℕ
 runs_text cpu runs =
     flat_map (λ (of : ℕ × List (ℕ × ℕ)). flat_map (printed_missing of.0) of.1) (enumerate_from cpu runs)
 
-no_text : (cpu : ℕ) (runs : List (List (ℕ × ℕ))) → ((k : ℕ) → runs_of runs k ≡ []) → runs_text cpu runs ≡ []
+no_text : (cpu : ℕ) (runs : List (List (ℕ × ℕ))) → ((k : ℕ) → slice_index_or runs k [] ≡ []) → runs_text cpu runs ≡ []
 no_text cpu [] none = refl
 no_text cpu (of_cpu ∷ runs) none =
     let rest = no_text (cpu + 1) runs (λ k. none (suc k)) in
     ap (λ (rs : List (ℕ × ℕ)). flat_map (printed_missing cpu) rs ++ runs_text (cpu + 1) runs) (none 0) ∙ rest
 
-one_runs_text : (cpu : ℕ) (xs ys : List (List (ℕ × ℕ))) → ((k : ℕ) → runs_of xs k ≡ runs_of ys k)
+one_runs_text : (cpu : ℕ) (xs ys : List (List (ℕ × ℕ))) → ((k : ℕ) → slice_index_or xs k [] ≡ slice_index_or ys k [])
     → runs_text cpu xs ≡ runs_text cpu ys
 one_runs_text cpu [] ys same = sym (no_text cpu ys (λ k. sym (same k)))
 one_runs_text cpu (a ∷ xs) [] same = no_text cpu (a ∷ xs) same
@@ -174,8 +174,9 @@ pub one_text : (parcels : List Parcel) (shown other : Shown) (number : ℕ) → 
     → printed_collector number shown ≡ printed_collector number other
 one_text parcels shown other number reported also =
     let lines = one_listing parcels parcels shown.lines other.lines (same_itself parcels) reported.lines also.lines in
-    let runs : (k : ℕ) → runs_of shown.runs k ≡ runs_of other.runs k = λ k.
-    one_runs (Misses parcels k) (runs_of shown.runs k) (runs_of other.runs k) (reported.runs k) (also.runs k) in
+    let runs : (k : ℕ) → slice_index_or shown.runs k [] ≡ slice_index_or other.runs k [] = λ k.
+    one_runs (Misses parcels k) (slice_index_or shown.runs k []) (slice_index_or other.runs k [])
+    (reported.runs k) (also.runs k) in
     let text = one_runs_text 0 shown.runs other.runs runs in
     rw (lines, text) refl
 

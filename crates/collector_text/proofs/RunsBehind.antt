@@ -1,6 +1,6 @@
 -- The runs of CPU after CPU.
 use Rattle.std.proofs.Common.{◌≡◌, ℕ, zero, suc, ◌+◌, ◌≤◌, List, [], ◌∷◌, ◌++◌, length, flat_map, refl, sym, subst, arith}
-use Rattle.std.specs.Prelude.{⊤}
+use Rattle.std.specs.Prelude.{⊤, slice_index_or}
 use Rattle.std.proofs.lemmas.List.{append-nil, length_push}
 use Rattle.trace_model.specs.Parcel.{Parcel}
 use Rattle.trace_model.specs.Collection.{Misses}
@@ -8,7 +8,6 @@ use Rattle.trace_model.specs.declared.limits.TheConstants.{MAX_CPUS}
 use Rattle.collector.specs.Runs.{AreMissingRuns}
 use Rattle.collector.specs.Sound.{AreSound}
 use Rattle.world_model.specs.Printing.{printed_missing, printed_runs}
-use Rattle.collector_text.specs.Prints.{runs_of}
 use Rattle.collector_text.proofs.Appended.{text_more}
 
 -- the runs of CPUs from this one on
@@ -40,14 +39,14 @@ no_runs parcels cpu none = record {
 -- the runs of each CPU, if none is missing after the last
 pub each_cpu : (parcels : List Parcel) (first : ℕ) (runs : List (List (ℕ × ℕ))) (k : ℕ) → AreRunsFrom parcels first runs
     → ((cpu number : ℕ) → first + length runs ≤ cpu → Misses parcels cpu number → ⊥)
-    → AreMissingRuns parcels (first + k) (runs_of runs k)
+    → AreMissingRuns parcels (first + k) (slice_index_or runs k [])
 each_cpu parcels first [] k all none = no_runs parcels (first + k) (λ number. none (first + k) number (omega arith))
 each_cpu parcels first (of_cpu ∷ runs) zero all none =
     let e : first ≡ first + 0 = omega arith in
     subst (λ (c : ℕ). AreMissingRuns parcels c of_cpu) e all.0
 each_cpu parcels first (of_cpu ∷ runs) (suc k) all none =
     let e : suc first + k ≡ first + suc k = omega arith in
-    subst (λ (c : ℕ). AreMissingRuns parcels c (runs_of runs k)) e
+    subst (λ (c : ℕ). AreMissingRuns parcels c (slice_index_or runs k [])) e
     (each_cpu parcels (suc first) runs k all.1 (λ cpu number far. none cpu number (omega arith)))
 
 -- no number is missing of a CPU that there isn't
@@ -88,9 +87,9 @@ put_more parcels cpu before so_far out of_cpu put one text =
 -- if all CPUs are there the runs are those of each
 pub put_all : (parcels : List Parcel) (before out : List ℕ) (cpu : ℕ) → AreSound parcels → MAX_CPUS ≤ cpu
     → (put : ArePut parcels cpu before out)
-    → (k : ℕ) → AreMissingRuns parcels k (runs_of put.runs k)
+    → (k : ℕ) → AreMissingRuns parcels k (slice_index_or put.runs k [])
 put_all parcels before out cpu sound all put k =
     let count = put.count in
     let e : 0 + k ≡ k = omega arith in
-    subst (λ (c : ℕ). AreMissingRuns parcels c (runs_of put.runs k)) e
+    subst (λ (c : ℕ). AreMissingRuns parcels c (slice_index_or put.runs k [])) e
     (each_cpu parcels 0 put.runs k put.each (λ c number far. none_far parcels sound c number (omega arith)))

@@ -3,7 +3,7 @@ use Rattle.std.proofs.Common.{◌≡◌, ℕ, ◌+◌, ◌-◌, ◌≤◌, List,
 use Rattle.std.specs.List.{slice_range}
 use Rattle.std.proofs.lemmas.List.{drop-append-le, take-append-le, take_all}
 use Rattle.std.proofs.Math.Seq.{drop-append_seam}
-use Rattle.std.specs.Prelude.{codes}
+use Rattle.std.specs.Prelude.{codes, slice_index_or}
 use Rattle.std.specs.Fmt.{decimal}
 use Rattle.trace_model.specs.Parcel.{Parcel}
 use Rattle.trace_model.specs.Listing.{Line, IsListing}
@@ -11,13 +11,13 @@ use Rattle.trace_model.specs.Collection.{IsSame}
 use Rattle.collector.specs.Runs.{AreMissingRuns}
 use Rattle.text_model.specs.Text.{line_feed}
 use Rattle.world_model.specs.Printing.{Shown, printed_collector, printed_line, printed_runs}
-use Rattle.collector_text.specs.Prints.{IsPrintOf, StandsBetween, runs_of, text_below}
+use Rattle.collector_text.specs.Prints.{IsPrintOf, StandsBetween, text_below}
 use Rattle.collector_text.proofs.OneText.{same_are_reported}
 
 -- the lines and the runs are what is below a collector's head line
 pub reported_below : (parcels : List Parcel) (before middle out : List ℕ) (lines : List Line) → IsListing parcels lines
     → middle ≡ before ++ flat_map printed_line lines
-    → (runs : List (List (ℕ × ℕ))) × ((cpu : ℕ) → AreMissingRuns parcels cpu (runs_of runs cpu))
+    → (runs : List (List (ℕ × ℕ))) × ((cpu : ℕ) → AreMissingRuns parcels cpu (slice_index_or runs cpu []))
     × (out ≡ middle ++ printed_runs runs)
     → (shown : Shown) × IsPrintOf parcels shown × (out ≡ before ++ text_below shown)
 reported_below parcels before middle out lines is text put = (

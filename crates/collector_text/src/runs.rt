@@ -1,9 +1,8 @@
 //! The lines of a collector's missing numbers.
-ghost use Rattle.std.specs.Prelude.{◌≡◌, ℕ, ◌++◌, List, OnOk, flat_map};
+ghost use Rattle.std.specs.Prelude.{◌≡◌, ℕ, ◌++◌, List, [], OnOk, flat_map, slice_index_or};
 ghost use Rattle.trace_model.specs.Sublist.{IsPrefix};
 ghost use Rattle.collector.specs.Runs.{AreMissingRuns};
 ghost use Rattle.world_model.specs.Printing.{printed_missing, printed_runs};
-ghost use Rattle.collector_text.specs.Prints.{runs_of};
 
 use collector::Collector;
 use text_values::put_number;
@@ -39,7 +38,7 @@ fn put_runs_of(out: &mut Vec<u8>, collector: &Collector, cpu: CpuId) -> Result<(
 /// The lines of the missing runs of each CPU. On an error a part of that may be put.
 pub(crate) fn put_runs(out: &mut Vec<u8>, collector: &Collector) -> Result<(), NoMemory>
     ensures text { OnOk result ((runs : List (List (ℕ × ℕ)))
-        × ((cpu : ℕ) → AreMissingRuns collector.now cpu (runs_of runs cpu))
+        × ((cpu : ℕ) → AreMissingRuns collector.now cpu (slice_index_or runs cpu []))
         × (out.new.items ≡ out.old.items ++ printed_runs runs)) }
     ensures behind { IsPrefix out.old.items out.new.items }
 {

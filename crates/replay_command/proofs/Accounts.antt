@@ -20,7 +20,7 @@ use Rattle.replay_command.proofs.OneOutput.{script_in-within}
 use Rattle.command_io.specs.CommandRun.{SourceRun, SinkRun, WritesOutput, IsCommandRun}
 use Rattle.command_io.specs.declared.status.TheConstants.{DONE, REFUSED}
 use Rattle.collector.specs.Runs.{AreRuns}
-use Rattle.collector_text.specs.Prints.{runs_of, IsPrintOf}
+use Rattle.collector_text.specs.Prints.{IsPrintOf}
 use Rattle.world_model.specs.World.{World, WorldOf, IsFill}
 use Rattle.world_model.specs.Headline.{StandsIn, IsOverwrittenBefore, parcels_from, IsOneOf, IsExact, IsGenuineWorld}
 use Rattle.world_model.specs.Printing.{Shown}
@@ -51,11 +51,6 @@ same_runs holds other runs both are = record {
   of_them = λ number within. (both number).0 (are.of_them number within);
   whole = λ number has. are.whole number ((both number).1 has);
 }
-
-runs_are : (runs : List (List (ℕ × ℕ))) (cpu : ℕ) → runs_of runs cpu ≡ slice_index_or runs cpu []
-runs_are [] cpu = refl
-runs_are (r ∷ runs) zero = refl
-runs_are (r ∷ runs) (suc cpu) = runs_are runs cpu
 
 module _ (script : Script) (w : World) (limits : IsWithinLimits script) (of : WorldOf script w) (genuine : IsGenuineWorld script w) where
   -- ---- the events of a CPU
@@ -232,9 +227,7 @@ module _ (script : Script) (w : World) (limits : IsWithinLimits script) (of : Wo
         λ has. let (k, at) = element_at shown.lines line has in (here.has line.number r).0 (print.lines.of_them k line at),
         λ there. let (k, at) = print.lines.whole line.cpu line.number r ((here.has line.number r).1 there) in contains_at shown.lines k line at,
       );
-      missing = λ cpu. subst (AreRuns (λ number. (fill : ℕ) × Contains (keys_of parcels) (cpu, fill)
-          × IsOverwrittenBefore (history_events_of (all_events cpu)) script.start (all_events cpu) fill number))
-          (runs_are shown.runs cpu) (same_runs _ _ (runs_of shown.runs cpu) (is_of cpu (known_at cpu)).misses (print.runs cpu));
+      missing = λ cpu. same_runs _ _ (slice_index_or shown.runs cpu []) (is_of cpu (known_at cpu)).misses (print.runs cpu);
     }
 
   all_shown : (delivered : List (List Parcel)) (shown : List Shown)

@@ -10,7 +10,7 @@ use Rattle.std.proofs.lemmas.List.Elements.{All-from_recursion}
 use Rattle.std.proofs.lemmas.Result.{IfOk-at_ok}
 use Rattle.std.proofs.lemmas.Slice.Eq.{bytes_eq-Decides}
 use Rattle.text_model.specs.Text.{fields_of, is_well_spaced, is_decimal, is_hex, bytes_of_pairs}
-use Rattle.text_model.specs.ScriptLines.{LineFault, bad_line, bad_number, bad_hex, out_of_range, ◌>>=◌, decimal_in, payload_in, number_below, names_cpu, cpu_in, Setting, allowed_for, value_given, value_of, value_in, NumberedLine, GiveSettings}
+use Rattle.text_model.specs.ScriptLines.{LineFault, bad_line, bad_number, bad_hex, out_of_range, ◌>>=◌, decimal_in, payload_in, number_below, names_cpu, cpu_in, Setting, allowed_for, value_of, value_in, NumberedLine, GiveSettings}
 
 -- ---- answers
 
@@ -84,16 +84,12 @@ allowed_for-within s n = tested-within (IsAllowed s) _ (Ok n) out_of_range (λ h
     let bounds = and_parts _ _ parts.0 in
     record { min = leb-true s.min n bounds.0; max = leb-true n s.max bounds.1; step = eqb-true (n % s.step) 0 parts.1 })
 
-value_given-within : (s : Setting) (word number : List ℕ) → IfOk (value_given s word number) (IsAllowed s)
-unfolding value_given
-value_given-within s word number = tested-within (IsAllowed s) (bytes_eq word s.word) _ bad_line (λ h.
-    then-within Is64Bit (IsAllowed s) (decimal_in number) (allowed_for s) (decimal_in-within number) (λ n small. allowed_for-within s n))
-
 value_of-within : (s : Setting) (fields : List (List ℕ)) → IfOk (value_of s fields) (IsAllowed s)
 unfolding value_of
 value_of-within s [] = tt
 value_of-within s (word ∷ []) = tt
-value_of-within s (word ∷ number ∷ []) = value_given-within s word number
+value_of-within s (word ∷ number ∷ []) = tested-within (IsAllowed s) (bytes_eq word s.word) _ bad_line (λ h.
+    then-within Is64Bit (IsAllowed s) (decimal_in number) (allowed_for s) (decimal_in-within number) (λ n small. allowed_for-within s n))
 value_of-within s (word ∷ number ∷ more ∷ fields) = tt
 
 pub value_in-within : (s : Setting) (line : List ℕ) → IfOk (value_in s line) (IsAllowed s)

@@ -8,7 +8,7 @@ use Rattle.std.proofs.lemmas.Fmt.{decimal_nonempty, digits_decimal}
 use Rattle.std.proofs.lemmas.Slice.Eq.{bytes_eq-Decides}
 use Rattle.std.proofs.lemmas.List.Splits.{slice_split-cons_no, slice_split-cons_yes}
 use Rattle.text_model.specs.Text.{lines_of, fields_of, is_well_spaced, without_empty_end}
-use Rattle.text_model.specs.ScriptLines.{LineFault, bad_line, out_of_range, NumberedLine, Setting, ◌>>=◌, number_below, names_cpu, cpu_in, value_given, value_of, value_in, allowed_for, is_significant}
+use Rattle.text_model.specs.ScriptLines.{LineFault, bad_line, out_of_range, NumberedLine, Setting, ◌>>=◌, number_below, names_cpu, cpu_in, value_of, value_in, allowed_for, is_significant}
 use Rattle.text_model.specs.LineWriting.{line_of, text_of, cpu_text, setting_text}
 use Rattle.text_model.proofs.TextLemmas.{numerals, decimal_in-decimal}
 
@@ -111,7 +111,7 @@ number_below-decimal limit n below fits =
 -- ---- the header
 value_in-setting_text : (s : Setting) (value : ℕ) → 0 < length s.word → is_free 32 s.word ≡ true → value < 2 ^ 64 → allowed_for s value ≡ Ok value
     → value_in s (setting_text s value) ≡ Ok value
-unfolding value_in value_of value_given
+unfolding value_in value_of
 value_in-setting_text s value some free fits allowed =
     let no_space = and_from _ _ free (and_from _ _ (decimal_free 32 value (omega arith) fits) refl) in
     let fields = fields_of-line_of (s.word ∷ decimal value ∷ []) (omega arith) no_space in

@@ -3,7 +3,7 @@ use Rattle.std.proofs.Common.{◌≡◌, ℕ, Bool, true, false, ◌&&◌, cond,
 use Rattle.std.specs.Str.{bytes_eq}
 use Rattle.std.proofs.lemmas.Bool.{false_from_ne_true, both_ways}
 use Rattle.text_model.specs.Text.{fields_of, is_well_spaced}
-use Rattle.text_model.specs.ScriptLines.{bad_line, decimal_in, ◌>>=◌, cpu_in, allowed_for, value_given, value_of, value_in, NumberedLine}
+use Rattle.text_model.specs.ScriptLines.{bad_line, decimal_in, ◌>>=◌, cpu_in, allowed_for, value_of, value_in, NumberedLine}
 use Rattle.text_model.specs.Script.{Command, command_of, command_in, start_setting, are_of_start, is_start_line, BeginsNoStart, SpellCommands}
 use Rattle.text_model.proofs.Readings.{ok_is_no_err}
 use Rattle.text_model.proofs.FieldWords.{same_word}
@@ -18,7 +18,7 @@ given_by_word pages start word number false is h = absurd (ok_is_no_err start ba
 given_by_fields : (pages start : ℕ) (fields : List (List ℕ)) (spaced : Bool)
     → cond spaced (value_of (start_setting pages) fields) (Err bad_line) ≡ Ok start
     → (spaced && are_of_start fields) ≡ true
-unfolding value_of value_given
+unfolding value_of
 given_by_fields pages start (word ∷ number ∷ []) true h =
     given_by_word pages start word number (bytes_eq word (codes "start")) refl h
 given_by_fields pages start [] true h = absurd (ok_is_no_err start bad_line (sym h))

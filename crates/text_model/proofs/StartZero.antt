@@ -1,7 +1,7 @@
 -- Without a start line a text is read as with `start 0` in its place.
 use Rattle.std.proofs.Common.{◌≡◌, ◌↔◌, ℕ, List, [], ◌∷◌, ◌++◌, length, arith, codes, get_or, Result, Ok, Err, refl, sym, ◌∙◌, ap}
 use Rattle.text_model.specs.Text.{is_decimal}
-use Rattle.text_model.specs.ScriptLines.{LineFault, ◌>>=◌, decimal_in, NumberedLine, Setting, value_given, value_of, value_in}
+use Rattle.text_model.specs.ScriptLines.{LineFault, ◌>>=◌, decimal_in, NumberedLine, Setting, value_of, value_in}
 use Rattle.text_model.specs.HeaderReading.{numbered_reading, setting_from, settings_from, significant_lines_after, end_line_after}
 use Rattle.text_model.specs.Script.{Script, header_settings, start_setting, BeginsNoStart, ParsesScript, FirstScriptFault, AddsStartZero}
 use Rattle.text_model.specs.ScriptReading.{start_from, script_from, script_in}
@@ -58,7 +58,7 @@ settings_of_front end (s ∷ settings) [] rest whole = absurd (omega (arith, who
 
 -- ---- the start line
 zero_given : (pages : ℕ) → value_in (start_setting pages) (codes "start 0") ≡ Ok 0
-unfolding value_in value_of value_given decimal_in is_decimal
+unfolding value_in value_of decimal_in is_decimal
 zero_given pages = setting_allowed (start_setting pages) 0 (omega arith) (omega arith) (omega arith)
 
 zero_is_meant : (pages number : ℕ) (behind : List NumberedLine) → BeginsNoStart behind

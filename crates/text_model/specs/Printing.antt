@@ -45,8 +45,7 @@ log_line_text (moving line cpu fill) = line_text line cpu ++ codes " moving " ++
 log_line_text (asks line cpu fill) = line_text line cpu ++ codes " asks " ++ decimal fill
 log_line_text (new_delivery line collector cpu fill) = delivery_text line collector cpu fill ++ codes " new"
 log_line_text (known_delivery line collector cpu fill) = delivery_text line collector cpu fill ++ codes " known"
-log_line_text (untaken_delivery line collector cpu fill) =
-    delivery_text line collector cpu fill ++ codes " not-taken"
+log_line_text (untaken_delivery line collector cpu fill) = delivery_text line collector cpu fill ++ codes " not-taken"
 
 -- a line of the log
 abbrev pub printed_log_line : LogLine → List ℕ

@@ -35,8 +35,7 @@ count_in field = decimal_in field >>= λ n.
     if nat_le MIN_LINE_STEPS n && nat_le n MAX_LINE_STEPS then Ok n else Err out_of_range
 
 -- what is made of the entry that a table has for a word; a word that it lacks is no command's
-abbrev pub by_word : {A : Type 0} → List ℕ → List (List ℕ × A) → (A → Result Command LineFault)
-    → Result Command LineFault
+abbrev pub by_word : {A B : Type 0} → List ℕ → List (List ℕ × A) → (A → Result B LineFault) → Result B LineFault
 by_word word [] make = Err bad_line
 by_word word (entry ∷ table) make = if bytes_eq word entry.0 then make entry.1 else by_word word table make
 

@@ -64,13 +64,9 @@ size_setting = record { word = codes "size"; min = MIN_SIZE; max = MAX_SIZE; ste
 abbrev pub allowed_for : Setting → ℕ → Result ℕ LineFault
 allowed_for s n = if nat_le s.min n && nat_le n s.max && (n % s.step == 0) then Ok n else Err out_of_range
 
--- the value that a word and a number give to this setting
-unfoldable pub value_given : Setting → List ℕ → List ℕ → Result ℕ LineFault
-value_given s word number = if bytes_eq word s.word then (decimal_in number >>= allowed_for s) else Err bad_line
-
--- the value that fields give to this setting: two of them
+-- the value that fields give to this setting: two of them, its word and a number
 unfoldable pub value_of : Setting → List (List ℕ) → Result ℕ LineFault
-value_of s (word ∷ number ∷ []) = value_given s word number
+value_of s (word ∷ number ∷ []) = if bytes_eq word s.word then (decimal_in number >>= allowed_for s) else Err bad_line
 value_of s _ = Err bad_line
 
 -- the value that a line gives to this setting: its spaces are looked at first

@@ -19,8 +19,7 @@ commands_from cpus collectors (line ∷ lines) = do
 -- all lines
 unfoldable pub start_from : ℕ → List NumberedLine → Result (ℕ × List NumberedLine) (ℕ × LineFault)
 start_from pages [] = Ok (START_FILL, [])
-start_from pages (line ∷ lines) =
-    if is_start_line line.1
+start_from pages (line ∷ lines) = if is_start_line line.1
     then (numbered_reading line.0 (value_in (start_setting pages) line.1) >>= λ start. Ok (start, lines))
     else Ok (START_FILL, line ∷ lines)
 

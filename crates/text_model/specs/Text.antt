@@ -36,11 +36,8 @@ is_well_spaced fields = list_all (λ field. nat_lt 0 (length field)) fields
 
 -- a decimal number that fits 64 bits, in one digit at least and not too many; it may begin with zeros
 unfoldable pub is_decimal : List ℕ → Bool
-is_decimal text =
-    nat_lt 0 (length text)
-    && nat_le (length text) MAX_NUMBER_DIGITS
-    && all_ascii_digits text
-    && nat_lt (digits_value 10 text) (2 ^ 64)
+is_decimal text = nat_lt 0 (length text) && nat_le (length text) MAX_NUMBER_DIGITS
+    && all_ascii_digits text && nat_lt (digits_value 10 text) (2 ^ 64)
 
 -- the bytes that pairs of hexadecimal digits spell, in lower or upper case, the high digit first; `-` is half a pair,
 -- and so spells none
@@ -50,8 +47,7 @@ bytes_of_pairs _ = []
 
 -- bytes as text: two hexadecimal digits for each, in lower or upper case; `-` where there is none
 unfoldable pub is_hex : List ℕ → Bool
-is_hex text =
-    bytes_eq text (codes "-")
+is_hex text = bytes_eq text (codes "-")
     || (nat_lt 0 (length text) && (length text % 2 == 0) && list_all (λ c. is_digit c 16) text)
 
 -- bytes in lower case digits, and no byte as `-`

@@ -5,7 +5,7 @@ use Rattle.std.proofs.lemmas.List.{append-nil}
 use Rattle.std.proofs.lemmas.List.Splits.{length-slice_split}
 use Rattle.trace_model.specs.declared.limits.TheConstants.{START_FILL}
 use Rattle.text_model.specs.Text.{fields_of, is_well_spaced}
-use Rattle.text_model.specs.ScriptLines.{LineFault, NumberedLine, Setting, bad_line, bad_number, bad_hex, out_of_range, ◌>>=◌, value_given, value_of, value_in}
+use Rattle.text_model.specs.ScriptLines.{LineFault, NumberedLine, Setting, bad_line, bad_number, bad_hex, out_of_range, ◌>>=◌, value_of, value_in}
 use Rattle.text_model.specs.HeaderReading.{numbered_reading, significant_lines_after, end_line_after, setting_from, settings_from}
 use Rattle.text_model.proofs.SettingLemmas.{settings_ok}
 use Rattle.text_model.specs.Script as model
@@ -45,7 +45,7 @@ abbrev setting_and : ℕ → List NumberedLine → Read (ℕ × List NumberedLin
 setting_and value rest = Ok (value, rest)
 
 -- ---- one value of the header
-value_of_two : (s : Setting) (fields : List (List ℕ)) (word number : List ℕ) → fields ≡ word ∷ number ∷ [] → value_of s fields ≡ value_given s word number
+value_of_two : (s : Setting) (fields : List (List ℕ)) (word number : List ℕ) → fields ≡ word ∷ number ∷ [] → value_of s fields ≡ value_of s (word ∷ number ∷ [])
 unfolding value_of
 value_of_two s fields word number h = ap (value_of s) h
 
@@ -65,7 +65,7 @@ unfolding value_in
 value_in_badly_spaced s text h = cond-false (is_well_spaced (fields_of text)) _ _ h
 
 pub value_from_two : {X : Type 0} (view : X → ℕ) (s : Setting) (text : List ℕ) (word number : Bor (List ℕ)) (r : Result X line.LineFault) → is_well_spaced (fields_of text) ≡ true → AreFields (Two word number) (fields_of text)
-    → Gives view r (value_given s word.now number.now) → Gives view r (value_in s text)
+    → Gives view r (value_of s (word.now ∷ number.now ∷ [])) → Gives view r (value_in s text)
 value_from_two view s text word number r spaced fields h =
     subst (λ (read : Result ℕ LineFault). Gives view r read) (sym (value_in_spaced s text spaced ∙ value_of_two s (fields_of text) word.now number.now fields)) h
 

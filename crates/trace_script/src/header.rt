@@ -1,6 +1,6 @@
 //! The header of a script.
-ghost use Rattle.std.specs.Prelude.{◌≡◌, ◌≢◌, ◌<◌, ◌≤◌, ◌==◌, ◌%◌, ◌&&◌, nat_le, IfOk};
-ghost use Rattle.text_model.specs.ScriptLines.{value_given, value_in};
+ghost use Rattle.std.specs.Prelude.{◌≡◌, ◌≢◌, ◌<◌, ◌≤◌, ◌==◌, ◌%◌, ◌&&◌, ◌∷◌, [], nat_le, IfOk};
+ghost use Rattle.text_model.specs.ScriptLines.{value_in, value_of};
 ghost use Rattle.text_model.specs.HeaderReading.{significant_lines_after, end_line_after, setting_from, settings_from};
 ghost use Rattle.text_model.specs.Script.{header_settings, is_start_line};
 ghost use Rattle.text_model.specs.ScriptReading.{start_from};
@@ -111,10 +111,10 @@ impl Limits {
 }
 
 /// The value that a word and a number give to a setting.
-#[tactic(auto, unfolding(text_model::specs::ScriptLines::value_given))]
+#[tactic(auto, unfolding(text_model::specs::ScriptLines::value_of))]
 fn value_given(setting: Setting, word: &[u8], number: &[u8]) -> Result<u64, LineFault>
     ensures gives { Gives (λ value. value) result
-        (value_given (setting_of setting) word.now number.now) }
+        (value_of (setting_of setting) (word.now ∷ number.now ∷ [])) }
     ensures never_out_of_memory { result ≢ Err LineFault.NoMemory }
     ensures within { IfOk result (λ value. value ≤ (setting_of setting).max) }
 {

@@ -1,5 +1,6 @@
 -- What a line makes of its ring, by the function, is what it has with it, by its exchanges.
 use Rattle.std.proofs.Common.{◌≡◌, ◌≢◌, ℕ, zero, suc, ◌<◌, ◌≤◌, ◌⊎◌, inl, inr, ⊎_elim, Bool, true, false, if◌then◌else◌, ◌==◌, nat_le, List, [], ◌∷◌, length, map, Some, None, refl, sym, ap, ◌∙◌, subst, arith}
+use Rattle.std.specs.Option.{option_map}
 use Rattle.std.proofs.lemmas.List.{length-map}
 use Rattle.std.proofs.lemmas.Bool.{eqb-true, eq-eqb, both_ways}
 use Rattle.trace_model.specs.declared.limits.TheConstants.{MOMENT_LIMIT}
@@ -12,7 +13,7 @@ use Rattle.trace_model.specs.Steps.{Event, pushes, pushes_close, steps, reads, w
 use Rattle.trace_model.proofs.steps.StepSound.{cases_of}
 use Rattle.text_model.specs.Script.{Command, begin_frame, step_frame, finish_frame, write, close, step_reader, take_page, wish, deliver}
 use Rattle.world_model.specs.Lanes.{Lane, lane_behind, lane_with, event_on_top, FrameRun, IsGone, IsStepped, LacksFrame, StepsFrame, lacks_to_step, steps_on, FinishesFrame, lacks_to_finish, finishes, PushesFrame, FinishesPushed, WritesFrame, ReaderRun, HasTakeAnswer, IsRead, Wishes, LineRun}
-use Rattle.world_model.specs.LineMade.{Made, answered_first, after_step, steps_made, frame_made, is_reading, after_push, push_made, line_made, Makes}
+use Rattle.world_model.specs.LineMade.{Made, after_step, steps_made, frame_made, is_reading, after_push, push_made, line_made, Makes}
 use Rattle.world_model.proofs.LanePayloads.{pushes_none}
 use Rattle.world_model.proofs.FramesMove.{Moves, stays, changes, pops, step_moves}
 
@@ -28,6 +29,10 @@ chosen false x y z holds fails = fails refl
 by_choice : {A P : Type 0} (b : Bool) (x y z : A) → (b ≡ true → x ≡ z → P) → (b ≡ false → y ≡ z → P) → (if b then x else y) ≡ z → P
 by_choice true x y z holds fails e = holds refl e
 by_choice false x y z holds fails e = fails refl e
+
+-- this answer, and then those
+abbrev answered_first : Answer → Made → Made
+answered_first answer made = option_map (λ (others : List Answer × Lane). (answer ∷ others.0, others.1)) made
 
 -- what was made before an answer
 record Behind (answer : Answer) (r : Made) (answers : List Answer) (after : Lane) : Type 0 where
@@ -214,46 +219,58 @@ module _ (n size : ℕ) where
 
   -- ---- a frame, whatever is on the stack
 
-  stack_made : (limit : ℕ) (before after : Lane) (xs : List Exchange) (stack : List Frame) → before.core.frames ≡ stack → stack ≢ []
-      → FrameRun n size (length stack) before xs after → IsStepped limit (length stack) xs after → frame_made n size limit before stack ≡ Some (answers_of xs, after)
-  stack_made limit before after xs [] is some run stop = absurd (some refl)
-  stack_made limit before after xs (top ∷ below) is some run stop = frames_made (suc (length below)) limit before after xs (ap length is) run stop
+  none_left : (frames : List Frame) → length frames ≡ 0 → frames ≡ []
+  none_left [] none = refl
+  none_left (top ∷ below) none = absurd (let no : ⊥ = omega arith in no)
 
-  lacks_made : (limit : ℕ) (before after : Lane) (xs : List Exchange) → LacksFrame n size before xs after → frame_made n size limit before before.core.frames ≡ Some (answers_of xs, after)
-  lacks_made limit before after xs h =
-      ap (frame_made n size limit before) h.none
-      ∙ ap (λ (l : List Exchange). let r : Made = Some (answers_of l, before) in r) (sym h.exchanges_are)
-      ∙ ap (λ (lane : Lane). let r : Made = Some (answers_of xs, lane) in r) (sym h.stays)
+  -- what is answered if the stack is empty, and what is made else
+  abbrev lacking : Lane → Made
+  lacking lane = Some (refused no_frame ∷ [], lane)
 
-  steps_frame_made : (count : ℕ) (before after : Lane) (xs : List Exchange) → StepsFrame n size count before xs after → frame_made n size count before before.core.frames ≡ Some (answers_of xs, after)
+  abbrev stepping : ℕ → Lane → Made
+  stepping limit lane = steps_made n size on_top (stays_at (length lane.core.frames)) limit lane
+
+  stack_made : (limit : ℕ) (before after : Lane) (xs : List Exchange) → before.core.frames ≢ []
+      → FrameRun n size (length before.core.frames) before xs after → IsStepped limit (length before.core.frames) xs after → frame_made n size limit before ≡ Some (answers_of xs, after)
+  stack_made limit before after xs some run stop = chosen (length before.core.frames == 0) (lacking before) (stepping limit before) (Some (answers_of xs, after))
+      (λ none. absurd (some (none_left before.core.frames (eqb-true (length before.core.frames) 0 none))))
+      (λ there. frames_made (length before.core.frames) limit before after xs refl run stop)
+
+  lacks_made : (limit : ℕ) (before after : Lane) (xs : List Exchange) → LacksFrame n size before xs after → frame_made n size limit before ≡ Some (answers_of xs, after)
+  lacks_made limit before after xs h = chosen (length before.core.frames == 0) (lacking before) (stepping limit before) (Some (answers_of xs, after))
+      (λ none. ap (λ (l : List Exchange). let r : Made = Some (answers_of l, before) in r) (sym h.exchanges_are)
+      ∙ ap (λ (lane : Lane). let r : Made = Some (answers_of xs, lane) in r) (sym h.stays))
+      (λ there. absurd (both_ways (length before.core.frames == 0) there (eq-eqb (length before.core.frames) 0 (ap length h.none))))
+
+  steps_frame_made : (count : ℕ) (before after : Lane) (xs : List Exchange) → StepsFrame n size count before xs after → frame_made n size count before ≡ Some (answers_of xs, after)
   steps_frame_made count before after xs (lacks_to_step h) = lacks_made count before after xs h
-  steps_frame_made count before after xs (steps_on some run stop) = stack_made count before after xs before.core.frames refl some run stop
+  steps_frame_made count before after xs (steps_on some run stop) = stack_made count before after xs some run stop
 
-  finishes_made : (limit : ℕ) (before after : Lane) (xs : List Exchange) → length xs ≤ limit → FinishesFrame n size before xs after → frame_made n size limit before before.core.frames ≡ Some (answers_of xs, after)
+  finishes_made : (limit : ℕ) (before after : Lane) (xs : List Exchange) → length xs ≤ limit → FinishesFrame n size before xs after → frame_made n size limit before ≡ Some (answers_of xs, after)
   finishes_made limit before after xs few (lacks_to_finish h) = lacks_made limit before after xs h
-  finishes_made limit before after xs few (finishes some run off) = stack_made limit before after xs before.core.frames refl some run (few, inr off)
+  finishes_made limit before after xs few (finishes some run off) = stack_made limit before after xs some run (few, inr off)
 
   record IsSteps (limit : ℕ) (before : Lane) (answers : List Answer) (after : Lane) : Type 0 where
     exchanges : List Exchange
     reported : answers_of exchanges ≡ answers
     steps_are : StepsFrame n size limit before exchanges after
 
-  stack_reported : (limit : ℕ) (before after : Lane) (answers : List Answer) (stack : List Frame) → before.core.frames ≡ stack → frame_made n size limit before stack ≡ Some (answers, after)
+  stack_reported : (limit : ℕ) (before after : Lane) (answers : List Answer) → frame_made n size limit before ≡ Some (answers, after)
       → IsSteps limit before answers after
-  stack_reported limit before after answers [] is made = let (reported, same) = made_parts (refused no_frame ∷ []) answers before after made in record {
-    exchanges = record { event = steps; answer = refused no_frame } ∷ [];
-    reported = reported;
-    steps_are = lacks_to_step record { none = is; exchanges_are = refl; stays = sym same };
-  }
-  stack_reported limit before after answers (top ∷ below) is made =
-      let depth : length before.core.frames ≡ suc (length below) = ap length is in
-      let r = frames_reported (suc (length below)) limit before after answers depth made in record {
+  stack_reported limit before after answers e = by_choice (length before.core.frames == 0) (lacking before) (stepping limit before) (Some (answers, after))
+      (λ none made.
+      let (reported, same) = made_parts (refused no_frame ∷ []) answers before after made in record {
+        exchanges = record { event = steps; answer = refused no_frame } ∷ [];
+        reported = reported;
+        steps_are = lacks_to_step record { none = none_left before.core.frames (eqb-true (length before.core.frames) 0 none); exchanges_are = refl; stays = sym same };
+      })
+      (λ there made.
+      let r = frames_reported (length before.core.frames) limit before after answers refl made in record {
         exchanges = r.exchanges;
         reported = r.reported;
-        steps_are = steps_on (λ none. let no : ⊥ = (let e : (top ∷ below) ≡ [] = sym is ∙ none in cc) in no)
-            (subst (λ (d : ℕ). FrameRun n size d before r.exchanges after) (sym depth) r.run)
-            (subst (λ (d : ℕ). IsStepped limit d r.exchanges after) (sym depth) r.stop);
-      }
+        steps_are = steps_on (λ none. both_ways (length before.core.frames == 0) there (eq-eqb (length before.core.frames) 0 (ap length none))) r.run r.stop;
+      })
+      e
 
   record IsFinish (before : Lane) (answers : List Answer) (after : Lane) : Type 0 where
     exchanges : List Exchange
@@ -275,11 +292,11 @@ module _ (n size : ℕ) where
           let there = length-map s.exchanges (λ (x : Exchange). x.answer) in
           let no : ⊥ = omega (arith, same, here, there, all, more) in no)
 
-  finish_reported : (enough : ℕ) (before after : Lane) (answers : List Answer) → ((limit : ℕ) → enough ≤ limit → frame_made n size limit before before.core.frames ≡ Some (answers, after))
+  finish_reported : (enough : ℕ) (before after : Lane) (answers : List Answer) → ((limit : ℕ) → enough ≤ limit → frame_made n size limit before ≡ Some (answers, after))
       → IsFinish before answers after
   finish_reported enough before after answers made = finished enough before after answers
-      (stack_reported enough before after answers before.core.frames refl (made enough (omega arith)))
-      (stack_reported (suc enough) before after answers before.core.frames refl (made (suc enough) (omega arith)))
+      (stack_reported enough before after answers (made enough (omega arith)))
+      (stack_reported (suc enough) before after answers (made (suc enough) (omega arith)))
 
   -- ---- a push
 
@@ -307,7 +324,7 @@ module _ (n size : ℕ) where
       (begun payload before x.answer p.core ∙ ap (λ (lane : Lane). let r : Made = Some ([], lane) in r) (sym p.after_is))
 
   abbrev finishing : ℕ → Lane → Made
-  finishing limit lane = frame_made n size limit lane lane.core.frames
+  finishing limit lane = frame_made n size limit lane
 
   -- after a push with this answer
   pushed_on : (limit : ℕ) (payload : List ℕ) (before after : Lane) (answer : Answer) (core : Core) (xs : List Exchange) → length xs ≤ limit → FinishesPushed n size answer (lane_with before payload answer core) xs after
@@ -503,7 +520,7 @@ module _ (n size : ℕ) where
   pub line_of : (command : Command) (cpu : ℕ) (before after : Lane) (answers : List Answer) → Makes n size command cpu before answers after → IsLine command cpu before answers after
   line_of (begin_frame at moment payload) cpu before after answers (enough, made) = let m = made enough (omega arith) in let b = begin_reported _ payload before after answers m.1 in
       record { cpu_is = m.0; exchanges = b.exchange ∷ []; reported = sym b.reported; run = (b.exchange, refl, b.push) }
-  line_of (step_frame at count) cpu before after answers (enough, made) = let m = made enough (omega arith) in let r = stack_reported count before after answers before.core.frames refl m.1 in
+  line_of (step_frame at count) cpu before after answers (enough, made) = let m = made enough (omega arith) in let r = stack_reported count before after answers m.1 in
       record { cpu_is = m.0; exchanges = r.exchanges; reported = r.reported; run = r.steps_are }
   line_of (finish_frame at) cpu before after answers (enough, made) = let r = finish_reported enough before after answers (λ limit le. (made limit le).1) in
       record { cpu_is = (made enough (omega arith)).0; exchanges = r.exchanges; reported = r.reported; run = r.finish }

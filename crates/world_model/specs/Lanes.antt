@@ -1,9 +1,9 @@
 -- What a line of a script does to the ring of its CPU: the exchanges that it has with it. docs/FORMATS.md, "Script".
 use Rattle.std.specs.Prelude.{◌≡◌, ◌≢◌, ℕ, ◌-◌, ◌<◌, ◌≤◌, ◌⊎◌, ⊤, List, [], ◌∷◌, length, drop}
 use Rattle.trace_model.specs.Words.{padded}
-use Rattle.trace_model.specs.Frames.{Kind, for_record, for_close, FrameState, waiting, reserved, left, Frame, no_frame}
+use Rattle.trace_model.specs.Frames.{Kind, for_record, for_close, FrameState, reserved, Frame, no_frame}
 use Rattle.trace_model.specs.Ring.{IsStart, Core}
-use Rattle.trace_model.specs.Steps.{Event, pushes, pushes_close, steps, ends, reads, wishes, Answer, pushed, gone, refused, reading, empty, Step, Exchange}
+use Rattle.trace_model.specs.Steps.{Event, pushes, pushes_close, steps, ends, reads, wishes, Answer, pushed, refused, reading, Step, Exchange}
 use Rattle.text_model.specs.Script.{Command, begin_frame, step_frame, finish_frame, write, close, step_reader, take_page, wish, deliver}
 
 -- ---- a ring and what its frames are to write
@@ -54,10 +54,9 @@ HasPayloads lane = FitFrames lane.core.frames lane.payloads
 -- A step of a script's frame: it ends with its payload where its record is reserved, zeros filling the slot, and makes
 -- a step of the ring where not.
 abbrev pub event_in : FrameState → List (List ℕ) → Event
-event_in waiting payloads = steps
 event_in (reserved number) [] = ends (padded [])
 event_in (reserved number) (payload ∷ payloads) = ends (padded payload)
-event_in left payloads = steps
+event_in _ payloads = steps
 
 abbrev pub event_on_top : List Frame → List (List ℕ) → Event
 event_on_top [] payloads = steps

@@ -1,6 +1,7 @@
 -- What a line of a script makes of the ring of its CPU, as a function. docs/FORMATS.md, "Script".
 use Rattle.std.specs.Prelude.{◌≡◌, ℕ, zero, suc, ◌≤◌, Bool, true, false, if◌then◌else◌, ◌==◌, List, [], ◌∷◌, length, Option, Some, None}
-use Rattle.trace_model.specs.Frames.{Frame, no_frame}
+use Rattle.std.specs.Option.{option_map}
+use Rattle.trace_model.specs.Frames.{no_frame}
 use Rattle.trace_model.specs.Ring.{Core}
 use Rattle.trace_model.specs.Events.{Outcome}
 use Rattle.trace_model.specs.Steps.{Event, pushes, pushes_close, reads, wishes, Answer, pushed, refused, reading, step_of}
@@ -11,30 +12,24 @@ use Rattle.world_model.specs.Lanes.{Lane, lane_behind, event_on_top}
 abbrev pub Made : Type 0
 Made = Option (List Answer × Lane)
 
--- this answer, and then those
-abbrev pub answered_first : Answer → Made → Made
-answered_first answer None = None
-answered_first answer (Some made) = Some (answer ∷ made.0, made.1)
-
 -- what is made by this step and then by others
 abbrev pub after_step : Outcome → (Answer → Core → Made) → Made
 after_step None others = None
-after_step (Some step) others = answered_first step.0 (others step.0 step.1)
+after_step (Some step) others = option_map (λ made. (step.0 ∷ made.0, made.1)) (others step.0 step.1)
 
 -- Steps are made, so many at most, as long as they go on.
 abbrev pub steps_made : (n size : ℕ) → (Lane → Event) → (Answer → Core → Bool) → (limit : ℕ) → Lane → Made
 steps_made n size asks goes_on zero lane = Some ([], lane)
 steps_made n size asks goes_on (suc limit) lane = after_step (step_of n size lane.core (asks lane)) (λ answer core.
-    if goes_on answer core
-    then steps_made n size asks goes_on limit (lane_behind lane core)
-    else Some ([], lane_behind lane core))
+    let next = lane_behind lane core in
+    if goes_on answer core then steps_made n size asks goes_on limit next else Some ([], next))
 
 -- The frame on top makes steps until it is gone. If the stack is empty, that is answered.
-abbrev pub frame_made : (n size limit : ℕ) → Lane → (stack : List Frame) → Made
-frame_made n size limit lane [] = Some (refused no_frame ∷ [], lane)
-frame_made n size limit lane (top ∷ below) =
-    steps_made n size (λ now. event_on_top now.core.frames now.payloads)
-    (λ answer core. length core.frames == suc (length below)) limit lane
+abbrev pub frame_made : (n size limit : ℕ) → Lane → Made
+frame_made n size limit lane =
+    if length lane.core.frames == 0 then Some (refused no_frame ∷ [], lane)
+    else steps_made n size (λ now. event_on_top now.core.frames now.payloads)
+    (λ answer core. length core.frames == length lane.core.frames) limit lane
 
 -- the take goes on
 abbrev pub is_reading : Answer → Core → Bool
@@ -56,14 +51,11 @@ push_made n size event payload others lane =
 abbrev pub line_made : (n size limit : ℕ) → Command → ℕ × (Lane → Made)
 line_made n size limit (begin_frame cpu moment payload) =
     (cpu, push_made n size (pushes moment (length payload)) payload (λ lane. Some ([], lane)))
-line_made n size limit (step_frame cpu count) = (cpu, λ lane. frame_made n size count lane lane.core.frames)
-line_made n size limit (finish_frame cpu) = (cpu, λ lane. frame_made n size limit lane lane.core.frames)
-line_made n size limit (write cpu moment payload) = (
-  cpu,
-  push_made n size (pushes moment (length payload)) payload (λ lane. frame_made n size limit lane lane.core.frames),
-)
-line_made n size limit (close cpu) =
-    (cpu, push_made n size pushes_close [] (λ lane. frame_made n size limit lane lane.core.frames))
+line_made n size limit (step_frame cpu count) = (cpu, frame_made n size count)
+line_made n size limit (finish_frame cpu) = (cpu, frame_made n size limit)
+line_made n size limit (write cpu moment payload) =
+    (cpu, push_made n size (pushes moment (length payload)) payload (frame_made n size limit))
+line_made n size limit (close cpu) = (cpu, push_made n size pushes_close [] (frame_made n size limit))
 line_made n size limit (step_reader cpu count) = (cpu, steps_made n size (λ lane. reads) is_reading count)
 line_made n size limit (take_page cpu) = (cpu, steps_made n size (λ lane. reads) is_reading limit)
 line_made n size limit (wish cpu) = (cpu, steps_made n size (λ lane. wishes) (λ answer core. false) 1)

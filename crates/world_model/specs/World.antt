@@ -33,13 +33,8 @@ pub record IsNewWorld (script : Script) (w : World) : Type 0 where
 
 -- a page that was taken from the ring of a CPU
 abbrev pub parcel_of : (cpu : ℕ) → TakenFill → Parcel
-parcel_of cpu t = record {
-  cpu = cpu;
-  fill = t.fill;
-  first = t.held.first;
-  missed = t.skipped;
-  records = map as_record t.held.records;
-}
+parcel_of cpu t = let held = t.held in
+    record { cpu = cpu; fill = t.fill; first = held.first; missed = t.skipped; records = map as_record held.records }
 
 -- the page that an answer brings, if it is a take's
 abbrev pub parcels_in : (cpu : ℕ) → Answer → List Parcel

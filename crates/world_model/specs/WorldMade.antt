@@ -20,10 +20,9 @@ pub record ChangesRing (script : Script) (line : ℕ) (command : Command) (befor
   pub answers : List Answer
   pub next : Lane
   pub makes : Makes script.pages script.size command cpu lane answers next
-  pub after_is : after ≡ record {
+  pub after_is : after ≡ record before {
     lanes = slice_set before.lanes cpu next;
     taken = before.taken ++ flat_map (parcels_in cpu) answers;
-    delivered = before.delivered;
     log = before.log ++ flat_map (logged line cpu) answers;
   }
 
