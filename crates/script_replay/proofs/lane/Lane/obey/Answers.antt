@@ -1,5 +1,4 @@
-use Rattle.script_replay.proofs.LinesObeyed.{asks_nothing}
-use Rattle.script_replay.proofs.replaying.run_line.Goals as goal
+use Rattle.script_replay.proofs.lane.Lane.obey.Goals as goal
 
 pub returns-in-Begin : goal.returns-in-Begin
 returns-in-Begin c = rw c.in-Begin.is c.begin.ensures
@@ -24,6 +23,3 @@ returns-in-Take c = rw c.in-Take.is c.take.ensures
 
 pub returns-in-Wish : goal.returns-in-Wish
 returns-in-Wish c = rw c.in-Wish.is c.wish.ensures
-
-pub returns-in-Deliver : goal.returns-in-Deliver
-returns-in-Deliver c = rw c.in-Deliver.is (λ n size start lane is. asks_nothing n size start c.args.at.cpu.0 c.args.at.line c.args.lane.now lane c.args.log.now.items is)
