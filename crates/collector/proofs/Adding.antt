@@ -16,6 +16,7 @@ use Rattle.collector.specs.Adding.{FitsAt, IsThere, IsLookedAt}
 use Rattle.collector.specs.Faults.{IsClashAt, IsTakenAndMissingAt, IsBeforeNumber, AgreeBefore, IsAddFault}
 use Rattle.collector.specs.declared.fault.AddFault.{AddFault}
 use Rattle.collector.specs.declared.fault.AddFault.TheVariants.{Clash, TakenAndMissing, NoMemory}
+use Rattle.collector.proofs.Walks.{one_of_both}
 use Rattle.collector.proofs.Places.{get_pushed}
 use Rattle.collector.proofs.Indexing.{same_record, record_at}
 
@@ -55,16 +56,9 @@ pair_below p cpu n r pair = let is = pair.number_is in let within = slice_get_wi
 
 one_of : (ps : List Parcel) (p : Parcel) (c n : ℕ) → Agree ps → FitsAt ps p c n → (r other : Record)
     → Has (ps ++ p ∷ []) c n r → Has (ps ++ p ∷ []) c n other → r ≡ other
-one_of ps p c n agree fits r other h g = ⊎_elim
-    (λ (a : Has ps c n r). ⊎_elim
-    (λ (b : Has ps c n other). agree.one_record c n r other a b)
-    (λ (b : IsPairOf p c n other). fits.one_record r other a b)
-    (has_either ps p c n other g))
-    (λ (a : IsPairOf p c n r). ⊎_elim
-    (λ (b : Has ps c n other). sym (fits.one_record other r b a))
-    (λ (b : IsPairOf p c n other). same_record p c n r other a b)
-    (has_either ps p c n other g))
-    (has_either ps p c n r h)
+one_of ps p c n agree fits r other h g = one_of_both (Has ps c n) (IsPairOf p c n) r other
+    (has_either ps p c n r h) (has_either ps p c n other g)
+    (agree.one_record c n r other) (fits.one_record r other) (fits.one_record other r) (same_record p c n r other)
 
 not_both : (ps : List Parcel) (p : Parcel) (c n : ℕ) → Agree ps → FitsAt ps p c n → (r : Record)
     → Has (ps ++ p ∷ []) c n r → Misses (ps ++ p ∷ []) c n → ⊥

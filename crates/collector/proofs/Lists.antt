@@ -5,6 +5,7 @@ use Rattle.std.proofs.lemmas.Bool.{cases_lt}
 use Rattle.std.proofs.lemmas.Option.{none-some}
 use Rattle.trace_model.proofs.collections.Elements.{some_is}
 use Rattle.collector.specs.Listed.{AreListed, with_found, listed_within}
+use Rattle.collector.proofs.Walks.{skip_all}
 
 pub same_listed : {X : Type 0} {P Q : ℕ → X → Type 0} (list : List (ℕ × X)) → ((n : ℕ) (x : X) → P n x → Q n x) → ((n : ℕ) (x : X) → Q n x → P n x) → AreListed P list → AreListed Q list
 same_listed list to back l = record {
@@ -80,13 +81,7 @@ unfolding listed_within
 none_listed find n = refl
 
 skip_count : {X : Type 0} (find : ℕ → Option X) (k n count : ℕ) → ((m : ℕ) → n ≤ m → m < n + k → find m ≡ None) → listed_within find n (k + count) ≡ listed_within find (n + k) count
-skip_count find zero n count none = let a : n + 0 ≡ n = omega arith in let b : 0 + count ≡ count = omega arith in
-    ap (listed_within find n) b ∙ ap (λ m. listed_within find m count) (sym a)
-skip_count find (suc k) n count none =
-    let a : suc k + count ≡ suc (k + count) = omega arith in
-    let b : suc n + k ≡ n + suc k = omega arith in
-    ap (listed_within find n) a ∙ one_listed find n (k + count) None (none n (omega arith) (omega arith))
-    ∙ skip_count find k (suc n) count (λ m from below. none m (omega arith) (omega arith)) ∙ ap (λ m. listed_within find m count) b
+skip_count find = skip_all (listed_within find) (λ m. find m ≡ None) (λ n count none. one_listed find n count None none)
 
 module _ {X : Type 0} (find : ℕ → Option X) (top n : ℕ) where
   -- numbers without anything are passed over

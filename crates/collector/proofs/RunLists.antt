@@ -5,6 +5,7 @@ use Rattle.std.proofs.lemmas.Bool.{cases_lt, cases_eq, eq-eqb, ne_eqb, false≢t
 use Rattle.std.proofs.lemmas.Option.{none-some}
 use Rattle.trace_model.proofs.collections.Elements.{some_is}
 use Rattle.collector.specs.Runs.{InRun, AreRuns, with_number, runs_within}
+use Rattle.collector.proofs.Walks.{skip_all}
 
 -- the same runs, if the same holds of each number
 pub same_runs : {P Q : ℕ → Type 0} (runs : List (ℕ × ℕ)) → ((n : ℕ) → P n → Q n) → ((n : ℕ) → Q n → P n) → AreRuns P runs → AreRuns Q runs
@@ -71,17 +72,24 @@ runs_tail P r rs runs = record {
 }
 
 module _ (test : ℕ → Bool) (high : ℕ) where
+  -- a number that passes, or one that does and is behind it
+  alone_or_behind : (n : ℕ) → test n ≡ true → n < high → (m : ℕ) → ((n ≤ m) × (m ≤ n)) ⊎ Passes test (suc n) high m → Passes test n high m
+  alone_or_behind n passing below m h = ⊎_elim
+      (λ (here : (n ≤ m) × (m ≤ n)). let e : n ≡ m = omega (arith, here.0, here.1) in subst (Passes test n high) e record { from = omega arith; below = below; passes = passing })
+      (λ (p : Passes test (suc n) high m). record { from = let a = p.from in omega arith; below = p.below; passes = p.passes })
+      h
+
+  is_alone_or_behind : (n m : ℕ) → Passes test n high m → ((n ≤ m) × (m ≤ n)) ⊎ Passes test (suc n) high m
+  is_alone_or_behind n m p = let a = p.from in ⊎_elim
+      (λ (lt : n < m). inr record { from = lt; below = p.below; passes = p.passes })
+      (λ (le : m ≤ n). inl (a, le))
+      (cases_lt n m)
+
   -- if a number before the runs passes, it goes into a run
   with_passing : (n : ℕ) (rs : List (ℕ × ℕ)) → test n ≡ true → n < high → AreRuns (Passes test (suc n) high) rs → AreRuns (Passes test n high) (with_number n rs)
   with_passing n [] passing below runs = same_runs ((n, n) ∷ [])
-      (λ m h. ⊎_elim
-      (λ (here : (n ≤ m) × (m ≤ n)). let e : n ≡ m = omega (arith, here.0, here.1) in subst (Passes test n high) e record { from = omega arith; below = below; passes = passing })
-      (λ (p : Passes test (suc n) high m). record { from = let a = p.from in omega arith; below = p.below; passes = p.passes })
-      h)
-      (λ m p. let a = p.from in ⊎_elim
-      (λ (lt : n < m). inr record { from = lt; below = p.below; passes = p.passes })
-      (λ (le : m ≤ n). inl (a, le))
-      (cases_lt n m))
+      (alone_or_behind n passing below)
+      (is_alone_or_behind n)
       (runs_push (n, n) [] (Passes test (suc n) high) (let e : n ≤ n = omega arith in e) (λ b at. absurd (none-some b at)) runs)
   with_passing n (r ∷ rs) passing below runs =
       let first = runs.of_them r.0 record { index = 0; run = r; at = refl; from = (let e : r.0 ≤ r.0 = omega arith in e); to = runs.forward 0 r refl } in
@@ -107,14 +115,8 @@ module _ (test : ℕ → Bool) (high : ℕ) where
       (runs_push (n, r.1) rs (InRun rs) (let up = runs.forward 0 r refl in omega arith) (λ b at. runs.apart 0 r b refl at) (runs_tail _ r rs runs))))
       (λ (apart : r.0 ≡ suc n → ⊥). subst (AreRuns (Passes test n high)) (sym (with_apart n r rs apart))
       (same_runs ((n, n) ∷ r ∷ rs)
-      (λ m h. ⊎_elim
-      (λ (here : (n ≤ m) × (m ≤ n)). let e : n ≡ m = omega (arith, here.0, here.1) in subst (Passes test n high) e record { from = omega arith; below = below; passes = passing })
-      (λ (p : Passes test (suc n) high m). record { from = let a = p.from in omega arith; below = p.below; passes = p.passes })
-      h)
-      (λ m p. let a = p.from in ⊎_elim
-      (λ (lt : n < m). inr record { from = lt; below = p.below; passes = p.passes })
-      (λ (le : m ≤ n). inl (a, le))
-      (cases_lt n m))
+      (alone_or_behind n passing below)
+      (is_alone_or_behind n)
       (runs_push (n, n) (r ∷ rs) (Passes test (suc n) high) (let e : n ≤ n = omega arith in e)
       (λ b at. subst (λ (q : ℕ × ℕ). suc n < q.0) (some_is r b at) (let e : suc n < r.0 = omega (arith, start, apart) in e)) runs)))
       (cases_eq r.0 (suc n))
@@ -155,13 +157,7 @@ one_within test n count b e = ap (λ (b : Bool). cond b (with_number n (runs_wit
 
 -- numbers that don't pass are passed over
 pub runs_skip : (test : ℕ → Bool) (k n count : ℕ) → ((m : ℕ) → n ≤ m → m < n + k → test m ≡ false) → runs_within test n (k + count) ≡ runs_within test (n + k) count
-runs_skip test zero n count none = let a : n + 0 ≡ n = omega arith in let b : 0 + count ≡ count = omega arith in
-    ap (runs_within test n) b ∙ ap (λ m. runs_within test m count) (sym a)
-runs_skip test (suc k) n count none =
-    let a : suc k + count ≡ suc (k + count) = omega arith in
-    let b : suc n + k ≡ n + suc k = omega arith in
-    ap (runs_within test n) a ∙ one_within test n (k + count) false (none n (omega arith) (omega arith))
-    ∙ runs_skip test k (suc n) count (λ m from below. none m (omega arith) (omega arith)) ∙ ap (λ m. runs_within test m count) b
+runs_skip test = skip_all (runs_within test) (λ m. test m ≡ false) (λ n count fails. one_within test n count false fails)
 
 -- a number that passes, before one that doesn't or as the last, is a run
 alone : (test : ℕ → Bool) (n count : ℕ) → ((m : ℕ) → m ≡ suc n → m < suc n + count → test m ≡ false) → with_number n (runs_within test (suc n) count) ≡ (n, n) ∷ runs_within test (suc n) count

@@ -20,6 +20,7 @@ use Rattle.collector.specs.Entries.{record_of}
 use Rattle.collector.specs.Shown.{IsUnknown, IsContentAt}
 use Rattle.collector.specs.Beside.{pair_of, IsTaken, IsBeside, IsSeen, IsSameAt, FitTogether}
 use Rattle.collector.specs.Faults.{IsClashAt, IsTakenAndMissingAt, IsBeforeNumber, AgreeBefore}
+use Rattle.collector.proofs.Walks.{one_of_both}
 use Rattle.collector.proofs.Indexing.{record_at}
 use Rattle.collector.proofs.Looking.{in_within}
 
@@ -224,16 +225,9 @@ misses_either ps qs cpu n m = ⊎_elim
 
 fit_one : (ps qs : List Parcel) (c n : ℕ) → Agree ps → Agree qs → FitTogether ps qs c n → (r other : Record)
     → Has (ps ++ qs) c n r → Has (ps ++ qs) c n other → r ≡ other
-fit_one ps qs c n agree others_agree fit r other h g = ⊎_elim
-    (λ (a : Has ps c n r). ⊎_elim
-    (λ (b : Has ps c n other). agree.one_record c n r other a b)
-    (λ (b : Has qs c n other). fit.one_record r other a b)
-    (has_either ps qs c n other g))
-    (λ (a : Has qs c n r). ⊎_elim
-    (λ (b : Has ps c n other). sym (fit.one_record other r b a))
-    (λ (b : Has qs c n other). others_agree.one_record c n r other a b)
-    (has_either ps qs c n other g))
-    (has_either ps qs c n r h)
+fit_one ps qs c n agree others_agree fit r other h g = one_of_both (Has ps c n) (Has qs c n) r other
+    (has_either ps qs c n r h) (has_either ps qs c n other g)
+    (agree.one_record c n r other) (fit.one_record r other) (fit.one_record other r) (others_agree.one_record c n r other)
 
 fit_not_both : (ps qs : List Parcel) (c n : ℕ) → Agree ps → Agree qs → FitTogether ps qs c n → (r : Record)
     → Has (ps ++ qs) c n r → Misses (ps ++ qs) c n → ⊥

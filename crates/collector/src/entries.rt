@@ -1,5 +1,5 @@
 //! The records of one parcel from a number on, and where two parcels differ.
-ghost use Rattle.std.specs.Prelude.{◌≡◌, ◌≢◌, ℕ, ◌-◌, ◌<◌, ◌≤◌, List, drop, IfSome, IfNone};
+ghost use Rattle.std.specs.Prelude.{◌≡◌, ◌≢◌, ℕ, ◌-◌, ◌<◌, ◌≤◌, drop, IfSome, IfNone};
 ghost use Rattle.std.specs.List.{enumerate_from};
 ghost use Rattle.page_numbers.specs.Parcels.{as_parcel};
 ghost use Rattle.collector.specs.Entries.{record_of};

@@ -1,5 +1,5 @@
 //! The numbers of each CPU of which something is known.
-ghost use Rattle.std.specs.Prelude.{◌≡◌, ◌≢◌, ℕ, ◌<◌, ◌≤◌, ◌↔◌, length, IfSome, IfNone, IfOk, OnOk, OnErr};
+ghost use Rattle.std.specs.Prelude.{◌≢◌, ℕ, ◌<◌, ◌≤◌, length, IfSome, IfNone, IfOk, OnOk, OnErr};
 ghost use Rattle.std.specs.List.{AllZip};
 ghost use Rattle.collector.specs.Ranges.{IsLaid, IsCopy};
 ghost use Rattle.collector.specs.Index.{ReportsOf, AreAllApart, ReportSameOf};

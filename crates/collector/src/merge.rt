@@ -6,7 +6,7 @@ use crate::fault::AddFault;
 use trace_model::{CpuId, MAX_CPUS, RecordNo};
 
 impl Collector {
-    ghost use Rattle.std.specs.Prelude.{◌≡◌, ◌≢◌, ℕ, ◌<◌, ◌≤◌, ◌↔◌, ◌++◌, length, take, IsTrue, IfErr, OnOk, OnErr};
+    ghost use Rattle.std.specs.Prelude.{◌≡◌, ◌≢◌, ℕ, ◌<◌, ◌↔◌, ◌++◌, length, take, IsTrue, IfErr, OnOk, OnErr};
     ghost use Rattle.trace_model.specs.Collection.{Agree, IsBelow, IsLeastUpperBound};
     ghost use Rattle.collector.specs.Sound.{AreSound};
     ghost use Rattle.collector.specs.Beside.{FitTogether};

@@ -6,7 +6,7 @@ use page_borrow::Entry;
 use trace_model::{CpuId, RecordNo};
 
 impl Collector {
-    ghost use Rattle.std.specs.Prelude.{◌≡◌, ℕ, ◌↔◌, IfSome, IfNone, IsTrue};
+    ghost use Rattle.std.specs.Prelude.{◌≡◌, ◌↔◌, IfSome, IfNone, IsTrue};
     ghost use Rattle.trace_model.specs.Record.{Record};
     ghost use Rattle.trace_model.specs.Collection.{Has, Misses};
     ghost use Rattle.page_borrow.specs.Entries.{numbered_record};

@@ -5,7 +5,7 @@ use crate::entries::first_difference;
 use trace_model::{CpuId, MAX_CPUS};
 
 impl Collector {
-    ghost use Rattle.std.specs.Prelude.{◌≡◌, ℕ, ◌<◌, ◌≤◌, ◌↔◌, IsTrue, MatchBool};
+    ghost use Rattle.std.specs.Prelude.{ℕ, ◌<◌, ◌↔◌, IsTrue, MatchBool};
     ghost use Rattle.trace_model.specs.Collection.{IsSame};
     ghost use Rattle.collector.specs.Sound.{AreSound};
     ghost use Rattle.collector.specs.Beside.{IsSameAt};

@@ -31,19 +31,13 @@ use Rattle.line_writer.proofs.LineRuns.{not_written}
 
 -- ---- a frame whose record isn't reserved makes a step
 
-reserving_steps : (kind : Kind) (state : FrameState) (payloads : List (List ℕ))
-    → IsReserving kind state
+other_steps : (IsSo : FrameState → Type 0) (state : FrameState) (payloads : List (List ℕ))
+    → ((number : ℕ) → IsSo (reserved number) → ⊥)
+    → IsSo state
     → steps ≡ event_in state payloads
-reserving_steps kind waiting payloads is = refl
-reserving_steps kind (reserved number) payloads is = absurd is
-reserving_steps kind left payloads is = refl
-
-leaving_steps : (kind : Kind) (state : FrameState) (payloads : List (List ℕ))
-    → IsLeaving kind state
-    → steps ≡ event_in state payloads
-leaving_steps kind waiting payloads is = refl
-leaving_steps kind (reserved number) payloads is = absurd is
-leaving_steps kind left payloads is = refl
+other_steps IsSo waiting payloads never is = refl
+other_steps IsSo (reserved number) payloads never is = absurd (never number is)
+other_steps IsSo left payloads never is = refl
 
 left_leaves : (kind : Kind) (state : FrameState) → state ≡ left → IsLeaving kind state
 left_leaves kind state e = subst (IsLeaving kind) (sym e) (any kind)
@@ -120,7 +114,7 @@ module _ (shape : Shape) (below : List Frame) (payload : List ℕ) (payloads : L
       let b = reserving_on shape frame.kind below from between after Going a call refl in (
         b,
         stands_then from between after steps Going a.frame s a.top
-            (reserving_steps a.frame.kind a.frame.state (payload ∷ payloads) a.reserves) call b.frame b.top,
+            (other_steps (IsReserving a.frame.kind) a.frame.state (payload ∷ payloads) (λ number is. is) a.reserves) call b.frame b.top,
       )
 
   -- ---- until it is popped
@@ -137,7 +131,7 @@ module _ (shape : Shape) (below : List Frame) (payload : List ℕ) (payloads : L
       let b = leaving_going shape below start None between after Going a call refl in (
         b,
         stands_then from between after steps Going a.frame t a.top
-            (leaving_steps a.frame.kind a.frame.state (payload ∷ payloads) a.leaves) call b.frame b.top,
+            (other_steps (IsLeaving a.frame.kind) a.frame.state (payload ∷ payloads) (λ number is. is) a.leaves) call b.frame b.top,
       )
 
   leaves : (from start : Writing) (answer : Answer) (after : Writing) (frame : Frame)
@@ -149,13 +143,13 @@ module _ (shape : Shape) (below : List Frame) (payload : List ℕ) (payloads : L
   leaves from start answer after frame s top is (is_gone first mid end last goes call at) =
       let (a, t) = leaving frame from start mid s top is goes in
       popped_then from mid after steps answer a.frame t a.top
-      (leaving_steps a.frame.kind a.frame.state (payload ∷ payloads) a.leaves) call at
+      (other_steps (IsLeaving a.frame.kind) a.frame.state (payload ∷ payloads) (λ number is. is) a.leaves) call at
   leaves from start answer after frame s top is
       (was_refused first mid next end other fault last goes call above is_leaving rest) =
       let (a, t) = leaving frame from start mid s top is goes in
       leaves from next last after other
       (stands_then from mid next steps (Refused fault) a.frame t a.top
-      (leaving_steps a.frame.kind a.frame.state (payload ∷ payloads) a.leaves) call other above)
+      (other_steps (IsLeaving a.frame.kind) a.frame.state (payload ∷ payloads) (λ number is. is) a.leaves) call other above)
       above is_leaving rest
 
 -- ---- a whole write
@@ -207,7 +201,7 @@ module _ (shape : Shape) (before : Writing) (moment : ℕ) (payload : List ℕ) 
       ended_then w.pushed w.reserved w.ended w.how
       (stands_then shape before.frames payload payloads many w.pushed w.reserve.between w.reserved steps
       (Reserved w.number) a.frame s a.top
-      (reserving_steps a.frame.kind a.frame.state (payload ∷ payloads) a.reserves) w.reserve.last t.next t.top)
+      (other_steps (IsReserving a.frame.kind) a.frame.state (payload ∷ payloads) (λ number is. is) a.reserves) w.reserve.last t.next t.top)
       t w.end w.goes w.frames
 
   refused_calls : (fault : WriteFault) (r : IsRefusedPartWay shape before moment (length payload) fault after)
@@ -231,13 +225,13 @@ module _ (shape : Shape) (before : Writing) (moment : ℕ) (payload : List ℕ) 
           subst (Popped r.pushed) (sym same)
           (popped_then shape before.frames payload payloads many r.pushed r.reserve.between r.refused steps
           (Refused fault) a.frame s a.top
-          (reserving_steps a.frame.kind a.frame.state (payload ∷ payloads) a.reserves) r.reserve.last
+          (other_steps (IsReserving a.frame.kind) a.frame.state (payload ∷ payloads) (λ number is. is) a.reserves) r.reserve.last
           (ap (λ (w : Writing). w.frames) (sym same) ∙ r.frames))
       rest a s (inr (frame, answer, top, is, all)) =
           leaves shape before.frames payload payloads many r.pushed r.refused answer after frame
           (stands_then shape before.frames payload payloads many r.pushed r.reserve.between r.refused steps
           (Refused fault) a.frame s a.top
-          (reserving_steps a.frame.kind a.frame.state (payload ∷ payloads) a.reserves) r.reserve.last frame top)
+          (other_steps (IsReserving a.frame.kind) a.frame.state (payload ∷ payloads) (λ number is. is) a.reserves) r.reserve.last frame top)
           top is all
 
 -- ---- the line

@@ -4,7 +4,7 @@ use crate::gate::{Gate, Who};
 use trace_model::{CpuId, FillNo};
 
 impl<'a> LineWriter<'a> {
-    ghost use Rattle.std.specs.Prelude.{◌≡◌, ◌≢◌, ◌≤◌, false, [], OnOk, IfErr};
+    ghost use Rattle.std.specs.Prelude.{◌≢◌, ◌≤◌, false, [], OnOk, IfErr};
     ghost use Rattle.text_model.specs.Script.{begin_frame, step_frame, finish_frame, write, close};
     ghost use Rattle.line_writer.specs.declared.gate.Who.TheVariants as who;
     ghost use Rattle.line_writer.specs.LineWriters.{IsLineWriter, CallsTop, MakesLine, FinishesRest};

@@ -1,6 +1,6 @@
 //! The numbers before the image of a parcel.
-ghost use Rattle.std.specs.Prelude.{◌≡◌, ℕ, ◌+◌, ◌≤◌, ◌<◌, ◌^◌, ◌++◌, List, length, drop, IfOk, IfErr, IsTrue, OnOk, OnErr, ◌↔◌};
-ghost use Rattle.trace_model.specs.Image.{from_le64, le64, Missed as MissedReported};
+ghost use Rattle.std.specs.Prelude.{◌≡◌, ◌+◌, ◌≤◌, ◌<◌, ◌^◌, length, drop, IfOk, IfErr, IsTrue, OnOk, OnErr, ◌↔◌};
+ghost use Rattle.trace_model.specs.Image.{from_le64, Missed as MissedReported};
 ghost use Rattle.trace_model.specs.Parcel.{Parcel as ParcelSeen};
 ghost use Rattle.trace_model.specs.ParcelBytes.{HasNumbers, AgreesWith};
 ghost use Rattle.trace_model.specs.declared.limits.TheConstants.{MAX_CPUS};

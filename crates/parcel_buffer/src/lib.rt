@@ -1,7 +1,7 @@
 //! A page as parcel bytes in a caller's buffer, for which no memory is taken: `docs/FORMATS.md`, "Parcel bytes".
 #![tactic(auto)]
 
-ghost use Rattle.std.specs.Prelude.{◌≡◌, ◌+◌, ◌-◌, ◌≤◌, ◌++◌, ℕ, List, take, drop, length, replicate, true, ◌↔◌};
+ghost use Rattle.std.specs.Prelude.{◌≡◌, ◌+◌, ◌-◌, ◌≤◌, ◌++◌, ℕ, List, take, drop, length, replicate, true};
 ghost use Rattle.std.specs.Int.{to_le_bytes, w64};
 ghost use Rattle.trace_model.specs.declared.limits.TheConstants.{MAX_SIZE};
 ghost use Rattle.trace_model.specs.Image.{commit_word, commit_of, stores_count as is_count_stored, stored_count};

@@ -1,6 +1,5 @@
 //! A thread that takes pages.
 ghost use Rattle.std.specs.Prelude.{◌≡◌, ◌<◌, IfOk};
-ghost use Rattle.trace_model.specs.declared.limits.TheConstants.{MAX_CPUS};
 ghost use Rattle.ring_shared.specs.Takes.{IsReader};
 
 use crate::SIZE;

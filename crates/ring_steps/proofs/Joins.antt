@@ -6,7 +6,7 @@ use lib.ListN.{get_elem?}
 use Rattle.atomic_table.specs.Table.{keeps, Allows, Joins}
 use Rattle.ring_steps.specs.declared.rule.Shape.{Shape}
 use Rattle.ring_steps.specs.Views.{Writing, writing_of, Reading, SeatView, laid, writes, reads, joined, spent, writing, passed, reading, AreSeated, settled}
-use Rattle.ring_steps.specs.Shown.{AreWords, IsReading, Shows}
+use Rattle.ring_steps.specs.Shown.{IsReading, IsShown, Shows}
 use Rattle.ring_steps.specs.Seats.{Sat, AreParts}
 use Rattle.ring_steps.proofs.Placed.{writer_at, joined_at}
 
@@ -42,13 +42,7 @@ looks shape slots id me is s h deep at range =
       record {
         core = h.core;
         reader = h.reader;
-        shown = record {
-          pages_fit = h.shown.pages_fit;
-          reached = h.shown.reached;
-          are_words = subst (AreWords shape.pages h.core) (sym (set-get_or s.words 1 0)) h.shown.are_words;
-          are_homes = h.shown.are_homes;
-          is_reading = h.shown.is_reading;
-        };
+        shown = subst (λ (words : List ℕ). IsShown shape.pages shape.size shape.start h.core h.reader words s.homes) (sym (set-get_or s.words 1 0)) h.shown;
         seats = subst (AreSeated (writing_of h.core) h.reader h.core.head) (sym same) settled;
         tail = λ u v e. let there : joined (writing_of h.core) h.reader ∷ spent ∷ [] ≡ laid u v ∷ [] = sym same ∙ e in absurd (cc);
       },

@@ -1,7 +1,5 @@
 //! The words and slots of a new ring.
-ghost use Rattle.std.specs.Prelude.{◌≡◌, ◌%◌, ◌<◌, ◌≤◌, IfOk, Some, None, true, false};
-ghost use Rattle.trace_model.specs.declared.limits.TheConstants.{MIN_SIZE, MAX_SIZE};
-ghost use Rattle.page_image.specs.Contents.{Contents};
+ghost use Rattle.std.specs.Prelude.{◌%◌, ◌<◌, IfOk, Some, None};
 ghost use Rattle.ring_steps.specs.NewRings.{IsShape, IsFirstLinkWord, AreFirstWords, IsFirstSlot, AreFirstSlots};
 
 use crate::rule::Shape;

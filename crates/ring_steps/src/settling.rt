@@ -1,8 +1,7 @@
 //! The two seats of a ring, joined at its end.
 ghost use Rattle.std.specs.Prelude.{◌≡◌, false};
-ghost use Rattle.std.specs.Arc.{arc_value};
-ghost use Rattle.ring_steps.specs.Views.{writing, reading, writes, joined};
-ghost use Rattle.ring_steps.specs.Seats.{Sat, IsTableOf, AreParts};
+ghost use Rattle.ring_steps.specs.Views.{writing, reading, joined};
+ghost use Rattle.ring_steps.specs.Seats.{IsTableOf, AreParts};
 ghost use Rattle.ring_steps.specs.Ends.{writing_in, reading_in, writer_table, reader_table};
 
 use crate::ends::{ReaderSeat, WriterSeat};

@@ -1,5 +1,5 @@
 //! The line of an audit.
-ghost use Rattle.std.specs.Prelude.{◌≡◌, ◌++◌, OnOk, OnErr, codes};
+ghost use Rattle.std.specs.Prelude.{◌≡◌, ◌++◌, OnOk, OnErr};
 ghost use Rattle.trace_model.specs.Sublist.{IsPrefix};
 ghost use Rattle.run_text.specs.Verdicts.{verdict_of};
 ghost use Rattle.run_text.specs.Printing.{place_text, printed_audit, verdict_text};

@@ -1,5 +1,5 @@
 -- What holds between two lines of a script holds after one line more.
-use Rattle.std.proofs.Common.{◌≡◌, ◌≢◌, ℕ, ◌+◌, ◌<◌, List, [], ◌∷◌, ◌++◌, length, get_or, take, Option, Some, refl, sym, ap, ◌∙◌, subst, ⊎_elim, arith, append-nil}
+use Rattle.std.proofs.Common.{◌≡◌, ◌≢◌, ℕ, ◌+◌, ◌<◌, List, [], ◌∷◌, ◌++◌, length, get_or, take, Option, Some, refl, sym, ap, ◌∙◌, subst, ⊎_elim, arith}
 use Rattle.std.specs.Prelude.{Contains, All, IfSome, slice_set}
 use Rattle.std.specs.List.{slice_get}
 use Rattle.std.proofs.lemmas.Option.{slice_get_within, slice_get-get_or, get_or_from_slice_get}
@@ -17,7 +17,6 @@ use Rattle.text_model.specs.Log.{no_page, delivery_line}
 use Rattle.text_model.specs.Script.{Command, deliver, Script}
 use Rattle.text_model.specs.ScriptLimits.{IsWithinLimits, IsCommandWithin}
 use Rattle.world_model.specs.Log.{log_of}
-use Rattle.world_model.specs.Lanes.{Lane}
 use Rattle.world_model.specs.World.{World, parcels_of, IsFill, Brings, RunsLine, DeliversTaken, DeliversNothing, delivers, lacks}
 use Rattle.world_model.proofs.Lookups.{get_set_here, get_set_other}
 use Rattle.world_model.proofs.WorldsKept.{IsWorldKept, world_kept}
@@ -30,29 +29,19 @@ use Rattle.page_numbers.specs.Parcels.{as_parcels}
 use Rattle.script_replay.specs.declared.replaying.ReplayState.{ReplayState}
 use Rattle.replay_log.specs.LogTypes.{shown_log, shown_log_line}
 use Rattle.script_replay.specs.Value.{LaneValue}
-use Rattle.script_replay.specs.Lanes.{IsLane, IsLaneOf, Happens, HasLine}
+use Rattle.script_replay.specs.declared.lane.asked.Asked.{Asked}
+use Rattle.script_replay.specs.Asked.{command_for}
+use Rattle.script_replay.specs.Lanes.{IsLaneOf, HasLine}
 use Rattle.script_replay.specs.Places.{lane_at, AreSameBut, IsLaneFrom, IsLaneAt}
 use Rattle.deliveries.specs.Deliveries.{AreRising, Adds}
 use Rattle.script_replay.specs.Collected.{IsFound, delivery_of, IsCollected, AreCollected}
-use Rattle.script_replay.specs.Replay.{cpu_of, IsOfRing, IsStateAfter, IsReady, LeadsOn}
+use Rattle.script_replay.specs.Replay.{IsStateAfter, IsReady, LeadsOn}
 use Rattle.script_replay.proofs.Placed.{from_is_lane, first_world, new_at, obeys_ring, place_rises, found_taken, not_taken}
 
 -- ---- the log
 
 pub log_more : (log new : List LogLine) (line : LogLine) (reported : model.LogLine) → new ≡ log ++ line ∷ [] → shown_log_line line ≡ reported → shown_log new ≡ shown_log log ++ reported ∷ []
 log_more log new line reported more same = ap shown_log more ∙ map-append shown_log_line log (line ∷ []) ∙ ap (λ (l : model.LogLine). shown_log log ++ l ∷ []) same
-
--- a delivery asks nothing of a lane
-pub asks_nothing : (n size start cpu line : ℕ) (v : LaneValue) (lane : Lane) (log : List LogLine)
-    → IsLane n size start cpu v lane
-    → Happens (λ n size before exchanges after. (exchanges ≡ []) × (after ≡ before)) line cpu n size start lane log v log
-asks_nothing n size start cpu line v lane log is = record {
-  exchanges = [];
-  after = lane;
-  happened = (refl, refl);
-  is_lane = is;
-  log = sym (append-nil (shown_log log));
-}
 
 -- ---- before the first line
 
@@ -127,17 +116,15 @@ module _ (script : Script) (lines : List (ℕ × Command)) (state : ReplayState)
 
 -- ---- a line of a ring
 
-module _ (script : Script) (line : ℕ) (command : Command) (cpu : ℕ) (old new : ReplayState) (v after : LaneValue)
+module _ (script : Script) (line cpu : ℕ) (asked : Asked) (old new : ReplayState) (v after : LaneValue)
     (limits : IsWithinLimits script)
-    (named : cpu ≡ cpu_of command)
     (low : cpu < script.cpus)
-    (ring : IsOfRing command)
     (from : IsLaneFrom script (lane_at old.lanes.items cpu) v)
-    (has : HasLine command line cpu v old.log.items after new.log.items)
+    (has : HasLine (command_for cpu asked) line cpu v old.log.items after new.log.items)
     (placed : lane_at new.lanes.items cpu ≡ Some after)
     (others : AreSameBut cpu new.lanes.items old.lanes.items)
     (collectors : new.collectors.items ≡ old.collectors.items) where
-  pub ring_leads : LeadsOn script (line, command) old new
+  pub ring_leads : LeadsOn script (line, command_for cpu asked) old new
   ring_leads = λ lines part_way.
       let kept : IsWorldKept script part_way.world = world_kept script lines part_way.world limits part_way.behind in
       let (lane, at) = lane_of script part_way.world kept cpu low in
@@ -149,12 +136,12 @@ module _ (script : Script) (line : ℕ) (command : Command) (cpu : ℕ) (old new
         delivered = part_way.world.delivered;
         log = part_way.world.log ++ log_of line cpu h.exchanges;
       } in
-      let runs : RunsLine script line command cpu part_way.world w = record { lane = lane; lane_is = at; exchanges = h.exchanges; next = h.after; run = h.happened; after_is = refl } in
+      let runs : RunsLine script line (command_for cpu asked) cpu part_way.world w = record { lane = lane; lane_is = at; exchanges = h.exchanges; next = h.after; run = h.happened; after_is = refl } in
       let here : IsLaneAt script cpu (lane_at new.lanes.items cpu) h.after = subst (λ (p : Option LaneValue). IsLaneAt script cpu p h.after) (sym placed) h.is_lane in
       record {
         world = w;
-        behind = behind_next script lines line command part_way.world w part_way.behind
-            (obeys_ring script line command part_way.world w ring (subst (λ (j : ℕ). RunsLine script line command j part_way.world w) named runs));
+        behind = behind_next script lines line (command_for cpu asked) part_way.world w part_way.behind
+            (obeys_ring script line cpu asked part_way.world w runs);
         lanes_are = λ other next next_at. dite (ℕ_discrete other cpu)
             (λ e. subst (λ (j : ℕ). IsLaneAt script j (lane_at new.lanes.items j) next) (sym e)
             (subst (IsLaneAt script cpu (lane_at new.lanes.items cpu))

@@ -9,7 +9,7 @@ use Rattle.std.proofs.lemmas.List.{length-replicate}
 use Rattle.std.proofs.lemmas.List.Elements.{All-contains, All-contains_itself, All-filter, All-map, All-replicate, Contains-get_or}
 use Rattle.trace_model.specs.Ring.{Reader}
 use Rattle.trace_model.specs.Parcel.{Parcel}
-use Rattle.text_model.specs.Script.{Command, begin_frame, step_frame, finish_frame, write, close, step_reader, take_page, wish, deliver, Script}
+use Rattle.text_model.specs.Script.{Script}
 use Rattle.text_model.specs.ScriptLimits.{IsWithinLimits, IsCommandWithin}
 use Rattle.link_marks.proofs.partition.OneNewRing.{new_ring_is_one}
 use Rattle.link_marks.proofs.partition.RingsKept.{reached_kept}
@@ -24,7 +24,9 @@ use Rattle.script_replay.specs.Lanes.{IsLane}
 use Rattle.script_replay.specs.Places.{IsLaneFrom, IsLaneAt}
 use Rattle.deliveries.specs.Deliveries.{AreRising}
 use Rattle.script_replay.specs.Collected.{IsFound}
-use Rattle.script_replay.specs.Replay.{cpu_of, IsOfRing}
+use Rattle.script_replay.specs.declared.lane.asked.Asked.{Asked}
+use Rattle.script_replay.specs.declared.lane.asked.Asked.TheVariants.{Begin, Step, Finish, Write, Close, StepReader, Take, Wish}
+use Rattle.script_replay.specs.Asked.{command_for}
 
 -- ---- new lanes
 
@@ -63,27 +65,29 @@ new_at script w new cpu lane at = subst (IsNewLane script.pages script.start) (g
 
 -- ---- a line of a ring
 
-pub obeys_ring : (script : Script) (line : ℕ) (command : Command) (before after : World) → IsOfRing command → RunsLine script line command (cpu_of command) before after → Obeys script line command before after
-obeys_ring script line (begin_frame cpu moment payload) before after ring r = r
-obeys_ring script line (step_frame cpu count) before after ring r = r
-obeys_ring script line (finish_frame cpu) before after ring r = r
-obeys_ring script line (write cpu moment payload) before after ring r = r
-obeys_ring script line (close cpu) before after ring r = r
-obeys_ring script line (step_reader cpu count) before after ring r = r
-obeys_ring script line (take_page cpu) before after ring r = r
-obeys_ring script line (wish cpu) before after ring r = r
-obeys_ring script line (deliver collector cpu fill) before after ring r = absurd ring
+pub obeys_ring : (script : Script) (line cpu : ℕ) (asked : Asked) (before after : World)
+    → RunsLine script line (command_for cpu asked) cpu before after
+    → Obeys script line (command_for cpu asked) before after
+obeys_ring script line cpu (Begin moment payload) before after r = r
+obeys_ring script line cpu (Step count) before after r = r
+obeys_ring script line cpu Finish before after r = r
+obeys_ring script line cpu (Write moment payload) before after r = r
+obeys_ring script line cpu Close before after r = r
+obeys_ring script line cpu (StepReader count) before after r = r
+obeys_ring script line cpu Take before after r = r
+obeys_ring script line cpu Wish before after r = r
 
-pub ring_within : (cpus collectors : ℕ) (command : Command) → IsCommandWithin cpus collectors command → cpu_of command < cpus
-ring_within cpus collectors (begin_frame cpu moment payload) within = within.0
-ring_within cpus collectors (step_frame cpu count) within = within.0
-ring_within cpus collectors (finish_frame cpu) within = within
-ring_within cpus collectors (write cpu moment payload) within = within.0
-ring_within cpus collectors (close cpu) within = within
-ring_within cpus collectors (step_reader cpu count) within = within.0
-ring_within cpus collectors (take_page cpu) within = within
-ring_within cpus collectors (wish cpu) within = within
-ring_within cpus collectors (deliver collector cpu fill) within = within.1
+pub ring_within : (cpus collectors cpu : ℕ) (asked : Asked)
+    → IsCommandWithin cpus collectors (command_for cpu asked)
+    → cpu < cpus
+ring_within cpus collectors cpu (Begin moment payload) within = within.0
+ring_within cpus collectors cpu (Step count) within = within.0
+ring_within cpus collectors cpu Finish within = within
+ring_within cpus collectors cpu (Write moment payload) within = within.0
+ring_within cpus collectors cpu Close within = within
+ring_within cpus collectors cpu (StepReader count) within = within.0
+ring_within cpus collectors cpu Take within = within
+ring_within cpus collectors cpu Wish within = within
 
 -- ---- what was taken
 

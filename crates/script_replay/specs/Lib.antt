@@ -1,4 +1,5 @@
 pub mod Value
+pub mod Asked
 pub mod Lanes
 pub mod Frames
 pub mod Takes

@@ -3,7 +3,7 @@ use Rattle.std.specs.Prelude.{◌≡◌, ℕ, [], ◌∷◌, ◌++◌, ◌↔◌
 use Rattle.std.specs.List.{slice_get}
 use Rattle.trace_model.specs.Parcel.{Parcel}
 use Rattle.trace_model.specs.Collection.{IsSame, IsLeastUpperBound}
-use Rattle.text_model.specs.Script.{Command, begin_frame, step_frame, finish_frame, write, close, step_reader, take_page, wish, deliver, Script}
+use Rattle.text_model.specs.Script.{Command, Script}
 use Rattle.text_model.specs.ScriptLimits.{IsWithinLimits, IsCommandWithin}
 use Rattle.world_model.specs.Lanes.{Lane}
 use Rattle.world_model.specs.World.{World, WorldBehind, WorldOf}
@@ -61,30 +61,6 @@ pub record IsHeadline (script : Script) (collectors : List (List Parcel)) (log :
   pub join : Join collectors
 
 -- ---- between two lines
-
--- the CPU that a command names
-abbrev pub cpu_of : Command → ℕ
-cpu_of (begin_frame cpu moment payload) = cpu
-cpu_of (step_frame cpu count) = cpu
-cpu_of (finish_frame cpu) = cpu
-cpu_of (write cpu moment payload) = cpu
-cpu_of (close cpu) = cpu
-cpu_of (step_reader cpu count) = cpu
-cpu_of (take_page cpu) = cpu
-cpu_of (wish cpu) = cpu
-cpu_of (deliver collector cpu fill) = cpu
-
--- it is no delivery
-abbrev pub IsOfRing : Command → Type 0
-IsOfRing (begin_frame cpu moment payload) = Unit {0}
-IsOfRing (step_frame cpu count) = Unit {0}
-IsOfRing (finish_frame cpu) = Unit {0}
-IsOfRing (write cpu moment payload) = Unit {0}
-IsOfRing (close cpu) = Unit {0}
-IsOfRing (step_reader cpu count) = Unit {0}
-IsOfRing (take_page cpu) = Unit {0}
-IsOfRing (wish cpu) = Unit {0}
-IsOfRing (deliver collector cpu fill) = ⊥
 
 -- After these lines: the lanes that were made, each at its CPU, the collectors and the log are those of the world
 -- there, and each lane that wasn't made is new.

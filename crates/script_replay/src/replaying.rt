@@ -1,18 +1,18 @@
 //! The replay of a script over the rings of its CPUs: its lines are obeyed, one after the other.
-ghost use Rattle.std.specs.Prelude.{◌≡◌, ℕ, ◌++◌, [], ◌∷◌, List, length, All, IsOkUnless, IfOk, OnOk};
+ghost use Rattle.std.specs.Prelude.{◌≡◌, [], length, All, IsOkUnless, IfOk, OnOk};
 ghost use Rattle.text_model.specs.Log as model;
 ghost use Rattle.text_model.specs.Script as model_script;
 ghost use Rattle.text_model.specs.Script.{deliver as delivers};
 ghost use Rattle.text_model.specs.ScriptLimits.{IsWithinLimits};
 ghost use Rattle.trace_script.specs.ScriptTypes.{shown_command, shown_line};
 ghost use Rattle.replay_log.specs.LogTypes.{shown_log_line};
-ghost use Rattle.script_replay.specs.Lanes.{IsLaneOf, HasLine};
+ghost use Rattle.script_replay.specs.Asked.{command_for};
 ghost use Rattle.script_replay.specs.Collected.{delivery_of};
-ghost use Rattle.script_replay.specs.Replay.{cpu_of, IsOfRing, IsStateAfter, IsReady, LeadsOn, IsHeadline};
+ghost use Rattle.script_replay.specs.Replay.{IsStateAfter, IsReady, LeadsOn, IsHeadline};
 ghost use Rattle.trace_script.specs.declared.replay_fault.ReplayFault.TheVariants.{NoMemory as no_memory};
 
 use crate::delivery::taken_page;
-use crate::lane::Lane;
+use crate::lane::{Asked, Lane};
 use crate::places::make_lane;
 use crate::world::World;
 use collector::{Added, Collector};
@@ -30,61 +30,22 @@ pub(crate) struct ReplayState<'a> {
     log: Vec<LogLine>,
 }
 
-/// A lane does what a command asks of it: of a delivery that is nothing.
-#[inline(always)]
-fn run_line<'a>(
-    alloc: Global,
-    lane: &mut Lane<'a>,
-    at: At,
-    command: Command<'a>,
-    log: &mut Vec<LogLine>,
-) -> Result<(), NoMemory>
-    requires { IsLaneOf at.cpu.0 lane.old }
-    ensures { OnOk result (HasLine (shown_command command.entry) at.line at.cpu.0
-        lane.old log.old.items lane.new log.new.items) }
-{
-    match command {
-        Command::Begin {
-            moment,
-            payload,
-            ..
-        } => lane.begin(at, moment.0, payload, log),
-        Command::Step { count, .. } => lane.step(at, count, log),
-        Command::Finish { .. } => lane.finish(at, log),
-        Command::Write {
-            moment,
-            payload,
-            ..
-        } => lane.write(at, moment.0, payload, log),
-        Command::Close { .. } => lane.close(at, log),
-        Command::StepReader { count, .. } => lane.step_reader(alloc, at, count, log),
-        Command::Take { .. } => lane.take(alloc, at, log),
-        Command::Wish { .. } => lane.wish(at, log),
-        Command::Deliver { .. } => Ok(()),
-    }
-}
-
 /// A line of a CPU's ring.
 #[inline(always)]
 fn obey_ring<'a>(
     alloc: Global,
     script: &Script,
     state: &mut ReplayState<'a>,
+    line: u64,
     cpu: CpuId,
-    line: ScriptLine<'a>,
+    asked: Asked<'a>,
 ) -> Result<(), NoMemory>
-    requires ready { IsReady script.now (shown_command line.command) state.old }
-    requires ring { IsOfRing (shown_command line.command) }
-    requires cpu { cpu.0 ≡ cpu_of (shown_command line.command) }
-    ensures { OnOk result (LeadsOn script.now (shown_line line.entry) state.old state.new) }
+    requires { IsReady script.now (command_for cpu.0 asked) state.old }
+    ensures { OnOk result (LeadsOn script.now (line, command_for cpu.0 asked.entry) state.old state.new) }
 {
-    let at = At {
-        line: line.number,
-        cpu,
-    };
     make_lane(alloc, script, &mut state.lanes, cpu)?;
     match &mut state.lanes[cpu.0 as usize] {
-        Some(lane) => run_line(alloc, &mut **lane, at, line.command, &mut state.log),
+        Some(lane) => lane.obey(alloc, At { line, cpu }, asked, &mut state.log),
         None => unreachable!(),
     }
 }
@@ -150,20 +111,57 @@ fn obey<'a>(
     requires { IsReady script.now (shown_command line.command) state.old }
     ensures { OnOk result (LeadsOn script.now (shown_line line.entry) state.old state.new) }
 {
+    let number = line.number;
     match line.command {
         Command::Deliver {
             collector,
             cpu,
             fill,
-        } => deliver(state, line.number, collector, cpu, fill),
-        Command::Begin { cpu, .. } => obey_ring(alloc, script, state, cpu, line),
-        Command::Step { cpu, .. } => obey_ring(alloc, script, state, cpu, line),
-        Command::Finish { cpu } => obey_ring(alloc, script, state, cpu, line),
-        Command::Write { cpu, .. } => obey_ring(alloc, script, state, cpu, line),
-        Command::Close { cpu } => obey_ring(alloc, script, state, cpu, line),
-        Command::StepReader { cpu, .. } => obey_ring(alloc, script, state, cpu, line),
-        Command::Take { cpu } => obey_ring(alloc, script, state, cpu, line),
-        Command::Wish { cpu } => obey_ring(alloc, script, state, cpu, line),
+        } => deliver(state, number, collector, cpu, fill),
+        Command::Begin {
+            cpu,
+            moment,
+            payload,
+        } => obey_ring(
+            alloc,
+            script,
+            state,
+            number,
+            cpu,
+            Asked::Begin(moment, payload),
+        ),
+        Command::Step { cpu, count } => obey_ring(
+            alloc,
+            script,
+            state,
+            number,
+            cpu,
+            Asked::Step(count),
+        ),
+        Command::Finish { cpu } => obey_ring(alloc, script, state, number, cpu, Asked::Finish),
+        Command::Write {
+            cpu,
+            moment,
+            payload,
+        } => obey_ring(
+            alloc,
+            script,
+            state,
+            number,
+            cpu,
+            Asked::Write(moment, payload),
+        ),
+        Command::Close { cpu } => obey_ring(alloc, script, state, number, cpu, Asked::Close),
+        Command::StepReader { cpu, count } => obey_ring(
+            alloc,
+            script,
+            state,
+            number,
+            cpu,
+            Asked::StepReader(count),
+        ),
+        Command::Take { cpu } => obey_ring(alloc, script, state, number, cpu, Asked::Take),
+        Command::Wish { cpu } => obey_ring(alloc, script, state, number, cpu, Asked::Wish),
     }
 }
 

@@ -5,3 +5,4 @@ pub mod ScriptFields
 pub mod ScriptTypes
 pub mod ShortLines
 pub mod UsualLines
+pub mod Value

@@ -1,5 +1,5 @@
 //! A text, line by line.
-ghost use Rattle.std.specs.Prelude.{◌≡◌, ◌+◌, ◌-◌, ◌^◌, ◌<◌, ◌≤◌, ◌==◌, ⊤, [], ◌∷◌, length, position, MatchOption};
+ghost use Rattle.std.specs.Prelude.{◌≡◌, ◌+◌, ◌-◌, ◌^◌, ◌<◌, ◌==◌, ⊤, [], ◌∷◌, length, position, MatchOption};
 ghost use Rattle.std.specs.List.{slice_split};
 ghost use Rattle.text_model.specs.Text.{lines_of};
 ghost use Rattle.text_model.specs.ScriptLines.{is_significant};

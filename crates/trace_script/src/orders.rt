@@ -1,8 +1,8 @@
 //! The command that a line spells.
 ghost use Rattle.std.specs.Prelude.{◌≡◌, ◌≢◌, ℕ, false, [], ◌∷◌, bytes_eq, codes};
 ghost use Rattle.text_model.specs.Text.{fields_of};
-ghost use Rattle.text_model.specs.Script.{begin_frame, write, command_of, command_in};
-ghost use Rattle.text_model.specs.CommandReading.{record_in, deliver_in};
+ghost use Rattle.text_model.specs.Script.{command_of, command_in};
+ghost use Rattle.text_model.specs.CommandReading.{deliver_in};
 ghost use Rattle.trace_script.specs.Kept.{shown_order, PutsCommand};
 ghost use Rattle.trace_script.specs.ScriptFaults.{Fails, Gives};
 ghost use Rattle.trace_script.specs.ScriptFields.{AreFields, fields_seen};
@@ -34,48 +34,6 @@ fn deliver_in(
         collector: collector as u16,
         cpu,
         fill: FillNo(fill),
-    })
-}
-
-/// `cX b T HEX`
-#[tactic(auto, unfolding(text_model::specs::CommandReading::record_in))]
-fn begin_in(
-    cpus: u32,
-    cpu: &[u8],
-    moment: &[u8],
-    payload: &[u8],
-    payloads: &mut Vec<u8>,
-) -> Result<Order, LineFault>
-    ensures { PutsCommand result payloads.old.items payloads.new.items
-        (record_in cpus begin_frame cpu.now moment.now payload.now) }
-{
-    let cpu = cpu_of(cpus, cpu)?;
-    let moment = number_of(moment)?;
-    put_payload(payloads, payload)?;
-    Ok(Order::Begin {
-        cpu,
-        moment: Moment(moment),
-    })
-}
-
-/// `cX w T HEX`
-#[tactic(auto, unfolding(text_model::specs::CommandReading::record_in))]
-fn write_in(
-    cpus: u32,
-    cpu: &[u8],
-    moment: &[u8],
-    payload: &[u8],
-    payloads: &mut Vec<u8>,
-) -> Result<Order, LineFault>
-    ensures { PutsCommand result payloads.old.items payloads.new.items
-        (record_in cpus write cpu.now moment.now payload.now) }
-{
-    let cpu = cpu_of(cpus, cpu)?;
-    let moment = number_of(moment)?;
-    put_payload(payloads, payload)?;
-    Ok(Order::Write {
-        cpu,
-        moment: Moment(moment),
     })
 }
 
@@ -131,7 +89,8 @@ fn order_of_three(
     Err(LineFault::BadLine)
 }
 
-/// The command of a record's four fields, of which the first one isn't the word of a delivery.
+/// `cX b T HEX` or `cX w T HEX`: the command of a record's four fields, of which the first one isn't the word of a
+/// delivery.
 #[inline(always)]
 #[tactic(auto, unfolding(text_model::specs::Script::command_of, text_model::specs::CommandReading::record_in))]
 fn record_of_four(
@@ -146,13 +105,17 @@ fn record_of_four(
     ensures { (collectors : ℕ) → PutsCommand result payloads.old.items payloads.new.items
         (command_of cpus collectors (first.now ∷ second.now ∷ third.now ∷ fourth.now ∷ [])) }
 {
-    if is_letter(second, b'b') {
-        return begin_in(cpus, first, third, fourth, payloads);
+    let is_write = is_letter(second, b'w');
+    if !is_write && !is_letter(second, b'b') {
+        return Err(LineFault::BadLine);
     }
-    if is_letter(second, b'w') {
-        return write_in(cpus, first, third, fourth, payloads);
+    let cpu = cpu_of(cpus, first)?;
+    let moment = Moment(number_of(third)?);
+    put_payload(payloads, fourth)?;
+    if is_write {
+        return Ok(Order::Write { cpu, moment });
     }
-    Err(LineFault::BadLine)
+    Ok(Order::Begin { cpu, moment })
 }
 
 /// The command of four fields.

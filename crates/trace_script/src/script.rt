@@ -18,26 +18,13 @@ pub struct Script {
 impl Model for Script {
     ghost use Rattle.text_model.specs.Script.{Script as ScriptSeen};
     ghost use Rattle.text_model.specs.ScriptLimits.{IsWithinLimits};
+    ghost use Rattle.trace_script.specs.Value.{script_seen};
 
     ghost Value = { ScriptSeen };
 
-    ghost view = { λ s. record {
-      pages = s.pages;
-      size = s.size;
-      cpus = s.cpus;
-      collectors = s.collectors;
-      start = s.start.0;
-      commands = s.commands;
-    } };
+    ghost view = { script_seen };
 
-    ghost invariant = { λ s. IsWithinLimits (record {
-      pages = s.pages;
-      size = s.size;
-      cpus = s.cpus;
-      collectors = s.collectors;
-      start = s.start.0;
-      commands = s.commands;
-    }) };
+    ghost invariant = { λ s. IsWithinLimits (script_seen s) };
 }
 
 impl Script {

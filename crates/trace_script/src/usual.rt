@@ -1,6 +1,6 @@
 //! The forms that nearly all lines of a long script have, each read in one pass up to its line feed. A line of another
 //! form, and one with a number of many digits or outside its limits, is left to the reader of any line.
-ghost use Rattle.std.specs.Prelude.{◌≡◌, ℕ, List, [], ◌∷◌, ◌++◌, Ok, IfSome, MatchOption};
+ghost use Rattle.std.specs.Prelude.{◌≡◌, ℕ, List, [], ◌∷◌, Ok, IfSome, MatchOption};
 ghost use Rattle.text_model.specs.ScriptLines.{decimal_in, payload_in, cpu_in};
 ghost use Rattle.text_model.specs.Script.{count_in, SpellsCommand};
 ghost use Rattle.trace_script.specs.Kept.{shown_order};

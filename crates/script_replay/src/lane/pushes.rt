@@ -5,7 +5,7 @@ use ring_core::{Answer, Event};
 use trace_model::NoMemory;
 
 impl<'a> Lane<'a> {
-    ghost use Rattle.std.specs.Prelude.{ℕ, length, IfOk, OnOk};
+    ghost use Rattle.std.specs.Prelude.{ℕ, IfOk, OnOk};
     ghost use Rattle.text_model.specs.Script.{begin_frame, write, close};
     ghost use Rattle.script_replay.specs.Lanes.{IsLaneOf, HasLine};
     ghost use Rattle.script_replay.specs.Frames.{IsPushOf, push_event, Pushes, HasWritten};

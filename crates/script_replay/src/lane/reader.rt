@@ -14,7 +14,7 @@ impl<'a> Lane<'a> {
     ghost use Rattle.page_image.specs.Contents.{IsPage, records_of_page};
     ghost use Rattle.text_model.specs.Script.{step_reader, take_page, wish};
     ghost use Rattle.script_replay.specs.Lanes.{IsLaneOf, MakesExchanges, HasLine};
-    ghost use Rattle.script_replay.specs.Takes.{ReadsOnce, ReadsOn, Keeps, KeepsPage, MayKeep};
+    ghost use Rattle.script_replay.specs.Takes.{ReadsOnce, Keeps, KeepsPage, MayKeep};
 
     /// Lets the reader make `count` steps, or fewer if its take ends before.
     pub(crate) fn step_reader(
@@ -28,10 +28,16 @@ impl<'a> Lane<'a> {
         ensures { OnOk result (HasLine (step_reader at.cpu.0 count) at.line at.cpu.0
             self.old log.old.items self.new log.new.items) }
     {
-        self.read(alloc, at, count, log)
+        let mut steps = 0;
+        let mut goes_on = true;
+        while steps < count && goes_on {
+            goes_on = self.read_once(alloc, at, log)?;
+            steps += 1;
+        }
+        Ok(())
     }
 
-    /// Lets the reader make steps until it answers.
+    /// Lets the reader make steps until it answers: no take makes so many as are asked for.
     pub(crate) fn take(
         &mut self,
         alloc: Global,
@@ -42,7 +48,7 @@ impl<'a> Lane<'a> {
         ensures { OnOk result (HasLine (take_page at.cpu.0) at.line at.cpu.0
             self.old log.old.items self.new log.new.items) }
     {
-        self.read(alloc, at, MOST_STEPS, log)
+        self.step_reader(alloc, at, MOST_STEPS, log)
     }
 
     /// Lets the reader wish for the tail page.
@@ -53,27 +59,6 @@ impl<'a> Lane<'a> {
     {
         let answer = self.core.step(Event::Wish);
         report(at, answer, log)
-    }
-
-    /// The reader makes steps until `count` are made or it answers.
-    fn read(
-        &mut self,
-        alloc: Global,
-        at: At,
-        count: u64,
-        log: &mut Vec<LogLine>,
-    ) -> Result<(), NoMemory>
-        requires { IsLaneOf at.cpu.0 self.old }
-        ensures { OnOk result (MakesExchanges (ReadsOn count) at.line at.cpu.0
-            self.old log.old.items self.new log.new.items) }
-    {
-        let mut steps = 0;
-        let mut goes_on = true;
-        while steps < count && goes_on {
-            goes_on = self.read_once(alloc, at, log)?;
-            steps += 1;
-        }
-        Ok(())
     }
 
     /// One step of the reader: the answer says whether its take continues.

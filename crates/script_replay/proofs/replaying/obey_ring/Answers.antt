@@ -1,7 +1,6 @@
-use Rattle.std.proofs.Common.{ℕ, ◌<◌, sym, ◌∙◌, subst, refl}
+use Rattle.std.proofs.Common.{◌<◌, sym, ◌∙◌, subst, refl}
 use Rattle.std.specs.Box.{with_value}
 use Rattle.std.proofs.lemmas.Result.{on_ok_weaker}
-use Rattle.trace_script.specs.ScriptTypes.{shown_command}
 use Rattle.script_replay.specs.Value.{LaneValue}
 use Rattle.script_replay.specs.Lanes.{IsLaneOf}
 use Rattle.script_replay.specs.Places.{lane_at, IsLaneFrom}
@@ -10,12 +9,12 @@ use Rattle.script_replay.proofs.Placed.{ring_within}
 use Rattle.script_replay.proofs.LinesObeyed.{is_lane_of, ring_leads}
 use Rattle.script_replay.proofs.replaying.obey_ring.Goals as goal
 
-pub run_line-requires : goal.run_line-requires
-run_line-requires c =
+pub obey-requires : goal.obey-requires
+obey-requires c =
     let script = c.args.script.now in
-    let ready = c.requires.ready in
+    let ready = c.requires in
     let cpu = c.args.cpu.0 in
-    let low : cpu < script.cpus = subst (λ (k : ℕ). k < script.cpus) (sym c.requires.cpu) (ring_within script.cpus script.collectors (shown_command c.args.line.command) ready.within) in
+    let low : cpu < script.cpus = ring_within script.cpus script.collectors cpu c.args.asked ready.within in
     let from = lent_from script c.make_lane.new.places.items cpu (lane_at c.args.state.now.lanes.items cpu) c.index_mut.result.now c.in-Some.lane
     c.in_ok-make_lane.ensures.room c.index_mut.ensures.value c.in-Some.is c.in_ok-make_lane.ensures.lane in
     subst (IsLaneOf cpu) (sym c.deref_mut.ensures.value)
@@ -24,17 +23,16 @@ run_line-requires c =
 pub returns : goal.returns
 returns c =
     let script = c.args.script.now in
-    let ready = c.requires.ready in
+    let ready = c.requires in
     let cpu = c.args.cpu.0 in
-    let command = shown_command c.args.line.command in
     let places = c.make_lane.new.places.items in
-    let low : cpu < script.cpus = subst (λ (k : ℕ). k < script.cpus) (sym c.requires.cpu) (ring_within script.cpus script.collectors command ready.within) in
+    let low : cpu < script.cpus = ring_within script.cpus script.collectors cpu c.args.asked ready.within in
     let from = subst (λ (v : LaneValue). IsLaneFrom script (lane_at c.args.state.now.lanes.items cpu) v) (sym c.deref_mut.ensures.value)
     (lent_from script places cpu (lane_at c.args.state.now.lanes.items cpu) c.index_mut.result.now c.in-Some.lane
     c.in_ok-make_lane.ensures.room c.index_mut.ensures.value c.in-Some.is c.in_ok-make_lane.ensures.lane) in
-    on_ok_weaker c.run_line.result
-    (λ has. ring_leads script c.args.line.number command cpu c.args.state.now _ c.deref_mut.result.now c.run_line.new.lane
-    ready.limits c.requires.cpu low c.requires.ring from has
-    (put_there places cpu (with_value c.in-Some.lane c.run_line.new.lane) c.in_ok-make_lane.ensures.room)
-    (λ other apart. others_stay places cpu (with_value c.in-Some.lane c.run_line.new.lane) other apart ∙ c.in_ok-make_lane.ensures.rest other apart) refl)
-    c.run_line.ensures
+    on_ok_weaker c.obey.result
+    (λ has. ring_leads script c.args.line cpu c.args.asked c.args.state.now _ c.deref_mut.result.now c.obey.new.self
+    ready.limits low from has
+    (put_there places cpu (with_value c.in-Some.lane c.obey.new.self) c.in_ok-make_lane.ensures.room)
+    (λ other apart. others_stay places cpu (with_value c.in-Some.lane c.obey.new.self) other apart ∙ c.in_ok-make_lane.ensures.rest other apart) refl)
+    c.obey.ensures

@@ -41,6 +41,18 @@ last_kept : (inside : Inside) (slot : Slot) (kept : ℕ)
 last_kept inside slot kept has same =
     last_of bytes inside.payloads.items kept has.1.payload has.1.rest has.1.payloads_are same
 
+-- so there is one
+one_kept : (inside : Inside) (seen : LaneValue) (slot : Slot) (kept : ℕ)
+    → lane_of inside ≡ seen
+    → (cpu : ℕ) × IsLaneOf cpu seen
+    → IsTopSlot inside.core.stack.frames slot
+    → FitsFrame inside.core slot
+    → kept ≡ length inside.payloads.items
+    → 1 ≤ kept
+one_kept inside seen slot kept is of top fits same =
+    let last = last_kept inside slot kept (top_payload inside seen slot is of top fits) same in
+    omega arith
+
 -- ---- the frame on top has no slot
 
 pub returns-in_default-clause-step : goal.returns-in_default-clause-step
@@ -54,21 +66,15 @@ returns-in_default-clause-step c =
 
 pub overflow_sub-len : goal.overflow_sub-len
 overflow_sub-len c =
-    let lent = c.in-Ok.ensures.slot.lent in
-    let has = top_payload c.self.inside _ lent.slot c.self.view_is c.requires lent.on_top
-    (c.in-Ok.ensures.fits lent.slot lent.on_top) in
     let ok = c.self.inside.payloads.ok in
-    let last = last_kept c.self.inside lent.slot c.len.result has (c.len.ensures ∙ ok.0) in
-    omega (arith, last, c.len.ensures, ok.0)
+    let slot = c.in-Ok.ensures.slot.lent in
+    let some = one_kept c.self.inside _ slot.slot c.len.result c.self.view_is c.requires slot.on_top (c.in-Ok.ensures.fits slot.slot slot.on_top) (c.len.ensures ∙ ok.0) in
+    omega (arith, some)
 
 pub index-payload-requires : goal.index-payload-requires
-index-payload-requires c =
-    let lent = c.in-Ok.ensures.slot.lent in
-    let has = top_payload c.self.inside _ lent.slot c.self.view_is c.requires lent.on_top
-    (c.in-Ok.ensures.fits lent.slot lent.on_top) in
-    let ok = c.self.inside.payloads.ok in
-    let last = last_kept c.self.inside lent.slot c.len.result has (c.len.ensures ∙ ok.0) in
-    omega (arith, last, c.len.ensures, ok.0)
+index-payload-requires c = let ok = c.self.inside.payloads.ok in
+    let some = overflow_sub-len c in
+    omega (arith, some, c.len.ensures, ok.0)
 
 pub put_padded-requires : goal.put_padded-requires
 put_padded-requires c =

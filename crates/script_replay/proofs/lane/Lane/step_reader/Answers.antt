@@ -2,7 +2,7 @@ use Rattle.std.proofs.Common.{Bool, subst, arith}
 use Rattle.script_replay.specs.Lanes.{MakesExchanges}
 use Rattle.script_replay.specs.Takes.{IsReading}
 use Rattle.script_replay.proofs.TakesRuns.{lane_of, read_more, all_read, answer_read}
-use Rattle.script_replay.proofs.lane.Lane.read.Goals as goal
+use Rattle.script_replay.proofs.lane.Lane.step_reader.Goals as goal
 
 pub read_once-requires : goal.read_once-requires
 read_once-requires c =

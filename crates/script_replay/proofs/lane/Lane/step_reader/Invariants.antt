@@ -1,7 +1,7 @@
 use Rattle.std.proofs.Common.{◌-◌, ◌≤◌}
 use Rattle.script_replay.specs.Lanes.{MakesExchanges}
 use Rattle.script_replay.specs.Takes.{IsReading}
-use Rattle.script_replay.proofs.lane.Lane.read.Given as goal
+use Rattle.script_replay.proofs.lane.Lane.step_reader.Given as goal
 
 abbrev pub invariant-loop-steps : goal.invariant-loop-steps
 invariant-loop-steps l = record {

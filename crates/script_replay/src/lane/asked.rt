@@ -1,0 +1,57 @@
+//! What a line of a script asks of the lane of its CPU.
+use crate::lane::Lane;
+use replay_log::{At, LogLine};
+use std::alloc::Global;
+use trace_model::{Moment, NoMemory};
+
+/// What a line asks of a lane: each command of a script but a delivery.
+#[derive(Clone, Copy)]
+pub(crate) enum Asked<'a> {
+    /// Push a record frame of this moment and payload.
+    Begin(Moment, &'a [u8]),
+    /// Let the frame on top make this many steps, or fewer if it is gone before.
+    Step(u64),
+    /// Let the frame on top make steps until it is gone.
+    Finish,
+    /// Push a record frame of this moment and payload, and let it make steps until it is gone.
+    Write(Moment, &'a [u8]),
+    /// Push a close frame, and let it make steps until it is gone.
+    Close,
+    /// Let the reader make this many steps, or fewer if its take ends before.
+    StepReader(u64),
+    /// Let the reader make steps until it answers.
+    Take,
+    /// Let the reader ask for the tail.
+    Wish,
+}
+
+impl<'a> Lane<'a> {
+    ghost use Rattle.std.specs.Prelude.{OnOk};
+    ghost use Rattle.script_replay.specs.Lanes.{IsLaneOf, HasLine};
+    ghost use Rattle.script_replay.specs.Asked.{command_for};
+
+    /// Does what a line asks.
+    #[inline(always)]
+    pub(crate) fn obey(
+        &mut self,
+        alloc: Global,
+        at: At,
+        asked: Asked<'a>,
+        log: &mut Vec<LogLine>,
+    ) -> Result<(), NoMemory>
+        requires { IsLaneOf at.cpu.0 self.old }
+        ensures { OnOk result (HasLine (command_for at.cpu.0 asked.entry) at.line at.cpu.0
+            self.old log.old.items self.new log.new.items) }
+    {
+        match asked {
+            Asked::Begin(moment, payload) => self.begin(at, moment.0, payload, log),
+            Asked::Step(count) => self.step(at, count, log),
+            Asked::Finish => self.finish(at, log),
+            Asked::Write(moment, payload) => self.write(at, moment.0, payload, log),
+            Asked::Close => self.close(at, log),
+            Asked::StepReader(count) => self.step_reader(alloc, at, count, log),
+            Asked::Take => self.take(alloc, at, log),
+            Asked::Wish => self.wish(at, log),
+        }
+    }
+}
