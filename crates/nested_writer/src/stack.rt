@@ -54,7 +54,7 @@ impl Model for WriterStack {
 }
 
 impl WriterStack {
-    ghost use Rattle.std.specs.Prelude.{◌≡◌, ◌+◌, ◌<◌, [], length, IfOk};
+    ghost use Rattle.std.specs.Prelude.{◌≡◌, ◌+◌, ◌<◌, [], IfOk};
     ghost use Rattle.trace_model.specs.declared.limits.TheConstants.{LINK_FILLS, START_FILL};
     ghost use Rattle.trace_model.specs.Ring.{HasRingLimits};
     ghost use Rattle.nested_writer.specs.Stack.{new_stack};

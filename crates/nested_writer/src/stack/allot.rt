@@ -15,10 +15,10 @@ pub enum Allot {
 }
 
 impl WriterStack {
-    ghost use Rattle.std.specs.Prelude.{◌≡◌, ℕ, ◌+◌, ◌-◌, ◌<◌, ◌↔◌, max, [], ◌∷◌, List, Option, None, length, IsTrue, IfSome, IfOk, IfErr, OnOk};
-    ghost use Rattle.trace_model.specs.History.{HistoryEvent, reserve, leave};
-    ghost use Rattle.nested_writer.specs.Stack.{opened, next_number};
-    ghost use Rattle.nested_writer.specs.Calls.{with_progress, after_leave, IsTop, WantsPage, NeedsPage, IsCrowded, IsWorn, ReservesRecord, HasRecordRoom, IsTopSlot};
+    ghost use Rattle.std.specs.Prelude.{◌≡◌, ℕ, ◌↔◌, max, [], ◌∷◌, List, Option, IsTrue, IfSome, IfOk, IfErr, OnOk};
+    ghost use Rattle.trace_model.specs.History.{HistoryEvent, reserve};
+    ghost use Rattle.nested_writer.specs.Stack.{next_number};
+    ghost use Rattle.nested_writer.specs.Calls.{with_progress, after_leave, IsTop, WantsPage, IsCrowded, IsWorn, ReservesRecord, HasRecordRoom, IsTopSlot};
     ghost use Rattle.nested_writer.specs.Ends.{MayEndTop};
     ghost use Rattle.nested_writer.specs.Kept.{SameFills, SamePages};
     ghost use Rattle.nested_writer.specs.Next.{IsReadyForPage, IsAllottedTo, IsSameFrame, IsRefusedTo};
@@ -30,8 +30,8 @@ impl WriterStack {
     ghost use Rattle.record_words.specs.declared.put.Place.{Place};
     ghost use Rattle.nested_writer.specs.declared.frame.Slot.{Slot};
     ghost use Rattle.nested_writer.specs.declared.frame.Frame.{Frame};
-    ghost use Rattle.nested_writer.specs.declared.frame.Purpose.TheVariants.{Record, Close};
-    ghost use Rattle.nested_writer.specs.declared.frame.Progress.TheVariants.{Waiting, Through, Reserved, Left};
+    ghost use Rattle.nested_writer.specs.declared.frame.Purpose.TheVariants.{Record};
+    ghost use Rattle.nested_writer.specs.declared.frame.Progress.TheVariants.{Waiting};
 
     /// The frame on top has this progress from now on.
     #[inline(always)]

@@ -10,7 +10,7 @@ use std::mem;
 use trace_model::{FillNo, RecordNo};
 
 impl WriterStack {
-    ghost use Rattle.std.specs.Prelude.{◌≡◌, ℕ, ◌+◌, ◌-◌, ◌<◌, [], ◌∷◌, List, length, IsTrue};
+    ghost use Rattle.std.specs.Prelude.{◌≡◌, ℕ, ◌+◌, ◌<◌, [], ◌∷◌, List, length, IsTrue};
     ghost use Rattle.trace_model.specs.declared.limits.TheConstants.{LINK_FILLS};
     ghost use Rattle.trace_model.specs.History.{HistoryEvent, open_fill, reserved_records, is_settled};
     ghost use Rattle.trace_model.specs.Ring.{fill_of};

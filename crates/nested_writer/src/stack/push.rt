@@ -24,16 +24,16 @@ fn cover(top: &Top, below: &mut VecDeque<Frame>)
 }
 
 impl WriterStack {
-    ghost use Rattle.std.specs.Prelude.{◌≡◌, ℕ, ◌+◌, ◌≤◌, ◌<◌, ◌↔◌, [], ◌∷◌, ◌++◌, List, Some, None, length, IsOk, OnOk, OnErr};
+    ghost use Rattle.std.specs.Prelude.{◌≡◌, ℕ, ◌+◌, ◌≤◌, ◌<◌, ◌↔◌, [], ◌∷◌, ◌++◌, List, None, length, IsOk, OnOk, OnErr};
     ghost use Rattle.trace_model.specs.declared.limits.TheConstants.{MAX_FRAMES, MOMENT_LIMIT};
-    ghost use Rattle.trace_model.specs.History.{HistoryEvent, push, push_close};
+    ghost use Rattle.trace_model.specs.History.{HistoryEvent, push_close};
     ghost use Rattle.trace_model.specs.Steps.{IsTooLong};
     ghost use Rattle.nested_writer.specs.Calls.{with_frame};
     ghost use Rattle.nested_writer.specs.Kept.{SamePages};
     ghost use Rattle.nested_writer.specs.Next.{IsPushedOn};
     ghost use Rattle.nested_writer.specs.Promises.{Begins};
     ghost use Rattle.nested_writer.specs.IsStack.{IsStack, IsReachedStack};
-    ghost use Rattle.nested_writer.specs.declared.frame.Purpose.TheVariants.{Record, Close};
+    ghost use Rattle.nested_writer.specs.declared.frame.Purpose.TheVariants.{Close};
     ghost use Rattle.nested_writer.specs.declared.frame.Progress.TheVariants.{Waiting};
 
     /// One frame more on top; fewer than `MAX_FRAMES` must be on the stack.

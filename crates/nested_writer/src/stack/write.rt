@@ -8,14 +8,13 @@ use trace_model::MOMENT_LIMIT;
 pub enum Wrote {
     /// The record, which was pushed, reserved, filled and ended.
     Record,
-    /// Nothing, and nothing has changed: the record is written, or refused, by `begin` and the calls that follow it.
+    /// Nothing, and nothing has changed: the record is written, or refused, by `begin` and the calls that follow it;
+    /// after `write_if_plain` it may still fit, and then `write_alone` writes it.
     Nothing,
 }
 
 impl WriterStack {
-    ghost use Rattle.std.specs.Prelude.{◌≡◌, ◌≢◌, ◌↔◌, ℕ, ◌-◌, ◌<◌, max, [], ◌∷◌, ◌++◌, List, Some, length, IsTrue, false};
-    ghost use Rattle.record_words.specs.declared.format.TheConstants.{EXTEND_FROM, SHORT_LIMIT};
-    ghost use Rattle.trace_model.specs.declared.limits.TheConstants.{MOMENT_LIMIT};
+    ghost use Rattle.std.specs.Prelude.{◌≡◌, ◌≢◌, ◌↔◌, ℕ, max, [], ◌∷◌, ◌++◌, List, Some, length, IsTrue, false};
     ghost use Rattle.trace_model.specs.History.{HistoryEvent, push, reserve, leave, wished};
     ghost use Rattle.trace_model.specs.Packing.{tail_of};
     ghost use Rattle.trace_model.specs.Words.{padded};
@@ -24,7 +23,7 @@ impl WriterStack {
     ghost use Rattle.nested_writer.specs.AtOnce.{MayStand, FitsAtOnce, with_written, with_left, with_record, IsPlain};
     ghost use Rattle.nested_writer.specs.Promises.{WritesWhatFits, StandsAgain};
     ghost use Rattle.nested_writer.specs.Stack.{opened};
-    ghost use Rattle.nested_writer.specs.Calls.{with_bottom, IsAtBottom, MayAddPage};
+    ghost use Rattle.nested_writer.specs.Calls.{HasRecordRoom, with_bottom, IsAtBottom, MayAddPage};
     ghost use Rattle.nested_writer.specs.Kept.{SamePages};
     ghost use Rattle.nested_writer.specs.IsStack.{IsStack, IsReachedStack};
 
@@ -90,10 +89,12 @@ impl WriterStack {
 
     /// Writes a record as `write_alone` does, if it is as nearly all are: of 1 to `SHORT_LIMIT` bytes, less than
     /// `EXTEND_FROM` after the one before it in the tail, and no earlier. Otherwise nothing changes, even if the record
-    /// fits. It calls nothing.
+    /// fits. All that it calls is in line.
     #[inline(always)]
     pub fn write_if_plain(&mut self, moment: u64, payload: &[u8]) -> Wrote
         requires stack { IsReachedStack self.old }
+        ensures plain { result ≡ Wrote.Record
+            ↔ (IsPlain self.old moment (length payload.now) × HasRecordRoom self.old moment (length payload.now)) }
         ensures at_once { result ≡ Wrote.Record → WritesWhatFits moment payload.now self.old result self.new }
         ensures written { result ≡ Wrote.Record → self.new ≡ with_written self.old moment payload.now }
         ensures nothing { result ≡ Wrote.Nothing → self.new ≡ self.old }

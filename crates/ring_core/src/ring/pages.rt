@@ -9,7 +9,6 @@ impl Core {
     ghost use Rattle.nested_writer.specs.Stack.{opened};
     ghost use Rattle.ring_frames.specs.declared.phase.Phase.TheVariants.{Opening, Releasing, Wishing};
     ghost use Rattle.ring_frames.specs.Phases.{as_answer};
-    ghost use Rattle.ring_frames.specs.declared.answer.Answer.TheVariants.{Going};
     ghost use Rattle.ring_frames.specs.Answers.{KeepsPayloads};
     ghost use Rattle.ring_core.specs.Steps.{MakesStep, IsReachedCore};
 

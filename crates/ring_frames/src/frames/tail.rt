@@ -7,7 +7,7 @@ use nested_writer::frame::{Progress, Purpose, Pushed};
 use trace_model::RecordNo;
 
 impl Frames {
-    ghost use Rattle.std.specs.Prelude.{◌≡◌, ◌≢◌, ℕ, [], ◌∷◌, List, Some, IfSome};
+    ghost use Rattle.std.specs.Prelude.{◌≡◌, ◌≢◌, ℕ, [], List, Some, IfSome};
     ghost use Rattle.trace_model.specs.Steps as model;
     ghost use Rattle.trace_model.specs.Frames.{noted_fill};
     ghost use Rattle.trace_model.specs.History.{HistoryEvent};

@@ -13,9 +13,10 @@ pub enum Records {
 }
 
 impl Frames {
-    ghost use Rattle.std.specs.Prelude.{◌≡◌, ℕ, [], length, false};
-    ghost use Rattle.nested_writer.specs.AtOnce.{FitsAtOnce};
-    ghost use Rattle.ring_frames.specs.declared.frames.write.Records.TheVariants.{Any};
+    ghost use Rattle.std.specs.Prelude.{◌≡◌, ◌↔◌, ℕ, [], length, false};
+    ghost use Rattle.nested_writer.specs.AtOnce.{FitsAtOnce, IsPlain};
+    ghost use Rattle.nested_writer.specs.Calls.{HasRecordRoom};
+    ghost use Rattle.ring_frames.specs.declared.frames.write.Records.TheVariants.{Any, Plain};
     ghost use Rattle.ring_frames.specs.declared.phase.Phase.TheVariants.{Wishing};
     ghost use Rattle.ring_frames.specs.declared.answer.Answer.TheVariants.{Gone};
     ghost use Rattle.ring_frames.specs.Answers.{KeepsPayloads};
@@ -35,6 +36,10 @@ impl Frames {
         ensures any { records ≡ Any
             → FitsAtOnce self.old.stack moment (length payload.now)
             → result ≡ Wrote.Record }
+        ensures plain { records ≡ Plain
+            → (result ≡ Wrote.Record
+            ↔ (IsPlain self.old.stack moment (length payload.now)
+            × HasRecordRoom self.old.stack moment (length payload.now))) }
         ensures wrote { result ≡ Wrote.Record
             → WritesAtOnce self.old moment payload.now (with_left_frame self.new moment (length payload.now)) }
         ensures alone { result ≡ Wrote.Record → IsWrittenAlone self.old moment payload.now self.new }
