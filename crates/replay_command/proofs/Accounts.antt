@@ -271,13 +271,7 @@ account_given asked text bytes status (inr f) is = absurd (let other : DONE ≡ 
 
 pub account_written : (asked : Bool) (source : SourceRun) (sink : SinkRun) (status : ℕ) → IsCommandRun (ReplayGives asked) source sink status → status ≡ DONE
     → WritesOutput (AccountGives asked) source.unread source.left sink.contents sink.contents_after status
-account_written asked source sink status run is = let w = run.finished (inl is) in record {
-  bytes = w.bytes;
-  output = record {
-    text = w.output.text;
-    read = w.output.read;
-    limited = w.output.limited;
-    given = account_given asked w.output.text w.bytes status w.output.given is;
-  };
-  written = w.written;
-}
+account_written asked source sink status run is =
+    let (bytes, output, written) = run.finished (inl is) in
+    let (text, read, at_end, limited, given) = output in
+    (bytes, (text, read, at_end, limited, account_given asked text bytes status given is), written)
