@@ -6,7 +6,8 @@ use Rattle.command_io.specs.CommandRun.{SourceRun, SinkRun, IsTooLong, IsCommand
 use Rattle.command_io.specs.declared.output.TheConstants.{THREAD_LINE}
 use Rattle.command_io.specs.declared.status.TheConstants.{END_FAILED}
 use Rattle.image_dump.specs.Dumps.{DumpGives}
-use Rattle.replay_command.specs.Commands.{ReplayGives}
+use Rattle.replay_command.specs.Commands.{PrintsReplay, PrintsFault, ReplayGives}
+use Rattle.replay_command.proofs.OneOutput.{cases_given}
 use Rattle.text_model.specs.Script.{Script}
 use Rattle.trace_cli.specs.Answers.{AreSound}
 use Rattle.run_command.specs.Runs.{IsRunOutput, RunGives}
@@ -18,8 +19,11 @@ Causes gives source sink = (source.failed ≡ true) ⊎ (sink.failed ≡ true) �
 
 -- no output of `replay` has it
 no_replay : (asked : Bool) (text bytes : List ℕ) → ReplayGives asked text bytes END_FAILED → ⊥
-no_replay asked text bytes (inl a) = let is = a.done in cc
-no_replay asked text bytes (inr a) = let is = a.refused in cc
+no_replay asked text bytes given = no_case (cases_given asked text bytes END_FAILED given)
+  where
+    no_case : PrintsReplay asked text bytes END_FAILED ⊎ PrintsFault text bytes END_FAILED → ⊥
+    no_case (inl a) = let is = a.done in cc
+    no_case (inr a) = let is = a.refused in cc
 
 -- nor of `dump`
 no_dump : (text bytes : List ℕ) → DumpGives text bytes END_FAILED → ⊥
