@@ -13,39 +13,29 @@ use Rattle.command_io.specs.declared.status.TheConstants.{DONE, REFUSED, USAGE, 
 -- `Keeps contents contents_after`, that they are the same.
 
 -- more than n bytes were taken from the source
-pub record TakesMoreThan (n : ℕ) (unread left : Option (List ℕ)) (count_after : ℕ) : Type 0 where
-  pub bytes : List ℕ
-  pub taken : Consumes unread left bytes
-  pub more : n < length bytes
-  pub counted : n < count_after
+abbrev pub TakesMoreThan : ℕ → (unread left : Option (List ℕ)) (count_after : ℕ) → Type 0
+TakesMoreThan n unread left count = (bytes : List ℕ) × Consumes unread left bytes × (n < length bytes) × (n < count)
 
 -- at most n bytes were taken from the source
 abbrev pub TakesAtMost : ℕ → (unread left : Option (List ℕ)) → Type 0
 TakesAtMost n unread left = (bytes : List ℕ) × Consumes unread left bytes × (length bytes ≤ n)
 
 -- a beginning of the bytes was written to the sink, and not all of them
-pub record AppendsPrefix (contents contents_after : Option (List ℕ)) (bytes : List ℕ) : Type 0 where
-  pub count : ℕ
-  pub short : count < length bytes
-  pub written : Appends contents contents_after (take count bytes)
+abbrev pub AppendsPrefix : (contents contents_after : Option (List ℕ)) (bytes : List ℕ) → Type 0
+AppendsPrefix contents after bytes = (count : ℕ) × (count < length bytes) × Appends contents after (take count bytes)
 
 -- In what follows `gives text bytes status` says that a command may print these bytes for a text, with this
 -- exit status.
 
 -- the whole source was read, it isn't too long, and these bytes with this status are an output for it
-pub record IsOutput (gives : List ℕ → List ℕ → ℕ → Type 0)
-    (unread left : Option (List ℕ)) (bytes : List ℕ) (status : ℕ) : Type 0 where
-  pub text : List ℕ
-  pub read : Consumes unread left text × IsAtEnd left
-  pub limited : length text ≤ MAX_INPUT
-  pub given : gives text bytes status
+abbrev pub IsOutput : (List ℕ → List ℕ → ℕ → Type 0) → (unread left : Option (List ℕ)) → List ℕ → ℕ → Type 0
+IsOutput gives unread left bytes status =
+    (text : List ℕ) × Consumes unread left text × IsAtEnd left × (length text ≤ MAX_INPUT) × gives text bytes status
 
 -- an output for the whole source was written, all of it
-pub record WritesOutput (gives : List ℕ → List ℕ → ℕ → Type 0)
-    (unread left contents contents_after : Option (List ℕ)) (status : ℕ) : Type 0 where
-  pub bytes : List ℕ
-  pub output : IsOutput gives unread left bytes status
-  pub written : Appends contents contents_after bytes
+abbrev pub WritesOutput : (List ℕ → List ℕ → ℕ → Type 0) → (unread left contents after : Option (List ℕ)) → ℕ → Type 0
+WritesOutput gives unread left contents after status =
+    (bytes : List ℕ) × IsOutput gives unread left bytes status × Appends contents after bytes
 
 -- ---- the two ends
 
@@ -66,25 +56,16 @@ pub record SinkRun : Type 0 where
 
 -- a source and a sink, by what is seen of them before the run and after it
 abbrev pub source_run : {S : Type 0} → (S → Option (List ℕ)) → (S → ℕ) → (S → Bool) → (before after : S) → SourceRun
-source_run remaining count failed before after = record {
-  unread = remaining before;
-  left = remaining after;
-  count = count before;
-  count_after = count after;
-  failed = failed after;
-}
+source_run bytes count failed old new =
+    record { unread = bytes old; left = bytes new; count = count old; count_after = count new; failed = failed new }
 
 abbrev pub sink_run : {S : Type 0} → (S → Option (List ℕ)) → (S → Bool) → (before after : S) → SinkRun
-sink_run contents failed before after = record {
-  contents = contents before;
-  contents_after = contents after;
-  failed = failed after;
-}
+sink_run bytes failed old new = record { contents = bytes old; contents_after = bytes new; failed = failed new }
 
 -- These bytes were to be written: an output for the whole source; or the line that reports the refusal of memory, if at
 -- most MAX_INPUT bytes were read.
-abbrev pub IsDue : (List ℕ → List ℕ → ℕ → Type 0) → SourceRun → List ℕ → Type 0
-IsDue gives source bytes = ((status : ℕ) × IsOutput gives source.unread source.left bytes status)
+abbrev pub WasToWrite : (List ℕ → List ℕ → ℕ → Type 0) → SourceRun → List ℕ → Type 0
+WasToWrite gives source bytes = ((status : ℕ) × IsOutput gives source.unread source.left bytes status)
     ⊎ (TakesAtMost MAX_INPUT source.unread source.left × (bytes ≡ MEMORY_LINE))
 
 -- nothing was written, and no write was tried that failed
@@ -111,18 +92,12 @@ pub record IsCommandRun (gives : List ℕ → List ℕ → ℕ → Type 0) (sour
   -- 4 if a read failed, and then nothing was written
   pub read_fault : source.failed ≡ true → (status ≡ END_FAILED) × WritesNothing sink
   -- and if a write failed, and then a beginning of what was to be written is there, and not all
-  pub write_fault : sink.failed ≡ true
-      → (status ≡ END_FAILED)
-      × ((bytes : List ℕ) × IsDue gives source bytes × AppendsPrefix sink.contents sink.contents_after bytes)
+  pub write_fault : sink.failed ≡ true → (status ≡ END_FAILED)
+      × ((bytes : List ℕ) × WasToWrite gives source bytes × AppendsPrefix sink.contents sink.contents_after bytes)
   -- and if more was read than may be, of a source that had given nothing before, and then nothing was written
-  pub long_fault : source.count ≡ 0
-      → MAX_INPUT < source.count_after
-      → (status ≡ END_FAILED) × IsTooLong source sink
+  pub long_fault : source.count ≡ 0 → MAX_INPUT < source.count_after → (status ≡ END_FAILED) × IsTooLong source sink
   -- else 4 only if an output for the source has it, and then all of that was written
-  pub end_fault : status ≡ END_FAILED
-      → (source.failed ≡ true)
-      ⊎ (sink.failed ≡ true)
-      ⊎ IsTooLong source sink
+  pub end_fault : status ≡ END_FAILED → (source.failed ≡ true) ⊎ (sink.failed ≡ true) ⊎ IsTooLong source sink
       ⊎ WritesOutput gives source.unread source.left sink.contents sink.contents_after status
 
 -- ---- calls that are refused

@@ -1,5 +1,5 @@
 -- The printing of a script's world is an account of it.
-use Rattle.std.proofs.Common.{◌≡◌, ℕ, zero, suc, ◌<◌, ◌≤◌, Bool, if◌then◌else◌, List, [], ◌∷◌, length, map, Some, refl, sym, ap, ◌∙◌, subst, inl, inr, arith}
+use Rattle.std.proofs.Common.{◌≡◌, ◌⊎◌, ℕ, zero, suc, ◌<◌, ◌≤◌, Bool, if◌then◌else◌, List, [], ◌∷◌, length, map, Some, refl, sym, ap, ◌∙◌, subst, inl, inr, arith}
 use Rattle.std.specs.Prelude.{Contains, flat_map, slice_index_or, ◌↔◌, ◌==◌}
 use Rattle.std.specs.List.{slice_get, AllZip}
 use Rattle.std.proofs.lemmas.List.{length-map}
@@ -16,7 +16,7 @@ use Rattle.link_marks.specs.RunsAsEvents.{fills_taken}
 use Rattle.text_model.specs.Script.{deliver, Script}
 use Rattle.text_model.specs.ScriptLimits.{IsWithinLimits}
 use Rattle.text_model.specs.Printing.{printed_log_line}
-use Rattle.replay_command.proofs.OneOutput.{script_in-within}
+use Rattle.replay_command.proofs.OneOutput.{script_in-within, cases_given}
 use Rattle.command_io.specs.CommandRun.{SourceRun, SinkRun, WritesOutput, IsCommandRun}
 use Rattle.command_io.specs.declared.status.TheConstants.{DONE, REFUSED}
 use Rattle.collector.specs.Runs.{AreRuns}
@@ -34,7 +34,7 @@ use Rattle.world_model.proofs.GenuineWorlds.{world_genuine}
 use Rattle.world_model.proofs.WorldsMade.{world_of_made}
 use Rattle.line_model.specs.Accounts.{IsAccount, IsShownOf, IsAccounted}
 use Rattle.line_model.proofs.AccountsOfWorlds.{events_behind, account_behind, taken_behind, last_reported}
-use Rattle.replay_command.specs.Commands.{AccountGives, IsPrinting, ReplayGives}
+use Rattle.replay_command.specs.Commands.{AccountGives, IsPrinting, PrintsReplay, PrintsFault, ReplayGives}
 
 -- a parcel's CPU and fill
 abbrev key_of : Parcel → ℕ × ℕ
@@ -260,19 +260,14 @@ accounted script asked bytes limits p =
     }
 
 -- what `replay` gives with the status 0 is an account
-pub account_given : (asked : Bool) (text bytes : List ℕ) (status : ℕ) → ReplayGives asked text bytes status → status ≡ DONE → AccountGives asked text bytes status
-account_given asked text bytes status (inl p) is = (p.script, p.spelled, accounted p.script asked bytes (script_in-within text p.script p.spelled) p.printing)
-account_given asked text bytes status (inr f) is = absurd (let other : DONE ≡ REFUSED = sym is ∙ f.refused in let no : ⊥ = cc in no)
+case_accounted : (asked : Bool) (text bytes : List ℕ) (status : ℕ) → PrintsReplay asked text bytes status ⊎ PrintsFault text bytes status → status ≡ DONE
+    → AccountGives asked text bytes status
+case_accounted asked text bytes status (inl p) is = (p.script, p.spelled, accounted p.script asked bytes (script_in-within text p.script p.spelled) p.printing)
+case_accounted asked text bytes status (inr f) is = absurd (let other : DONE ≡ REFUSED = sym is ∙ f.refused in let no : ⊥ = cc in no)
 
 pub account_written : (asked : Bool) (source : SourceRun) (sink : SinkRun) (status : ℕ) → IsCommandRun (ReplayGives asked) source sink status → status ≡ DONE
     → WritesOutput (AccountGives asked) source.unread source.left sink.contents sink.contents_after status
-account_written asked source sink status run is = let w = run.finished (inl is) in record {
-  bytes = w.bytes;
-  output = record {
-    text = w.output.text;
-    read = w.output.read;
-    limited = w.output.limited;
-    given = account_given asked w.output.text w.bytes status w.output.given is;
-  };
-  written = w.written;
-}
+account_written asked source sink status run is =
+    let (bytes, output, written) = run.finished (inl is) in
+    let (text, read, at_end, limited, given) = output in
+    (bytes, (text, read, at_end, limited, case_accounted asked text bytes status (cases_given asked text bytes status given) is), written)

@@ -1,5 +1,6 @@
 -- A text has one output: what a command gives for it are the same bytes, with the same exit status.
-use Rattle.std.proofs.Common.{◌≡◌, ℕ, Bool, List, Ok, inl, inr, sym, ap, subst, ◌∙◌}
+use Rattle.std.proofs.Common.{◌≡◌, ◌⊎◌, ℕ, Bool, List, Ok, inl, inr, refl, sym, ap, subst, ◌∙◌}
+use Rattle.std.specs.Prelude.{Result, Err}
 use Rattle.std.specs.List.{AllZip}
 use Rattle.text_model.specs.ScriptLines.{LineFault}
 use Rattle.text_model.specs.Printing.{printed_fault}
@@ -17,7 +18,29 @@ use Rattle.world_model.proofs.OneWorld.{one_world}
 use Rattle.world_model.proofs.WorldsMade.{world_of_made}
 use Rattle.collector_text.specs.Prints.{IsPrintOf}
 use Rattle.collector_text.proofs.OneText.{one_world_text}
-use Rattle.replay_command.specs.Commands.{IsPrinting, PrintsReplay, PrintsFault, ReplayGives}
+use Rattle.replay_command.specs.Commands.{IsPrinting, PrintsReading, PrintsReplay, PrintsFault, ReplayGives}
+
+-- ---- what `replay` gives for a text, by its two cases
+
+reading_cases : (asked : Bool) (text bytes : List ℕ) (status : ℕ) (r : Result Script (ℕ × LineFault)) → script_in text ≡ r
+    → PrintsReading asked r bytes status → PrintsReplay asked text bytes status ⊎ PrintsFault text bytes status
+reading_cases asked text bytes status (Ok script) is (printing, done) =
+    inl record { script = script; spelled = is; printing = printing; done = done }
+reading_cases asked text bytes status (Err fault) is (printed, refused) =
+    inr record { number = fault.0; fault = fault.1; first = is; printed = printed; refused = refused }
+
+pub cases_given : (asked : Bool) (text bytes : List ℕ) (status : ℕ) → ReplayGives asked text bytes status
+    → PrintsReplay asked text bytes status ⊎ PrintsFault text bytes status
+cases_given asked text bytes status given = reading_cases asked text bytes status (script_in text) refl given
+
+pub given_by_cases : (asked : Bool) (text bytes : List ℕ) (status : ℕ)
+    → PrintsReplay asked text bytes status ⊎ PrintsFault text bytes status → ReplayGives asked text bytes status
+given_by_cases asked text bytes status (inl a) =
+    subst (λ (r : Result Script (ℕ × LineFault)). PrintsReading asked r bytes status) (sym a.spelled) (a.printing, a.done)
+given_by_cases asked text bytes status (inr a) =
+    subst (λ (r : Result Script (ℕ × LineFault)). PrintsReading asked r bytes status) (sym a.first) (a.printed, a.refused)
+
+-- ---- one output
 
 -- the script that a text spells is within its limits
 pub script_in-within : (text : List ℕ) (script : Script) → script_in text ≡ Ok script → IsWithinLimits script
@@ -74,11 +97,18 @@ not_both asked text bytes others status other a b =
     ok_is_no_err a.script (b.number, b.fault)
     (sym a.spelled ∙ b.first)
 
+one_case : (asked : Bool) (text bytes others : List ℕ) (status other : ℕ)
+    → PrintsReplay asked text bytes status ⊎ PrintsFault text bytes status
+    → PrintsReplay asked text others other ⊎ PrintsFault text others other
+    → (bytes ≡ others) × (status ≡ other)
+one_case asked text bytes others status other (inl a) (inl b) = same_replays asked text bytes others status other a b
+one_case asked text bytes others status other (inl a) (inr b) =
+    absurd (not_both asked text bytes others status other a b)
+one_case asked text bytes others status other (inr a) (inl b) =
+    absurd (not_both asked text others bytes other status b a)
+one_case asked text bytes others status other (inr a) (inr b) = same_faults text bytes others status other a b
+
 pub one_replay : (asked : Bool) (text bytes others : List ℕ) (status other : ℕ) → ReplayGives asked text bytes status
     → ReplayGives asked text others other → (bytes ≡ others) × (status ≡ other)
-one_replay asked text bytes others status other (inl a) (inl b) = same_replays asked text bytes others status other a b
-one_replay asked text bytes others status other (inl a) (inr b) =
-    absurd (not_both asked text bytes others status other a b)
-one_replay asked text bytes others status other (inr a) (inl b) =
-    absurd (not_both asked text others bytes other status b a)
-one_replay asked text bytes others status other (inr a) (inr b) = same_faults text bytes others status other a b
+one_replay asked text bytes others status other a b = one_case asked text bytes others status other
+    (cases_given asked text bytes status a) (cases_given asked text others other b)

@@ -1,6 +1,6 @@
 -- What the command `replay` prints for a text, with which exit status: first by the histories of the CPUs alone, then
 -- exactly.
-use Rattle.std.specs.Prelude.{◌≡◌, ℕ, Bool, ◌⊎◌, List, Ok, Err}
+use Rattle.std.specs.Prelude.{◌≡◌, ℕ, Bool, List, Result, Ok, Err}
 use Rattle.std.specs.List.{AllZip}
 use Rattle.text_model.specs.ScriptLines.{LineFault}
 use Rattle.text_model.specs.Printing.{printed_fault}
@@ -26,6 +26,18 @@ pub record IsPrinting (script : Script) (asked : Bool) (bytes : List ℕ) : Type
   pub reported : AllZip IsPrintOf world.delivered shown
   pub printed : bytes ≡ printed_world asked world.log shown
 
+-- What is printed for the reading of a text, and the exit status: for a script the printing of its world, and for a
+-- first fault its line.
+abbrev pub PrintsReading : (asked : Bool) → Result Script (ℕ × LineFault) → (bytes : List ℕ) (status : ℕ) → Type 0
+PrintsReading asked (Ok script) bytes status = IsPrinting script asked bytes × (status ≡ DONE)
+PrintsReading asked (Err (number, fault)) bytes status = (bytes ≡ printed_fault number fault) × (status ≡ REFUSED)
+
+-- what `replay` gives for a text
+abbrev pub ReplayGives : Bool → (text bytes : List ℕ) (status : ℕ) → Type 0
+ReplayGives asked text bytes status = PrintsReading asked (script_in text) bytes status
+
+-- ---- the same by its two cases, never both
+
 -- the text spells a script, and these bytes are the printing of its world
 pub record PrintsReplay (asked : Bool) (text bytes : List ℕ) (status : ℕ) : Type 0 where
   pub script : Script
@@ -40,7 +52,3 @@ pub record PrintsFault (text bytes : List ℕ) (status : ℕ) : Type 0 where
   pub first : script_in text ≡ Err (number, fault)
   pub printed : bytes ≡ printed_fault number fault
   pub refused : status ≡ REFUSED
-
--- What `replay` gives for a text. A text spells a script or has a first fault, and never both.
-abbrev pub ReplayGives : Bool → List ℕ → List ℕ → ℕ → Type 0
-ReplayGives asked text bytes status = PrintsReplay asked text bytes status ⊎ PrintsFault text bytes status

@@ -1,8 +1,15 @@
 //! That a text has one output: the contract of a function with an empty body.
-ghost use Rattle.std.specs.Prelude.{◌≡◌, ℕ, Bool, List};
+ghost use Rattle.std.specs.Prelude.{◌≡◌, ◌↔◌, ◌⊎◌, ℕ, Bool, List};
 ghost use Rattle.world_model.specs.World.{WorldOf};
 ghost use Rattle.world_model.specs.Headline.{IsGenuineWorld};
-ghost use Rattle.replay_command.specs.Commands.{PrintsReplay, ReplayGives};
+ghost use Rattle.replay_command.specs.Commands.{PrintsFault, PrintsReplay, ReplayGives};
+
+/// What `replay` gives for a text is the printing of its script's world, with the status 0, or the line of its first
+/// fault, with 1.
+pub fn outputs_are_worlds_or_faults()
+    ensures { (asked : Bool) (text bytes : List ℕ) (status : ℕ) →
+        ReplayGives asked text bytes status ↔ (PrintsReplay asked text bytes status ⊎ PrintsFault text bytes status) }
+{}
 
 /// What `replay` may print for a text is one output: the same bytes, with the same exit status.
 pub fn one_output()

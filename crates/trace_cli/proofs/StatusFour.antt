@@ -6,7 +6,8 @@ use Rattle.command_io.specs.CommandRun.{SourceRun, SinkRun, IsTooLong, IsCommand
 use Rattle.command_io.specs.declared.output.TheConstants.{THREAD_LINE}
 use Rattle.command_io.specs.declared.status.TheConstants.{END_FAILED}
 use Rattle.image_dump.specs.Dumps.{DumpGives}
-use Rattle.replay_command.specs.Commands.{ReplayGives}
+use Rattle.replay_command.specs.Commands.{PrintsReplay, PrintsFault, ReplayGives}
+use Rattle.replay_command.proofs.OneOutput.{cases_given}
 use Rattle.text_model.specs.Script.{Script}
 use Rattle.trace_cli.specs.Answers.{AreSound}
 use Rattle.run_command.specs.Runs.{IsRunOutput, RunGives}
@@ -18,8 +19,11 @@ Causes gives source sink = (source.failed ≡ true) ⊎ (sink.failed ≡ true) �
 
 -- no output of `replay` has it
 no_replay : (asked : Bool) (text bytes : List ℕ) → ReplayGives asked text bytes END_FAILED → ⊥
-no_replay asked text bytes (inl a) = let is = a.done in cc
-no_replay asked text bytes (inr a) = let is = a.refused in cc
+no_replay asked text bytes given = no_case (cases_given asked text bytes END_FAILED given)
+  where
+    no_case : PrintsReplay asked text bytes END_FAILED ⊎ PrintsFault text bytes END_FAILED → ⊥
+    no_case (inl a) = let is = a.done in cc
+    no_case (inr a) = let is = a.refused in cc
 
 -- nor of `dump`
 no_dump : (text bytes : List ℕ) → DumpGives text bytes END_FAILED → ⊥
@@ -39,8 +43,8 @@ module _ (source : SourceRun) (sink : SinkRun) (sound : AreSound source sink) wh
   too_long : (gives : List ℕ → List ℕ → ℕ → Type 0) → ((text bytes : List ℕ) → gives text bytes END_FAILED → ⊥) → Causes gives source sink → MAX_INPUT < source.count_after
   too_long gives none (inl h) = absurd (let is = sound.source_sound in cc)
   too_long gives none (inr (inl h)) = absurd (let is = sound.sink_sound in cc)
-  too_long gives none (inr (inr (inl h))) = h.0.counted
-  too_long gives none (inr (inr (inr h))) = absurd (none h.output.text h.bytes h.output.given)
+  too_long gives none (inr (inr (inl h))) = h.0.3
+  too_long gives none (inr (inr (inr (bytes, output, written)))) = absurd (none output.0 bytes output.4)
 
   pub replay_reported : (asked : Bool) → IsCommandRun (ReplayGives asked) source sink END_FAILED → MAX_INPUT < source.count_after
   replay_reported asked h = too_long (ReplayGives asked) (no_replay asked) (h.end_fault refl)
@@ -51,9 +55,9 @@ module _ (source : SourceRun) (sink : SinkRun) (sound : AreSound source sink) wh
   line_written : source.count_after ≤ MAX_INPUT → Causes RunGives source sink → Appends sink.contents sink.contents_after THREAD_LINE.now
   line_written short (inl h) = absurd (let is = sound.source_sound in cc)
   line_written short (inr (inl h)) = absurd (let is = sound.sink_sound in cc)
-  line_written short (inr (inr (inl h))) = absurd (let long = h.0.counted in omega arith)
-  line_written short (inr (inr (inr h))) =
-      subst (λ (bytes : List ℕ). Appends sink.contents sink.contents_after bytes) (thread_line h.output.text h.bytes h.output.given) h.written
+  line_written short (inr (inr (inl h))) = absurd (let long = h.0.3 in omega arith)
+  line_written short (inr (inr (inr (bytes, output, written)))) =
+      subst (λ (bytes : List ℕ). Appends sink.contents sink.contents_after bytes) (thread_line output.0 bytes output.4) written
 
   pub run_reported : IsCommandRun RunGives source sink END_FAILED → source.count_after ≤ MAX_INPUT → Appends sink.contents sink.contents_after THREAD_LINE.now
   run_reported h short = line_written short (h.end_fault refl)

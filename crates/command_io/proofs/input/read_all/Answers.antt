@@ -14,15 +14,14 @@ returns-in_err-add_chunk-in-Ok-clause-too_long g c = λ refused.
     let reported : c.add_chunk.result ≡ Err TooLong = grind (arith, common_steps) in
     let over = c.add_chunk.ensures.too_long.0 reported in
     let same : take c.in-Ok.count c.deref.result.now ≡ take c.in-Ok.count c.read.new.buf = grind (arith, common_steps) in
-    let len = c.loop-text.text.ok.0 in
-    record {
-      bytes = c.loop-text.text.items ++ take c.in-Ok.count c.deref.result.now;
-      taken = Consumes-trans _ _ _ _ _ c.loop-text.invariant.taken (subst (Consumes _ _) (sym same) c.in-Ok.ensures.bytes.0);
-      more = simp length-append (omega arith);
-      counted = rw c.in-Ok.ensures.counts (counted_past MAX_INPUT (vec_len c.loop-text.text)
+    let len = c.loop-text.text.ok.0 in (
+      c.loop-text.text.items ++ take c.in-Ok.count c.deref.result.now,
+      Consumes-trans _ _ _ _ _ c.loop-text.invariant.taken (subst (Consumes _ _) (sym same) c.in-Ok.ensures.bytes.0),
+      simp length-append (omega arith),
+      rw c.in-Ok.ensures.counts (counted_past MAX_INPUT (vec_len c.loop-text.text)
           (g.R.Source.count c.loop-text.reader) c.in-Ok.count c.deref.result.now (omega arith)
-          c.loop-text.invariant.at_least over);
-    }
+          c.loop-text.invariant.at_least over),
+    )
 
 -- what was read before and the chunk for which there was no room
 pub returns-in_err-add_chunk-in-Ok-clause-no_memory : goal.returns-in_err-add_chunk-in-Ok-clause-no_memory
