@@ -49,7 +49,6 @@ use Rattle.line_model.proofs.LineCallsMade.{line_calls_make}
 use Rattle.line_model.proofs.RunCalls.{line_runs_are_calls}
 use Rattle.line_model.proofs.AccountsMade.{on_stack, frames_counted, Spares, IsOn, NotOn, adds_none, takes_none, line_adds}
 use Rattle.line_model.proofs.EventsDue.{WhyNone, AreReasoned, reasoned_append, reasoned_at, needed_at, line_reasoned}
-use Rattle.line_model.proofs.LossesDue.{is_found}
 use Rattle.line_model.proofs.LineTakes.{taken_of, TakesOne, TakesNone, HasNone, TakesOf, line_takes, line_wishes}
 use Rattle.line_model.proofs.AccountWindows.{run_leads, front_leads}
 use Rattle.line_model.proofs.WishesAsked.{FindsNone, none_at, reached_silent}
@@ -540,7 +539,7 @@ module _ (script : Script) (w : World) (limits : IsWithinLimits script) (of : Wo
       opens : (stack : List PushedFrame) → (writer_after h).stack ≡ stack → Cut (acts open_fill) → NeedsPage script.size h stack
       opens [] e cut =
           let wished_for = subst (MayCloseTail h) e (packed.asked h (history_events_of behind) (cut_history open_fill cut) (wants [] e)) in
-          let (before, since, is, same) = is_found h wished_for in (before, since, is, same, fill_begins cut)
+          (wished_for, fill_begins cut)
       opens (close_frame ∷ below) e cut = fill_begins cut
       opens (record_frame moment len None ∷ below) e cut =
           no_room moment len (packed.needed h (history_events_of behind) _ (cut_history open_fill cut) (wants (record_frame moment len None ∷ below) e))

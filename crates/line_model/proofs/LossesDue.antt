@@ -12,8 +12,7 @@ use Rattle.trace_model.specs.Window.{Window, RingEvent, acts, closes, takes, los
 use Rattle.trace_model.specs.Frames.{Kind, for_record, for_close, FrameState, waiting, reserved, left, Phase, idle, looking, claiming, looking_next, marking, clearing, opening, releasing, wishing, noted_fill, Frame, pushed_onto, pushed_frames}
 use Rattle.trace_model.specs.Ring.{ReaderPhase, loading_head, loading_done, storing_spare_link, swapping, TakenFill, Reader, Core, window_of}
 use Rattle.trace_model.specs.Steps.{Event, Answer, with_new_tail, after_begin, taken_fill, Step}
-use Rattle.trace_model.proofs.packing.FillCuts.{opens_of-push, opens_of-push_close, opens_of-reserve, opens_of-leave, opens_of-wished}
-use Rattle.trace_model.proofs.packing.PackedHistories.{tail_is, is_wished-push, is_wished-push_close, is_wished-open_fill, is_wished-reserve, is_wished-leave}
+use Rattle.trace_model.proofs.packing.PackedHistories.{tail_is}
 use Rattle.trace_model.proofs.steps.StepCases.{StepCases, BeginsAgain, IdleStep, reserves, finds_nothing, is_crowded, is_worn, notes, FrameStep, load_link_late, sees_free, sees_header, sees_update, claim_late, claims, claim_fails, load_next_late, sees_normal, sees_other, mark_late, marks, mark_fails, clears, open_late, opens, releases, releases_last, grants, closes_more, goes_away, ReadStep, loads_header, loads_update, loads_owed, loads_passed, finds_none, finds_closed, swaps, swap_fails, push_step, push_refused, close_step, close_refused, frame_step, frame_lacks, end_step, end_lacks, end_early, read_step, store_wish_step}
 use Rattle.trace_model.proofs.steps.StepSound.{cases_of}
 use Rattle.link_marks.specs.KeptPacking.{FramesNeed}
@@ -27,42 +26,6 @@ use Rattle.link_marks.proofs.links.FrameChanges.{top_kept}
 use Rattle.link_marks.proofs.steps.CountMoves.{losses_need_a_full_ring}
 use Rattle.world_model.specs.RunEvents.{AreEventsOf}
 use Rattle.line_model.specs.Accounts.{NeedsPage}
-
--- ---- the reader's wish
-
--- it was found, and no fill is begun since
-abbrev pub IsFound : List HistoryEvent → Type 0
-IsFound h = (front behind : List HistoryEvent) × (h ≡ front ++ wished ∷ behind) × (opens_of front ≡ opens_of h)
-
-found_on : (h : List HistoryEvent) (a : HistoryEvent) → opens_of (h ++ a ∷ []) ≡ opens_of h → IsFound h → IsFound (h ++ a ∷ [])
-found_on h a same (front, behind, is, none) = (
-  front,
-  behind ++ a ∷ [],
-  ap (λ (l : List HistoryEvent). l ++ a ∷ []) is ∙ append_assoc front (wished ∷ behind) (a ∷ []),
-  none ∙ sym same,
-)
-
-abbrev Knows : List HistoryEvent → Type 0
-Knows h = IsFound h ⊎ (is_wished h ≡ false)
-
-knows_on : (h : List HistoryEvent) (a : HistoryEvent) → opens_of (h ++ a ∷ []) ≡ opens_of h → is_wished (h ++ a ∷ []) ≡ is_wished h → Knows h → Knows (h ++ a ∷ [])
-knows_on h a same alike (inl found) = inl (found_on h a same found)
-knows_on h a same alike (inr none) = inr (alike ∙ none)
-
-knows_behind : (h : List HistoryEvent) (a : HistoryEvent) → Knows h → Knows (h ++ a ∷ [])
-knows_behind h (push moment len) k = knows_on h (push moment len) (opens_of-push h moment len) (is_wished-push h moment len) k
-knows_behind h push_close k = knows_on h push_close (opens_of-push_close h) (is_wished-push_close h) k
-knows_behind h open_fill k = inr (is_wished-open_fill h)
-knows_behind h reserve k = knows_on h reserve (opens_of-reserve h) (is_wished-reserve h) k
-knows_behind h (leave payload) k = knows_on h (leave payload) (opens_of-leave h payload) (is_wished-leave h payload) k
-knows_behind h wished k = inl (h, [], refl, sym (opens_of-wished h))
-
-knows_all : (h behind : List HistoryEvent) → Knows h → Knows (h ++ behind)
-knows_all h [] k = subst Knows (sym (append-nil h)) k
-knows_all h (a ∷ behind) k = subst Knows (append_assoc h (a ∷ []) behind) (knows_all (h ++ a ∷ []) behind (knows_behind h a k))
-
-pub is_found : (h : List HistoryEvent) → IsTrue (is_wished h) → IsFound h
-is_found h holds = ⊎_elim (λ found. found) (λ no. absurd (let both : true ≡ false = sym holds ∙ no in let none : ⊥ = cc in none)) (knows_all [] h (inr refl))
 
 -- ---- a frame that is about to begin the next fill
 
@@ -85,9 +48,7 @@ needs_of size h below for_close waiting alone needs = λ none. needs (sym (tail_
 needs_of size h below (for_record moment len) (reserved number) alone needs = absurd needs
 needs_of size h below for_close (reserved number) alone needs = absurd needs
 needs_of size h below kind left alone (some, holds) =
-    let (front, behind, is, same) = is_found h holds in
-    subst (λ (fs : List Frame). NeedsPage size h (pushed_frames fs)) (sym (alone refl))
-    (front, behind, is, same, λ none. some (sym (tail_is h) ∙ none))
+    subst (λ (fs : List Frame). NeedsPage size h (pushed_frames fs)) (sym (alone refl)) (holds, λ none. some (sym (tail_is h) ∙ none))
 
 page_needed : (n size start : ℕ) (c : Core) (frame : Frame) (below : List Frame)
     → IsRingKept n size start c

@@ -1,14 +1,13 @@
 -- A wish that was found is served before the stack is empty: as long as no fill is begun for it, the bottom frame, which
 -- has left, is about to begin one. So at rest no page is needed.
-use Rattle.std.proofs.Common.{◌≡◌, ◌≢◌, ℕ, suc, ◌+◌, ◌<◌, ◌≤◌, true, false, List, [], ◌∷◌, ◌++◌, length, Option, Some, None, refl, sym, ap, ◌∙◌, subst, arith, append_assoc, append-nil, length-append}
+use Rattle.std.proofs.Common.{◌≡◌, ℕ, true, false, List, [], ◌∷◌, length, Some, None, refl, sym, ap, ◌∙◌, subst}
 use Rattle.std.specs.Prelude.{Bool}
-use Rattle.trace_model.specs.History.{HistoryEvent, push, push_close, open_fill, reserve, leave, wished, reserved_records}
-use Rattle.trace_model.specs.Packing.{opens_of, is_wished}
+use Rattle.trace_model.specs.History.{push, push_close, reserved_records}
+use Rattle.trace_model.specs.Packing.{is_wished}
 use Rattle.trace_model.specs.Frames.{Kind, for_record, for_close, FrameState, waiting, reserved, left, Role, owner, helper, Phase, idle, looking, claiming, looking_next, marking, clearing, opening, releasing, wishing, noted_fill, Frame}
 use Rattle.trace_model.specs.Ring.{ReaderPhase, loading_head, loading_done, storing_spare_link, swapping, Core}
 use Rattle.trace_model.specs.Steps.{Event, Answer, closing_phase, frames_after_leave, after_next, after_begin, with_new_tail, Step, Exchange, Run}
-use Rattle.trace_model.proofs.packing.FillCuts.{opens_at, opens_more, opens_of-open_fill}
-use Rattle.trace_model.proofs.packing.PackedHistories.{is_wished-push, is_wished-push_close, is_wished-open_fill, is_wished-reserve, is_wished-leave, is_wished-wished}
+use Rattle.trace_model.proofs.packing.PackedHistories.{is_wished-push, is_wished-push_close, is_wished-open_fill, is_wished-reserve, is_wished-leave}
 use Rattle.trace_model.proofs.steps.StepCases.{StepCases, BeginsAgain, IdleStep, reserves, finds_nothing, is_crowded, is_worn, notes, FrameStep, load_link_late, sees_free, sees_header, sees_update, claim_late, claims, claim_fails, load_next_late, sees_normal, sees_other, mark_late, marks, mark_fails, clears, open_late, opens, releases, releases_last, grants, closes_more, goes_away, ReadStep, loads_header, loads_update, loads_owed, loads_passed, finds_none, finds_closed, swaps, swap_fails, push_step, push_refused, close_step, close_refused, frame_step, frame_lacks, end_step, end_lacks, end_early, read_step, store_wish_step}
 use Rattle.trace_model.proofs.steps.StepSound.{cases_of}
 use Rattle.link_marks.specs.RingKept.{IsRingKept}
@@ -17,62 +16,6 @@ use Rattle.link_marks.proofs.frames.StackSteps.{wishing_left}
 use Rattle.link_marks.proofs.histories.HistorySteps.{top_agrees}
 use Rattle.link_marks.proofs.partition.RingsKept.{ring_start, ring_step}
 use Rattle.line_model.specs.Accounts.{NeedsPage}
-
--- ---- histories
-
--- more events begin no fewer fills
-opens_least : (h behind : List HistoryEvent) → length (opens_of h) ≤ length (opens_of (h ++ behind))
-opens_least h [] = let e = ap (λ (l : List HistoryEvent). length (opens_of l)) (append-nil h) in omega (arith, e)
-opens_least h (a ∷ behind) =
-    let more = ap (λ (l : List ℕ). length l) (opens_more [] h a) in
-    let count = length-append (opens_of h) (opens_at h a) in
-    let least = opens_least (h ++ a ∷ []) behind in
-    let same = ap (λ (l : List HistoryEvent). length (opens_of l)) (append_assoc h (a ∷ []) behind) in
-    omega (arith, more, count, least, same)
-
--- A wish that was found stays so while no fill is begun: after one event more, if it does so from there on.
-one_on : (h behind : List HistoryEvent) (a : HistoryEvent)
-    → (is_wished (h ++ a ∷ []) ≡ true → length (opens_of ((h ++ a ∷ []) ++ behind)) ≡ length (opens_of (h ++ a ∷ [])) → is_wished ((h ++ a ∷ []) ++ behind) ≡ true)
-    → is_wished h ≡ true
-    → length (opens_of ((h ++ a ∷ []) ++ behind)) ≡ length (opens_of h)
-    → is_wished ((h ++ a ∷ []) ++ behind) ≡ true
-one_on h behind a goes found same = by a refl
-  where
-    stays : is_wished (h ++ a ∷ []) ≡ true → is_wished ((h ++ a ∷ []) ++ behind) ≡ true
-    stays still =
-        let one = opens_least h (a ∷ []) in let two = opens_least (h ++ a ∷ []) behind in goes still (omega (arith, same, one, two))
-
-    kept : (b : HistoryEvent) → a ≡ b → is_wished (h ++ b ∷ []) ≡ true → is_wished ((h ++ a ∷ []) ++ behind) ≡ true
-    kept b is still = stays (ap (λ (x : HistoryEvent). is_wished (h ++ x ∷ [])) is ∙ still)
-
-    by : (b : HistoryEvent) → a ≡ b → is_wished ((h ++ a ∷ []) ++ behind) ≡ true
-    by (push moment len) is = kept (push moment len) is (is_wished-push h moment len ∙ found)
-    by push_close is = kept push_close is (is_wished-push_close h ∙ found)
-    by open_fill is =
-        let one = ap (λ (x : HistoryEvent). length (opens_of (h ++ x ∷ []))) is in
-        let more = ap (λ (l : List ℕ). length l) (opens_of-open_fill h) in
-        let count = length-append (opens_of h) (length (reserved_records h) ∷ []) in
-        let two = opens_least (h ++ a ∷ []) behind in
-        absurd (let no : ⊥ = omega (arith, same, one, more, count, two) in no)
-    by reserve is = kept reserve is (is_wished-reserve h ∙ found)
-    by (leave payload) is = kept (leave payload) is (is_wished-leave h payload ∙ found)
-    by wished is = kept wished is (is_wished-wished h)
-
-wished_on : (h behind : List HistoryEvent) → is_wished h ≡ true → length (opens_of (h ++ behind)) ≡ length (opens_of h) → is_wished (h ++ behind) ≡ true
-wished_on h [] found none = ap is_wished (append-nil h) ∙ found
-wished_on h (a ∷ behind) found none =
-    ap is_wished (sym (append_assoc h (a ∷ []) behind))
-    ∙ one_on h behind a (wished_on (h ++ a ∷ []) behind) found (ap (λ (l : List HistoryEvent). length (opens_of l)) (append_assoc h (a ∷ []) behind) ∙ none)
-
--- if every frame has left, a page is needed only for a wish
-needed_wished : (size : ℕ) (h : List HistoryEvent) → NeedsPage size h [] → is_wished h ≡ true
-needed_wished size h (front, behind, is, same, some) =
-    let split : h ≡ (front ++ wished ∷ []) ++ behind = is ∙ sym (append_assoc front (wished ∷ []) behind) in
-    let count = ap (λ (l : List ℕ). length l) same in
-    let whole = ap (λ (l : List HistoryEvent). length (opens_of l)) split in
-    let one = opens_least front (wished ∷ []) in
-    let two = opens_least (front ++ wished ∷ []) behind in
-    ap is_wished split ∙ wished_on (front ++ wished ∷ []) behind (is_wished-wished front) (omega (arith, count, whole, one, two))
 
 -- ---- the bottom frame
 
@@ -256,4 +199,4 @@ reached_serves n size start c r =
 
 -- with no frame on the stack no page is needed
 pub rests_unneeded : (n size start : ℕ) (c : Core) → IsReached n size start c → c.frames ≡ [] → NeedsPage size c.history [] → ⊥
-rests_unneeded n size start c r none needed = subst (Serves c.opened) none (reached_serves n size start c r (needed_wished size c.history needed))
+rests_unneeded n size start c r none needed = subst (Serves c.opened) none (reached_serves n size start c r needed.0)

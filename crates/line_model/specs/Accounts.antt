@@ -1,12 +1,12 @@
 -- What is printed of a script, by the histories of its CPUs alone: which records, under which numbers, and which
 -- numbers are missing. Neither links nor steps of a ring are spoken of. docs/MODEL.md, "What is printed, by histories
 -- alone".
-use Rattle.std.specs.Prelude.{◌≡◌, ◌≢◌, ℕ, suc, ◌+◌, ◌<◌, ◌≤◌, ◌⊎◌, ◌↔◌, ⊤, Bool, true, false, fold, List, [], ◌∷◌, ◌++◌, length, Option, Some, None, Contains, slice_index_or}
+use Rattle.std.specs.Prelude.{◌≡◌, ◌≢◌, ℕ, suc, ◌+◌, ◌<◌, ◌≤◌, ◌⊎◌, ◌↔◌, ⊤, Bool, true, IsTrue, fold, List, [], ◌∷◌, ◌++◌, length, Option, Some, None, Contains, slice_index_or}
 use Rattle.std.specs.List.{slice_get, AllZip}
 use Rattle.trace_model.specs.declared.limits.TheConstants.{MAX_FRAMES, MOMENT_LIMIT, LINK_FILLS}
 use Rattle.trace_model.specs.Words.{padded, encoded_len}
 use Rattle.trace_model.specs.History.{HistoryEvent, push, push_close, open_fill, reserve, leave, wished, PushedFrame, record_frame, close_frame, reservation_for, writer_after, reserved_records, committed_records}
-use Rattle.trace_model.specs.Packing.{opens_of, tail_of, fill_len}
+use Rattle.trace_model.specs.Packing.{tail_of, fill_len, is_wished}
 use Rattle.trace_model.specs.Window.{Window, first_window, RingEvent, acts, closes, takes, loses, history_events_of}
 use Rattle.trace_model.specs.Runs.{AreRuns}
 use Rattle.trace_model.specs.Listing.{Line, IsTimeOrdered}
@@ -18,8 +18,8 @@ use Rattle.world_model.specs.Printing.{Shown, printed_world}
 
 -- ---- what lines write
 
--- The frames on the stack of a CPU, the top one first: the payload of each until it has left. Only a bottom frame is
--- still there then, to close fills.
+-- The frames on the stack of a CPU, the top one first: the payload of each (of a close frame an empty one, which isn't
+-- written) until it has left. Only a bottom frame is still there then, to close fills, and for the reader's wish.
 abbrev pub Frames : Type 0
 Frames = List (Option (List ℕ))
 
@@ -73,7 +73,7 @@ Adds cpu size (close at) frames history after = At cpu at frames history after
     (λ rest. Does frames (Some []) rest None × (after ≡ frames)) frames history after)
 Adds cpu size _ frames history after = IsIdle frames history after
 
--- What a line takes of a CPU: these fills, if the window is this one when it has ended. `t` takes a fill, unless a
+-- What a line takes of a CPU: these fills; `after` is the window when the line has ended. `t` takes a fill, unless a
 -- frame is on the stack, or none is left that is closed and unread. `r` may take one.
 abbrev pub Takes : ℕ → Command → Frames → Window → List ℕ → Type 0
 Takes cpu (take_page at) frames after fills = ((at ≡ cpu) × (length fills ≡ 1))
@@ -83,18 +83,20 @@ Takes cpu _ frames after fills = fills ≡ []
 
 -- ---- what is due
 
--- the window after an event of the ring: one fill more is begun, closed, or taken or lost; or it stays as it is
+-- the window after an event of the ring, by the first clause that fits: one fill more is begun, closed, or taken or
+-- lost; or the window stays as it is
 abbrev pub moved : Window → RingEvent → Window
 moved w (acts open_fill) = record w { opened = w.opened + 1 }
 moved w (acts event) = w
 moved w closes = record w { done = w.done + 1 }
-moved w _ = record w { head = w.head + 1 }
+moved w takes = record w { head = w.head + 1 }
+moved w loses = record w { head = w.head + 1 }
 
 -- the window after the events of a ring whose first fill has this number
 abbrev pub window_at : ℕ → List RingEvent → Window
 window_at start events = fold moved (first_window start) events
 
--- no page is released, or no number is left for one more fill
+-- no page can be had: all n have fills that aren't closed, or no number is left for one more fill
 abbrev pub HasNoPage : ℕ → Window → Type 0
 HasNoPage n w = (w.opened ≡ w.done + n) ⊎ (LINK_FILLS ≤ w.opened + n)
 
@@ -102,20 +104,20 @@ HasNoPage n w = (w.opened ≡ w.done + n) ⊎ (LINK_FILLS ≤ w.opened + n)
 -- frame, if the tail page has a record; or, if all frames have left, the reader, whose wish was found since the last
 -- fill was begun.
 abbrev pub NeedsPage : ℕ → List HistoryEvent → List PushedFrame → Type 0
-NeedsPage size h [] = (front behind : List HistoryEvent)
-    × (h ≡ front ++ wished ∷ behind) × (opens_of front ≡ opens_of h) × (tail_of h ≢ [])
+NeedsPage size h [] = IsTrue (is_wished h) × (tail_of h ≢ [])
 NeedsPage size h (record_frame moment len None ∷ below) =
     size < fill_len (tail_of h ++ reservation_for moment len (reserved_records h) ∷ [])
 NeedsPage size h (record_frame moment len (Some number) ∷ below) = ⊥
 NeedsPage size h (close_frame ∷ below) = tail_of h ≢ []
 
 -- What may happen at this window of a ring of n positions, while these frames have not left: of the clauses the first
--- that fits counts. A fill is begun, and one is lost, only if a page is needed, and there is one; it is begun only if a
--- position is free, and lost only if it is closed and the ring is full. A fill is taken only if it is closed; and one
--- is closed only if it isn't the tail, and every frame has left. The reader's wish is found only if it was asked, and
--- every frame has left. A record is reserved only for a record frame that has none yet, and if it needs no page. Such a
--- frame leaves without a record only if it needs a page, and there is none; one that has its record leaves with it. A
--- close frame leaves only if it needs no page, or there is none. A frame may be pushed at any time.
+-- that fits counts. A fill is begun, or the oldest one lost for it, only if a page is needed, and can be had: lost if
+-- the ring is full, and that fill closed; begun if the ring isn't full. The oldest fill is taken only if it is closed.
+-- The oldest fill that isn't closed is closed only if it isn't the tail, and every frame has left. The reader's wish is
+-- found only if it was asked, and every frame has left. A record is reserved only for a record frame that has none yet,
+-- and if it needs no page. Such a frame leaves without a record only if it needs a page, and none can be had; one that
+-- has its record leaves with it. A close frame leaves only if it needs no page, or none can be had. A frame may be
+-- pushed at any time.
 abbrev pub IsDue : (n : ℕ) → Window → (Needs Asked : Type 0) → List PushedFrame → RingEvent → Type 0
 IsDue n w Needs Asked stack loses = Needs × (HasNoPage n w → ⊥) × (w.head < w.done) × (w.opened ≡ w.head + n)
 IsDue n w Needs Asked stack (acts open_fill) = Needs × (HasNoPage n w → ⊥) × (w.opened < w.head + n)
@@ -176,8 +178,8 @@ pub record IsShownOf (start : ℕ) (events : ℕ → List RingEvent) (fills : Li
       (slice_index_or shown.runs cpu [])
 
 -- These bytes are the collectors of the script, each as it is shown, after the lines of some log, if that is asked for.
--- There is an account of each CPU, by the number of lines so far. A fill is delivered to a collector exactly if a line
--- of the script delivers it, before which it was taken.
+-- Of each CPU there is an account: `events cpu k` are its events after the first k lines. A fill is delivered to a
+-- collector exactly if a line of the script delivers it, before which it was taken.
 pub record IsAccounted (script : Script) (asked : Bool) (bytes : List ℕ) : Type 0 where
   pub events : (cpu lines : ℕ) → List RingEvent
   pub accounts : (cpu : ℕ) → cpu < script.cpus → IsAccount script cpu (events cpu)

@@ -52,10 +52,11 @@ pushed_of (frame ∷ below) = pushed_onto frame.kind frame.state (pushed_of belo
 pub data Role : Type 0 where
   owner helper : Role
 
--- How far a frame has come with the ring's words. idle: it has noted nothing. noted: the number of begun fills
--- when it found that it needs a page, which is the number of the fill to open. page: the page at that fill's
--- position. next: the page after that. releasing: it closes fills. wishing: none is left to close, and it looks
--- for the reader's wish.
+-- How far a frame has come with the ring's words, in this order: idle, it has noted nothing; looking, claiming,
+-- looking_next, marking, clearing, opening, the rows of docs/FORMATS.md, "Writer frames"; releasing, it closes fills;
+-- wishing, none is left to close, and it looks for the reader's wish. noted: the number of begun fills when it found
+-- that it needs a page, which is the number of the fill to open. page: the page at that fill's position. next: the page
+-- after that.
 pub data Phase : Type 0 where
   idle releasing wishing : Phase
   looking : (noted : ℕ) → Phase
@@ -98,6 +99,6 @@ owned_update _ = None
 
 -- ---- refusals
 
--- why a write is refused: docs/FORMATS.md, "Writer frames"
+-- why a write is refused: docs/FORMATS.md, "What is asked, and what is answered"
 pub data Refusal : Type 0 where
   too_deep too_long late_moment crowded worn no_frame not_reserved : Refusal

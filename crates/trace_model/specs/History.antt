@@ -7,8 +7,9 @@ use Rattle.trace_model.specs.Words.{slot_len, padded}
 
 -- push: a record frame of this moment, for a payload of len bytes. push_close: a close frame, which only
 -- leaves the tail page. leave: of the frame on top, with the payload that it wrote, or without a record.
--- open_fill and reserve are of the frame on top. wished: when the stack is empty, the outermost frame, which has
--- left, found that the reader wants the tail page, and goes on to begin the next fill.
+-- open_fill: a fill is begun, reserve: the next record is reserved, both for the frame on top. wished: when every frame
+-- has left, the outermost one, which is still there, found that the reader wants the tail page, and goes on to begin the
+-- next fill.
 pub data HistoryEvent : Type 0 where
   push : (moment len : ℕ) → HistoryEvent
   push_close open_fill reserve wished : HistoryEvent
@@ -106,8 +107,8 @@ settled_prefix history = settled_prefix_within (length history) history
 abbrev pub as_record : Reservation → Record
 as_record r = record { moment = r.moment; bytes = unwrap_or r.bytes (replicate r.len 0) }
 
--- The committed records: what was reserved up to the last moment at which no frame stood. One's index
--- here is its number.
+-- The committed records: what was reserved up to the last point at which every frame had left. One's index here is its
+-- number.
 abbrev pub committed_records : List HistoryEvent → List Record
 committed_records history = map as_record (reserved_records (settled_prefix history))
 

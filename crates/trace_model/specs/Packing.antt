@@ -16,7 +16,7 @@ opens_behind front (event ∷ behind) = opens_behind (front ++ event ∷ []) beh
 abbrev pub opens_of : List HistoryEvent → List ℕ
 opens_of history = opens_behind [] history
 
--- how many records were reserved before a fill was begun; start is the number of the first fill
+-- how many records were reserved before a fill was begun, 0 if it isn't begun; start is the number of the first fill
 abbrev pub first_of_fill : List HistoryEvent → ℕ → ℕ → ℕ
 first_of_fill history start f = slice_index_or (0 ∷ opens_of history) (f - start) 0
 

@@ -1,16 +1,22 @@
 //! What a script's lines make of each CPU, with neither links nor steps of a ring.
 ghost use Rattle.std.specs.Prelude.{◌≡◌, ◌<◌, ℕ, List, [], ◌∷◌, ◌++◌, Option, Some, None};
 ghost use Rattle.trace_model.specs.History.{HistoryEvent, leave};
-ghost use Rattle.trace_model.specs.Window.{RingEvent};
+ghost use Rattle.trace_model.specs.Window.{RingEvent, WindowRun};
 ghost use Rattle.text_model.specs.Script.{Script};
 ghost use Rattle.text_model.specs.ScriptLimits.{IsWithinLimits};
 ghost use Rattle.world_model.specs.World.{World, WorldOf};
-ghost use Rattle.line_model.specs.Accounts.{Frames, Does, IsAccount};
+ghost use Rattle.line_model.specs.Accounts.{Frames, Does, window_at, IsAccount};
 
 /// In the world of a script there is an account of each of its CPUs.
 pub fn worlds_have_accounts()
     ensures { (script : Script) (w : World) (cpu : ℕ) → IsWithinLimits script → WorldOf script w → cpu < script.cpus →
         (events : ℕ → List RingEvent) × IsAccount script cpu events }
+{}
+
+/// The events of an account are a run of the window, which leads to the one that they are counted to.
+pub fn accounts_are_window_runs()
+    ensures { (script : Script) (cpu : ℕ) (events : ℕ → List RingEvent) → IsAccount script cpu events →
+        (k : ℕ) → WindowRun script.pages script.start (events k) (window_at script.start (events k)) }
 {}
 
 /// What a line has a frame do until that frame is gone ends with its leave, if there are others below it: none of these
