@@ -1,13 +1,14 @@
 -- What an event of a ring means in the model, and what comes with its answer.
-use Rattle.std.specs.Prelude.{◌≡◌, ℕ, List, ◌∷◌, Some, None}
+use Rattle.std.specs.Prelude.{◌≡◌, ℕ, List, ◌∷◌, Option, Some, None}
 use Rattle.trace_model.specs.Steps as model
 use Rattle.page_image.specs.Contents.{IsPage}
 use Rattle.nested_writer.specs.Stack.{Stack}
+use Rattle.nested_writer.specs.declared.fault.WriteFault.{WriteFault}
 use Rattle.nested_writer.specs.declared.stack.leave.Ended.TheVariants.{Pending}
 use Rattle.ring_core.specs.declared.event.Event.{Event}
 use Rattle.ring_core.specs.declared.event.Event.TheVariants.{Push, PushClose, Step, End, Read, Wish}
 use Rattle.ring_frames.specs.declared.answer.Answer.{Answer}
-use Rattle.ring_frames.specs.declared.answer.Answer.TheVariants.{Pushed, Ended, Looking, Empty, Moving, Taken}
+use Rattle.ring_frames.specs.declared.answer.Answer.TheVariants.{Pushed, Ended, Refused, Looking, Empty, Moving, Taken}
 use Rattle.ring_frames.specs.Answers.{top_bytes, KeepsPayloads, EndsPayload}
 use Rattle.ring_frames.specs.Lens.{lens, IsOneMore, KeepsLens}
 use Rattle.ring_core.specs.Value.{CoreValue}
@@ -33,13 +34,24 @@ StepsPayloads End old new = EndsPayload old new
 StepsPayloads (Read body) old new = KeepsPayloads old new
 StepsPayloads Wish old new = KeepsPayloads old new
 
--- How long the payloads are that the frames were pushed for: a push puts one on top, and one that ends above others
--- leaves them; steps say it by their answer, and the reader keeps them.
+-- What the answer of a push says of how long the payloads are that the frames were pushed for: one of this length is on
+-- top of the others; if it is refused, they are the same.
+pub record PushesLens (len : Option ℕ) (result : Answer) (old new : Stack) : Type 0 where
+  pub pushed : result ≡ Pushed → lens new ≡ len ∷ lens old
+  pub refused : (fault : WriteFault) → result ≡ Refused fault → lens new ≡ lens old
+
+-- and that of an end: it was on top of the others; if it is refused, they are the same.
+pub record EndsLens (result : Answer) (old new : Stack) : Type 0 where
+  pub pending : result ≡ Ended Pending → IsOneMore (lens old) (lens new)
+  pub refused : (fault : WriteFault) → result ≡ Refused fault → lens new ≡ lens old
+
+-- How long the payloads are that the frames were pushed for: the writers' events say it by their answer, and the reader
+-- keeps them.
 abbrev pub StepsLens : Event → Answer → Stack → Stack → Type 0
-StepsLens (Push moment len) result old new = result ≡ Pushed → lens new ≡ Some len ∷ lens old
-StepsLens PushClose result old new = result ≡ Pushed → lens new ≡ None ∷ lens old
+StepsLens (Push moment len) result old new = PushesLens (Some len) result old new
+StepsLens PushClose result old new = PushesLens None result old new
 StepsLens Step result old new = KeepsLens result old new
-StepsLens End result old new = result ≡ Ended Pending → IsOneMore (lens old) (lens new)
+StepsLens End result old new = EndsLens result old new
 StepsLens (Read body) result old new = lens new ≡ lens old
 StepsLens Wish result old new = lens new ≡ lens old
 

@@ -1,5 +1,6 @@
 -- The payload of the frame on top, which is lent and written.
-use Rattle.std.proofs.Common.{◌≡◌, ℕ, ◌+◌, ◌-◌, Bool, true, false, cond, eqb, List, [], ◌∷◌, length, length-set, take, drop, refl, sym, ap, ◌∙◌, subst, arith}
+use Rattle.std.proofs.Common.{◌≡◌, ℕ, ◌+◌, ◌-◌, Bool, true, false, cond, eqb, List, [], ◌∷◌, length, length-set, take, drop, Option, Some, None, Result, Ok, Err, IfOk, refl, sym, ap, ◌∙◌, subst, arith}
+use Rattle.std.specs.Borrow.{MutBor}
 use Rattle.std.specs.Prelude.{slice_range, slice_set, slice_index_or}
 use Rattle.std.proofs.lemmas.Bool.{cond-true, cond-false, eq-eqb, ne_eqb}
 use Rattle.std.proofs.lemmas.List.{get_or-set_same}
@@ -13,11 +14,13 @@ use Rattle.trace_model.proofs.words.Overwritten.{place-within}
 use Rattle.record_words.specs.declared.put.Place.{Place}
 use Rattle.page_image.specs.Contents.{Contents}
 use Rattle.page_image.specs.Lending.{with_payload}
+use Rattle.nested_writer.specs.declared.fault.WriteFault.{WriteFault}
 use Rattle.nested_writer.specs.declared.frame.Slot.{Slot}
 use Rattle.nested_writer.specs.declared.frame.Progress.TheVariants.{Reserved}
 use Rattle.nested_writer.specs.declared.frame.Frame.{Frame}
 use Rattle.nested_writer.specs.Stack.{Stack, opened, tail_fill}
 use Rattle.nested_writer.specs.Calls.{IsTopSlot}
+use Rattle.nested_writer.specs.Next.{pushed_len}
 use Rattle.nested_writer.specs.Lent.{Lent, lent_bytes, with_bytes}
 use Rattle.nested_writer.specs.Lending.{with_slot, with_top, IsLent}
 use Rattle.nested_writer.specs.IsStack.{IsOpenPage, is_tail, is_older, IsStack}
@@ -27,9 +30,11 @@ use Rattle.nested_writer.proofs.Lent.{overwritten_there}
 use Rattle.ring_frames.specs.Value.{FramesValue}
 use Rattle.ring_frames.specs.AreFrames.{ring_frames, AreBelow, AreNotedAlike, AreFrames}
 use Rattle.ring_frames.specs.Answers.{open_page, bytes_of_progress, top_bytes}
+use Rattle.ring_frames.specs.Lens.{pushed_lens, FitsTop}
 use Rattle.ring_frames.specs.Lending.{with_slot_payload}
 use Rattle.ring_frames.proofs.Reshown.{reshown}
 use Rattle.ring_frames.proofs.Ended.{stands, bytes_are}
+use Rattle.ring_frames.proofs.PushedKinds.{first_len}
 
 -- ---- a stack of which pages alone have changed
 
@@ -162,3 +167,13 @@ module _ (n size start : ℕ) (v : FramesValue) (c : Core) (k : AreFrames n size
   top_written part fills =
       ap (λ (t : Stack). top_bytes t v.stack.frames) (lent.in_slot part)
       ∙ written_there n size start v c k lent.slot lent.on_top part (fills ∙ lent.long ∙ ap (λ (p : Place). p.len) lent.place_is)
+
+-- it is as long as the payload that the frame on top was pushed for takes
+pub fits_top : (frames : List Frame) (result : Result (MutBor Lent) WriteFault) → ((len : ℕ) → pushed_len frames ≡ Some len → IfOk result (λ p. length (lent_bytes p.now) ≡ slot_len len)) → IfOk result (λ p. FitsTop (pushed_lens frames) (length (lent_bytes p.now)))
+fits_top frames (Err fault) fits = tt
+fits_top frames (Ok p) fits = on_top (pushed_lens frames) refl
+  where
+    on_top : (lens : List (Option ℕ)) → pushed_lens frames ≡ lens → FitsTop lens (length (lent_bytes p.now))
+    on_top [] is = tt
+    on_top (None ∷ below) is = tt
+    on_top (Some len ∷ below) is = fits len (first_len frames len below is)

@@ -8,6 +8,7 @@ pub mod Pushes
 pub mod Left
 pub mod Ended
 pub mod Payloads
+pub mod Refused
 pub mod PushedKinds
 pub mod Covered
 pub mod Asked

@@ -9,6 +9,7 @@ use Rattle.trace_model.proofs.steps.StepSound.{cases_of}
 use Rattle.nested_writer.specs.declared.frame.Purpose.{Purpose}
 use Rattle.nested_writer.specs.declared.frame.Purpose.TheVariants.{Record, Close}
 use Rattle.nested_writer.specs.declared.frame.Frame as stack
+use Rattle.nested_writer.specs.declared.fault.WriteFault.{WriteFault}
 use Rattle.nested_writer.specs.declared.stack.leave.Ended.TheVariants.{Pending}
 use Rattle.nested_writer.specs.Stack.{kind_of}
 use Rattle.nested_writer.specs.Next.{len_of, pushed_len}
@@ -18,7 +19,8 @@ use Rattle.ring_frames.specs.declared.answer.Answer.TheVariants.{Pushed, Going, 
 use Rattle.ring_frames.specs.Value.{FramesValue}
 use Rattle.ring_frames.specs.AreFrames.{ring_frames, AreFrames}
 use Rattle.ring_frames.specs.Answers.{refusal_of, IsAnswerOf}
-use Rattle.ring_frames.specs.Lens.{pushed_lens, lens, IsOneMore, AreOthersLeft, KeepsLens}
+use Rattle.ring_frames.specs.Lens.{pushed_lens, lens, IsOneMore, AreOthersLeft, others_left, KeepsLens}
+use Rattle.ring_frames.proofs.Refused.{IsPushOrEnd, same_refused}
 use Rattle.ring_frames.proofs.Covered.{enough_phases}
 
 -- ---- in the model
@@ -209,6 +211,14 @@ module _ (f : Kind → Option ℕ) (before after : List Kind) (old new : List (O
   pub fewer_mapped : (top : Kind) × (before ≡ top ∷ after) → IsOneMore old new
   fewer_mapped (top, fewer) = (f top, old_is ∙ ap (map_kinds f) fewer ∙ ap (λ (others : List (Option ℕ)). f top ∷ others) (sym new_is))
 
+  pub left_mapped : after ≡ others_of before → new ≡ others_left old
+  left_mapped others_are = new_is ∙ ap (map_kinds f) others_are ∙ by_kinds before ∙ ap others_left (sym old_is)
+    where
+      by_kinds : (kinds : List Kind) → map_kinds f (others_of kinds) ≡ others_left (map_kinds f kinds)
+      by_kinds [] = refl
+      by_kinds (one ∷ []) = refl
+      by_kinds (one ∷ two ∷ kinds) = refl
+
   pub others_mapped : after ≡ others_of before → AreOthersLeft old new
   others_mapped others_are top next others is = new_is ∙ by_kinds before after others_are (sym old_is ∙ is)
     where
@@ -264,7 +274,7 @@ module _ (n size start : ℕ) (old new : FramesValue) (c after : Core) (before_a
       going = λ is. same_mapped kind_len (kinds_of c.frames) (kinds_of after.frames) (lens old.stack) (lens new.stack) old_is new_is (stepped_kinds n size c answer after step model.going (reports_so Going is));
       reserved = λ number is. same_mapped kind_len (kinds_of c.frames) (kinds_of after.frames) (lens old.stack) (lens new.stack) old_is new_is (stepped_kinds n size c answer after step (model.reserved_as number.0) (reports_so (Reserved number) is));
       gone = λ is. fewer_mapped kind_len (kinds_of c.frames) (kinds_of after.frames) (lens old.stack) (lens new.stack) old_is new_is (stepped_kinds n size c answer after step model.gone (reports_so Gone is));
-      refused = λ fault is. others_mapped kind_len (kinds_of c.frames) (kinds_of after.frames) (lens old.stack) (lens new.stack) old_is new_is (stepped_kinds n size c answer after step (model.refused (refusal_of fault)) (reports_so (Refused fault) is));
+      refused = λ fault is. left_mapped kind_len (kinds_of c.frames) (kinds_of after.frames) (lens old.stack) (lens new.stack) old_is new_is (stepped_kinds n size c answer after step (model.refused (refusal_of fault)) (reports_so (Refused fault) is));
     }
 
     -- a frame that is pushed is for the payload that is asked for
@@ -278,3 +288,9 @@ module _ (n size start : ℕ) (old new : FramesValue) (c after : Core) (before_a
     -- one that ends above others leaves them
     pub ends_lens : (payload : List ℕ) → model.Step n size c (model.ends payload) answer after → result ≡ Ended Pending → IsOneMore (lens old.stack) (lens new.stack)
     ends_lens payload step is = fewer_mapped kind_len (kinds_of c.frames) (kinds_of after.frames) (lens old.stack) (lens new.stack) old_is new_is (ended_kinds n size c answer after payload step (reports_so (Ended Pending) is))
+
+    -- a push or an end that is refused keeps them
+    pub refused_lens : (event : model.Event) → IsPushOrEnd event → model.Step n size c event answer after → (fault : WriteFault) → result ≡ Refused fault → lens new.stack ≡ lens old.stack
+    refused_lens event may step fault is =
+        same_mapped kind_len (kinds_of c.frames) (kinds_of after.frames) (lens old.stack) (lens new.stack) old_is new_is
+        (ap (λ (d : Core). kinds_of d.frames) (same_refused n size c event answer after may (refusal_of fault) (reports_so (Refused fault) is) (cases_of step)))

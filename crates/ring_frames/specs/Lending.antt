@@ -1,5 +1,5 @@
 -- The payload of the frame on top, which is lent out to be written.
-use Rattle.std.specs.Prelude.{◌≡◌, ◌≤◌, ◌↔◌, ℕ, List, [], ◌∷◌, length, Option, Some, Result, Err, IsOk, IfOk}
+use Rattle.std.specs.Prelude.{◌≡◌, ◌≤◌, ◌↔◌, ℕ, List, [], ◌∷◌, length, Some, Result, Err, IsOk, IfOk}
 use Rattle.std.specs.Borrow.{LendsIfOk, MutBor, Fml}
 use Rattle.trace_model.specs.Words.{slot_len}
 use Rattle.trace_model.specs.Frames.{for_record, Frame as ModelFrame}
@@ -18,7 +18,6 @@ use Rattle.nested_writer.specs.contracts.payload.Payload as payload_rows
 use Rattle.ring_frames.specs.Value.{FramesValue}
 use Rattle.ring_frames.specs.AreFrames.{AreFrames}
 use Rattle.ring_frames.specs.Answers.{bytes_in, top_bytes, HoldSlot}
-use Rattle.ring_frames.specs.Lens.{lens}
 use Rattle.ring_frames.specs.contracts.frames.Frames.{the_row}
 
 -- the frames with these bytes in a slot
@@ -56,16 +55,13 @@ LeavesOthers s slot = (top : Frame) (below : List Frame) (other : Slot) (part : 
     → HoldSlot below other
     → bytes_in (with_slot s slot part) other ≡ bytes_in s other
 
--- What is lent of the frame on top: the payload in its slot, of the length that it was pushed for, whose bytes it has,
--- and what is written there is in the slot, and nowhere else. There is one if its record is reserved.
+-- What is lent of the frame on top: the payload in its slot, whose bytes it has, and what is written there is in the
+-- slot, and nowhere else. There is one if its record is reserved.
 pub record LendsSlot (s : Stack) (result : Result (MutBor Lent) WriteFault) : Type 0 where
   pub no_frame : result ≡ Err NoFrame ↔ s.frames ≡ []
   pub not_reserved : result ≡ Err NotReserved ↔ LacksSlot s.frames
   pub held : (place : Place) → top_place s.frames ≡ Some place → IsOk result
   pub lent : IfOk result (λ payload. IsLent s payload.now)
-  pub len : (len : ℕ) (below : List (Option ℕ))
-      → lens s ≡ Some len ∷ below
-      → IfOk result (λ payload. length (lent_bytes payload.now) ≡ slot_len len)
   pub word : IfOk result (λ payload. 4 ≤ length (lent_bytes payload.now))
   pub payload : IfOk result (λ payload. lent_bytes payload.now ≡ top_bytes s s.frames)
   pub written : IfOk result (λ payload. (part : List ℕ)

@@ -4,11 +4,9 @@ use Rattle.std.proofs.Common.{◌≡◌, ℕ, List, [], ◌∷◌, length, refl,
 use Rattle.trace_model.specs.declared.numbers.RecordNo.{RecordNo}
 use Rattle.trace_model.specs.Words.{slot_len}
 use Rattle.trace_model.proofs.collections.Elements.{some_is}
-use Rattle.trace_model.specs.Frames.{Kind, for_record, for_close, FrameState, waiting, reserved, left, Refusal, Frame}
+use Rattle.trace_model.specs.Frames.{Kind, for_record, for_close, FrameState, waiting, reserved, left, Frame}
 use Rattle.trace_model.specs.Ring.{Core}
 use Rattle.trace_model.specs.Steps as model
-use Rattle.trace_model.specs.Steps.{end_answer}
-use Rattle.trace_model.proofs.steps.StepCases.{StepCases, push_step, push_refused, close_step, close_refused, frame_step, frame_lacks, end_step, end_lacks, end_early, read_step, store_wish_step}
 use Rattle.trace_model.proofs.steps.StepSound.{cases_of}
 use Rattle.link_marks.specs.KeptStack.{MayBeIn, IsForRecord}
 use Rattle.link_marks.proofs.frames.StackSteps.{top_agrees}
@@ -20,6 +18,7 @@ use Rattle.ring_frames.specs.declared.answer.Answer.{Answer}
 use Rattle.ring_frames.specs.declared.answer.Answer.TheVariants.{Pushed, Going, Reserved, Ended, Gone, Refused}
 use Rattle.ring_frames.specs.Answers.{IsAnswerOf, refusal_of}
 use Rattle.ring_frames.specs.Lens.{IsOneMore, AreOthersLeft}
+use Rattle.ring_frames.proofs.Refused.{IsPushOrEnd, same_refused}
 use Rattle.ring_frames.proofs.PushedKinds.{kinds_of, KeepsKinds, map_kinds, same_mapped, more_mapped, fewer_mapped, others_mapped, pushed_kinds, closing_kinds, ended_kinds, stepped_kinds}
 use Rattle.ring_frames.proofs.Reported.{IsRefusal}
 use Rattle.ring_steps.specs.declared.rule.Shape.{Shape}
@@ -33,39 +32,6 @@ use Rattle.ring_shared.specs.Rooms.{room_of, rooms_of, rooms, IsTopRoom}
 use Rattle.ring_shared.proofs.Depths.{depth_is}
 use Rattle.ring_shared.proofs.Standing.{kept_now}
 use Rattle.ring_shared.proofs.WholeWrites.{reserved_top}
-
--- ---- what is refused
-
--- a push or an end: not a step of the frame on top, and not the reader's
-abbrev IsPushOrEnd : model.Event → Type 0
-IsPushOrEnd (model.pushes moment len) = Unit {0}
-IsPushOrEnd model.pushes_close = Unit {0}
-IsPushOrEnd model.steps = ⊥
-IsPushOrEnd (model.ends payload) = Unit {0}
-IsPushOrEnd model.reads = ⊥
-IsPushOrEnd model.wishes = ⊥
-
-end_accepts : (below : List Frame) (why : Refusal) → end_answer below ≡ model.refused why → ⊥
-end_accepts [] why e = let no : model.full ≡ model.refused why = e in cc
-end_accepts (next ∷ below) why e = let no : model.pending ≡ model.refused why = e in cc
-
--- it changes nothing if it is refused
-module _ (n size : ℕ) (c : Core) (event : model.Event) (answer : model.Answer) (after : Core) (may : IsPushOrEnd event) (why : Refusal) (refuses : answer ≡ model.refused why) where
-  accepted : answer ≡ model.pushed → ⊥
-  accepted a = let no : model.pushed ≡ model.refused why = sym a ∙ refuses in cc
-
-  same_refused : StepCases n size c event answer after → after ≡ c
-  same_refused (push_step m l e few short early a is) = absurd (accepted a)
-  same_refused (push_refused m l w e why_not a is) = is
-  same_refused (close_step e few a is) = absurd (accepted a)
-  same_refused (close_refused e many a is) = is
-  same_refused (frame_step frame below e top step) = absurd (subst IsPushOrEnd e may)
-  same_refused (frame_lacks e none a is) = is
-  same_refused (end_step payload frame below number m l e top at kind fits a is) = absurd (end_accepts below why (sym a ∙ refuses))
-  same_refused (end_lacks payload e none a is) = is
-  same_refused (end_early payload frame below e top none a is) = is
-  same_refused (read_step e step) = absurd (subst IsPushOrEnd e may)
-  same_refused (store_wish_step e a is) = absurd (subst IsPushOrEnd e may)
 
 -- ---- of the writer's part
 

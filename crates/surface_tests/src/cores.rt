@@ -46,13 +46,13 @@ fn take(core: &mut Core, body: Body) -> Answer
 #[test]
 fn a_record_is_written_by_its_steps(rt: HostRuntime) -> Result<(), Fail> {
     let mut core = Core::new(rt.alloc(), 2, 32)?;
-    let push = Event::Push {
-        moment: 100,
-        len: 4,
+    let Answer::Pushed = core.step(Event::Push { moment: 100, len: 4 }) else {
+        return Err(Fail::new("no frame is pushed"));
     };
-    assert!(rt; matches!(core.step(push), Answer::Pushed));
-    assert!(rt; matches!(core.step(Event::Step), Answer::Reserved(RecordNo(0))));
-    core.top_mut()?.fill(7);
+    let Answer::Reserved(RecordNo(0)) = core.step(Event::Step) else {
+        return Err(Fail::new("the first record isn't reserved"));
+    };
+    core.top_mut()?.copy_from_slice(&[1, 2, 3, 4]);
     assert!(rt; matches!(core.step(Event::End), Answer::Ended(Ended::Full)));
     assert!(rt; matches!(core.step(Event::Step), Answer::Gone));
     assert!(rt; core.depth() == 0);
@@ -75,11 +75,11 @@ fn a_nested_record_is_pending(rt: HostRuntime) -> Result<(), Fail> {
     let Answer::Reserved(_) = core.step(Event::Step) else {
         return Err(Fail::new("no record is reserved amid another one"));
     };
-    core.top_mut()?.fill(b'b');
+    core.top_mut()?.copy_from_slice(b"bbbb");
     let Answer::Ended(Ended::Pending) = core.step(Event::End) else {
         return Err(Fail::new("the frame below is gone"));
     };
-    core.top_mut()?.fill(b'a');
+    core.top_mut()?.copy_from_slice(b"aaaa");
     assert!(rt; matches!(core.step(Event::End), Answer::Ended(Ended::Full)));
     Ok(())
 }
@@ -100,7 +100,7 @@ fn no_fill_is_begun_after_the_last(rt: HostRuntime) -> Result<(), Fail> {
     let Answer::Refused(WriteFault::Worn) = core.step(Event::Step) else {
         return Err(Fail::new("a fill is begun after the last"));
     };
-    core.top_mut()?.fill(1);
+    core.top_mut()?.copy_from_slice(&[1; 28]);
     assert!(rt; matches!(core.step(Event::End), Answer::Ended(Ended::Full)));
     Ok(())
 }

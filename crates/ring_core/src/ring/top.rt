@@ -8,18 +8,21 @@ impl Core {
     ghost use Rattle.nested_writer.specs.declared.frame.Slot.{Slot};
     ghost use Rattle.nested_writer.specs.Calls.{IsTopSlot};
     ghost use Rattle.nested_writer.specs.Lent.{lent_bytes, with_bytes};
+    ghost use Rattle.ring_frames.specs.Lens.{lens, FitsTop};
     ghost use Rattle.ring_frames.specs.Lending.{LendsSlot};
     ghost use Rattle.ring_core.specs.Lending.{FitsFrame, LendsTop, StaysRing, with_lent};
     ghost use Rattle.ring_core.specs.Steps.{IsReachedCore};
 
-    /// The payload in the slot of the frame on top, to be written: it acts as the slice of its bytes. All else stays as
-    /// it is, so the payloads of the other frames; and the ring is in the same state whatever is written. Refused with
-    /// `NoFrame` if there is no frame, and with `NotReserved` if the one on top has no record.
+    /// The payload in the slot of the frame on top, to be written: it acts as the slice of its bytes, as long as the
+    /// frame was pushed for. All else stays as it is, so the payloads of the other frames; and the ring is in the same
+    /// state whatever is written. Refused with `NoFrame` if there is no frame, and with `NotReserved` if the one on top
+    /// has no record.
     #[inline(always)]
     pub fn top_mut(&mut self) -> Result<&mut Payload, WriteFault>
         requires ring { IsReachedCore self.old }
         ensures* lends { sem 𝓛 (LendsTop self.entry result) }
         ensures slot { LendsSlot self.old.stack result }
+        ensures long { IfOk result (λ payload. FitsTop (lens self.old.stack) (length (lent_bytes payload.now))) }
         ensures unwritten { IfOk result (λ payload. with_lent self.old payload.now ≡ self.old) }
         ensures ring { IfOk result (λ payload. (part : List ℕ)
             → length part ≡ length (lent_bytes payload.now)

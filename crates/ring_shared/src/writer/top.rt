@@ -8,7 +8,7 @@ impl Writer {
     ghost use Rattle.std.specs.Borrow.{sem};
     ghost use Rattle.nested_writer.specs.Calls.{LacksSlot, IsTopSlot};
     ghost use Rattle.nested_writer.specs.Lent.{lent_bytes, with_bytes};
-    ghost use Rattle.ring_frames.specs.Lending.{LeavesOthers, LendsSlot};
+    ghost use Rattle.ring_frames.specs.Lending.{LendsSlot};
     ghost use Rattle.ring_shared.specs.Calls.{IsWriter};
     ghost use Rattle.ring_shared.specs.Rooms.{rooms, IsTopRoom};
     ghost use Rattle.ring_shared.specs.Lending.{FitsFrame, LendsTop, with_lent};
@@ -40,9 +40,6 @@ impl Writer {
             → rooms self.old ≡ Some bytes ∷ below
             → IfOk result (λ payload. length (lent_bytes payload.now) ≡ bytes) }
         ensures fits { (slot : Slot) → IsTopSlot self.old.frames.stack.frames slot → FitsFrame self.old slot }
-        ensures others { (slot : Slot)
-            → IsTopSlot self.old.frames.stack.frames slot
-            → LeavesOthers self.old.frames.stack slot }
         ensures writer { IfOk result (λ payload. (part : List ℕ)
             → length part ≡ length (lent_bytes payload.now)
             → IsWriter (with_lent self.old (with_bytes payload.now part))) }

@@ -5,6 +5,7 @@ use Rattle.nested_writer.specs.declared.frame.Slot.{Slot}
 use Rattle.nested_writer.specs.Calls.{IsTopSlot}
 use Rattle.nested_writer.specs.Lent.{Lent, lent_bytes, with_bytes}
 use Rattle.ring_frames.specs.Value.{FramesValue}
+use Rattle.ring_frames.specs.Lens.{lens, FitsTop}
 use Rattle.ring_frames.specs.Lending.{LendsSlot}
 use Rattle.ring_core.specs.Value.{CoreValue, frames_of}
 use Rattle.ring_core.specs.Inside.{core_of}
@@ -30,6 +31,7 @@ returns c =
       record {
         lends = tt;
         slot = subst (λ (x : CoreValue). LendsSlot x.stack c.top_mut.result) c.self.view_is lends.slot;
+        long = subst (λ (x : CoreValue). IfOk c.top_mut.result (λ (p : MutBor Lent). FitsTop (lens x.stack) (length (lent_bytes p.now)))) c.self.view_is lends.long;
         unwritten = subst (λ (x : CoreValue). IfOk c.top_mut.result (λ (p : MutBor Lent). with_lent x p.now ≡ x)) c.self.view_is
             (IfOk-weaker c.top_mut.result _ _ (λ p same. ap (λ (f : FramesValue). record v { stack = f.stack }) same) lends.unwritten);
         ring = subst (λ (x : CoreValue). IfOk c.top_mut.result (λ (p : MutBor Lent). (part : List ℕ) → length part ≡ length (lent_bytes p.now) → IsReachedCore (with_lent x (with_bytes p.now part)))) c.self.view_is

@@ -1,7 +1,6 @@
-use Rattle.std.proofs.Common.{◌≡◌, ℕ, List, ◌∷◌, Option, Some, IfOk, length, refl, sym, ap, subst}
+use Rattle.std.proofs.Common.{◌≡◌, ℕ, List, IfOk, length, refl, sym, ap, subst}
 use Rattle.std.specs.Borrow.{MutBor}
 use Rattle.std.proofs.lemmas.Result.{IfOk-weaker}
-use Rattle.trace_model.specs.Words.{slot_len}
 use Rattle.nested_writer.specs.declared.frame.Slot.{Slot}
 use Rattle.nested_writer.specs.Stack.{Stack}
 use Rattle.nested_writer.specs.Calls.{IsTopSlot}
@@ -11,11 +10,10 @@ use Rattle.nested_writer.proofs.Written.{written}
 use Rattle.ring_frames.specs.Value.{FramesValue}
 use Rattle.ring_frames.specs.Inside.{frames_in}
 use Rattle.ring_frames.specs.Answers.{top_bytes}
-use Rattle.ring_frames.specs.Lens.{lens}
+use Rattle.ring_frames.specs.Lens.{lens, FitsTop}
 use Rattle.ring_frames.specs.Lending.{FitsFrame, LeavesOthers, StaysFrames, with_lent}
 use Rattle.ring_frames.specs.Steps.{AreSomeFrames}
-use Rattle.ring_frames.proofs.PushedKinds.{first_len}
-use Rattle.ring_frames.proofs.Lent.{top_lent, top_written, slot_fits, written_stays}
+use Rattle.ring_frames.proofs.Lent.{top_lent, top_written, slot_fits, written_stays, fits_top}
 use Rattle.ring_frames.proofs.Others.{leaves_others}
 use Rattle.ring_frames.proofs.frames.Frames.top_mut.Goals as goal
 
@@ -32,8 +30,6 @@ returns c =
           not_reserved = rw (← c.self.view_is) lends.not_reserved;
           held = rw (← c.self.view_is) lends.held;
           lent = subst (λ (x : FramesValue). IfOk c.top_mut.result (λ (p : MutBor Lent). IsLent x.stack p.now)) c.self.view_is lends.lent;
-          len = subst (λ (x : FramesValue). (len : ℕ) (below : List (Option ℕ)) → lens x.stack ≡ Some len ∷ below → IfOk c.top_mut.result (λ (p : MutBor Lent). length (lent_bytes p.now) ≡ slot_len len)) c.self.view_is
-              (λ len below is. lends.fits len (first_len v.stack.frames len below is));
           word = lends.word;
           payload = subst (λ (x : FramesValue). IfOk c.top_mut.result (λ (p : MutBor Lent). lent_bytes p.now ≡ top_bytes x.stack x.stack.frames)) c.self.view_is
               (IfOk-weaker c.top_mut.result _ _ (λ p lent. top_lent n size start v s are p.now lent) lends.lent);
@@ -42,6 +38,8 @@ returns c =
           others = subst (λ (x : FramesValue). (slot : Slot) → IsTopSlot x.stack.frames slot → LeavesOthers x.stack slot) c.self.view_is
               (λ slot is. leaves_others start s.history v.stack slot are.stack_is is);
         };
+        long = subst (λ (x : FramesValue). IfOk c.top_mut.result (λ (p : MutBor Lent). FitsTop (lens x.stack) (length (lent_bytes p.now)))) c.self.view_is
+            (fits_top v.stack.frames c.top_mut.result lends.fits);
         unwritten = subst (λ (x : FramesValue). IfOk c.top_mut.result (λ (p : MutBor Lent). with_lent x p.now ≡ x)) c.self.view_is
             (IfOk-weaker c.top_mut.result _ _ (λ p same. ap (λ (s' : Stack). record v { stack = s' }) same) lends.unwritten);
         fits = subst (λ (x : FramesValue). (slot : Slot) → IsTopSlot x.stack.frames slot → FitsFrame x slot) c.self.view_is

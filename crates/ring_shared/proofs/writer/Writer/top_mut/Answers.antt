@@ -5,7 +5,7 @@ use Rattle.nested_writer.specs.declared.frame.Slot.{Slot}
 use Rattle.nested_writer.specs.Calls.{IsTopSlot}
 use Rattle.nested_writer.specs.Lent.{Lent, lent_bytes, with_bytes}
 use Rattle.ring_frames.specs.Value.{FramesValue}
-use Rattle.ring_frames.specs.Lending.{LeavesOthers, LendsSlot}
+use Rattle.ring_frames.specs.Lending.{LendsSlot}
 use Rattle.ring_steps.specs.Views.{Writing}
 use Rattle.ring_shared.specs.Value.{WriterValue}
 use Rattle.ring_shared.specs.Calls.{IsWriter}
@@ -36,7 +36,6 @@ returns c =
         long = subst (λ (x : WriterValue). (bytes : ℕ) (below : List (Option ℕ)) → rooms x ≡ Some bytes ∷ below → IfOk c.top_mut.result (λ (p : MutBor Lent). length (lent_bytes p.now) ≡ bytes)) c.self.view_is
             (λ bytes below is. IfOk-weaker c.top_mut.result _ _ (λ p lent. same_room bytes below v is (length (lent_bytes p.now)) (subst (IsTopRoom v) (sym (lent_len v.frames.stack p.now lent)) (top_room v w lent.slot lent.on_top (fits lent.slot lent.on_top)))) lends.slot.lent);
         fits = subst (λ (x : WriterValue). (slot : Slot) → IsTopSlot x.frames.stack.frames slot → FitsFrame x slot) c.self.view_is fits;
-        others = subst (λ (x : WriterValue). (slot : Slot) → IsTopSlot x.frames.stack.frames slot → LeavesOthers x.frames.stack slot) c.self.view_is lends.slot.others;
         writer = subst (λ (x : WriterValue). IfOk c.top_mut.result (λ (p : MutBor Lent). (part : List ℕ) → length part ≡ length (lent_bytes p.now) → IsWriter (with_lent x (with_bytes p.now part)))) c.self.view_is
             (IfOk-weaker c.top_mut.result _ _ (λ p lent part long. stays_writer v w p.now lent part long (lends.stays lent.slot lent.on_top)) lends.slot.lent);
       },

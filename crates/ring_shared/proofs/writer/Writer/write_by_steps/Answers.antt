@@ -58,7 +58,7 @@ returns-clause-written c = λ _.
 pub returns-clause-keeps : goal.returns-clause-keeps
 returns-clause-keeps c = record {
   payloads = let x : WriterValue = c.args.self.now in let two : WriterValue = c.reserve_record.new.self in let p : Lent = c.in_ok-top_mut.field-0.now in let lent : IsLent two.frames.stack p = c.in_ok-top_mut.ensures.slot.lent in kept_under x.frames.stack two.frames.stack c.end_record.new.self.frames.stack lent.slot c.put_padded.new.slot
-      (c.reserve_record.ensures.covers c.in_ok-slot.slot c.in_ok-slot.was) (c.in_ok-top_mut.ensures.others lent.slot lent.on_top)
+      (c.reserve_record.ensures.covers c.in_ok-slot.slot c.in_ok-slot.was) (c.in_ok-top_mut.ensures.slot.others lent.slot lent.on_top)
       (covered_is two p lent c.put_padded.new.slot c.end_record.new.self.frames.stack c.end_record.ensures.covered);
   ring = search rules;
   writer = search rules;
