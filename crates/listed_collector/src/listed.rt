@@ -67,9 +67,13 @@ fn copied_listing(alloc: Global, collector: &Collector) -> Result<Vec<ListedLine
 /// The numbers of a line that is listed, and how many bytes it has.
 #[derive(Clone, Copy, Debug, PartialEq, Eq)]
 pub struct LineNumbers {
+    /// The moment of the line's record.
     pub moment: Moment,
+    /// The CPU of its ring.
     pub cpu: CpuId,
+    /// Its number in the ring.
     pub number: RecordNo,
+    /// How many bytes its payload has, up to the end of its last word.
     pub len: usize,
 }
 
@@ -87,6 +91,7 @@ pub enum Given {
 /// A collector, and the listing that was made of it last, whose lines are given one after the other.
 #[derive(Drop)]
 pub struct ListedCollector {
+    /// The collector.
     pub collector: Collector,
     /// The listing; no line, before one was made.
     pub lines: Vec<ListedLine>,

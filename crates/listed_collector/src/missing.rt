@@ -9,7 +9,9 @@ use trace_model::CpuId;
 #[repr(C)]
 #[derive(Clone, Copy, Debug, PartialEq, Eq)]
 pub struct Run {
+    /// The lowest number of the run.
     pub first: u64,
+    /// The highest one, which is missing too.
     pub last: u64,
 }
 

@@ -9,7 +9,9 @@ use std::marker::Model;
 
 /// The pointer of a box, which owns what the box owned.
 pub struct Loose<T, A: Allocator> {
+    /// Where the box's value is.
     pub at: *mut T,
+    /// What gave the box its memory, and takes it back.
     pub alloc: A,
     pub ghost value: { T },
 }

@@ -1,5 +1,5 @@
 //! The calls on collectors.
-ghost use Rattle.std.specs.Prelude.{◌≡◌, ◌≢◌, ◌↔◌, Some, None, IfSome, IsSomeAnd, is_some, true, pos, negsuc};
+ghost use Rattle.std.specs.Prelude.{◌≡◌, ◌≢◌, ◌↔◌, Some, None, IsSomeAnd, is_some, true, pos, negsuc};
 ghost use Rattle.trace_model.specs.Collection.{IsSame};
 ghost use Rattle.tracering_c.specs.declared.ends.CollectorEnd.{CollectorEnd as EndValue};
 ghost use Rattle.tracering_c.specs.Held.{collector_of};

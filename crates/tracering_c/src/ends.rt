@@ -7,20 +7,25 @@ use trace_model::CpuId;
 /// The writer.
 #[derive(Drop)]
 pub struct WriterEnd {
+    /// The ring's writer.
     pub writer: Writer,
 }
 
 /// The reader, the CPU under which its pages are parcels, and the body that its next take hands in.
 #[derive(Drop)]
 pub struct ReaderEnd {
+    /// The CPU under which the pages are parcels.
     pub cpu: CpuId,
+    /// The ring's reader.
     pub reader: Reader,
+    /// The body for the next take. There is one, between two calls.
     pub body: Option<Body>,
 }
 
 /// A collector and its listing.
 #[derive(Drop)]
 pub struct CollectorEnd {
+    /// Both.
     pub listed: ListedCollector,
 }
 

@@ -1,6 +1,6 @@
 //! A new ring, and its ends' end.
-ghost use Rattle.std.specs.Prelude.{◌≡◌, ◌≢◌, ◌↔◌, Some, None, IfSome, IsSomeAnd, is_some, true, pos};
-ghost use Rattle.trace_model.specs.declared.limits.TheConstants.{START_FILL};
+ghost use Rattle.std.specs.Prelude.{◌≡◌, ◌≢◌, ◌<◌, ◌↔◌, Some, None, IfSome, IfOk, IsSomeAnd, is_some, true, pos};
+ghost use Rattle.trace_model.specs.declared.limits.TheConstants.{MAX_CPUS, START_FILL};
 ghost use Rattle.trace_model.specs.Ring.{HasRingLimits};
 ghost use Rattle.ring_shared.specs.NewEnds.{AreNewEnds};
 ghost use Rattle.ring_shared.specs.Calls.{IsWriter};
@@ -15,7 +15,7 @@ use crate::ends::{ReaderEnd, WriterEnd};
 use crate::handle::{ReaderHandle, WriterHandle};
 use page_image::Body;
 use std::alloc::Global;
-use trace_model::{CpuId, MAX_CPUS, MAX_PAGES, MAX_SIZE, MIN_PAGES, MIN_SIZE};
+use trace_model::{CpuId, MAX_CPUS, MAX_PAGES, MAX_SIZE, MIN_PAGES, MIN_SIZE, NoMemory};
 
 /// A new ring of this CPU, of `pages` pages of `size` bytes of data, for two handles that have none. All its memory is
 /// taken here.
@@ -52,28 +52,34 @@ pub extern "C" fn tracering_raw_new(
     if !has_limits(pages, size) {
         return BAD_SIZE;
     }
-    let Ok((writer, reader)) = ring_shared::ring(alloc, pages, size) else {
-        return NO_MEMORY;
-    };
-    let Ok(body) = Body::new(alloc, size) else {
-        return NO_MEMORY;
-    };
-    let Ok(left) = Box::new(alloc, WriterEnd { writer }) else {
-        return NO_MEMORY;
-    };
-    let Ok(right) = Box::new(
-        alloc,
-        ReaderEnd {
-            cpu: CpuId(cpu),
-            reader,
-            body: Some(body),
-        },
-    ) else {
+    let Ok((left, right)) = new_ends(alloc, CpuId(cpu), pages, size) else {
         return NO_MEMORY;
     };
     *w = WriterHandle::of(left);
     *r = ReaderHandle::of(right);
     DONE
+}
+
+/// Both ends of a new ring, each in its box.
+fn new_ends(
+    alloc: Global,
+    cpu: CpuId,
+    pages: usize,
+    size: usize,
+) -> Result<(Box<WriterEnd, Global>, Box<ReaderEnd, Global>), NoMemory>
+    requires limits { HasRingLimits pages size }
+    requires known { cpu.0 < MAX_CPUS }
+    ensures ring { IfOk result (λ ends. AreNewEnds (record { pages = pages; size = size; start = START_FILL })
+        ends.0.value.writer ends.1.value.reader) }
+    ensures cpu { IfOk result (λ ends. ends.1.value.cpu.0 ≡ cpu.0) }
+    ensures writer { IfOk result (λ ends. IsWriter ends.0.value.writer) }
+    ensures reader { IfOk result (λ ends. IsReaderEnd ends.1.value) }
+{
+    let (writer, reader) = ring_shared::ring(alloc, pages, size)?;
+    let body = Some(Body::new(alloc, size)?);
+    let left = Box::new(alloc, WriterEnd { writer })?;
+    let right = Box::new(alloc, ReaderEnd { cpu, reader, body })?;
+    Ok((left, right))
 }
 
 /// Whether a ring can have this number of pages, of `size` bytes of data each.

@@ -1,5 +1,5 @@
 //! The calls on a ring's reader.
-ghost use Rattle.std.specs.Prelude.{◌≡◌, ◌+◌, ◌≤◌, None, Some, length, IfSome, IsSomeAnd, pos};
+ghost use Rattle.std.specs.Prelude.{◌≡◌, ◌+◌, None, Some, IfSome, IsSomeAnd, pos};
 ghost use Rattle.ring_shared.specs.Takes.{SameRing};
 ghost use Rattle.tracering_c.specs.declared.ends.ReaderEnd.{ReaderEnd as EndValue};
 ghost use Rattle.tracering_c.specs.Held.{reader_of};

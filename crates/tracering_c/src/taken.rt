@@ -1,5 +1,4 @@
 //! What is reported of a page that is given to C.
-ghost use Rattle.std.specs.Prelude.{◌≡◌, length};
 
 use page_image::Page;
 
