@@ -46,11 +46,20 @@ fn take(core: &mut Core, body: Body) -> Answer
 #[test]
 fn a_record_is_written_by_its_steps(rt: HostRuntime) -> Result<(), Fail> {
     let mut core = Core::new(rt.alloc(), 2, 32)?;
-    let Answer::Pushed = core.step(Event::Push { moment: 100, len: 4 }) else {
+    let Answer::Pushed = core.step(Event::Push {
+        moment: 100,
+        len: 4,
+    }) else {
         return Err(Fail::new("no frame is pushed"));
     };
     let Answer::Reserved(RecordNo(0)) = core.step(Event::Step) else {
         return Err(Fail::new("the first record isn't reserved"));
+    };
+    let Answer::Refused(WriteFault::LateMoment) = core.step(Event::Push {
+        moment: 1 << 59,
+        len: 8,
+    }) else {
+        return Err(Fail::new("a moment that is too late isn't refused"));
     };
     core.top_mut()?.copy_from_slice(&[1, 2, 3, 4]);
     assert!(rt; matches!(core.step(Event::End), Answer::Ended(Ended::Full)));

@@ -24,6 +24,7 @@ impl WriterStack {
     ghost use Rattle.nested_writer.specs.IsStack.{IsStack, IsReachedStack};
 
     /// `end`, however far the frame on top has come.
+    #[cold]
     #[inline(never)]
     fn end_any(&mut self) -> Result<Ended, WriteFault>
         requires stack { IsReachedStack self.old }

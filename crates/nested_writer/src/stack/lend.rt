@@ -18,6 +18,7 @@ impl WriterStack {
     ghost use Rattle.nested_writer.specs.Lending.{LendsTop, IsLent, with_top};
 
     /// Why nothing is lent, if the frame on top has reserved nothing, or the stack is empty.
+    #[cold]
     #[inline(never)]
     fn lends_none(&self) -> WriteFault
         requires { self.now.frames ≡ [] ⊎ LacksSlot self.now.frames }

@@ -77,6 +77,7 @@ impl WriterStack {
     }
 
     /// `begin`, whatever is on the stack.
+    #[cold]
     #[inline(never)]
     fn begin_any(&mut self, moment: u64, len: usize) -> Result<(), WriteFault>
         ensures { Begins moment len self.old result self.new }

@@ -67,9 +67,7 @@ impl Frames {
         ensures looks { LooksForWish self.old wish (as_answer result) self.new }
         ensures payloads { KeepsPayloads self.old.stack self.new.stack }
     {
-        if wish.wrapping_sub(1) != self.stack.done()
-            && self.stack.opened() == self.stack.done() + 1
-        {
+        if wish <= self.stack.done() && self.stack.opened() == self.stack.done() + 1 {
             self.stack.pop_bottom();
             return StepAnswer::Gone;
         }
@@ -77,6 +75,7 @@ impl Frames {
     }
 
     /// `load_wish`, whatever the wish and the fills.
+    #[cold]
     #[inline(never)]
     fn load_wish_any(&mut self, wish: u64) -> StepAnswer
         requires { IsWishing self.old }

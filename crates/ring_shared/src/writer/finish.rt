@@ -65,6 +65,7 @@ impl Writer {
     }
 
     /// `finish_top`, whatever the frame on top, if any, with what it makes of that frame.
+    #[cold]
     #[inline(never)]
     fn finish_any(&mut self) -> Finished
         requires writer { IsWriter self.old }

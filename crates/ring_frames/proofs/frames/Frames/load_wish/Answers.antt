@@ -21,9 +21,8 @@ returns-then-opened-done-clause-looks c = λ n size start m reached now asks.
     let begun = c.opened.ensures.begun in
     let done = c.done.ensures in
     let last = c.if-opened-done.true in
-    let few = c.ranges.wish.fits in
-    let other = c.if-wish-done.true in
-    let refuses : IsGranted n m → ⊥ = λ granted. (let next = sym asks ∙ granted.asks_tail ∙ core.are.opened_is in other (omega (arith, next, begun, done, last, few))) in
+    let past = c.if-wish-done.true in
+    let refuses : IsGranted n m → ⊥ = λ granted. (let next = sym asks ∙ granted.asks_tail ∙ core.are.opened_is in omega (arith, next, begun, done, last, past)) in
     goes_away n size start v m core (subst (λ (x : FramesValue). x.stack.frames ≢ []) (sym c.self.view_is) c.requires.top)
     (ap (λ (x : FramesValue). x.phase) c.self.view_is ∙ c.requires.phase) c.pop_bottom.new.self v.phase refuses (omega arith) c.pop_bottom.ensures.popped c.pop_bottom.ensures.stack
 
