@@ -4,7 +4,7 @@ use page_image::read_image;
 use page_numbers::Parcel;
 use std::process::Abort;
 use std::test::Fail;
-use trace_model::{CpuId, FillNo, RecordNo};
+use trace_model::{CpuId, FillNo, NoMemory, RecordNo};
 
 /// A page of 36 bytes with 32 bytes of data, before which one number is missing: its CPU, fill, first number and missed
 /// number, and its image.
@@ -31,6 +31,12 @@ fn pages_are_shared_and_not_copied(rt: HostRuntime) -> Result<(), Fail> {
     Ok(())
 }
 
+/// Compares the bytes of a parcel.
+fn compare(rt: &(impl Abort + AllocGlobal), parcel: &Parcel, bytes: &[u8]) -> Result<(), NoMemory> {
+    assert!(rt; parcel.to_bytes(rt.alloc())?.as_slice() == bytes);
+    Ok(())
+}
+
 /// A parcel has the whole page that it was made of, and so do its shares; a fitted one has as much as its data takes.
 #[test]
 fn a_parcel_is_written_with_its_page(rt: HostRuntime) -> Result<(), Fail> {
@@ -40,11 +46,17 @@ fn a_parcel_is_written_with_its_page(rt: HostRuntime) -> Result<(), Fail> {
         .numbered(RecordNo(7), FillNo(5));
     assert!(rt; page.count() == 1);
     let fitted = Parcel::fitted(rt.alloc(), CpuId(0), &page, 1)?;
-    assert!(rt; fitted.to_bytes(rt.alloc())?.as_slice() == &ONE_OF_36[..80]);
+    compare(&rt, &fitted, &ONE_OF_36[..80])?;
     let whole = Parcel::of(rt.alloc(), CpuId(0), page, 1)?;
-    assert!(rt; whole.share()?.to_bytes(rt.alloc())?.as_slice() == ONE_OF_36);
+    compare(&rt, &whole.share()?, ONE_OF_36)?;
     assert!(rt; whole.has_page_of(&fitted) && whole.sharers() == 1);
+    Ok(())
+}
+
+/// So does one that is read.
+#[test]
+fn a_parcel_is_read_with_its_page(rt: HostRuntime) -> Result<(), Fail> {
     let read = Parcel::from_bytes(rt.alloc(), ONE_OF_36)?;
-    assert!(rt; read.to_bytes(rt.alloc())?.as_slice() == ONE_OF_36);
+    compare(&rt, &read, ONE_OF_36)?;
     Ok(())
 }

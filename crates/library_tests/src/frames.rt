@@ -10,10 +10,10 @@ use std::process::Abort;
 use std::test::Fail;
 use trace_model::{LINK_FILLS, NoMemory};
 
-/// Nothing is written at once above a frame, nor once one was ended and stays; and that one reserves nothing more.
-#[test]
-fn nothing_is_written_under_a_frame(rt: HostRuntime) -> Result<(), Fail> {
-    let mut stack = WriterStack::new(rt.alloc(), 2, 64)?;
+/// Pushes a frame and ends it, and tries to write at once meanwhile.
+fn write_amid(rt: &impl Abort, stack: &mut WriterStack)
+    requires { IsReachedStack stack.old }
+{
     assert!(rt; stack.begin(9, 4) == Ok(()));
     assert!(rt; stack.write(9, b"abcd") == Nothing);
     assert!(rt; stack.plain_top().is_none());
@@ -23,6 +23,13 @@ fn nothing_is_written_under_a_frame(rt: HostRuntime) -> Result<(), Fail> {
     assert!(rt; stack.write(9, b"abcd") == Nothing);
     assert!(rt; matches!(stack.allot(), Err(WriteFault::NotReserved)));
     assert!(rt; stack.depth() == 1);
+}
+
+/// Nothing is written at once above a frame, nor once one was ended and stays; and that one reserves nothing more.
+#[test]
+fn nothing_is_written_under_a_frame(rt: HostRuntime) -> Result<(), Fail> {
+    let mut stack = WriterStack::new(rt.alloc(), 2, 64)?;
+    write_amid(&rt, &mut stack);
     Ok(())
 }
 
@@ -45,11 +52,11 @@ fn a_record_written_alone_leaves_no_frame(rt: HostRuntime) -> Result<(), Fail> {
     Ok(())
 }
 
-/// A stack of 4 pages whose one frame, a close frame, needed no page until a record came.
-fn late_to_close(rt: &(impl Abort + AllocGlobal)) -> Result<WriterStack, NoMemory>
-    ensures { IfOk result (λ stack. IsReachedStack stack) }
+/// Pushes a close frame that needs no page until a record came.
+fn close_late(rt: &impl Abort, stack: &mut WriterStack)
+    requires { IsReachedStack stack.old }
+    ensures { IsReachedStack stack.new }
 {
-    let mut stack = WriterStack::new(rt.alloc(), 4, 32)?;
     assert!(rt; stack.begin_close() == Ok(()));
     assert!(rt; matches!(stack.allot(), Ok(Allot::Fits(_))));
     assert!(rt; stack.begin(1, 4) == Ok(()));
@@ -57,6 +64,14 @@ fn late_to_close(rt: &(impl Abort + AllocGlobal)) -> Result<WriterStack, NoMemor
     assert!(rt; stack.end() == Ok(Ended::Pending));
     assert!(rt; matches!(stack.allot(), Ok(Allot::NeedsPage)));
     assert!(rt; stack.end() == Err(WriteFault::NotReserved));
+}
+
+/// A stack of 4 pages with such a frame.
+fn late_to_close(rt: &(impl Abort + AllocGlobal)) -> Result<WriterStack, NoMemory>
+    ensures { IfOk result (λ stack. IsReachedStack stack) }
+{
+    let mut stack = WriterStack::new(rt.alloc(), 4, 32)?;
+    close_late(rt, &mut stack);
     Ok(stack)
 }
 

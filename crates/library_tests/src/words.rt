@@ -1,5 +1,4 @@
 //! Records written and words read, with their bytes written out.
-ghost use Rattle.std.specs.Prelude.{◌≤◌};
 
 use record_words::{Place, Word, WordFault, next_word, put_payload, put_record, size_of};
 use std::process::Abort;

@@ -5,7 +5,7 @@ ghost use Rattle.ring_shared.specs.Calls.{IsWriter};
 ghost use Rattle.ring_shared.specs.Takes.{IsReader};
 
 use crate::event::Shape;
-use crate::reply::unread_text;
+use crate::reply::{unread_text, unsettled};
 use crate::ring::{Ring, fill};
 use nested_writer::WriteFault;
 use page_image::{Body, Page};
@@ -70,12 +70,12 @@ impl Ends {
     pub fn settled(self, alloc: Global) -> Result<String, NoMemory> {
         let Ends { writer, reader, .. } = self;
         if writer.depth() != 0 || reader.empty_at() != Some(writer.done()) {
-            return Ok(String::from_str(alloc, "refused")?);
+            return unsettled(alloc);
         }
-        match settle(alloc, writer, reader) {
-            Ok(settled) => unread_text(alloc, settled.unread()),
-            Err(_) => Err(NoMemory),
-        }
+        let Ok(settled) = settle(alloc, writer, reader) else {
+            return Err(NoMemory);
+        };
+        unread_text(alloc, settled.unread())
     }
 }
 

@@ -102,6 +102,11 @@ pub fn refused(alloc: Global, fault: WriteFault) -> Result<String, NoMemory> {
     Ok(format!(in alloc; "refused {fault:?}")?)
 }
 
+/// What is answered if the ends can't be joined.
+pub fn unsettled(alloc: Global) -> Result<String, NoMemory> {
+    Ok(String::from_str(alloc, "refused")?)
+}
+
 /// The page that no take has answered, of a ring whose ends were joined.
 pub fn unread_text(alloc: Global, unread: Option<&Page>) -> Result<String, NoMemory> {
     let mut out = String::new(alloc);

@@ -108,8 +108,10 @@ impl Rings {
 
     /// What is unread of both at the end.
     fn settled(self, alloc: Global) -> Result<String, NoMemory> {
-        let Rings { mut value, ends } = self;
-        agreed(alloc, value.settled(alloc)?, ends.settled(alloc)?)
+        let Rings { value, ends } = self;
+        let value = value.settled(alloc);
+        let ends = ends.settled(alloc);
+        agreed(alloc, value?, ends?)
     }
 }
 

@@ -4,7 +4,7 @@ ghost use Rattle.ring_core.specs.Value.{CoreValue};
 ghost use Rattle.ring_core.specs.Steps.{IsReachedCore};
 
 use crate::event::Shape;
-use crate::reply::unread_text;
+use crate::reply::{unread_text, unsettled};
 use crate::ring::{Ring, fill};
 use nested_writer::{Ended, WriteFault};
 use page_image::{Body, Page};
@@ -75,10 +75,16 @@ impl Value {
         Ok(())
     }
 
-    /// What is unread, if there is no frame and no closed fill is unread: the tail, which is closed and taken for it.
-    pub fn settled(&mut self, alloc: Global) -> Result<String, NoMemory> {
+    /// What is unread, if there is no frame and no closed fill is unread.
+    pub fn settled(self, alloc: Global) -> Result<String, NoMemory> {
+        let mut value = self;
+        value.close_and_take(alloc)
+    }
+
+    /// The same: the tail, which is closed and taken for it.
+    fn close_and_take(&mut self, alloc: Global) -> Result<String, NoMemory> {
         if self.depth() != 0 || !matches!(self.take(alloc)?, Answer::Empty(_, _)) {
-            return Ok(String::from_str(alloc, "refused")?);
+            return unsettled(alloc);
         }
         self.push_close();
         self.finish();

@@ -1,5 +1,5 @@
 //! Ends of small rings: what they take, and what is left of them.
-ghost use Rattle.std.specs.Prelude.{◌≡◌, [], IfOk};
+ghost use Rattle.std.specs.Prelude.{[], IfOk};
 ghost use Rattle.ring_shared.specs.Value.{SameWriter};
 ghost use Rattle.ring_shared.specs.Calls.{IsWriter};
 ghost use Rattle.ring_shared.specs.Takes.{SameRing};

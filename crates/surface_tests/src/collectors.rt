@@ -29,7 +29,7 @@ fn what_is_at_odds_is_refused(rt: HostRuntime) -> Result<(), Fail> {
 }
 
 #[test]
-fn a_collector_is_merged_and_listed(rt: HostRuntime) -> Result<(), Fail> {
+fn a_collector_is_merged(rt: HostRuntime) -> Result<(), Fail> {
     let mut collector = Collector::new(rt.alloc());
     let _added = collector.add(parcel_of(rt.alloc(), 1, b"abcd")?);
     let mut other = Collector::new(rt.alloc());
@@ -37,7 +37,14 @@ fn a_collector_is_merged_and_listed(rt: HostRuntime) -> Result<(), Fail> {
     assert!(rt; merged == Ok(()) && other.same(&collector));
     assert!(rt; other.missing(CpuId(0)).next() == Some((RecordNo(0), RecordNo(0))));
     assert!(rt; other.records(CpuId(0)).next().is_some() && other.parcels().len() == 1);
-    let lines = listing(rt.alloc(), &other)?;
+    Ok(())
+}
+
+#[test]
+fn a_collector_is_listed(rt: HostRuntime) -> Result<(), Fail> {
+    let mut collector = Collector::new(rt.alloc());
+    let _added = collector.add(parcel_of(rt.alloc(), 1, b"abcd")?);
+    let lines = listing(rt.alloc(), &collector)?;
     assert!(rt; lines.len() == 1);
     for line in &lines {
         assert!(rt; line.moment == Moment(2) && line.bytes == b"abcd".as_slice());

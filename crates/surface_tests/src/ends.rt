@@ -8,6 +8,7 @@ use nested_writer::{Ended, WriteFault};
 use page_image::Body;
 use page_numbers::Parcel;
 use ring_shared::{Answer, Reader, SettleFault, Settled, Take, Writer, ring, ring_at, settle};
+use std::alloc::Global;
 use std::process::Abort;
 use std::test::Fail;
 use trace_model::{CpuId, FillNo, RecordNo};
@@ -31,30 +32,27 @@ fn finish(writer: &mut Writer) -> Answer
     Answer::Going
 }
 
-/// Writes a record that fills a page.
-fn write(writer: &mut Writer, moment: u64, byte: u8) -> Result<(), WriteFault>
-    requires writer { IsWriter writer.old }
-    ensures writer { IsWriter writer.new }
-    ensures ring { SameWriter writer.old writer.new }
-{
-    let _pushed = writer.begin(moment, WHOLE);
-    let _reserved = writer.finish_top();
-    writer.top_mut()?.fill(byte);
-    let _ended = writer.end();
-    let _gone = writer.finish_top();
-    Ok(())
-}
-
-/// Writes a record at each moment below this one.
+/// Writes a record that fills a page at each moment below this one.
 fn write_all(writer: &mut Writer, moments: u8) -> Result<(), WriteFault>
     requires writer { IsWriter writer.old }
     ensures writer { IsWriter writer.new }
     ensures ring { SameWriter writer.old writer.new }
 {
     for moment in 0..moments {
-        write(writer, moment.into(), moment)?;
+        writer.write(moment.into(), &[moment; WHOLE])?;
     }
     Ok(())
+}
+
+/// Begins a record at each moment below this one, each within the one before.
+fn begin_all(writer: &mut Writer, moments: u8)
+    requires writer { IsWriter writer.old }
+    ensures writer { IsWriter writer.new }
+    ensures ring { SameWriter writer.old writer.new }
+{
+    for moment in 0..moments {
+        writer.begin(moment.into(), 4);
+    }
 }
 
 /// Takes pages as long as there are any: their number.
@@ -74,9 +72,10 @@ fn take_all(reader: &mut Reader, body: Body) -> u64
     64
 }
 
-#[test]
-fn a_record_is_written_by_its_steps(rt: HostRuntime) -> Result<(), Fail> {
-    let (mut writer, _reader): (Writer, Reader) = ring(rt.alloc(), 2, 32)?;
+/// Writes a record, each step by a call of its own.
+fn write_by_steps(rt: &impl Abort, writer: &mut Writer) -> Result<(), Fail>
+    requires { IsWriter writer.old }
+{
     assert!(rt; matches!(writer.begin(100, 4), Answer::Pushed));
     assert!(rt; matches!(writer.step(), Answer::Reserved(RecordNo(0))));
     writer.top_mut()?.fill(7);
@@ -87,17 +86,31 @@ fn a_record_is_written_by_its_steps(rt: HostRuntime) -> Result<(), Fail> {
 }
 
 #[test]
-fn what_cannot_be_written_is_refused(rt: HostRuntime) -> Result<(), Fail> {
-    let (mut writer, _reader) = ring(rt.alloc(), 2, 32)?;
+fn a_record_is_written_by_its_steps(rt: HostRuntime) -> Result<(), Fail> {
+    let (mut writer, _reader): (Writer, Reader) = ring(rt.alloc(), 2, 32)?;
+    write_by_steps(&rt, &mut writer)
+}
+
+/// Asks for what is refused.
+fn ask_in_vain(rt: &impl Abort, writer: &mut Writer)
+    requires { IsWriter writer.old }
+{
     assert!(rt; matches!(writer.begin(100, 29), Answer::Refused(WriteFault::TooLong)));
     assert!(rt; matches!(writer.step(), Answer::Refused(WriteFault::NoFrame)));
     assert!(rt; writer.top_mut().err() == Some(WriteFault::NoFrame));
-    Ok(())
 }
 
 #[test]
-fn a_record_goes_on_after_a_push_is_refused(rt: HostRuntime) -> Result<(), Fail> {
+fn what_cannot_be_written_is_refused(rt: HostRuntime) -> Result<(), Fail> {
     let (mut writer, _reader) = ring(rt.alloc(), 2, 32)?;
+    ask_in_vain(&rt, &mut writer);
+    Ok(())
+}
+
+/// Writes a record amid which another one is refused.
+fn write_on(rt: &impl Abort, writer: &mut Writer) -> Result<(), Fail>
+    requires { IsWriter writer.old }
+{
     let Answer::Pushed = writer.begin(10, 5) else {
         return Err(Fail::new("no frame is pushed"));
     };
@@ -113,29 +126,64 @@ fn a_record_goes_on_after_a_push_is_refused(rt: HostRuntime) -> Result<(), Fail>
 }
 
 #[test]
-fn a_fifth_frame_is_refused(rt: HostRuntime) -> Result<(), Fail> {
+fn a_record_goes_on_after_a_push_is_refused(rt: HostRuntime) -> Result<(), Fail> {
     let (mut writer, _reader) = ring(rt.alloc(), 2, 32)?;
-    let _first = writer.begin(100, 4);
-    let _second = writer.begin(101, 4);
-    let _third = writer.begin(102, 4);
-    let _fourth = writer.begin(103, 4);
+    write_on(&rt, &mut writer)
+}
+
+/// Begins four records, and asks for what is refused then.
+fn begin_four(rt: &impl Abort, writer: &mut Writer)
+    requires { IsWriter writer.old }
+{
+    begin_all(writer, 4);
+    assert!(rt; writer.depth() == 4);
     assert!(rt; matches!(writer.begin(104, 4), Answer::Refused(WriteFault::TooDeep)));
     assert!(rt; matches!(writer.end(), Answer::Refused(WriteFault::NotReserved)));
     assert!(rt; writer.top_mut().err() == Some(WriteFault::NotReserved));
+}
+
+#[test]
+fn a_fifth_frame_is_refused(rt: HostRuntime) -> Result<(), Fail> {
+    let (mut writer, _reader) = ring(rt.alloc(), 2, 32)?;
+    begin_four(&rt, &mut writer);
+    Ok(())
+}
+
+/// Takes nothing, twice with the same body.
+fn take_nothing(rt: &impl Abort, alloc: Global, reader: &mut Reader) -> Result<(), Fail>
+    requires reader { IsReader reader.old }
+    requires size { reader.old.shape.size ≡ 32 }
+{
+    let Take::Empty(0, body) = reader.take(Body::new(alloc, 32)?) else {
+        return Err(Fail::new("a page that isn't closed is taken"));
+    };
+    assert!(rt; matches!(reader.take(body), Take::Empty(0, _)));
+    assert!(rt; reader.empty_at() == Some(0));
     Ok(())
 }
 
 #[test]
-fn a_closed_page_is_taken(rt: HostRuntime) -> Result<(), Fail> {
+fn an_open_page_is_not_taken(rt: HostRuntime) -> Result<(), Fail> {
     let (mut writer, mut reader) = ring(rt.alloc(), 2, 32)?;
-    write(&mut writer, 1, b'c')?;
-    let Take::Empty(0, body) = reader.take(Body::new(rt.alloc(), 32)?) else {
-        return Err(Fail::new("a page that isn't closed is taken"));
-    };
-    assert!(rt; reader.empty_at() == Some(0));
+    writer.write(1, &[b'c'; WHOLE])?;
+    take_nothing(&rt, rt.alloc(), &mut reader)
+}
+
+/// Closes the page of a record, and takes it.
+fn close_and_take(
+    rt: &impl Abort,
+    alloc: Global,
+    writer: &mut Writer,
+    reader: &mut Reader,
+) -> Result<(), Fail>
+    requires writer { IsWriter writer.old }
+    requires reader { IsReader reader.old }
+    requires size { reader.old.shape.size ≡ 32 }
+{
+    writer.write(1, &[b'c'; WHOLE])?;
     assert!(rt; matches!(writer.begin_close(), Answer::Pushed));
-    assert!(rt; matches!(finish(&mut writer), Answer::Gone));
-    let Take::Page(page, 0) = reader.take(body) else {
+    assert!(rt; matches!(finish(writer), Answer::Gone));
+    let Take::Page(page, 0) = reader.take(Body::new(alloc, 32)?) else {
         return Err(Fail::new("a page that is closed isn't taken"));
     };
     assert!(rt; page.data() == b"\x07\0\0\0cccccccccccccccccccccccccccc".as_slice());
@@ -145,23 +193,44 @@ fn a_closed_page_is_taken(rt: HostRuntime) -> Result<(), Fail> {
 }
 
 #[test]
-fn a_page_that_is_wished_for_is_a_parcel(rt: HostRuntime) -> Result<(), Fail> {
-    let (mut writer, mut reader) = ring_at(rt.alloc(), 2, 32, 5)?;
+fn a_closed_page_is_taken(rt: HostRuntime) -> Result<(), Fail> {
+    let (mut writer, mut reader) = ring(rt.alloc(), 2, 32)?;
+    close_and_take(&rt, rt.alloc(), &mut writer, &mut reader)
+}
+
+/// Wishes for the page of a record, and takes it as a parcel.
+fn wish_and_take(
+    rt: &impl Abort,
+    alloc: Global,
+    writer: &mut Writer,
+    reader: &mut Reader,
+) -> Result<Parcel, Fail>
+    requires writer { IsWriter writer.old }
+    requires reader { IsReader reader.old }
+    requires size { reader.old.shape.size ≡ 32 }
+{
     assert!(rt; reader.wish() == FillNo(5));
-    write(&mut writer, 1, 7)?;
-    let Take::Page(page, missed) = reader.take(Body::new(rt.alloc(), 32)?) else {
+    writer.write(1, &[7; WHOLE])?;
+    let Take::Page(page, missed) = reader.take(Body::new(alloc, 32)?) else {
         return Err(Fail::new("a page that was wished for isn't taken"));
     };
-    let parcel = Parcel::of(rt.alloc(), CpuId(0), page, missed)?;
+    Ok(Parcel::of(alloc, CpuId(0), page, missed)?)
+}
+
+#[test]
+fn a_page_that_is_wished_for_is_a_parcel(rt: HostRuntime) -> Result<(), Fail> {
+    let (mut writer, mut reader) = ring_at(rt.alloc(), 2, 32, 5)?;
+    let parcel = wish_and_take(&rt, rt.alloc(), &mut writer, &mut reader)?;
     assert!(rt; parcel.fill() == FillNo(5) && parcel.count() == 1);
     Ok(())
 }
 
-#[test]
-fn an_overwritten_page_is_missed(rt: HostRuntime) -> Result<(), Fail> {
-    let (mut writer, mut reader) = ring(rt.alloc(), 2, 32)?;
-    write_all(&mut writer, 3)?;
-    let Take::Page(page, 1) = reader.take(Body::new(rt.alloc(), 32)?) else {
+/// Takes a page that follows a lost record.
+fn take_after_lost(rt: &impl Abort, alloc: Global, reader: &mut Reader) -> Result<(), Fail>
+    requires reader { IsReader reader.old }
+    requires size { reader.old.shape.size ≡ 32 }
+{
+    let Take::Page(page, 1) = reader.take(Body::new(alloc, 32)?) else {
         return Err(Fail::new("no page is taken that follows one missed number"));
     };
     assert!(rt; page.fill() == FillNo(1) && page.first() == RecordNo(1));
@@ -169,10 +238,36 @@ fn an_overwritten_page_is_missed(rt: HostRuntime) -> Result<(), Fail> {
 }
 
 #[test]
-fn what_is_unread_is_settled(rt: HostRuntime) -> Result<(), Fail> {
+fn an_overwritten_page_is_missed(rt: HostRuntime) -> Result<(), Fail> {
     let (mut writer, mut reader) = ring(rt.alloc(), 2, 32)?;
     write_all(&mut writer, 3)?;
-    assert!(rt; take_all(&mut reader, Body::new(rt.alloc(), 32)?) == 1);
+    take_after_lost(&rt, rt.alloc(), &mut reader)
+}
+
+/// Writes three records, each in a page of its own, and takes what is closed and not overwritten: one page.
+fn write_and_take(
+    rt: &impl Abort,
+    alloc: Global,
+    writer: &mut Writer,
+    reader: &mut Reader,
+) -> Result<(), Fail>
+    requires writer { IsWriter writer.old }
+    requires reader { IsReader reader.old }
+    requires size { reader.old.shape.size ≡ 32 }
+    ensures writer { IsWriter writer.new }
+    ensures reader { IsReader reader.new }
+    ensures same_writer { SameWriter writer.old writer.new }
+    ensures same_ring { SameRing reader.old reader.new }
+{
+    write_all(writer, 3)?;
+    assert!(rt; take_all(reader, Body::new(alloc, 32)?) == 1);
+    Ok(())
+}
+
+#[test]
+fn what_is_unread_is_settled(rt: HostRuntime) -> Result<(), Fail> {
+    let (mut writer, mut reader) = ring(rt.alloc(), 2, 32)?;
+    write_and_take(&rt, rt.alloc(), &mut writer, &mut reader)?;
     if writer.depth() > 0 || reader.empty_at() != Some(writer.done()) {
         return Err(Fail::new("the ends aren't at rest"));
     }
@@ -184,9 +279,10 @@ fn what_is_unread_is_settled(rt: HostRuntime) -> Result<(), Fail> {
     Ok(())
 }
 
-#[test]
-fn a_nested_record_is_pending(rt: HostRuntime) -> Result<(), Fail> {
-    let (mut writer, _reader) = ring(rt.alloc(), 2, 32)?;
+/// Writes a record amid which another one is written.
+fn write_nested(rt: &impl Abort, writer: &mut Writer) -> Result<(), Fail>
+    requires { IsWriter writer.old }
+{
     let Answer::Pushed = writer.begin(10, 4) else {
         return Err(Fail::new("no frame is pushed"));
     };
@@ -209,21 +305,34 @@ fn a_nested_record_is_pending(rt: HostRuntime) -> Result<(), Fail> {
 }
 
 #[test]
-fn a_page_more_than_the_ring_has_is_refused(rt: HostRuntime) -> Result<(), Fail> {
+fn a_nested_record_is_pending(rt: HostRuntime) -> Result<(), Fail> {
     let (mut writer, _reader) = ring(rt.alloc(), 2, 32)?;
-    let _pushed = writer.begin(1, WHOLE);
-    let _reserved = writer.finish_top();
-    let _pushed = writer.begin(2, WHOLE);
-    let _reserved = writer.finish_top();
+    write_nested(&rt, &mut writer)
+}
+
+/// Reserves a record on each of two pages, and asks for a third one.
+fn fill_both(rt: &impl Abort, writer: &mut Writer)
+    requires { IsWriter writer.old }
+{
+    writer.begin(1, WHOLE);
+    writer.finish_top();
+    writer.begin(2, WHOLE);
+    writer.finish_top();
     assert!(rt; matches!(writer.begin(3, WHOLE), Answer::Pushed));
     assert!(rt; matches!(writer.finish_top(), Answer::Refused(WriteFault::Crowded)));
+}
+
+#[test]
+fn a_page_more_than_the_ring_has_is_refused(rt: HostRuntime) -> Result<(), Fail> {
+    let (mut writer, _reader) = ring(rt.alloc(), 2, 32)?;
+    fill_both(&rt, &mut writer);
     Ok(())
 }
 
-/// The frame below the one that is refused is on top again.
-#[test]
-fn no_fill_is_begun_after_the_last(rt: HostRuntime) -> Result<(), Fail> {
-    let (mut writer, _reader) = ring_at(rt.alloc(), 2, 32, (1 << 48) - 3)?;
+/// Writes a record amid which one is refused that needs a page. Its frame is on top again then.
+fn write_last(rt: &impl Abort, writer: &mut Writer) -> Result<(), Fail>
+    requires { IsWriter writer.old }
+{
     let Answer::Pushed = writer.begin(1, WHOLE) else {
         return Err(Fail::new("no frame is pushed"));
     };
@@ -239,4 +348,10 @@ fn no_fill_is_begun_after_the_last(rt: HostRuntime) -> Result<(), Fail> {
     writer.top_mut()?.copy_from_slice(&[1; WHOLE]);
     assert!(rt; matches!(writer.end(), Answer::Ended(Ended::Full)));
     Ok(())
+}
+
+#[test]
+fn no_fill_is_begun_after_the_last(rt: HostRuntime) -> Result<(), Fail> {
+    let (mut writer, _reader) = ring_at(rt.alloc(), 2, 32, (1 << 48) - 3)?;
+    write_last(&rt, &mut writer)
 }

@@ -1,9 +1,14 @@
 //! The stack of a ring's nested writers, by itself.
+ghost use Rattle.std.specs.Prelude.{◌≡◌, [], IfOk};
+ghost use Rattle.trace_model.specs.declared.limits.TheConstants.{START_FILL};
+ghost use Rattle.nested_writer.specs.Stack.{new_stack};
+ghost use Rattle.nested_writer.specs.Calls.{IsAtBottom};
 ghost use Rattle.nested_writer.specs.IsStack.{IsReachedStack};
 
-use nested_writer::{Allot, Ended, WriteFault, WriterStack};
+use nested_writer::{Allot, Ended, WriteFault, WriterStack, Wrote};
 use page_image::{Body, Page, Place};
 use page_numbers::Parcel;
+use std::alloc::Global;
 use std::process::Abort;
 use std::test::Fail;
 use trace_model::{CpuId, FillNo, RecordNo};
@@ -35,30 +40,68 @@ fn compare(rt: &impl Abort, page: &Page, fill: u64, first: u64, data: &[u8]) {
     assert!(rt; page.data() == data);
 }
 
-#[test]
-fn a_record_is_written_and_its_page_closed(rt: HostRuntime) -> Result<(), Fail> {
-    let mut stack = WriterStack::new(rt.alloc(), 2, 32)?;
+/// Writes a record, each step by a call of its own.
+fn write_by_calls(rt: &impl Abort, stack: &mut WriterStack) -> Result<(), WriteFault>
+    requires stack { IsReachedStack stack.old }
+    requires new { stack.old ≡ new_stack 2 32 START_FILL }
+    ensures stack { IsReachedStack stack.new }
+    ensures alone { IfOk result (λ _. stack.new.older ≡ []) }
+    ensures bottom { IfOk result (λ _. IsAtBottom stack.new.frames) }
+{
     stack.begin(100, 4)?;
     assert!(rt; stack.allot() == Ok(FRONT));
     stack.top_mut()?.copy_from_slice(&[1, 2, 3, 4]);
     assert!(rt; stack.end() == Ok(Ended::Full));
+    Ok(())
+}
+
+#[test]
+fn a_record_is_written_by_its_calls(rt: HostRuntime) -> Result<(), Fail> {
+    let mut stack = WriterStack::new(rt.alloc(), 2, 32)?;
+    write_by_calls(&rt, &mut stack)?;
+    stack.pop_bottom();
+    let tail = stack.into_tail();
+    compare(&rt, &tail, 0, 0, b"\x01\0\0\0\x01\x02\x03\x04");
+    Ok(())
+}
+
+/// Writes a record and closes its page, which is answered.
+fn close(rt: &impl Abort, alloc: Global, stack: &mut WriterStack) -> Result<Page, Fail>
+    requires stack { IsReachedStack stack.old }
+    requires new { stack.old ≡ new_stack 2 32 START_FILL }
+    ensures stack { IsReachedStack stack.new }
+    ensures alone { IfOk result (λ _. stack.new.older ≡ []) }
+    ensures bottom { IfOk result (λ _. IsAtBottom stack.new.frames) }
+{
+    assert!(rt; stack.write(100, b"aaaa") == Wrote::Record);
     stack.pop_bottom();
     stack.begin_close()?;
     assert!(rt; stack.allot() == Ok(Allot::NeedsPage));
-    stack.add_page(Body::new(rt.alloc(), 32)?);
+    stack.add_page(Body::new(alloc, 32)?);
     let _close = stack.allot()?;
     assert!(rt; stack.end() == Ok(Ended::Full));
-    let front = stack.drop_front();
-    compare(&rt, &front, 0, 0, b"\x01\0\0\0\x01\x02\x03\x04");
+    Ok(stack.drop_front())
+}
+
+#[test]
+fn a_page_is_closed(rt: HostRuntime) -> Result<(), Fail> {
+    let mut stack = WriterStack::new(rt.alloc(), 2, 32)?;
+    let front = close(&rt, rt.alloc(), &mut stack)?;
+    compare(&rt, &front, 0, 0, b"\x01\0\0\0aaaa");
     stack.pop_bottom();
     let tail = stack.into_tail();
     compare(&rt, &tail, 1, 1, b"");
     Ok(())
 }
 
-#[test]
-fn a_nested_record_is_pending(rt: HostRuntime) -> Result<(), Fail> {
-    let mut stack = WriterStack::new(rt.alloc(), 2, 32)?;
+/// Writes a record amid which another one is written.
+fn write_nested(rt: &impl Abort, stack: &mut WriterStack) -> Result<(), WriteFault>
+    requires stack { IsReachedStack stack.old }
+    requires new { stack.old ≡ new_stack 2 32 START_FILL }
+    ensures stack { IsReachedStack stack.new }
+    ensures alone { IfOk result (λ _. stack.new.older ≡ []) }
+    ensures bottom { IfOk result (λ _. IsAtBottom stack.new.frames) }
+{
     stack.begin(10, 4)?;
     assert!(rt; stack.allot() == Ok(FRONT));
     stack.begin(20, 4)?;
@@ -67,16 +110,24 @@ fn a_nested_record_is_pending(rt: HostRuntime) -> Result<(), Fail> {
     assert!(rt; stack.end() == Ok(Ended::Pending));
     stack.top_mut()?.copy_from_slice(b"aaaa");
     assert!(rt; stack.end() == Ok(Ended::Full));
+    Ok(())
+}
+
+#[test]
+fn a_nested_record_is_pending(rt: HostRuntime) -> Result<(), Fail> {
+    let mut stack = WriterStack::new(rt.alloc(), 2, 32)?;
+    write_nested(&rt, &mut stack)?;
     stack.pop_bottom();
     let tail = stack.into_tail();
     compare(&rt, &tail, 0, 0, b"\x01\0\0\0aaaa\x41\x01\0\0bbbb");
     Ok(())
 }
 
-/// The frame below the one that is refused is on top again.
-#[test]
-fn a_third_page_is_refused_while_two_are_open(rt: HostRuntime) -> Result<(), Fail> {
-    let mut stack = WriterStack::new(rt.alloc(), 2, 32)?;
+/// Reserves a record on each of a new stack's two pages, amid the second of which a third one is refused.
+fn crowd(rt: &impl Abort, alloc: Global, stack: &mut WriterStack) -> Result<(), Fail>
+    requires stack { IsReachedStack stack.old }
+    requires new { stack.old ≡ new_stack 2 32 START_FILL }
+{
     stack.begin(1, 28)?;
     let Allot::Fits(_) = stack.allot()? else {
         return Err(Fail::new("no record is reserved"));
@@ -85,7 +136,7 @@ fn a_third_page_is_refused_while_two_are_open(rt: HostRuntime) -> Result<(), Fai
     let Allot::NeedsPage = stack.allot()? else {
         return Err(Fail::new("no page is needed"));
     };
-    stack.add_page(Body::new(rt.alloc(), 32)?);
+    stack.add_page(Body::new(alloc, 32)?);
     let Allot::Fits(_) = stack.allot()? else {
         return Err(Fail::new("no record is reserved on a second page"));
     };
@@ -101,16 +152,34 @@ fn a_third_page_is_refused_while_two_are_open(rt: HostRuntime) -> Result<(), Fai
     Ok(())
 }
 
-/// A tail that is asked to be closed is closed by the frame at the bottom.
+/// The frame below the one that is refused is on top again.
 #[test]
-fn a_tail_is_closed_if_it_is_asked_for(rt: HostRuntime) -> Result<(), Fail> {
+fn a_third_page_is_refused_while_two_are_open(rt: HostRuntime) -> Result<(), Fail> {
     let mut stack = WriterStack::new(rt.alloc(), 2, 32)?;
+    crowd(&rt, rt.alloc(), &mut stack)
+}
+
+/// Writes a record and closes its page, for which the frame at the bottom is asked; the page is answered as a parcel.
+fn close_asked(rt: &impl Abort, alloc: Global, stack: &mut WriterStack) -> Result<Parcel, Fail>
+    requires stack { IsReachedStack stack.old }
+    requires new { stack.old ≡ new_stack 2 32 START_FILL }
+    ensures stack { IsReachedStack stack.new }
+    ensures alone { IfOk result (λ _. stack.new.older ≡ []) }
+    ensures bottom { IfOk result (λ _. IsAtBottom stack.new.frames) }
+{
     stack.begin(1, 28)?;
     assert!(rt; stack.allot() == Ok(WHOLE));
     assert!(rt; stack.end() == Ok(Ended::Full));
     assert!(rt; stack.ask_close());
-    stack.add_page(Body::new(rt.alloc(), 32)?);
-    let front = Parcel::of(rt.alloc(), CpuId(0), stack.drop_front(), 0)?;
+    stack.add_page(Body::new(alloc, 32)?);
+    Ok(Parcel::of(alloc, CpuId(0), stack.drop_front(), 0)?)
+}
+
+/// A tail that is asked to be closed is closed by the frame at the bottom.
+#[test]
+fn a_tail_is_closed_if_it_is_asked_for(rt: HostRuntime) -> Result<(), Fail> {
+    let mut stack = WriterStack::new(rt.alloc(), 2, 32)?;
+    let front = close_asked(&rt, rt.alloc(), &mut stack)?;
     assert!(rt; front.fill() == FillNo(0) && front.count() == 1);
     stack.pop_bottom();
     let tail = Parcel::of(rt.alloc(), CpuId(0), stack.into_tail(), 0)?;
@@ -118,18 +187,11 @@ fn a_tail_is_closed_if_it_is_asked_for(rt: HostRuntime) -> Result<(), Fail> {
     Ok(())
 }
 
-#[test]
-fn records_are_reserved_each_within_the_one_before(rt: HostRuntime) -> Result<(), Fail> {
-    let mut stack = WriterStack::new(rt.alloc(), 2, 32)?;
-    reserve_all(&mut stack, &[1, 2, 3])?;
-    assert!(rt; stack.depth() == 3);
-    Ok(())
-}
-
-/// The slot has the length of the payload, up to the end of its last word.
-#[test]
-fn a_payload_is_written_byte_by_byte(rt: HostRuntime) -> Result<(), Fail> {
-    let mut stack = WriterStack::new(rt.alloc(), 2, 32)?;
+/// Writes single bytes of a payload.
+fn write_bytes(rt: &impl Abort, stack: &mut WriterStack) -> Result<(), Fail>
+    requires stack { IsReachedStack stack.old }
+    requires new { stack.old ≡ new_stack 2 32 START_FILL }
+{
     stack.begin(1, 5)?;
     let Allot::Fits(_) = stack.allot()? else {
         return Err(Fail::new("no record is reserved"));
@@ -144,27 +206,24 @@ fn a_payload_is_written_byte_by_byte(rt: HostRuntime) -> Result<(), Fail> {
     Ok(())
 }
 
+/// The slot has the length of the payload, up to the end of its last word.
+#[test]
+fn a_payload_is_written_byte_by_byte(rt: HostRuntime) -> Result<(), Fail> {
+    let mut stack = WriterStack::new(rt.alloc(), 2, 32)?;
+    write_bytes(&rt, &mut stack)
+}
+
 /// A record that begins before the last one has its moment.
 #[test]
 fn moments_never_fall(rt: HostRuntime) -> Result<(), Fail> {
     let mut stack = WriterStack::new(rt.alloc(), 2, 32)?;
-    stack.begin(9, 4)?;
-    let _first = stack.allot()?;
-    stack.begin(4, 4)?;
-    let Allot::Fits(_) = stack.allot()? else {
-        return Err(Fail::new("no record is reserved behind the first"));
-    };
-    let Ok(Ended::Pending) = stack.end() else {
-        return Err(Fail::new("the frame below is gone"));
-    };
-    let Ok(Ended::Full) = stack.end() else {
-        return Err(Fail::new("the bottom frame doesn't stay"));
-    };
+    assert!(rt; stack.write(9, b"aaaa") == Wrote::Record);
+    stack.pop_bottom();
+    assert!(rt; stack.write(4, b"bbbb") == Wrote::Record);
     stack.pop_bottom();
     let tail = stack.into_tail();
-    assert!(rt;
-        tail.time() == 9 && tail.data() == b"\x01\0\0\0\0\0\0\0\x01\0\0\0\0\0\0\0".as_slice()
-    );
+    assert!(rt; tail.time() == 9);
+    assert!(rt; tail.data() == b"\x01\0\0\0aaaa\x01\0\0\0bbbb".as_slice());
     Ok(())
 }
 
@@ -186,15 +245,21 @@ fn what_no_frame_has_is_refused(rt: HostRuntime) -> Result<(), Fail> {
 }
 
 #[test]
-fn a_fifth_frame_is_refused(rt: HostRuntime) -> Result<(), Fail> {
+fn a_frame_without_a_record_has_no_payload(rt: HostRuntime) -> Result<(), Fail> {
     let mut stack = WriterStack::new(rt.alloc(), 2, 32)?;
     stack.begin(1, 4)?;
-    stack.begin(2, 4)?;
-    stack.begin(3, 4)?;
-    stack.begin(4, 4)?;
-    assert!(rt; stack.begin(5, 4) == Err(WriteFault::TooDeep));
     assert!(rt; stack.top_mut().err() == Some(WriteFault::NotReserved));
     assert!(rt; stack.end() == Err(WriteFault::NotReserved));
+    Ok(())
+}
+
+/// Four frames, each within the one before.
+#[test]
+fn a_fifth_frame_is_refused(rt: HostRuntime) -> Result<(), Fail> {
+    let mut stack = WriterStack::new(rt.alloc(), 2, 32)?;
+    reserve_all(&mut stack, &[1, 2, 3, 4])?;
+    assert!(rt; stack.depth() == 4);
+    assert!(rt; stack.begin(5, 4) == Err(WriteFault::TooDeep));
     Ok(())
 }
 
@@ -202,9 +267,7 @@ fn a_fifth_frame_is_refused(rt: HostRuntime) -> Result<(), Fail> {
 #[test]
 fn no_fill_is_begun_after_the_last(rt: HostRuntime) -> Result<(), Fail> {
     let mut stack = WriterStack::new_at(rt.alloc(), 2, 32, (1 << 48) - 3)?;
-    stack.begin(1, 28)?;
-    assert!(rt; stack.allot() == Ok(WHOLE));
-    assert!(rt; stack.end() == Ok(Ended::Full));
+    assert!(rt; stack.write(1, &[1; 28]) == Wrote::Record);
     stack.pop_bottom();
     stack.begin(2, 28)?;
     assert!(rt; stack.allot() == Err(WriteFault::Worn));

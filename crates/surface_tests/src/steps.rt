@@ -2,8 +2,8 @@
 ghost use Rattle.std.specs.Prelude.{◌≡◌, [], ◌∷◌, length, Some, None, IfOk};
 ghost use Rattle.trace_model.specs.History.{push, push_close, reserve, open_fill, leave};
 ghost use Rattle.trace_model.specs.Frames.{for_record, for_close, waiting, reserved, left, owner, idle, looking_next, wishing};
-ghost use Rattle.ring_steps.specs.Ends.{writing_in};
-ghost use Rattle.ring_steps.specs.NewRings.{first_writing};
+ghost use Rattle.ring_steps.specs.Ends.{writing_in, reading_in};
+ghost use Rattle.ring_steps.specs.NewRings.{first_writing, first_reading};
 
 use link_marks::{Link, Mark, header};
 use page_image::{Body, Page};
@@ -28,10 +28,12 @@ fn a_wish_is_stored(rt: HostRuntime) -> Result<(), Fail> {
     Ok(())
 }
 
-#[test]
-fn a_take_goes_by_what_it_finds(rt: HostRuntime) -> Result<(), Fail> {
-    let (_writer, mut reader) = seats(rt.alloc(), 2, 32)?;
-    let spare = Body::new(rt.alloc(), 32)?;
+/// A take from a new ring, whose steps go by what they find.
+fn take(rt: &impl Abort, reader: &mut ReaderSeat, spare: Body) -> Result<(), Fail>
+    requires shape { reader.old.shape ≡ record { pages = 2; size = 32; start = 0 } }
+    requires new { reading_in reader.old ≡ first_reading reader.old.shape }
+    requires body { length spare ≡ 32 }
+{
     let Link {
         mark: Mark::Header,
         page: 0,
@@ -52,6 +54,12 @@ fn a_take_goes_by_what_it_finds(rt: HostRuntime) -> Result<(), Fail> {
     };
     reader.load_head(0);
     Err(Fail::new("the head was lost"))
+}
+
+#[test]
+fn a_take_goes_by_what_it_finds(rt: HostRuntime) -> Result<(), Fail> {
+    let (_writer, mut reader) = seats(rt.alloc(), 2, 32)?;
+    take(&rt, &mut reader, Body::new(rt.alloc(), 32)?)
 }
 
 #[test]

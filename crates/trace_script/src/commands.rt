@@ -5,6 +5,7 @@ ghost use Rattle.trace_script.specs.Kept.{part};
 
 use crate::command::ScriptLine;
 use crate::kept_lines::KeptLines;
+use std::fmt;
 use std::marker::Model;
 
 /// The bytes from one place to another.
@@ -17,7 +18,7 @@ fn part_of(bytes: &[u8], start: usize, end: usize) -> &[u8]
 }
 
 /// The commands of a script, in the order of their lines.
-#[derive(Debug, Drop)]
+#[derive(Drop)]
 pub struct Commands {
     lines: KeptLines,
     payloads: Vec<u8>,
@@ -74,5 +75,14 @@ impl Commands {
             number: line.number,
             command: line.order.with_payload(payload),
         }
+    }
+}
+
+/// How many there are: their texts are long.
+impl fmt::Debug for Commands {
+    fn fmt<W: fmt::Write>(&self, f: &mut fmt::Formatter<W>) -> fmt::Result {
+        f.debug_struct("Commands")
+            .field("len", &self.len())
+            .finish_non_exhaustive()
     }
 }

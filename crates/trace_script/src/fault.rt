@@ -41,10 +41,15 @@ impl<T: Drop> From<AllocFailed<T>> for ScriptFault {
 /// What is wrong with a line, wherever it is.
 #[derive(Clone, Copy, Debug, PartialEq, Eq)]
 pub enum LineFault {
+    /// The line has another form, or is absent.
     BadLine,
+    /// A field is no decimal number of 64 bits.
     BadNumber,
+    /// A payload isn't written by pairs of hexadecimal digits.
     BadHex,
+    /// A number isn't within its limits.
     OutOfRange,
+    /// Memory was refused.
     NoMemory,
 }
 

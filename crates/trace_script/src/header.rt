@@ -43,8 +43,11 @@ pub enum Setting {
 /// The values that a line of the header may have: multiples of a step.
 #[derive(Clone, Copy)]
 pub struct Limits {
+    /// The least value.
     pub min: u64,
+    /// The greatest value.
     pub max: u64,
+    /// What each value is a multiple of.
     pub step: u64,
 }
 

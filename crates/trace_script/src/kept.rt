@@ -3,11 +3,12 @@
 use crate::order::Order;
 
 /// A command as it is kept, without its payload.
-#[derive(Clone, Copy, Debug)]
+#[derive(Clone, Copy)]
 pub struct KeptLine {
     /// The number of its line among all lines of the text, from 1.
     pub number: u64,
     /// Where its payload ends among the bytes of all payloads. It begins where that of the command before ends.
     pub end: usize,
+    /// What it asks for.
     pub order: Order,
 }

@@ -11,7 +11,7 @@ use trace_model::{CpuId, FillNo, Moment, NoMemory};
 
 /// A command as it is kept, while its numbers are small: 16 bytes, its payload aside. Each has its CPU; by how much the
 /// number of its line is above its index among the commands; and where its payload ends among the bytes of them all.
-#[derive(Clone, Copy, Debug)]
+#[derive(Clone, Copy)]
 pub enum ShortLine {
     Begin {
         cpu: u8,
@@ -274,7 +274,7 @@ fn shortened(index: usize, line: KeptLine) -> Option<ShortLine>
 
 /// The commands of a script, in the order of their lines. All are short ones in a text of less than 2^32 bytes that has
 /// fewer than 65,530 lines without a command, and whose deliveries are of fills below 2^32.
-#[derive(Debug, Drop)]
+#[derive(Drop)]
 pub struct KeptLines {
     short: Vec<ShortLine>,
     /// The first command whose numbers don't fit a short one, and all after it.

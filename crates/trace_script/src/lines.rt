@@ -53,6 +53,7 @@ pub fn field_cut(line: &[u8]) -> (&[u8], Option<&[u8]>)
 pub struct NumberedLine<'a> {
     /// Its number among all lines of the text, from 1.
     pub number: u64,
+    /// Its bytes.
     pub text: &'a [u8],
 }
 

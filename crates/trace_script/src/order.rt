@@ -4,7 +4,7 @@ use crate::command::Command;
 use trace_model::{CpuId, FillNo, Moment};
 
 /// What a line of a script asks for, without the payload.
-#[derive(Clone, Copy, Debug)]
+#[derive(Clone, Copy)]
 pub enum Order {
     Begin {
         cpu: CpuId,

@@ -15,7 +15,9 @@ use trace_model::{CpuId, FillNo, Moment};
 /// What a line asks for, without its payload, and the text after the line.
 #[derive(Clone, Copy)]
 pub struct UsualLine<'a> {
+    /// What it asks for.
     pub order: Order,
+    /// The text after its line feed.
     pub rest: &'a [u8],
 }
 

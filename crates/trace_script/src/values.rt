@@ -48,7 +48,9 @@ const SHORT_DIGITS: usize = 19;
 /// A number at a text's beginning, and the text after the byte that ends it.
 #[derive(Clone, Copy)]
 pub struct NumberCut<'a> {
+    /// The number.
     pub number: u64,
+    /// The text after that byte.
     pub rest: &'a [u8],
 }
 
