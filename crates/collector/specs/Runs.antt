@@ -1,6 +1,5 @@
 -- The missing numbers of a CPU, as runs.
-use Rattle.std.specs.Prelude.{◌≡◌, ℕ, zero, suc, ◌+◌, ◌-◌, ◌^◌, ◌<◌, ◌≤◌, Bool, false, cond, eqb, leb, ltb, ◌&&◌, ◌||◌, List, [], ◌∷◌, Some}
-use Rattle.std.specs.List.{slice_get}
+use Rattle.std.specs.Prelude.{ℕ, zero, suc, ◌+◌, ◌-◌, ◌^◌, Bool, false, cond, eqb, leb, ltb, ◌&&◌, ◌||◌, List, [], ◌∷◌}
 use Rattle.trace_model.specs.Parcel.{Parcel}
 use Rattle.trace_model.specs.Collection.{Misses}
 pub use Rattle.trace_model.specs.Runs.{InRun, AreRuns}

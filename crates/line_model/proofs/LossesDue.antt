@@ -1,11 +1,11 @@
 -- A fill is lost only for a frame on top that needs a page.
-use Rattle.std.proofs.Common.{◌≡◌, ℕ, ◌+◌, ◌<◌, ◌≤◌, ◌⊎◌, true, false, List, [], ◌∷◌, ◌++◌, length, Some, refl, sym, ap, ◌∙◌, subst, inl, inr, ⊎_elim, arith, append_assoc, append-nil, length-append}
-use Rattle.std.specs.Prelude.{⊤, IsTrue, Contains}
+use Rattle.std.proofs.Common.{◌≡◌, ℕ, ◌+◌, ◌<◌, ◌≤◌, ◌⊎◌, List, [], ◌∷◌, ◌++◌, length, Some, refl, sym, ap, ◌∙◌, subst, inl, inr, ⊎_elim, arith, append-nil, length-append}
+use Rattle.std.specs.Prelude.{⊤, Contains}
 use Rattle.std.proofs.lemmas.List.{append_cancel_left}
 use mathlib.Core.Logic.{dite}
 use native.Mathlib.Decide.{dec_le}
 use Rattle.trace_model.specs.declared.limits.TheConstants.{LINK_FILLS}
-use Rattle.trace_model.specs.History.{HistoryEvent, push, push_close, open_fill, reserve, leave, wished, Reservation, writer_after, reserved_records, reservation_for}
+use Rattle.trace_model.specs.History.{HistoryEvent, Reservation, writer_after, reserved_records, reservation_for}
 use Rattle.trace_model.specs.Packing.{opens_of, tail_of, fill_len, is_wished}
 use Rattle.trace_model.specs.Fitting.{NeedsFill}
 use Rattle.trace_model.specs.Window.{Window, RingEvent, acts, closes, takes, loses, history_events_of, window_event_of, released_one, took_one, lost_one, window_after, window_behind, WindowRunFrom}

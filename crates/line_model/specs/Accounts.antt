@@ -159,9 +159,9 @@ pub record IsAccount (script : Script) (cpu : ℕ) (events : ℕ → List RingEv
 
 -- ---- what is printed
 
--- What is shown of a collector, by the fills that were delivered to it, each with its CPU. A line is a committed record
--- of one of these fills, under its own CPU and number, and each such record has its line. The runs of a CPU are those of
--- the numbers that were overwritten unread before one of these fills.
+-- What is shown of a collector, by the fills that were delivered to it, each with its CPU. A line is a committed
+-- record of one of these fills, under its own CPU and number, and each such record has its line. The runs of a CPU are
+-- those of the numbers that were overwritten unread before one of these fills.
 pub record IsShownOf (start : ℕ) (events : ℕ → List RingEvent) (fills : List (ℕ × ℕ)) (shown : Shown) : Type 0 where
   pub ordered : IsTimeOrdered shown.lines
   pub lines : (line : Line)

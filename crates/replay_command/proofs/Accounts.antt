@@ -1,6 +1,6 @@
 -- The printing of a script's world is an account of it.
-use Rattle.std.proofs.Common.{◌≡◌, ◌⊎◌, ℕ, zero, suc, ◌<◌, ◌≤◌, Bool, if◌then◌else◌, List, [], ◌∷◌, length, map, Some, refl, sym, ap, ◌∙◌, subst, inl, inr, arith}
-use Rattle.std.specs.Prelude.{Contains, flat_map, slice_index_or, ◌↔◌, ◌==◌}
+use Rattle.std.proofs.Common.{◌≡◌, ◌⊎◌, ℕ, zero, suc, ◌<◌, ◌≤◌, Bool, List, [], ◌∷◌, length, map, Some, refl, sym, ap, ◌∙◌, subst, inl, inr, arith}
+use Rattle.std.specs.Prelude.{Contains, slice_index_or, ◌↔◌, ◌==◌}
 use Rattle.std.specs.List.{slice_get, AllZip}
 use Rattle.std.proofs.lemmas.List.{length-map}
 use Rattle.std.proofs.lemmas.Bool.{eq-eqb, eqb-true}
@@ -15,7 +15,6 @@ use Rattle.trace_model.proofs.collections.Elements.{some_is}
 use Rattle.link_marks.specs.RunsAsEvents.{fills_taken}
 use Rattle.text_model.specs.Script.{deliver, Script}
 use Rattle.text_model.specs.ScriptLimits.{IsWithinLimits}
-use Rattle.text_model.specs.Printing.{printed_log_line}
 use Rattle.replay_command.proofs.OneOutput.{script_in-within, cases_given}
 use Rattle.command_io.specs.CommandRun.{SourceRun, SinkRun, WritesOutput, IsCommandRun}
 use Rattle.command_io.specs.declared.status.TheConstants.{DONE, REFUSED}

@@ -1,5 +1,5 @@
 //! The command `replay`: a script in, the printing of its world out.
-ghost use Rattle.std.specs.Prelude.{◌≡◌, ℕ, ◌∷◌, ◌++◌, [], List, false, IfOk, IfErr};
+ghost use Rattle.std.specs.Prelude.{◌≡◌, ◌∷◌, ◌++◌, [], List, false, IfOk, IfErr};
 ghost use Rattle.std.specs.List.{AllZip};
 ghost use Rattle.text_model.specs.Script.{ParsesScript};
 ghost use Rattle.text_model.specs.ScriptReading.{script_in};

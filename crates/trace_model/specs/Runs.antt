@@ -10,8 +10,8 @@ pub record InRun (runs : List (ℕ × ℕ)) (number : ℕ) : Type 0 where
   pub from : run.0 ≤ number
   pub to : number ≤ run.1
 
--- The runs of the numbers of which this holds, each by its first and its last number: none is empty, they rise, and none
--- touches the next.
+-- The runs of the numbers of which this holds, each by its first and its last number: none is empty, they rise, and
+-- none touches the next.
 pub record AreRuns (holds : ℕ → Type 0) (runs : List (ℕ × ℕ)) : Type 0 where
   pub forward : (k : ℕ) (run : ℕ × ℕ) → slice_get runs k ≡ Some run → run.0 ≤ run.1
   pub apart : (k : ℕ) (a b : ℕ × ℕ)
