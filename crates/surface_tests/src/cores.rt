@@ -55,12 +55,6 @@ fn a_record_is_written_by_its_steps(rt: HostRuntime) -> Result<(), Fail> {
     let Answer::Reserved(RecordNo(0)) = core.step(Event::Step) else {
         return Err(Fail::new("the first record isn't reserved"));
     };
-    let Answer::Refused(WriteFault::LateMoment) = core.step(Event::Push {
-        moment: 1 << 59,
-        len: 8,
-    }) else {
-        return Err(Fail::new("a moment that is too late isn't refused"));
-    };
     core.top_mut()?.copy_from_slice(&[1, 2, 3, 4]);
     assert!(rt; matches!(core.step(Event::End), Answer::Ended(Ended::Full)));
     assert!(rt; matches!(core.step(Event::Step), Answer::Gone));
