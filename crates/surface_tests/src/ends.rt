@@ -32,6 +32,20 @@ fn finish(writer: &mut Writer) -> Answer
     Answer::Going
 }
 
+/// Writes a record that fills a page, each step by a call of its own.
+fn write(writer: &mut Writer, moment: u64, byte: u8) -> Result<(), WriteFault>
+    requires writer { IsWriter writer.old }
+    ensures writer { IsWriter writer.new }
+    ensures ring { SameWriter writer.old writer.new }
+{
+    let _pushed = writer.begin(moment, WHOLE);
+    let _reserved = writer.finish_top();
+    writer.top_mut()?.fill(byte);
+    let _ended = writer.end();
+    let _gone = writer.finish_top();
+    Ok(())
+}
+
 /// Writes a record that fills a page at each moment below this one.
 fn write_all(writer: &mut Writer, moments: u8) -> Result<(), WriteFault>
     requires writer { IsWriter writer.old }
@@ -39,7 +53,7 @@ fn write_all(writer: &mut Writer, moments: u8) -> Result<(), WriteFault>
     ensures ring { SameWriter writer.old writer.new }
 {
     for moment in 0..moments {
-        writer.write(moment.into(), &[moment; WHOLE])?;
+        write(writer, moment.into(), moment)?;
     }
     Ok(())
 }
@@ -180,7 +194,7 @@ fn close_and_take(
     requires reader { IsReader reader.old }
     requires size { reader.old.shape.size ≡ 32 }
 {
-    writer.write(1, &[b'c'; WHOLE])?;
+    write(writer, 1, b'c')?;
     assert!(rt; matches!(writer.begin_close(), Answer::Pushed));
     assert!(rt; matches!(finish(writer), Answer::Gone));
     let Take::Page(page, 0) = reader.take(Body::new(alloc, 32)?) else {
@@ -210,7 +224,7 @@ fn wish_and_take(
     requires size { reader.old.shape.size ≡ 32 }
 {
     assert!(rt; reader.wish() == FillNo(5));
-    writer.write(1, &[7; WHOLE])?;
+    write(writer, 1, 7)?;
     let Take::Page(page, missed) = reader.take(Body::new(alloc, 32)?) else {
         return Err(Fail::new("a page that was wished for isn't taken"));
     };
