@@ -205,7 +205,7 @@ fn word_at(data: &[u8], at: usize, first: u32) -> Result<Word, WordFault>
 ///
 /// The answer is `Cut` if the data ends within the word, and `BadLength` if the word states a
 /// length that none can have. A word with both faults is `BadLength`, unless the data ends within its
-/// first four bytes or within the stated length itself.
+/// first four bytes or within the four that state the length.
 #[inline(always)]
 pub fn next_word(data: &[u8], at: usize) -> Result<Word, WordFault>
     requires { at < length «data».now }

@@ -23,10 +23,10 @@ HasBody homes size page = (body : Contents) × (slice_get homes page ≡ Some (S
 
 -- ---- the ring
 
--- The value shows a state of the model, in a ring of n positions and pages of this size whose first fill has the number
--- start: the words and the reader are the state's; the writers' stack is what the state's history leaves, in its
--- phases; a page of a fill that is closed and unread is at home with what it holds; and so is a page for each fill that
--- may be begun before one more is closed.
+-- The value shows a state of the model, in a ring of n positions and pages of this size whose first fill has the
+-- number start: the words and the reader are the state's, but for what it took, and the head follows from the links;
+-- the writers' stack is what the state's history leaves, in its phases; a page of a fill that is closed and unread is
+-- at home with what it holds; and so is a page for each fill that may be begun before one more is closed.
 pub record HasStateOf (n size start : ℕ) (v : CoreValue) (c : Core) : Type 0 where
   pub frames : AreFrames n size start (frames_of v) c
   pub positions : length v.links ≡ n

@@ -11,11 +11,11 @@ pub data Event : Type 0 where
   pushes_close steps reads wishes : Event
   ends : (payload : List ℕ) → Event
 
--- pushed: the frame is on the stack now. refused: why. going: the frame is on the stack and hasn't reserved.
--- reserved_as: its record has this number. pending, full: it was ended, with a frame below it or with none. gone: it
--- has left the stack. reading: the take goes on. empty: no closed fill is unread, and this many are closed. moving: a
--- head move is in progress, and fills below this one are taken or lost. page_taken: a fill is taken. wished_for: the
--- reader wished for this fill.
+-- pushed: the frame is on the stack now. refused: why. going: the frame is on the stack, and has reserved nothing, or
+-- has left and has more to do. reserved_as: its record has this number. pending, full: it was ended, with a frame below
+-- it or with none. gone: it has left the stack. reading: the take goes on. empty: no closed fill is unread, and this
+-- many are closed. moving: a head move is in progress, and fills below this one are taken or lost. page_taken: a fill is
+-- taken. wished_for: the reader wished for this fill.
 pub data Answer : Type 0 where
   pushed going pending full gone reading : Answer
   reserved_as : (number : ℕ) → Answer

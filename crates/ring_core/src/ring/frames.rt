@@ -44,7 +44,7 @@ impl Core {
     }
 
     /// The record of the frame on top is reserved in the tail page, or there is nothing to close; or a page is needed,
-    /// and refused or noted.
+    /// and refused or noted. A frame that has reserved gets its number again.
     #[inline(always)]
     pub(crate) fn reserve(&mut self) -> Answer
         requires ring { IsReachedCore self.old }
