@@ -119,8 +119,8 @@ impl Core {
         self.go_on(role.after_next(noted, page))
     }
 
-    /// The link of the claim, which has the frame's own UPDATE, becomes NORMAL. The model compares and exchanges; as that
-    /// always succeeds, a store does.
+    /// The link of the claim, which has the frame's own UPDATE, becomes NORMAL. The model compares and exchanges; as
+    /// that always succeeds, a store does.
     #[inline(never)]
     pub(crate) fn clear_update(&mut self, noted: u64, page: u16) -> StepAnswer
         requires ring { IsReachedCore self.old }
