@@ -19,7 +19,7 @@ use record_words::WordFault;
 use std::alloc::Global;
 use trace_model::NoMemory;
 
-/// What an image states of events that were missed before its page.
+/// What an image states of records that were missed before its page.
 #[derive(Clone, Copy, Debug, PartialEq, Eq)]
 pub enum Missed {
     /// None were.
@@ -35,9 +35,10 @@ pub enum Missed {
 pub struct Image {
     /// The time of the page.
     pub time: u64,
-    /// How many bytes the records take.
+    /// How many bytes of data the records take, as commit states it. (The page's own size is that of all bytes after
+    /// the header.)
     pub size: usize,
-    /// The events that were missed before the page.
+    /// The records that were missed before the page.
     pub missed: Missed,
     /// The page itself, with 0 as its first number and its fill.
     pub page: Page,
@@ -50,7 +51,7 @@ pub enum ImageFault {
     TooShort,
     /// The size that is stated is above the number of bytes after the header, or the image is too long.
     BadSize,
-    /// A count of missed events is stated, and there are no eight bytes for it after the records.
+    /// A count of missed records is stated, and there are no eight bytes for it after the records.
     BadCount,
     /// The first fault of the records. Its offset counts from the end of the header.
     Word(WordFault),
@@ -79,9 +80,9 @@ impl From<NoMemory> for ImageFault {
 pub struct Outline {
     /// The time of the page.
     pub time: u64,
-    /// How many bytes the records take.
+    /// How many bytes of data the records take, as commit states it.
     pub size: usize,
-    /// The events that were missed before the page.
+    /// The records that were missed before the page.
     pub missed: Missed,
     /// How many records there are.
     pub count: u64,
@@ -145,7 +146,7 @@ fn read(alloc: Global, bytes: &[u8]) -> Result<Image, ImageFault>
 /// [`ImageFault`], and memory is asked for once, if the image has a reading.
 ///
 /// The page has as its size the number of bytes after the header. Bytes after the records and the count of
-/// missed events are kept in its body and mean nothing.
+/// missed records are kept in its body and mean nothing.
 pub fn read_image(alloc: Global, bytes: &[u8]) -> Result<Image, ImageFault>
     ensures reads { IfOk result (λ image. DecodesImage bytes.now image.time image.size
         (missed_of image.missed) (records_of_page image.page)) }

@@ -18,9 +18,9 @@ pub enum Answer {
     Gone,
     /// The event is refused. `Crowded` and `Worn` end their frame without a record; any other refusal changes nothing.
     Refused(WriteFault),
-    /// The take continues.
+    /// The take continues: `reading` in the model. (`Phase::Looking` is a writer's.)
     Looking(Body),
-    /// No closed fill is unread: this many are closed.
+    /// No closed fill is unread: the number is that of the oldest fill that isn't closed.
     Empty(u64, Body),
     /// A move of the head isn't finished; each fill below this one is taken or lost.
     Moving(FillNo, Body),

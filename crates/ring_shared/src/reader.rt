@@ -18,7 +18,7 @@ pub struct Reader {
     pub(crate) spare: u16,
     /// How far its take has come.
     pub(crate) at: Progress,
-    /// The number of closed fills that the last take answered, if it found nothing.
+    /// The number of the oldest fill that isn't closed, as the last take answered it, if it found nothing.
     pub(crate) empty_at: Option<u64>,
 }
 

@@ -8,7 +8,7 @@ pub enum Take {
     /// The oldest page that was closed and unread, and how many numbers are missing before its first record since the
     /// last page taken.
     Page(Page, u64),
-    /// No closed fill is unread: this is the number of the oldest one that isn't closed. The body is returned.
+    /// No closed fill is unread: the number is that of the oldest fill that isn't closed. The body is returned.
     Empty(u64, Body),
     /// A move of the head isn't finished, or the take has made as many steps as it may: each fill below this one is
     /// taken or lost. The body is returned.

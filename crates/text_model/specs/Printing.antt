@@ -55,17 +55,17 @@ printed_log_line line = log_line_text line ++ 10 ∷ []
 abbrev pub printed_fault : ℕ → LineFault → List ℕ
 printed_fault number fault = fault_text number fault ++ 10 ∷ []
 
--- what an image states of missed events
+-- what an image states of missed records
 abbrev pub missed_text : Missed → List ℕ
 missed_text none = codes "none"
 missed_text unknown = codes "unknown"
-missed_text (counted events) = decimal events
+missed_text (counted number) = decimal number
 
 -- the line of a record in an image: its moment and its payload
 abbrev pub printed_image_record : Record → List ℕ
 printed_image_record r = decimal r.moment ++ 32 ∷ hex_text r.bytes ++ 10 ∷ []
 
--- an image: its time, how many bytes its records take, its missed events, then a line for each record
+-- an image: its time, how many bytes its records take, its missed records, then a line for each record
 abbrev pub printed_image : ℕ → ℕ → Missed → List Record → List ℕ
 printed_image time size missed records =
     codes "page " ++ decimal time ++ codes " size " ++ decimal size ++ codes " missed " ++ missed_text missed

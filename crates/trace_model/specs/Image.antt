@@ -17,8 +17,8 @@ le64 n = to_le_bytes w64 n
 unfoldable pub from_le64 : List ℕ → ℕ
 from_le64 bytes = from_le_bytes w64 bytes
 
--- The commit word: bits 0 to 29 are the size of the data in bytes, bit 30 says that a count of missed events
--- is stored, bit 31 that events were missed before the page. Bits 32 to 63 mean nothing: kernels set
+-- The commit word: bits 0 to 29 are the size of the data in bytes, bit 30 says that a count of missed records
+-- is stored, bit 31 that records were missed before the page. Bits 32 to 63 mean nothing: kernels set
 -- them all if bit 31 is set.
 pub record Commit : Type 0 where
   pub size : ℕ
@@ -48,25 +48,25 @@ pub record HasParts (limit : ℕ) (bytes : List ℕ) (time : ℕ) (commit : Comm
   pub size_is : length contents ≡ commit.size
   pub length_fits : length bytes ≤ limit
 
--- what an image states of events that were missed before it: none were; some were, of unknown number; how many
+-- what an image states of records that were missed before it: none were; some were, of unknown number; how many
 pub data Missed : Type 0 where
   none : Missed
   unknown : Missed
   counted : (events : ℕ) → Missed
 
--- The commit word and the bytes after the data state this of missed events. The count is right after the
+-- The commit word and the bytes after the data state this of missed records. The count is right after the
 -- data, and bytes after it are ignored; bit 30 alone means nothing.
 abbrev pub ReportsMissed : Commit → List ℕ → Missed → Type 0
 ReportsMissed commit behind none = commit.is_missed ≡ false
 ReportsMissed commit behind unknown = (commit.is_missed ≡ true) × (commit.is_stored ≡ false)
-ReportsMissed commit behind (counted events) =
+ReportsMissed commit behind (counted number) =
     (commit.is_missed ≡ true)
     × (commit.is_stored ≡ true)
-    × (events < 2 ^ 64)
-    × ((ignored : List ℕ) × (behind ≡ le64 events ++ ignored))
+    × (number < 2 ^ 64)
+    × ((ignored : List ℕ) × (behind ≡ le64 number ++ ignored))
 
 -- The image, which has at most `limit` bytes, reads as a page of this time, with data of this size in bytes,
--- these missed events and these records.
+-- these missed records and these records.
 pub record DecodesImageWithin (limit : ℕ) (bytes : List ℕ) (time size : ℕ) (missed : Missed)
     (records : List Record) : Type 0 where
   pub commit : Commit
@@ -87,11 +87,11 @@ DecodesImage = DecodesImageWithin MAX_IMAGE
 abbrev pub has_room : List ℕ → ℕ → Bool
 has_room contents size = nat_le (length contents + 8) size
 
--- a count is stored where events were missed and there is room for it
+-- a count is stored where records were missed and there is room for it
 abbrev pub stores_count : List ℕ → ℕ → ℕ → Bool
 stores_count contents missed size = nat_lt 0 missed && has_room contents size
 
--- the commit word that is written for data, a number of missed events and the page's size
+-- the commit word that is written for data, a number of missed records and the page's size
 abbrev pub commit_of : List ℕ → ℕ → ℕ → Commit
 commit_of contents missed size = record {
   size = length contents;
@@ -108,14 +108,14 @@ filled contents stored size = contents ++ (stored ++ replicate (size - length co
 abbrev pub stored_count : List ℕ → ℕ → ℕ → List ℕ
 stored_count contents missed size = if stores_count contents missed size then le64 missed else []
 
--- The one image that is written for a page of this time, data, number of missed events and data size.
+-- The one image that is written for a page of this time, data, number of missed records and data size.
 abbrev pub image_of : ℕ → List ℕ → ℕ → ℕ → List ℕ
 image_of time contents missed size =
     le64 time
     ++ (le64 (commit_word (commit_of contents missed size))
     ++ filled contents (stored_count contents missed size) size)
 
--- what that image states of this number of missed events
+-- what that image states of this number of missed records
 abbrev pub missed_reported : List ℕ → ℕ → ℕ → Missed
 missed_reported contents missed size =
     if stores_count contents missed size then counted missed else (if nat_lt 0 missed then unknown else none)

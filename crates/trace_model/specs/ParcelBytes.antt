@@ -35,7 +35,7 @@ pub record HasNumbers (bytes : List ℕ) (cpu fill first missed : ℕ) (image : 
 abbrev pub AgreesWith : Missed → ℕ → Type 0
 AgreesWith none missed = missed ≡ 0
 AgreesWith unknown missed = 0 < missed
-AgreesWith (counted events) missed = (0 < missed) × (events ≡ missed)
+AgreesWith (counted number) missed = (0 < missed) × (number ≡ missed)
 
 -- The bytes have the numbers of this parcel, its CPU is one, and the image after them reads as its records and
 -- states this of missed events.

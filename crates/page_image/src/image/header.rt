@@ -11,13 +11,13 @@ use trace_model::MAX_IMAGE;
 /// How many bytes the header takes: a time and a commit word.
 pub(crate) const HEADER: usize = 16;
 
-/// How many bytes a number of the header takes, and the count of missed events.
+/// How many bytes a number of the header takes, and the count of missed records.
 const NUMBER: usize = 8;
 
-/// Bit 30 of a commit word: a count of missed events is stored. The bits below it are the size of the data.
+/// Bit 30 of a commit word: a count of missed records is stored. The bits below it are the size of the data.
 const STORED: u64 = 1 << 30;
 
-/// Bit 31 of a commit word: events were missed.
+/// Bit 31 of a commit word: records were missed.
 const MISSED: u64 = 1 << 31;
 
 /// A commit word. Its bits 32 to 63 mean nothing.
@@ -25,7 +25,7 @@ const MISSED: u64 = 1 << 31;
 pub(crate) struct Commit {
     /// How many bytes the records take.
     pub(crate) size: usize,
-    /// A count of missed events is stored after the records, if any were missed.
+    /// A count of missed records is stored after the records, if any were missed.
     is_stored: bool,
     /// Events were missed.
     is_missed: bool,
@@ -61,7 +61,7 @@ fn commit_of(word: u64) -> Commit
 
 impl Commit {
     /// The commit word of an image that is written: for a page with this size and `end` bytes of records, before
-    /// which `missed` events were missed. Their count is stored if there is room for it.
+    /// which `missed` records were missed. Their count is stored if there is room for it.
     pub(crate) fn written(end: usize, missed: u64, size: usize) -> Commit
         requires limit { size ≤ MAX_SIZE }
         requires end { end ≤ size }
@@ -76,7 +76,7 @@ impl Commit {
         }
     }
 
-    /// A count of missed events is stored after the records.
+    /// A count of missed records is stored after the records.
     pub(crate) fn stores_count(self) -> bool
         ensures { result ≡ self.is_stored }
     {
@@ -112,7 +112,7 @@ pub(crate) fn read_header(bytes: &[u8]) -> Result<Header, ImageFault>
     Ok(Header { time, commit })
 }
 
-/// What is stated of missed events, if these bytes are those after the records.
+/// What is stated of missed records, if these bytes are those after the records.
 pub(crate) fn read_missed(commit: Commit, behind: &[u8]) -> Result<Missed, ImageFault>
     ensures reported { IfOk result (λ missed. (ignored : ℕ)
         → ReportsMissed (commit_with commit ignored) behind.now (missed_of missed)) }

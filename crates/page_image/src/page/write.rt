@@ -10,8 +10,8 @@ impl Page {
     ghost use Rattle.trace_model.specs.Image.{DecodesImage, image_of, missed_reported, stored_count};
     ghost use Rattle.page_image.specs.Contents.{IsPage, records_of_page};
 
-    /// The page as an image: a header of 16 bytes, the data, the count of missed events if there were any and eight
-    /// bytes are left for it, and zeros up to the page's size. `missed` is how many events were missed before
+    /// The page as an image: a header of 16 bytes, the data, the count of missed records if there were any and eight
+    /// bytes are left for it, and zeros up to the page's size. `missed` is how many records were missed before
     /// the page.
     pub fn write_image(&self, alloc: Global, missed: u64) -> Result<Vec<u8>, NoMemory>
         ensures image { IfOk result (λ image.

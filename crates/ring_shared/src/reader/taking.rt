@@ -69,7 +69,7 @@ impl Reader {
         fill
     }
 
-    /// The number of closed fills that the last take answered, if it found nothing to take.
+    /// The number of the oldest fill that isn't closed, as the last take answered it, if it found nothing to take.
     pub fn empty_at(&self) -> Option<u64>
         ensures { result ≡ self.now.empty_at }
     {
