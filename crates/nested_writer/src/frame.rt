@@ -24,7 +24,7 @@ pub struct Pushed {
     pub len: usize,
 }
 
-/// A reserved record: its number, its fill, and where its payload is.
+/// A reserved record: its number, its fill, and the place of its slot. (The slot itself is the bytes there.)
 #[derive(Clone, Copy, Debug)]
 pub struct Slot {
     /// The record's number.

@@ -1,4 +1,4 @@
-//! An open page, and the payload in it that is lent to be written.
+//! An open page, as which a payload in it is lent to be written.
 ghost use Rattle.std.specs.Prelude.{◌≡◌, ◌+◌, ◌-◌, ◌*◌, ◌≤◌, ◌<◌, length, replicate, IfSome};
 ghost use Rattle.trace_model.specs.declared.limits.TheConstants.{MOMENT_LIMIT, MAX_SIZE};
 ghost use Rattle.trace_model.specs.Words.{padded, slot_len};
@@ -15,7 +15,8 @@ use std::marker::Model;
 use std::ops::{DerefSlice, DerefSliceMut};
 use trace_model::{FillNo, RecordNo};
 
-/// The payload of a reserved record, to be written in its page: it acts as the slice of its bytes.
+/// An open page. Lent to a caller it is the payload of a reserved record, to be written in the page: it acts as the
+/// slice of that payload's bytes.
 #[derive(Debug, Drop)]
 pub struct Payload {
     page: Page,

@@ -29,7 +29,9 @@ pub struct WriterStack {
     pages: usize,
     size: usize,
     done: u64,
+    /// The open pages but the tail page.
     older: Older,
+    /// The tail page.
     tail: Payload,
     top: Top,
     below: VecDeque<Frame>,

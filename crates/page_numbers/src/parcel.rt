@@ -60,7 +60,7 @@ impl Parcel {
         Parcel::checked(alloc, cpu, page, missed)
     }
 
-    /// The same, each fault by what it says.
+    /// `of`, with what each fault says in one clause.
     fn checked(alloc: Global, cpu: CpuId, page: Page, missed: u64) -> Result<Parcel, ParcelFault>
         requires page { IsPage page }
         ensures parcel { IfOk result (λ parcel. parcel ≡ record { cpu = cpu.0; missed = missed; page = page }) }

@@ -12,7 +12,7 @@ use std::alloc::Global;
 use std::thread;
 use trace_model::CpuId;
 
-/// The most takes of a thread, which more than suffice for what is recorded here.
+/// How often each loop here goes round at most: more than what is recorded here needs.
 const TAKES: usize = 1_000;
 
 /// Takes each page that is closed and unread, and adds it to the collector as a parcel.

@@ -2,8 +2,8 @@
 use nested_writer::WriteFault;
 use trace_model::{CpuId, FillNo, RecordNo};
 
-/// A line of the log, given by the number of the script's line. Small fields come first, so that a line takes at most
-/// 40 bytes.
+/// A line of the log, with the number of the script's line that met it. Small fields come first, so that a line takes
+/// at most 40 bytes.
 #[derive(Clone, Copy, Debug, PartialEq, Eq)]
 pub enum LogLine {
     /// A writer of this CPU was refused.

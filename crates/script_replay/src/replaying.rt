@@ -30,7 +30,7 @@ pub(crate) struct ReplayState<'a> {
     log: Vec<LogLine>,
 }
 
-/// A line of a CPU's ring.
+/// Obeys a line of the ring of this CPU.
 #[inline(always)]
 fn obey_ring<'a>(
     alloc: Global,
@@ -70,7 +70,7 @@ fn reported_delivery(added: Added, line: u64, collector: usize, cpu: CpuId, fill
     }
 }
 
-/// A line that delivers a fill of a CPU to a collector.
+/// Delivers a fill of a CPU to a collector, if it was taken.
 #[inline(never)]
 fn deliver(
     state: &mut ReplayState,
@@ -99,8 +99,8 @@ fn deliver(
     Ok(())
 }
 
-/// A line of the script. What it leaves if memory is refused is not used. Each kind of line has a call of its own, in
-/// which the compiler knows the kind.
+/// Obeys a line of the script. What it leaves if memory is refused is not used. `obey_ring` and `Lane::obey` are
+/// inlined into each arm, where the kind is known, so that it is matched once.
 #[inline(always)]
 fn obey<'a>(
     alloc: Global,
@@ -165,7 +165,7 @@ fn obey<'a>(
     }
 }
 
-/// `count` collectors that keep nothing.
+/// Makes `count` collectors that keep nothing.
 fn new_collectors(alloc: Global, count: usize) -> Result<Vec<Collector>, NoMemory>
     ensures count { IfOk result (λ collectors. length collectors.items ≡ count) }
     ensures new { IfOk result (λ collectors. All (λ kept. kept ≡ []) collectors.items) }
@@ -177,7 +177,7 @@ fn new_collectors(alloc: Global, count: usize) -> Result<Vec<Collector>, NoMemor
     Ok(collectors)
 }
 
-/// All lines of the script.
+/// Obeys all lines of the script.
 fn obey_all<'a>(alloc: Global, script: &'a Script) -> Result<ReplayState<'a>, NoMemory>
     ensures limits { OnOk result (IsWithinLimits script.now) }
     ensures part_way { IfOk result (λ state. IsStateAfter script.now script.now.commands state) }

@@ -14,8 +14,8 @@ pub data Event : Type 0 where
 -- pushed: the frame is on the stack now. refused: why. going: the frame is on the stack, and has reserved nothing, or
 -- has left and has more to do. reserved_as: its record has this number. pending, full: it was ended, with a frame
 -- below it or with none. gone: it has left the stack. reading: the take goes on. empty: no closed fill is unread, and
--- done is the oldest fill that isn't closed. moving: a head move is in progress, and fills below this one are taken or lost. page_taken: a
--- fill is taken. wished_for: the reader wished for this fill.
+-- done is the oldest fill that isn't closed. moving: a head move is in progress, and fills below this one are taken or
+-- lost. page_taken: a fill is taken. wished_for: the reader wished for this fill.
 pub data Answer : Type 0 where
   pushed going pending full gone reading : Answer
   reserved_as : (number : ℕ) → Answer

@@ -19,7 +19,7 @@ pub enum ScriptFault {
     /// A field is no decimal number of 1 to 20 digits below 2^64.
     #[error("line {0}: BadNumber")]
     BadNumber(u64),
-    /// A payload is no even number of hexadecimal digits, two at least, and not `-`.
+    /// A payload is neither `-` nor an even number of hexadecimal digits, two at least.
     #[error("line {0}: BadHex")]
     BadHex(u64),
     /// A number is outside its limits.

@@ -148,8 +148,8 @@ fn delivery_line(cpus: u32, collectors: u16, text: &[u8]) -> Option<UsualLine<'_
     })
 }
 
-/// The first line of a text, if it is a usual one: its payload is appended to those that are there. None, and nothing
-/// appended, says nothing of the text.
+/// The first line of a text, if it is a usual one: its payload is appended to those that are there. If the answer is
+/// none, nothing is appended, and nothing is said of the text.
 #[inline(always)]
 pub fn usual_line<'a>(
     cpus: u32,

@@ -62,7 +62,7 @@ abbrev pub event_on_top : List Frame → List (List ℕ) → Event
 event_on_top [] payloads = steps
 event_on_top (frame ∷ below) payloads = event_in frame.state payloads
 
--- The frame that is on top of a stack of this depth makes steps, one after the other, until it is gone.
+-- The frame that is on top of a stack of this depth makes steps, one after the other, and none once it is gone.
 abbrev pub FrameRun : (n size depth : ℕ) → Lane → List Exchange → Lane → Type 0
 FrameRun n size depth before [] after = before ≡ after
 FrameRun n size depth before (x ∷ exchanges) after =

@@ -149,7 +149,7 @@ impl WriterStack {
 
     /// What the frame on top was pushed with, if it is a record frame that tried nothing yet, and its record is one
     /// as nearly all are: in the short form, after another one, and far enough from the page's end for any such
-    /// record. `None` may be the answer for one that is near the end too.
+    /// record. `None` says nothing of the frame.
     #[inline(always)]
     pub fn plain_top(&self) -> Option<Pushed>
         requires stack { IsReachedStack self.now }
@@ -210,7 +210,7 @@ impl WriterStack {
         self.hold_plain(pushed).number
     }
 
-    /// `allot`, however far the frame on top has come.
+    /// `allot`, for a record that isn't plain: that of a record frame that has none is tried here.
     #[inline(never)]
     fn allot_any(&mut self) -> Result<Allot, WriteFault>
         requires stack { IsReachedStack self.old }
@@ -231,7 +231,7 @@ impl WriterStack {
         Ok(Allot::Fits(self.reserve_any(moment, raised, len)))
     }
 
-    /// `allot`, for any frame on top, or for none.
+    /// `allot`, for a frame of any other kind: one that has its record, a close frame, one that has left; or for none.
     #[inline(never)]
     fn allot_again(&mut self) -> Result<Allot, WriteFault>
         requires stack { IsReachedStack self.old }

@@ -8,7 +8,7 @@ use crate::stack::WriterStack;
 pub enum Ended {
     /// There is a frame below it: its record is committed once that one, and all below, have left too.
     Pending,
-    /// It is the bottom frame, which stays until all closed fills are released.
+    /// It is the bottom frame, which stays until all fills but the tail are closed.
     Full,
 }
 

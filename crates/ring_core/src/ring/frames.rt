@@ -57,7 +57,7 @@ impl Core {
         self.frames.reserve()
     }
 
-    /// Another frame has begun a fill since the frame on top noted what to open.
+    /// The frame on top begins again, since another frame has begun a fill since it noted what to open.
     #[inline(always)]
     pub(crate) fn begin_again(&mut self) -> StepAnswer
         requires ring { IsReachedCore self.old }

@@ -25,7 +25,7 @@ impl Frames {
 
     /// What the frame on top was pushed with, if it is a record frame that tried nothing yet, and its record is one as
     /// nearly all are: in the short form, after another one, and far enough from the page's end for any such record.
-    /// `None` may be the answer for one that is near the end too.
+    /// `None` says nothing of the frame.
     #[inline(always)]
     pub fn plain_top(&self) -> Option<Pushed>
         requires shown { AreSomeFrames self.now }

@@ -55,7 +55,7 @@ impl<'a> Lane<'a> {
         self.step(at, MOST_STEPS, log)
     }
 
-    /// The frame on top makes steps until `count` are made or it is gone, so that fewer payloads are kept.
+    /// Has the frame on top make `count` steps, or fewer if it is gone before: then fewer payloads are kept.
     #[inline(always)]
     fn follow(&mut self, at: At, count: u64, log: &mut Vec<LogLine>) -> Result<(), NoMemory>
         requires lane { IsLaneOf at.cpu.0 self.old }
@@ -73,8 +73,7 @@ impl<'a> Lane<'a> {
         Ok(())
     }
 
-    /// One step of the frame on top, with whose payload its record ends. The payload of a frame that is gone is
-    /// dropped.
+    /// One step of the frame on top (`ask_top`). The payload of a frame that is gone is dropped.
     #[inline(always)]
     fn step_once(&mut self) -> Answer
         requires { (cpu : ℕ) × IsLaneOf cpu self.old }
