@@ -44,7 +44,7 @@
 extern "C" {
 #endif
 
-// What the exports know of a handle.
+// What the exports know of a handle: `WriterHandle`, `ReaderHandle` or `CollectorHandle` of `crates/tracering_c`.
 struct tracering_held {
     void *at;
     bool live;
@@ -108,7 +108,7 @@ enum {
     TRACERING_TOO_LONG = 2,      // the payload doesn't fit a page; put: the bytes don't fit the slot
     TRACERING_LATE_MOMENT = 3,   // the moment is 2^59 or later
     TRACERING_CROWDED = 4,       // a page is needed, and all are begun and not closed
-    TRACERING_WORN = 5,          // a page is needed, and the ring has begun its last one, after 2^48
+    TRACERING_WORN = 5,          // a page is needed, and no number is left for one more use of a page: there are 2^48
     TRACERING_NO_FRAME = 6,      // nothing is begun
     TRACERING_NOT_RESERVED = 7,  // the frame on top has no record: not yet, not any more, or it is a close
     TRACERING_ABSENT = 8,        // the handle has nothing
@@ -119,13 +119,13 @@ enum {
     TRACERING_BAD_SIZE = 13,     // a ring can't have this number of pages or this size
     TRACERING_BAD_CPU = 14,      // there is no such CPU
     TRACERING_EMPTY = 15,        // no closed page is unread
-    TRACERING_MOVING = 16,       // a move of the head isn't finished: try again
+    TRACERING_MOVING = 16,       // a move of the head isn't finished, or `take` made all its steps: try again
     TRACERING_NO_ROOM = 17,      // the buffer is too short
     TRACERING_NOT_AT_REST = 18,  // settle: a frame is begun and not completed
     TRACERING_UNREAD = 19,       // settle: a closed page may be unread
     TRACERING_TOO_SHORT = 20,    // there are fewer bytes than TRACERING_HEADER
     TRACERING_BAD_IMAGE_SIZE = 21, // the size that the page states is above what follows, or the page is too long
-    TRACERING_BAD_COUNT = 22,    // a stored count of missed events is stated, and there are no bytes for it
+    TRACERING_BAD_COUNT = 22,    // a stored count of missed records is stated, and there are no bytes for it
     TRACERING_CUT = 23,          // the data ends within a word
     TRACERING_BAD_LENGTH = 24,   // no word has the length that this one states
     TRACERING_TIME_OVERFLOW = 25, // a moment doesn't fit 64 bits
@@ -262,8 +262,8 @@ static inline int32_t tracering_begin_close(struct tracering_writer *w)
     return tracering_leave(&w->in_call, tracering_raw_begin_close(&w->held));
 }
 
-// finish: reserves the record of the frame on top (RESERVED), in a slot of zeros, or completes a frame that was
-// ended, a close, or one that was refused (DONE). CROWDED, WORN: the frame on top is refused, and its record isn't
+// finish: reserves the record of the frame on top (RESERVED), in a slot of zeros, or says so again of one that is
+// reserved, and leaves its slot as it is; or completes a frame that was ended, a close, or one that was refused (DONE). CROWDED, WORN: the frame on top is refused, and its record isn't
 // written; if `depth` still counts the frame, one more `finish` completes it. NO_FRAME.
 static inline int32_t tracering_finish(struct tracering_writer *w)
 {
@@ -320,7 +320,9 @@ static inline int32_t tracering_take(struct tracering_reader *r, void *out, size
     return tracering_leave(&r->in_call, tracering_raw_take(&r->held, (uint8_t *)out, room, taken));
 }
 
-// Wishes for the page that is written to be closed, which the writer does at the end of its next record.
+// Wishes for the page that is written to be closed, after a `take` that answered EMPTY: the writer closes it when the
+// outermost frame is completed next, if the page has a record, and none was closed since that `take`. Otherwise nothing
+// is closed: take until EMPTY, and wish again.
 static inline int32_t tracering_wish(struct tracering_reader *r)
 {
     if (!r)
@@ -332,8 +334,8 @@ static inline int32_t tracering_wish(struct tracering_reader *r)
 
 // ---- The calls of whoever has both ends, or is done with one. They release memory: no handler may make them.
 
-// Joins the two ends of one ring (of one: no call can look at that): the pages that were taken, and then the one that
-// is given here, have all records that were written, except those that are counted as missed. It is given as `take`
+// Joins the two ends of a ring. (No call can find out whether they are of one.) The pages that were taken, and then the
+// one that is given here, have all records that were written, except those that are counted as missed. It is given as `take`
 // does; if it has no record, `taken->len` is 0. Both handles are all zeros afterwards. NOT_AT_REST: a frame is begun
 // and not completed. UNREAD: take until EMPTY first. NO_ROOM. Then neither handle is changed.
 static inline int32_t tracering_settle(struct tracering_writer *w, struct tracering_reader *r, void *out, size_t room,

@@ -12,8 +12,8 @@ use Rattle.world_model.specs.Lanes.{event_on_top, payloads_left}
 use Rattle.line_model.specs.Lines.{LineState, OpenFrame, with_top_stepped, TopRun, MayGo, ReservesFirst}
 use Rattle.line_model.specs.WriterCalls.{Writer, writer_of, IsWriterCall}
 
--- A frame may leave without a record: it wants none; or the record doesn't fit, and no page is released or no number
--- is left.
+-- A frame may leave without a record: it wants none; or the record doesn't fit, and all pages have fills that aren't
+-- closed, or no number is left.
 abbrev pub LeavesNone : ℕ → ℕ → Core → Type 0
 LeavesNone n size c = (r : Reservation)
     → next_reservation c.history ≡ Some r

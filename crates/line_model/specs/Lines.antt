@@ -66,8 +66,8 @@ pub record IsPush (n : ℕ) (history_event : HistoryEvent) (payload : List ℕ) 
 -- ---- the frame on top
 
 -- The top frame leaves with the payload of its line, in whole words. It leaves without a record only if it wants none,
--- as a close frame, or if its record doesn't fit into the tail page and either no page is released or no number is left
--- for one more fill.
+-- as a close frame, or if its record doesn't fit into the tail page and either all pages have fills that aren't closed
+-- or no number is left for one more fill.
 abbrev pub MayLeaveTop : ℕ → ℕ → LineState → Option (List ℕ) → List OpenFrame → Type 0
 MayLeaveTop n size p payload [] = ⊥
 MayLeaveTop n size p (Some bytes) (top ∷ below) = bytes ≡ padded top.payload

@@ -22,7 +22,7 @@ pub record IsInNeed (n size : ℕ) (c : Core) : Type 0 where
   pub about : top.phase ≡ idle
   pub needs : NeedsPage size c top.kind
 
--- such a frame is refused as crowded if no page is released; and if one is, as worn if the tail is the
+-- such a frame is refused as crowded if all pages have fills that aren't closed; else as worn if the tail is the
 -- last fill that may be begun: the one a round after the next has no number
 abbrev pub RefusalsAreDue : Type 0
 RefusalsAreDue = (n size : ℕ) (c : Core) (answer : Answer) (after : Core)
@@ -31,13 +31,13 @@ RefusalsAreDue = (n size : ℕ) (c : Core) (answer : Answer) (after : Core)
     → (IsCrowded n (window_of c) → answer ≡ refused crowded)
     × ((IsCrowded n (window_of c) → ⊥) → LINK_FILLS ≤ c.opened + n → answer ≡ refused worn)
 
--- a frame is refused as crowded only where no page is released
+-- a frame is refused as crowded only if all pages have fills that aren't closed
 abbrev pub CrowdedIsRight : Type 0
 CrowdedIsRight = (n size : ℕ) (c : Core) (event : Event) (after : Core)
     → Step n size c event (refused crowded) after
     → IsCrowded n (window_of c)
 
--- a frame is refused as worn only where a page is released, and the tail is the last fill that may be begun
+-- a frame is refused as worn only if not all pages have such fills, and the tail is the last fill that may be begun
 abbrev pub WornIsRight : Type 0
 WornIsRight = (n size start : ℕ) (c : Core) (event : Event) (after : Core)
     → IsRingKept n size start c

@@ -60,7 +60,8 @@ clearing_fill (opening o page) = None
 clearing_fill releasing = None
 clearing_fill wishing = None
 
--- What a frame knows in its phase. noted: the fill to open was the next one, and some page was released.
+-- What a frame knows in its phase. noted: the fill to open was the next one, and not all pages had fills that weren't
+-- closed.
 -- passed: the position of that fill is free but for an UPDATE. moves: its own UPDATE is set. marks: the next
 -- link, if it waits for its HEADER, is the one that was seen. clears: it doesn't wait for it any more.
 pub record PhaseKept (n : ℕ) (links : List Link) (order : List ℕ) (head done opened : ℕ) (phase : Phase)

@@ -103,7 +103,7 @@ abbrev pub NeedsPage : Stack → List Frame → Type 0
 NeedsPage s [] = ⊥
 NeedsPage s (top ∷ below) = WantsPage s top.purpose top.progress
 
--- no page of the ring is released
+-- all pages of the ring have fills that aren't closed
 abbrev pub IsCrowded : Stack → Type 0
 IsCrowded s = opened s ≡ s.done + s.pages
 

@@ -9,7 +9,7 @@ pub enum WriteFault {
     TooLong,
     /// The moment is not below `MOMENT_LIMIT`.
     LateMoment,
-    /// A page is needed, and none is released: as many fills are begun and not closed as the ring has pages.
+    /// A page is needed, and as many fills are begun and not closed as the ring has pages.
     Crowded,
     /// A page is needed, and the tail is the last fill that may be begun, so that links can state their fills.
     Worn,

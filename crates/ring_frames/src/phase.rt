@@ -71,7 +71,7 @@ pub enum Phase {
     Wishing,
 }
 
-/// What a step answers by which a frame opens or closes a page, or has nothing left to do there.
+/// What a step on a word answers, and one by which a frame begins again: whether the frame is still on the stack.
 #[derive(Clone, Copy, Debug)]
 pub enum StepAnswer {
     /// It is on the stack.

@@ -200,8 +200,8 @@ pub data TakesSteps (shape : Shape) (before : Reading) (result : Take) (after : 
 abbrev pub SameRing : ReaderValue → ReaderValue → Type 0
 SameRing before after = (after.shape ≡ before.shape) × (after.table ≡ before.table)
 
--- After a step, the reader's fields are its part again; it found nothing if the answer says so, and the last take's
--- answer isn't given yet.
+-- What a step's answer says of what the reader knows: if it is that nothing was found, the reader has found exactly
+-- that.
 abbrev pub EmptyAfter : ReaderValue → TakeStep → Type 0
 EmptyAfter v (Looking back) = Unit {0}
 EmptyAfter v (Done (Page page missed)) = Unit {0}

@@ -126,7 +126,7 @@ RefusedWritesReserveNone = (shape : Shape) (before : Writing) (moment len : ℕ)
     → IsRefusedWrite shape before moment len fault after
     → reserved_records after.history ≡ reserved_records before.history
 
--- It leaves the frames that there were before it, and no other; one that is refused at once changes nothing.
+-- It leaves the frames that there were before it, and no other.
 abbrev pub RefusedWritesLeaveNoFrame : Type 0
 RefusedWritesLeaveNoFrame = (shape : Shape) (before : Writing) (moment len : ℕ) (fault : WriteFault) (after : Writing)
     → IsRefusedWrite shape before moment len fault after

@@ -34,8 +34,7 @@ fn load_done_joined(board: &Board, shape: Shape, seat: &mut TableSeat)
 }
 
 /// Joins the two seats of a ring, and loads once how many fills are closed. So what both know are the parts of one
-/// state that the ring reached. The reader has no slot then: it has made no step since its last take began, or but
-/// loads.
+/// state that the ring reached. The reader has no slot then: it has made no swap, or has loaded a link since.
 pub fn settle(writer: WriterSeat, reader: ReaderSeat)
     requires one_table { reader_table reader ≡ writer_table writer }
     requires no_slot { (reading_in reader).keeps_spare ≡ false }

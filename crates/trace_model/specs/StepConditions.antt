@@ -19,7 +19,7 @@ NeedsPage size c (for_record moment len) =
     FitsBehind size (tail_of c.history) (new_reservation c moment len) → ⊥
 NeedsPage size c for_close = tail_of c.history ≢ []
 
--- the reader wishes for the tail, which holds a record and isn't the last fill
+-- the reader wishes for the tail, which holds a record and isn't the last fill that may be begun
 pub record IsGranted (n : ℕ) (c : Core) : Type 0 where
   pub asks_tail : c.wish ≡ c.opened
   pub holds_record : tail_of c.history ≢ []

@@ -86,7 +86,7 @@ WindowRunFrom n history before (loses ∷ events) after =
 abbrev pub WindowRun : ℕ → ℕ → List RingEvent → Window → Type 0
 WindowRun n start events window = WindowRunFrom n [] (first_window start) events window
 
--- no page is released, so that a frame that needs one is refused
+-- all pages have fills that aren't closed, so that a frame that needs one is refused
 abbrev pub IsCrowded : ℕ → Window → Type 0
 IsCrowded n w = w.opened ≡ w.done + n
 

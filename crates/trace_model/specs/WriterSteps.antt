@@ -137,7 +137,8 @@ abbrev pub in_reserved : Core → Frame → List Frame → ℕ → Core
 in_reserved c frame below number =
     record c { frames = record frame { state = reserved number; phase = idle } ∷ below }
 
--- A page is needed: no closed page is left to lose, or the tail is the last fill, or the fill to open is noted.
+-- A page is needed: all pages have fills that aren't closed, or the tail is the last fill that may be begun, or the
+-- fill to open is noted.
 abbrev pub note_fill : (n : ℕ) → Core → Frame → List Frame → Outcome
 note_fill n c frame below =
     if c.opened == c.done + n then refuses c frame below crowded
@@ -228,7 +229,7 @@ release_fill c frame (next ∷ below) = None
 
 -- ---- wishing: a load of the reader's wish, by the bottom frame
 
--- the wish is for the tail, which holds a record and isn't the last fill
+-- the wish is for the tail, which holds a record and isn't the last fill that may be begun
 abbrev pub is_granted : (n : ℕ) → Core → Bool
 is_granted n c = c.wish == c.opened && tail_holds c && nat_lt (c.opened + n) LINK_FILLS
 

@@ -100,7 +100,8 @@ pub record AnswersTake (old : ReaderValue) (answer : Take) (new : ReaderValue) :
   pub empty_at : new.empty_at ≡ empty_of answer
 
 -- A page is taken and given, and the answer is 0; or nothing is taken and nothing is given: no closed page is unread,
--- or a move of the head isn't finished, or the buffer is shorter than a parcel of the ring.
+-- or a move of the head isn't finished, or the take has made as many steps as it may, or the buffer is shorter than a
+-- parcel of the ring.
 pub data TakesSo (old : ReaderEnd) (out : List ℕ) (was : Taken) (code : ℤ) (left : List ℕ) (reported : Taken)
     (new : ReaderEnd) : Type 0 where
   is_page : (page : Contents) (missed : ℕ)

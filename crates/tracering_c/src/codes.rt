@@ -23,7 +23,7 @@ pub const TOO_LONG: i32 = 2;
 const LATE_MOMENT: i32 = 3;
 /// A page is needed, and all are begun and not closed.
 const CROWDED: i32 = 4;
-/// A page is needed, and the ring has begun its last one.
+/// A page is needed, and no number is left for one more fill.
 const WORN: i32 = 5;
 /// Nothing is begun.
 const NO_FRAME: i32 = 6;
@@ -41,7 +41,7 @@ pub const BAD_SIZE: i32 = 13;
 pub const BAD_CPU: i32 = 14;
 /// No closed page is unread.
 pub const EMPTY: i32 = 15;
-/// A move of the head isn't finished.
+/// A move of the head isn't finished, or the take has made as many steps as it may.
 pub const MOVING: i32 = 16;
 /// The caller's buffer is too short.
 pub const NO_ROOM: i32 = 17;

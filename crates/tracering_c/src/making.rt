@@ -1,4 +1,4 @@
-//! A new ring, and its ends' end.
+//! A new ring; and its ends, freed.
 ghost use Rattle.std.specs.Prelude.{◌≡◌, ◌≢◌, ◌<◌, ◌↔◌, Some, None, IfSome, IfOk, IsSomeAnd, is_some, true, pos};
 ghost use Rattle.trace_model.specs.declared.limits.TheConstants.{MAX_CPUS, START_FILL};
 ghost use Rattle.trace_model.specs.Ring.{HasRingLimits};

@@ -100,7 +100,7 @@ pub extern "C" fn tracering_raw_begin_close(w: &mut WriterHandle) -> i32
     code_of_answer(w.held.writer().writer.begin_close())
 }
 
-/// Steps the frame on top until its record is reserved, or it is gone or refused.
+/// Steps the frame on top until its record is reserved, or it is gone or refused. One that has reserved says so again.
 #[unsafe(no_mangle)]
 pub extern "C" fn tracering_raw_finish(w: &mut WriterHandle) -> i32
     requires writer { IfSome (writer_of w.old.held.value) (λ x. IsWriter x.writer) }

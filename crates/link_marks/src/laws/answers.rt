@@ -1,8 +1,8 @@
 //! Laws of a ring's answers: when a frame is refused, and what the reader's answers say.
 ghost use Rattle.link_marks.specs.AnswerLaws.{CrowdedIsRight, EmptyIsRight, MovingIsRight, RefusalsAreDue, PageTakenIsRight, WornIsRight};
 
-/// A frame is refused as crowded only where no page is released, and as worn only where the tail is the last
-/// fill that may be begun; and there a frame that needs a page is refused.
+/// A frame is refused as crowded only if all pages have fills that aren't closed, and as worn only if the tail is the
+/// last fill that may be begun; and then a frame that needs a page is refused.
 pub fn refusals_are_right()
     ensures crowded { CrowdedIsRight }
     ensures worn { WornIsRight }

@@ -144,9 +144,9 @@ impl WriterStack {
         self.top.leave(moment, len);
     }
 
-    /// Whether the tail holds a record, so that it can be closed for the reader: then the frame of a record that was
-    /// written alone, of this moment and of a payload of `len` bytes, is put back for it, has left, and a page may be
-    /// added once for it, as after `ask_close`. Otherwise nothing changes.
+    /// Whether the tail holds a record, so that it can be closed for the reader. Then a frame that has left is put on
+    /// the stack, that of the record of this moment and of `len` bytes which was written alone, and a page may be added
+    /// once for that frame, as after `ask_close`. Otherwise nothing changes.
     #[inline(never)]
     pub fn ask_close_for(&mut self, moment: u64, len: usize) -> bool
         requires none { self.old.frames ≡ [] }

@@ -59,8 +59,8 @@ impl Frames {
         stack.into_tail()
     }
 
-    /// What is made of the reader's wish: if it is for the tail, and the tail holds a record and isn't the last fill,
-    /// the frame on top notes the next fill; else it closes what was begun meanwhile, or is gone.
+    /// What is made of the reader's wish: if it is for the tail, which holds a record and isn't the last fill that may
+    /// be begun, the frame on top notes the next fill; else it closes what was begun meanwhile, or is gone.
     #[inline(always)]
     pub fn load_wish(&mut self, wish: u64) -> StepAnswer
         requires { IsWishing self.old }
@@ -94,7 +94,7 @@ impl Frames {
         StepAnswer::Gone
     }
 
-    /// Whether the reader's wish is for the tail, and that isn't the last fill.
+    /// Whether the reader's wish is for the tail, and that isn't the last fill that may be begun.
     #[inline(always)]
     pub(crate) fn may_grant(&self, wish: u64) -> bool
         ensures { IsTrue result
@@ -104,8 +104,8 @@ impl Frames {
         wish == opened && opened + (self.stack.pages() as u64) < LINK_FILLS
     }
 
-    /// Whether the reader's wish is for the tail, which holds a record and isn't the last fill: then the frame notes
-    /// the next fill.
+    /// Whether the reader's wish is for the tail, which holds a record and isn't the last fill that may be begun: then
+    /// the frame notes the next fill.
     #[inline(always)]
     fn grant_wish(&mut self, wish: u64) -> bool
         requires { IsWishing self.old }

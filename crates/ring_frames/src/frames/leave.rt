@@ -32,7 +32,7 @@ impl Frames {
         }
     }
 
-    /// The frame on top has left the stack: one with a frame below it is gone, and the bottom one stays.
+    /// The frame on top has left: one with a frame below it is gone, and the bottom one is still on the stack.
     #[inline(always)]
     pub(crate) fn pop_phase(&mut self) -> StepAnswer
         ensures answer { as_answer result ≡ left_answer self.old.below }

@@ -52,8 +52,8 @@ impl Frames {
         }
     }
 
-    /// Whether the reader's wish may be for the next fill, if only the tail is open. If it isn't, a frame that has left
-    /// and looks for it is gone.
+    /// Whether the reader's wish may be for the tail, if no other fill is open. If it isn't, a frame that has left and
+    /// looks for it is gone.
     #[inline(always)]
     pub fn is_wished(&self, wish: u64) -> bool
         ensures unasked { result ≡ false → (moment len : ℕ)

@@ -11,7 +11,7 @@ enum Finished {
     Reserved,
     /// It is gone.
     Gone,
-    /// It was refused, or there is none.
+    /// It was refused, or no frame is on the stack.
     Refused(WriteFault),
 }
 
@@ -21,7 +21,7 @@ enum Target {
     Record,
     /// It is gone.
     End,
-    /// It makes one step: it has reserved, or there is none.
+    /// One step is made: the frame has reserved, or no frame is on the stack, and the step says so.
     Step,
 }
 
@@ -36,10 +36,10 @@ impl Writer {
     ghost use Rattle.ring_shared.specs.Promises.{HasLeavingTop, KeepsSlots, LeavesTop};
     ghost use Rattle.ring_shared.specs.Finishing.{Finishes, IsFinished, ZerosFinished, Reserves, Leaves, Closes, IsGoneOrRefused, met_behind};
 
-    /// Steps a close frame, or one that was ended or refused, until it is gone, and any other record frame until its
-    /// record is reserved, in a slot that holds only zeros, or it is refused. It answers the refusal that it met, if
-    /// any, else as its last step does. Each of its steps is one of `step`; if there is no frame, it is refused with
-    /// `NoFrame`.
+    /// Steps a close frame, or one that was ended or refused, until it is gone, and a record frame that waits until its
+    /// record is reserved, in a slot that holds only zeros, or it is refused; one that has reserved gets its number
+    /// again, and its slot stays. It answers the refusal that it met, if any, else as its last step does. Each of its
+    /// steps is one of `step`; if there is no frame, it is refused with `NoFrame`.
     #[inline(always)]
     pub fn finish_top(&mut self) -> Answer
         requires writer { IsWriter self.old }
@@ -98,7 +98,7 @@ impl Writer {
         }
     }
 
-    /// The frame on top makes steps until it is gone, however many.
+    /// As `leave_on`, with the answer of `finish_top`.
     #[inline(always)]
     fn finish_leaving(&mut self) -> Answer
         requires { HasLeavingTop self.old }
@@ -110,7 +110,8 @@ impl Writer {
         }
     }
 
-    /// The frame on top makes steps until it is gone: the refusal that it met, if any.
+    /// The frame on top makes steps until it is gone, those that close fills and look for the wish first, without
+    /// `step`: the refusal that it met, if any.
     #[inline(never)]
     pub(crate) fn leave_on(&mut self) -> Option<WriteFault>
         requires { HasLeavingTop self.old }
@@ -169,7 +170,7 @@ impl Writer {
         }
     }
 
-    /// The frame on top makes steps until it is gone.
+    /// The frame on top, in whatever phase, is stepped by `step` until it is gone.
     #[inline(always)]
     fn leave_top(&mut self) -> Answer
         requires { HasLeavingTop self.old }
@@ -187,7 +188,7 @@ impl Writer {
     }
 }
 
-/// The answer, without what the frame on top states itself.
+/// The answer, without the record's number, which the slot on top states.
 fn brief(answer: Answer) -> Finished
     requires { IsNumberOrRefused answer }
     ensures { IsOutcomeOf answer result }

@@ -81,7 +81,8 @@ impl Writer {
         self.frames.go_on(phase)
     }
 
-    /// A load of the next link, from the word of the page that is passed: does it still wait for the HEADER?
+    /// A load of the next link, from the word of the page that is passed, to see whether that link still waits for its
+    /// HEADER.
     #[inline(always)]
     pub(crate) fn load_next(&mut self, role: Role, noted: u64, page: u16) -> StepAnswer
         requires framed { HasFrame self.old }
@@ -107,7 +108,8 @@ impl Writer {
         self.frames.go_on(phase)
     }
 
-    /// A compare and exchange of the next link from NORMAL to HEADER.
+    /// A compare and exchange of the next link from NORMAL to HEADER. If it fails, a frame that interrupted this one
+    /// has set that HEADER already; this frame goes on either way.
     #[inline(always)]
     pub(crate) fn mark_head(&mut self, role: Role, noted: u64, page: u16, next: u16) -> StepAnswer
         requires framed { HasFrame self.old }
@@ -124,7 +126,8 @@ impl Writer {
         self.frames.go_on(role.after_next(noted, page))
     }
 
-    /// A compare and exchange of the link of the claim from the frame's own UPDATE to NORMAL, which is always done.
+    /// A compare and exchange of the link of the claim from the frame's own UPDATE to NORMAL. It never fails: no other
+    /// frame replaces that UPDATE.
     #[inline(always)]
     pub(crate) fn clear_update(&mut self, noted: u64, page: u16) -> StepAnswer
         requires framed { HasFrame self.old }

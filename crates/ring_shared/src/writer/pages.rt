@@ -48,8 +48,8 @@ impl Writer {
         StepAnswer::Going
     }
 
-    /// A load of the reader's wish: if it is for the tail, and the tail holds a record and isn't the last fill, the
-    /// frame closes it; else it closes what was begun meanwhile, or is gone.
+    /// A load of the reader's wish: if it is for the tail, which holds a record and isn't the last fill that may be
+    /// begun, the frame closes it; else it closes what was begun meanwhile, or is gone.
     #[inline(always)]
     pub(crate) fn load_wish(&mut self) -> StepAnswer
         requires framed { HasFrame self.old }

@@ -16,10 +16,11 @@ impl Writer {
     ghost use Rattle.ring_shared.specs.Rooms.{rooms};
     ghost use Rattle.ring_shared.specs.Promises.{HasFrame, KeepsSlots};
 
-    /// One step of the frame on top, in its phase: a step on one word, or one that touches none. `Going` while it is on
-    /// the stack and has reserved nothing or has left; `Reserved` with its record's number, whose slot holds only zeros
-    /// when it is reserved; `Gone` once it has left the stack. Refused with `NoFrame` if there is no frame; and a frame
-    /// that needs a page is refused, and leaves, as `Crowded` if no page is released, as `Worn` after the last fill.
+    /// One step of the frame on top, in its phase: a step on one word, or one that touches none. `Going` if it is on
+    /// the stack, and has reserved nothing yet, or has left and has more to do; `Reserved` with its record's number,
+    /// whose slot holds only zeros when it is reserved; `Gone` once it has left the stack. Refused with `NoFrame` if
+    /// there is no frame; and a frame that needs a page is refused, and leaves, as `Crowded` if all pages of the ring
+    /// have fills that aren't closed, as `Worn` after the last fill that may be begun.
     #[inline(always)]
     pub fn step(&mut self) -> Answer
         requires writer { IsWriter self.old }
