@@ -13,7 +13,7 @@
 // positive one: why it didn't. What is changed all the same, the call's own text says. Each call may answer these,
 // which its own list leaves out:
 //   TRACERING_NULL     a pointer is null (one to bytes may be, if their number is 0)
-//   TRACERING_ABSENT   the handle has nothing: it is new, or it was freed
+//   TRACERING_ABSENT   the handle has nothing: it is new, or its end was freed or settled
 //   TRACERING_BUSY     the handle is in another call, which this one interrupts
 // Then nothing is changed.
 //
@@ -92,7 +92,7 @@ struct tracering_line {
     uint64_t moment; // when the record was made, in its writer's units
     uint64_t number; // the record's number among those of its CPU
     uint32_t cpu;    // the CPU that made it
-    size_t len;      // how many bytes it has: its payload, and zeros up to whole words of 4
+    size_t len;      // how many bytes it has: its payload, and zeros up to a multiple of 4
 };
 
 // The bytes of a parcel before its page's data.
@@ -263,8 +263,9 @@ static inline int32_t tracering_begin_close(struct tracering_writer *w)
 }
 
 // finish: reserves the record of the frame on top (RESERVED), in a slot of zeros, or says so again of one that is
-// reserved, and leaves its slot as it is; or completes a frame that was ended, a close, or one that was refused (DONE). CROWDED, WORN: the frame on top is refused, and its record isn't
-// written; if `depth` still counts the frame, one more `finish` completes it. NO_FRAME.
+// reserved, and leaves its slot as it is; or completes a frame that was ended, a close, or one that was refused (DONE).
+// CROWDED, WORN: the frame on top is refused, and its record isn't written; if `depth` still counts the frame, one more
+// `finish` completes it. NO_FRAME.
 static inline int32_t tracering_finish(struct tracering_writer *w)
 {
     if (!w)
@@ -309,7 +310,7 @@ static inline size_t tracering_depth(struct tracering_writer *w)
 // ---- The reader's calls, of its thread and of handlers that interrupt it. None takes memory or waits.
 
 // Takes the oldest page that is closed and unread: its parcel goes to the front of `out`. `out` has room for
-// TRACERING_HEADER and the ring's `size` bytes at least, and all of them are written. EMPTY, MOVING, NO_ROOM: then
+// TRACERING_HEADER and the ring's `size` bytes at least, and so many are written. EMPTY, MOVING, NO_ROOM: then
 // `out` and `taken` are not changed, and no page is taken.
 static inline int32_t tracering_take(struct tracering_reader *r, void *out, size_t room, struct tracering_taken *taken)
 {
@@ -335,9 +336,9 @@ static inline int32_t tracering_wish(struct tracering_reader *r)
 // ---- The calls of whoever has both ends, or is done with one. They release memory: no handler may make them.
 
 // Joins the two ends of a ring. (No call can find out whether they are of one.) The pages that were taken, and then the
-// one that is given here, have all records that were written, except those that are counted as missed. It is given as `take`
-// does; if it has no record, `taken->len` is 0. Both handles are all zeros afterwards. NOT_AT_REST: a frame is begun
-// and not completed. UNREAD: take until EMPTY first. NO_ROOM. Then neither handle is changed.
+// one that is given here, have all records that were written, except those that are counted as missed. It is given as
+// `take` does; if it has no record, `taken->len` is 0. Both handles are all zeros afterwards. NOT_AT_REST: a frame is
+// begun and not completed. UNREAD: take until EMPTY first. NO_ROOM. Then neither handle is changed.
 static inline int32_t tracering_settle(struct tracering_writer *w, struct tracering_reader *r, void *out, size_t room,
     struct tracering_taken *taken)
 {

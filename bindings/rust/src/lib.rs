@@ -196,7 +196,8 @@ impl Open<'_> {
 impl Drop for Open<'_> {
     fn drop(&mut self) {
         let _refusal = unsafe { tracering_raw_end(&mut self.0 .0) };
-        // The outermost record's frame stays until it is completed; one that is nested is gone with its end.
+        // The outermost record's frame stays until it is completed; one that is nested is gone with its end. (If this one
+        // was nested in a single other, that one is finished: it has reserved, so nothing changes.)
         if unsafe { tracering_raw_depth(&mut self.0 .0) } == 1 {
             self.0.finish_above(0);
         }

@@ -1,4 +1,5 @@
-//! The gate of a run.
+//! The gate of a run. `tracering run` has the one that is always open; a test holds one end by a gate of its own, so
+//! that the other end works meanwhile.
 ghost use Rattle.std.specs.Prelude.{◌≡◌, ℕ, Bool, true};
 ghost use Rattle.line_writer.specs.declared.gate.Who.{Who as WhoSeen};
 

@@ -1,4 +1,4 @@
-//! An open page, as which a payload in it is lent to be written.
+//! An open page. It is lent whole, and acts as the bytes of one payload in it.
 ghost use Rattle.std.specs.Prelude.{◌≡◌, ◌+◌, ◌-◌, ◌*◌, ◌≤◌, ◌<◌, length, replicate, IfSome};
 ghost use Rattle.trace_model.specs.declared.limits.TheConstants.{MOMENT_LIMIT, MAX_SIZE};
 ghost use Rattle.trace_model.specs.Words.{padded, slot_len};

@@ -5,7 +5,7 @@ use Rattle.trace_model.specs.Words.{Decodes}
 use Rattle.trace_model.specs.Reading.{records_in}
 
 -- A page: its time, the number of its first record, how many records it holds, its fill, its data size in
--- bytes, and its data up to the real end.
+-- bytes, and its data, without the unused bytes after it.
 pub record Contents : Type 0 where
   pub time : ℕ
   pub first : ℕ

@@ -47,7 +47,7 @@ page_in bytes time size = record {
   bytes = data_in bytes size;
 }
 
--- the fault of a word, and the fault of an image, by their causes
+-- the fault of a word, by its cause and its offset
 abbrev pub word_fault : Cause → ℕ → WordFault
 word_fault cut at = Cut at
 word_fault bad_length at = BadLength at

@@ -124,7 +124,7 @@ impl Outline {
     }
 }
 
-/// The image that was outlined.
+/// `read_image`, with one clause for all faults.
 fn read(alloc: Global, bytes: &[u8]) -> Result<Image, ImageFault>
     ensures reads { IfOk result (λ image. DecodesImage bytes.now image.time image.size
         (missed_of image.missed) (records_of_page image.page)) }

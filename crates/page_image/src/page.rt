@@ -86,7 +86,7 @@ impl Page {
     }
 
     /// Adds a record of this moment with a zeroed payload after the others; it must fit. The answer is where
-    /// its payload is: `len` bytes, rounded up to whole words and at least one word. `prev` is the moment of the
+    /// its payload is: `len` bytes, rounded up to a multiple of 4 and at least 4. `prev` is the moment of the
     /// last record, if there is one, and not above `moment`.
     #[inline(always)]
     pub fn put(&mut self, prev: u64, moment: u64, len: usize) -> Place

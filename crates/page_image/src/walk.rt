@@ -1,6 +1,7 @@
 //! The words of a page's data, stepped over one by one from the front, with the time.
 //!
-//! It is the one walk over a page: an image's records are counted by it, and a page's are lent.
+//! It is the one walk that keeps the time: by it an image's records are counted, and a page's records are lent.
+//! `places.rt` looks for a payload's place by `next_word` alone.
 ghost use Rattle.std.specs.Prelude.{◌≡◌, ℕ, ◌+◌, ◌*◌, ◌≤◌, ◌<◌, ◌^◌, List, [], ◌++◌, IfOk, IfErr, IfSome, MatchOption, length};
 ghost use Rattle.trace_model.specs.Words.{Word as OneWord, Decodes, records_of};
 ghost use Rattle.page_image.specs.Counting.{IsFirstWordFault};
@@ -54,8 +55,8 @@ fn later_moment(moment: u64, delta: u64, at: usize) -> Result<u64, WordFault>
     moment.checked_add(delta).ok_or(WordFault::TimeOverflow(at))
 }
 
-/// Steps over one word more of the data of a page. If the data ends with a padding, whatever follows, there is
-/// none; if no word can be read, its fault is reported.
+/// Steps over one word more of the data of a page. `None` if that is an ending padding, whatever follows it; if no word
+/// can be read, its fault is reported.
 #[inline(always)]
 pub fn step_over_word(data: &[u8], reached: Reached) -> Result<Option<Passed>, WordFault>
     requires inside { reached.at < length «data».now }

@@ -8,7 +8,7 @@ use Rattle.record_words.specs.declared.format.TheConstants.{SHORT_LIMIT, MAX_PAY
 abbrev pub Puts : List ℕ → List ℕ → List ℕ → Type 0
 Puts old new bytes = new ≡ bytes ++ drop (length bytes) old
 
--- A record with a payload of len bytes fits in this many bytes. It is the first of its page, or `delta` nanoseconds
+-- A record with a payload of len bytes fits in this many bytes. It is the first of its page, or comes `delta`
 -- after the one before it.
 pub record FitsIn (bytes delta : ℕ) (first : Bool) (len : ℕ) : Type 0 where
   pub short : len ≤ MAX_PAYLOAD

@@ -6,7 +6,7 @@ pub(crate) const PADDING: u32 = 29;
 /// The type of a time extend.
 pub(crate) const TIME_EXTEND: u32 = 30;
 
-/// The type of an absolute stamp.
+/// The type of a time stamp.
 pub(crate) const TIME_STAMP: u32 = 31;
 
 /// The longest payload of the short form, in bytes.

@@ -42,7 +42,7 @@ pub enum WordFault {
     Cut(usize),
     /// No word has the length that this one states.
     BadLength(usize),
-    /// The time doesn't fit 64 bits. A reading with times gives it, and no word alone.
+    /// The time after the word doesn't fit 64 bits. `next_word`, which knows no time, never answers it.
     TimeOverflow(usize),
 }
 
@@ -169,7 +169,7 @@ fn extend(data: &[u8], at: usize, low: u32) -> Result<Word, WordFault>
     })
 }
 
-/// The absolute stamp at `at`, whose low 27 bits these are.
+/// The time stamp at `at`, whose low 27 bits these are.
 fn stamp(data: &[u8], at: usize, low: u32) -> Result<Word, WordFault>
     requires head { at + 4 ≤ length «data».now }
     requires type_is { type_at_front (drop at «data».now) ≡ TIME_STAMP }

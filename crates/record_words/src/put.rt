@@ -83,7 +83,7 @@ fn put_data(out: &mut [u8], delta: u32, slot: usize) -> Place
 }
 
 /// Writes the words of a record and a zeroed payload at the front of `out`, which must have room for them, and answers
-/// where the payload is: `len` bytes, rounded up to whole words and at least one word. All bytes after
+/// where the payload is: `len` bytes, rounded up to a multiple of 4 and at least 4. All bytes after
 /// the record stay as they were.
 ///
 /// `delta` is the time since the record before it on the page. The first record of a page has none: its

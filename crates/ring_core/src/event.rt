@@ -12,7 +12,7 @@ pub enum Event {
         /// The payload's length in bytes.
         len: usize,
     },
-    /// A frame is pushed that leaves the tail page, if that holds a record.
+    /// A close frame is pushed: it begins the next fill, if the tail page holds a record.
     PushClose,
     /// The frame on top makes one step.
     Step,

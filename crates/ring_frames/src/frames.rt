@@ -101,7 +101,7 @@ impl Frames {
         self.stack.pages()
     }
 
-    /// How many fills are closed; that is the number of the oldest open one.
+    /// The number of the oldest fill that isn't closed.
     #[inline(always)]
     pub fn done(&self) -> u64
         ensures { result ≡ self.now.stack.done }
@@ -109,7 +109,7 @@ impl Frames {
         self.stack.done()
     }
 
-    /// How many fills are begun, including those that are closed; that is the number of the next one.
+    /// The number of the next fill to be begun.
     #[inline(always)]
     pub fn opened(&self) -> u64
         ensures begun { result ≡ opened self.now.stack }

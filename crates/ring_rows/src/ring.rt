@@ -12,7 +12,7 @@ pub trait Ring {
     /// A frame is pushed for a record of this moment and length.
     fn push(&mut self, moment: u64, len: usize) -> Answer;
 
-    /// A frame is pushed that leaves the tail page.
+    /// A close frame is pushed.
     fn push_close(&mut self) -> Answer;
 
     /// The frame on top makes one step.

@@ -46,8 +46,8 @@ SawPage (LoadingDone page fill) = page < LINK_PAGES
 SawPage (StoringSpareLink page fill) = page < LINK_PAGES
 SawPage (Swapping page fill) = page < LINK_PAGES
 
--- The last take found `done` closed fills, all of them passed: the reader knows exactly that, is at no take, and has no
--- slot.
+-- The last take found that all fills below `done`, the oldest one that isn't closed, are passed: the reader knows exactly
+-- that, is at no take, and doesn't have the spare's slot.
 pub record FoundEmpty (v : ReaderValue) (done : ℕ) : Type 0 where
   pub hint_is : v.part.reader.hint ≡ done
   pub seen_is : v.part.reader.seen ≡ done

@@ -8,7 +8,7 @@ use Rattle.ring_steps.specs.Views.{Writing, Reading}
 
 -- The reader's end: the ring's shape and its table, which both ends of one ring have; the reader's part of the ring,
 -- with what it took and observed; and its fields: the page at each position, its own page, how far its take has got,
--- and the number of closed fills that the last take answered, if it found nothing.
+-- and the number of the oldest fill that isn't closed, as the last take answered it, if it found nothing.
 pub record ReaderValue : Type 0 where
   pub shape : Shape
   pub table : TableId

@@ -45,7 +45,8 @@ fn table(alloc: Global, shape: Shape) -> Result<(Board, TableSeat), NoMemory>
     }
 }
 
-/// The first seat gets the slot of the first fill's page, whose page the writer keeps.
+/// A load of a word, with which the first seat takes the slot of the first fill's page. It is empty: that page is the
+/// writer's tail, which its frames are made with.
 fn take_tail(board: &Board, shape: Shape, seat: &mut TableSeat)
     requires key { board.now.shared.key ≡ shape }
     requires table { IsTableOf shape board.now.shared.table_id }

@@ -33,7 +33,7 @@ impl WriterSeat {
         self.note::<Brand, _>(&(moment, len));
     }
 
-    /// Notes that a frame is pushed that leaves the tail page; or that it is refused.
+    /// Notes that a close frame is pushed; or that it is refused.
     #[inline(always)]
     pub fn note_close(&mut self)
         ensures same { SameSeat self.old self.new }

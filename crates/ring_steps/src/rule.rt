@@ -4,16 +4,16 @@ use atomic_table::{Table, TableRule};
 use page_image::Page;
 use std::alloc::Global;
 
-/// How many fills are begun.
+/// The word that has the number of begun fills.
 pub(crate) const OPENED: usize = 0;
 
-/// How many fills are closed.
+/// The word that has the number of closed fills.
 pub(crate) const DONE: usize = 1;
 
-/// The reader's wish.
+/// The word that has the reader's wish.
 pub(crate) const WISH: usize = 2;
 
-/// The link of the first page; those of the others follow.
+/// The word that has the link of the first page; those of the others follow.
 pub(crate) const LINKS: usize = 3;
 
 /// The number of a ring's pages, their data size in bytes, and the number of its first fill.

@@ -207,6 +207,7 @@ impl WriterSeat {
         let Some(page) = self.board.shared.exchange(&mut self.seat, slot, None) else {
             unreachable!()
         };
+        // In the seat's hand this slot comes after those of the older open pages.
         self.seat.turn();
         self.ghost_part = ghost_part_at_rest(&self.seat);
         page.into_body()

@@ -10,7 +10,7 @@ use Rattle.trace_model.specs.Frames.{Refusal, too_deep, too_long, late_moment, c
 use Rattle.trace_model.specs.Faults.{Cause, cut, bad_length, time_overflow}
 use Rattle.trace_model.specs.Image.{Missed, none, unknown, counted, ImageCause, too_short, bad_size, bad_count, bad_word}
 
--- the name of why a write is refused
+-- the name of why a push, a step or an end is refused
 abbrev pub refusal_text : Refusal → List ℕ
 refusal_text too_deep = codes "TooDeep"
 refusal_text too_long = codes "TooLong"

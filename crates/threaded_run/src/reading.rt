@@ -33,7 +33,8 @@ impl From<NoMemory> for Stop {
     }
 }
 
-/// What a reader's thread returns keeps this: it is the same end, with what it took, or the gate stopped it.
+/// The promise of a reader's thread, kept by what it returns: it is the same end, with what it took, or the gate
+/// stopped it.
 #[derive(Drop)]
 pub(crate) struct Takes<'a, G: Gate> {
     pub(crate) gate: &'a G,

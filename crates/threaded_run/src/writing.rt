@@ -10,7 +10,7 @@ use std::thread::Promise;
 use trace_model::{CpuId, FillNo};
 use trace_script::Script;
 
-/// What a writer's thread returns keeps this: the lines of its CPU are obeyed, or the gate stopped it.
+/// The promise of a writer's thread, kept by what it returns: the lines of its CPU are obeyed, or the gate stopped it.
 #[derive(Drop)]
 pub(crate) struct Writes<'a, G: Gate> {
     pub(crate) gate: &'a G,

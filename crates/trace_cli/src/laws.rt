@@ -1,5 +1,5 @@
-//! That nothing but an end's fault or a thread's makes the exit status 4: the contract of a function with an empty
-//! body.
+//! What makes the exit status 4 if neither end failed: an input that is too long, or a thread that could not be
+//! started. It is the contract of a function with an empty body.
 ghost use Rattle.std.specs.Prelude.{◌<◌, ◌≤◌, Bool};
 ghost use Rattle.std.specs.Io.KnownBytes.{Appends};
 ghost use Rattle.command_io.specs.CommandRun.{IsCommandRun, SinkRun, SourceRun};

@@ -25,7 +25,7 @@ delta_at_front bytes = from_le32 bytes / 32
 abbrev pub number_behind : List ℕ → ℕ
 number_behind bytes = from_le32 (drop 4 bytes)
 
--- types 1 to 28 are data, and count the words of the payload
+-- types 1 to 28 are data, and count the payload's bytes in fours
 abbrev pub CountsWords : List ℕ → Type 0
 CountsWords bytes = (1 ≤ type_at_front bytes) × (type_at_front bytes ≤ 28)
 
@@ -37,7 +37,7 @@ StatesLength bytes = (type_at_front bytes ≡ 0) ⊎ ((type_at_front bytes ≡ 2
 abbrev pub HasHighBits : List ℕ → Type 0
 HasHighBits bytes = 30 ≤ type_at_front bytes
 
--- the stated length counts itself, is one of whole words, and ends within the bytes
+-- the stated length counts itself, is a multiple of 4, and ends within the bytes
 pub record HasGoodLength (bytes : List ℕ) : Type 0 where
   pub head : 8 ≤ length bytes
   pub least : 4 ≤ number_behind bytes
@@ -50,7 +50,7 @@ IsCutInHead bytes =
     ((1 ≤ length bytes) × (length bytes < 4))
     ⊎ ((4 ≤ length bytes) × (length bytes < 8) × (StatesLength bytes ⊎ HasHighBits bytes))
 
--- the stated length doesn't count itself, or isn't one of whole words
+-- the stated length doesn't count itself, or isn't a multiple of 4
 abbrev pub HasBadLength : List ℕ → Type 0
 HasBadLength bytes =
     (8 ≤ length bytes) × StatesLength bytes × ((number_behind bytes < 4) ⊎ (number_behind bytes % 4 ≢ 0))

@@ -8,7 +8,7 @@ use Rattle.trace_model.specs.History.{PushedFrame, record_frame, close_frame}
 -- ---- the stack
 
 -- A record frame writes one record, pushed with its moment and its payload's length in bytes; a close
--- frame only leaves the tail, if that holds a record.
+-- frame begins the next fill, if the tail holds a record.
 pub data Kind : Type 0 where
   for_record : (moment len : ℕ) → Kind
   for_close : Kind
@@ -64,7 +64,8 @@ pub data Phase : Type 0 where
   looking_next : Role → (noted page : ℕ) → Phase
   marking : Role → (noted page next : ℕ) → Phase
 
--- A frame that has left and is about to open a fill closes the tail for the reader.
+-- A frame of a ring: what it was pushed for, what it is on the stack, and how far it has come. One that has left and
+-- has noted a fill begins it for the reader's wish.
 pub record Frame : Type 0 where
   pub kind : Kind
   pub state : FrameState
@@ -99,6 +100,6 @@ owned_update _ = None
 
 -- ---- refusals
 
--- why a write is refused: docs/FORMATS.md, "What is asked, and what is answered"
+-- why a push, a step or an end is refused: docs/FORMATS.md, "What is asked, and what is answered"
 pub data Refusal : Type 0 where
   too_deep too_long late_moment crowded worn no_frame not_reserved : Refusal

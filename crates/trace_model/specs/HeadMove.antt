@@ -8,9 +8,10 @@ use Rattle.trace_model.specs.Ring.{Core, link_into}
 use Rattle.trace_model.specs.Events.{Outcome, only_if}
 use Rattle.trace_model.specs.WriterSteps.{goes_on, with_link, unless_begun}
 
--- lost: the fill that was at the position of the noted one before, noted - n if that is a number
+-- lost: the fill that was at the noted one's position before, noted - n. If n is above noted there is none, and each
+-- step below tests that.
 
--- ---- claiming: a compare and exchange of that link from HEADER to UPDATE
+-- ---- claiming: a compare and exchange of the link into the position of the fill to open, from HEADER to UPDATE
 
 -- the head, which is on this page as this fill, is lost: its HEADER is an UPDATE
 abbrev pub with_head_claimed : ℕ → Core → (noted page lost : ℕ) → Core
@@ -48,7 +49,8 @@ load_next n c frame below role noted page =
     then goes_on c frame below (marking role noted page l.page)
     else goes_on c frame below (after_next role noted page)))
 
--- ---- marking: a compare and exchange of the next link from NORMAL to HEADER, which succeeds or fails
+-- ---- marking: a compare and exchange of the next link from NORMAL to HEADER. If it fails, a frame that interrupted
+-- this one has set that HEADER already; the frame goes on either way.
 
 abbrev pub mark_head : (n : ℕ) → Core → Frame → List Frame → Role → (noted page next : ℕ) → Outcome
 mark_head n c frame below role noted page next =

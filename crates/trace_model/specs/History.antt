@@ -5,8 +5,8 @@ use Rattle.std.specs.Prelude.{◌≡◌, ℕ, zero, suc, max, ⊤, Bool, true, f
 use Rattle.trace_model.specs.Record.{Record}
 use Rattle.trace_model.specs.Words.{slot_len, padded}
 
--- push: a record frame of this moment, for a payload of len bytes. push_close: a close frame, which only leaves the
--- tail page. leave: of the frame on top, with the payload that it wrote, or without a record. open_fill: a fill is
+-- push: a record frame of this moment, for a payload of len bytes. push_close: a close frame, which only begins the
+-- next fill. leave: of the frame on top, with the payload that it wrote, or without a record. open_fill: a fill is
 -- begun, reserve: the next record is reserved, both for the frame on top. wished: when every frame has left, the
 -- outermost one, which is still there, found that the reader wants the tail page, and goes on to begin the next fill.
 pub data HistoryEvent : Type 0 where

@@ -25,7 +25,7 @@ pub data Word : Type 0 where
   time_extend : (delta : ℕ) → Word
   time_stamp : (time : ℕ) → Word
 
--- the bytes of a word: types 1 to 28 count the payload's words, 0 has a length that counts itself
+-- the bytes of a word: types 1 to 28 count the payload's bytes in fours, 0 has a length that counts itself
 abbrev pub bytes_of_word : Word → List ℕ
 bytes_of_word (short_data delta payload) = first_word (length payload / 4) delta ++ payload
 bytes_of_word (long_data delta payload) = first_word 0 delta ++ le32 (length payload + 4) ++ payload
@@ -37,7 +37,7 @@ bytes_of_word (time_stamp time) = first_word 31 (time % 2 ^ 27) ++ le32 (time / 
 abbrev pub word_time_limit : ℕ
 word_time_limit = 2 ^ (27 + 32)
 
--- payloads and padding fill whole words, lengths fit 32 bits, and times fit what the word holds
+-- payloads and padding are multiples of 4 bytes long, lengths fit 32 bits, and times fit what the word holds
 abbrev pub IsWord : Word → Type 0
 IsWord (short_data delta payload) =
     (delta < 2 ^ 27) × (length payload % 4 ≡ 0) × (4 ≤ length payload) × (length payload ≤ 112)
@@ -145,7 +145,7 @@ pub record Decodes (bytes : List ℕ) (time : ℕ) (records : List Record) : Typ
   pub in_time : FitsTime time words
   pub read : records ≡ records_of time words
 
--- how many bytes a payload of len bytes takes in a page: a length of 0 counts as 1, and whole words
+-- how many bytes a payload of len bytes takes in a page: a length of 0 counts as 1, rounded up to a multiple of 4
 abbrev pub slot_len : ℕ → ℕ
 slot_len len = 4 * ((max len 1 + 3) / 4)
 

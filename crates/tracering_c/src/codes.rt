@@ -29,7 +29,7 @@ const WORN: i32 = 5;
 const NO_FRAME: i32 = 6;
 /// The frame on top has no record.
 const NOT_RESERVED: i32 = 7;
-/// The handle has nothing: it is new, or it was freed.
+/// The handle has nothing: it is new, or its end was freed or settled.
 pub const ABSENT: i32 = 8;
 /// A handle that something new is to go to has something.
 pub const IN_USE: i32 = 9;

@@ -210,14 +210,15 @@ impl WriterStack {
         self.hold_plain(pushed).number
     }
 
-    /// `allot`, for a record that isn't plain: that of a record frame that has none is tried here.
+    /// `allot`, if `plain_top` answers nothing: a record frame without a record tries here, any other frame in
+    /// `allot_other`.
     #[inline(never)]
     fn allot_any(&mut self) -> Result<Allot, WriteFault>
         requires stack { IsReachedStack self.old }
         ensures { Allots self.old result self.new }
     {
         let Some((pushed, noted)) = self.top.trying() else {
-            return self.allot_again();
+            return self.allot_other();
         };
         let Pushed { moment, len } = pushed;
         let raised = moment.max(self.last_moment);
@@ -233,7 +234,7 @@ impl WriterStack {
 
     /// `allot`, for a frame of any other kind: one that has its record, a close frame, one that has left; or for none.
     #[inline(never)]
-    fn allot_again(&mut self) -> Result<Allot, WriteFault>
+    fn allot_other(&mut self) -> Result<Allot, WriteFault>
         requires stack { IsReachedStack self.old }
         ensures { Allots self.old result self.new }
     {

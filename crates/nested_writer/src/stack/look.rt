@@ -28,7 +28,7 @@ impl WriterStack {
         self.size
     }
 
-    /// How many fills are closed; that is the number of the oldest open one.
+    /// The number of the oldest fill that isn't closed.
     #[inline(always)]
     pub fn done(&self) -> u64
         ensures { result ≡ self.now.done }
@@ -36,7 +36,7 @@ impl WriterStack {
         self.done
     }
 
-    /// How many fills are begun, those closed counted; that is the number of the next one.
+    /// The number of the next fill to be begun.
     #[inline(always)]
     pub fn opened(&self) -> u64
         ensures begun { result ≡ opened self.now }

@@ -106,7 +106,7 @@ impl WriterStack {
         Ok(())
     }
 
-    /// Pushes a frame that leaves the tail page if that holds a record.
+    /// Pushes a close frame: it begins the next fill, if the tail page holds a record.
     pub fn begin_close(&mut self) -> Result<(), WriteFault>
         ensures too_deep { result ≡ Err WriteFault.TooDeep ↔ MAX_FRAMES ≤ length self.old.frames }
         ensures begun { IsOk result ↔ length self.old.frames < MAX_FRAMES }

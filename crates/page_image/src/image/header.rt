@@ -94,7 +94,7 @@ impl Commit {
     }
 }
 
-/// Reads the header of an image that isn't too long and has the size that it states.
+/// Reads the header of an image. It is a fault if the image is too long, or has fewer bytes of data than it states.
 pub(crate) fn read_header(bytes: &[u8]) -> Result<Header, ImageFault>
     ensures ok { IfOk result (λ header. HasPartsOf bytes.now header) }
     ensures there { IfOk result (λ header. HEADER + header.commit.size ≤ length bytes.now) }

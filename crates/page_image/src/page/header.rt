@@ -55,7 +55,7 @@ impl Page {
         self.body.len()
     }
 
-    /// The bytes of the records, up to the real end.
+    /// The bytes of data, up to the end of the last word that was put or read.
     pub fn data(&self) -> &[u8]
         ensures { result.now ≡ self.now.bytes }
     {

@@ -24,7 +24,7 @@ impl Core {
         self.frames.push(moment, len)
     }
 
-    /// A frame is pushed that leaves the tail page.
+    /// A close frame is pushed: it begins the next fill, if the tail page holds a record.
     pub(crate) fn push_close(&mut self) -> Answer
         requires ring { IsReachedCore self.old }
         ensures makes { MakesStep self.old model.pushes_close result self.new }

@@ -40,7 +40,8 @@ impl Core {
         self.go_on(phase)
     }
 
-    /// A compare and exchange of that link from HEADER to UPDATE, by which the head is lost.
+    /// A compare and exchange of the link into the position of the fill to open, from HEADER to UPDATE, by which the
+    /// head is lost.
     #[inline(never)]
     pub(crate) fn claim_head(&mut self, noted: u64, page: u16) -> StepAnswer
         requires ring { IsReachedCore self.old }
@@ -102,7 +103,8 @@ impl Core {
         self.go_on(phase)
     }
 
-    /// A compare and exchange of the next link from NORMAL to HEADER.
+    /// A compare and exchange of the next link from NORMAL to HEADER. If it fails, a frame that interrupted this one
+    /// has set that HEADER already; this frame goes on either way.
     #[inline(never)]
     pub(crate) fn mark_head(&mut self, role: Role, noted: u64, page: u16, next: u16) -> StepAnswer
         requires ring { IsReachedCore self.old }

@@ -24,7 +24,7 @@ impl Frames {
         }
     }
 
-    /// A frame is pushed that leaves the tail page, if that holds a record.
+    /// A close frame is pushed: it begins the next fill, if the tail page holds a record.
     pub fn push_close(&mut self) -> Answer
         requires shown { AreSomeFrames self.old }
         ensures step { MakesPrivate self.old model.pushes_close result self.new }

@@ -43,7 +43,8 @@ impl Writer {
         self.frames.push(moment, len)
     }
 
-    /// A frame is pushed that leaves the tail page, if that holds a record. `Pushed`, or refused as `TooDeep`.
+    /// A close frame is pushed: it begins the next fill, if the tail page holds a record. `Pushed`, or
+    /// refused as `TooDeep`.
     pub fn begin_close(&mut self) -> Answer
         requires writer { IsWriter self.old }
         ensures makes { MakesSome self.old model.pushes_close result self.new }

@@ -55,7 +55,8 @@ impl Writer {
         self.frames.go_on(phase)
     }
 
-    /// A compare and exchange of that link from HEADER to UPDATE, by which the head is lost.
+    /// A compare and exchange of the link into the position of the fill to open, from HEADER to UPDATE, by which the
+    /// head is lost.
     #[inline(always)]
     pub(crate) fn claim_head(&mut self, noted: u64, page: u16) -> StepAnswer
         requires framed { HasFrame self.old }

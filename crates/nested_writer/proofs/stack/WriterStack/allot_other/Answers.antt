@@ -11,8 +11,8 @@ use Rattle.nested_writer.specs.IsStack.{IsReachedStack}
 use Rattle.nested_writer.proofs.Allotting.{waited_through, stayed_through}
 use Rattle.nested_writer.proofs.Answering.{fits_answer, close_answer, through_closes}
 use Rattle.nested_writer.proofs.Promises.{allots_place, allots_page}
-use Rattle.nested_writer.proofs.stack.WriterStack.allot_again.Goals as goal
-use Rattle.nested_writer.proofs.stack.WriterStack.allot_again.Goals.{in-Waiting, in-Through}
+use Rattle.nested_writer.proofs.stack.WriterStack.allot_other.Goals as goal
+use Rattle.nested_writer.proofs.stack.WriterStack.allot_other.Goals.{in-Waiting, in-Through}
 
 pub returns-then-wants_page : goal.returns-then-wants_page
 returns-then-wants_page c = allots_page c.args.self.now c.note_need.new.self c.note_need.result (search rules) (assumption c.note_need.ensures) c.requires.stack
