@@ -35,7 +35,7 @@ pub record IsCall (shape : Shape) (before : Writing) (event : model.Event) (resu
   pub after_is : writing_of next ≡ after
   pub reports : IsAnswerOf shape.size result answer
 
--- so the writer makes of the ring, and is the same one
+-- What the writer's call does is such a step, and the writer after it is that of the same ring.
 pub record MakesSome (old : WriterValue) (event : model.Event) (result : Answer) (new : WriterValue) : Type 0 where
   pub shape_is : new.shape ≡ old.shape
   pub table_is : new.table ≡ old.table

@@ -46,8 +46,8 @@ SawPage (LoadingDone page fill) = page < LINK_PAGES
 SawPage (StoringSpareLink page fill) = page < LINK_PAGES
 SawPage (Swapping page fill) = page < LINK_PAGES
 
--- The last take found that all fills below `done`, the oldest one that isn't closed, are passed: the reader knows exactly
--- that, is at no take, and doesn't have the spare's slot.
+-- The last take found that all fills below `done`, the oldest one that isn't closed, are passed: the reader knows
+-- exactly that, is at no take, and doesn't have the spare's slot.
 pub record FoundEmpty (v : ReaderValue) (done : ℕ) : Type 0 where
   pub hint_is : v.part.reader.hint ≡ done
   pub seen_is : v.part.reader.seen ≡ done
@@ -86,9 +86,9 @@ ArePassedBelow shape part fill = (core : Core)
     → ArePassed shape.pages shape.start core fill
 
 -- The page is one more fill that was taken, no earlier one than the reader knew, and `missed` records were lost before
--- it. It and the pages before it part what the reader has observed. Its numbers follow those of the last page and of
--- what was lost, and fit a parcel. The reader continues after this fill, has seen at least as many closed fills, and
--- wishes as before.
+-- it. It and the pages before it are a partition of what the reader has observed. Its numbers follow those of the last
+-- page and of what was lost, and fit a parcel. The reader continues after this fill, has seen at least as many closed
+-- fills, and wishes as before.
 pub record IsPageTaken (shape : Shape) (before : Reading) (page : Contents) (missed : ℕ) (after : Reading)
     : Type 0 where
   pub taken : TakenFill

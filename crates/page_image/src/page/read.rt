@@ -1,4 +1,4 @@
-//! A page of bytes that were read.
+//! A page of given bytes.
 use crate::page::Page;
 use trace_model::{FillNo, RecordNo};
 

@@ -1,5 +1,8 @@
 //! The steps of a frame that needs a page, up to the fill's beginning: it looks for a free position, and moves the head
 //! if there is none.
+//!
+//! Another frame may have begun the noted fill meanwhile: then such a step loads and sets nothing, and its frame begins
+//! again. `clear_update` doesn't test that, nor does an owner in `load_next` and `mark_head`.
 use crate::ring::Core;
 use link_marks::{Mark, header, normal, update};
 use ring_frames::{Phase, Role, StepAnswer};

@@ -14,7 +14,8 @@ impl Writer {
     ghost use Rattle.ring_shared.specs.Nearer.{IsNearer};
     ghost use Rattle.ring_shared.specs.Promises.{HasFrame};
 
-    /// A store of the number of begun fills: the page to open is taken from its home, and is the tail from now on.
+    /// A store of the number of begun fills, unless another frame has begun the fill: the page to open is taken from
+    /// its home, and is the tail from now on.
     #[inline(always)]
     pub(crate) fn open_fill(&mut self, noted: u64, page: u16) -> StepAnswer
         requires framed { HasFrame self.old }
