@@ -43,7 +43,7 @@ IsIdle frames history after = (history ≡ []) × (after ≡ frames)
 abbrev pub At : (cpu at : ℕ) → Frames → List HistoryEvent → Frames → Type 0 → Type 0
 At cpu at frames history after Here = ((at ≡ cpu) × Here) ⊎ ((at ≢ cpu) × IsIdle frames history after)
 
--- If Refused holds, nothing is done. Else the first event is that of the push, and Then holds of the events behind it.
+-- If Refused holds, nothing is done. Else the first event is that of the push, and Then holds of the events after it.
 abbrev pub Pushes : Type 0 → HistoryEvent → (List HistoryEvent → Type 0) → Frames → List HistoryEvent → Frames → Type 0
 Pushes Refused event Then frames history after = (Refused × IsIdle frames history after)
     ⊎ ((Refused → ⊥) × (rest : List HistoryEvent) × (history ≡ event ∷ rest) × Then rest)

@@ -7,7 +7,7 @@ use Rattle.listed_collector.specs.declared.listed.Given.{Given}
 use Rattle.listed_collector.specs.declared.listed.Given.TheVariants.{Line as IsLine, NoRoom, End}
 use Rattle.listed_collector.specs.declared.listed.ListedCollector.{ListedCollector}
 
--- these are the line's numbers, and so many bytes it has
+-- these are the line's numbers, and how many bytes it has
 pub record AreNumbersOf (line : Line) (numbers : LineNumbers) : Type 0 where
   pub moment_is : numbers.moment.0 ≡ line.moment
   pub cpu_is : numbers.cpu.0 ≡ line.cpu

@@ -26,7 +26,7 @@ const STORED: u64 = 1 << 30;
 /// Bit 31 of a commit word: events were missed.
 const MISSED: u64 = 1 << 31;
 
-/// Puts the page to the front of `out` as a parcel of this CPU, with so many numbers missing before its records: the
+/// Puts the page to the front of `out` as a parcel of this CPU, with `missed` numbers missing before its records: the
 /// bytes that `Parcel::to_bytes` makes. The answer is how many they are: `HEADER`, and as many as the page's size.
 pub fn put_parcel(out: &mut [u8], cpu: CpuId, page: &Page, missed: u64) -> usize
     requires there { HEADER + page.now.size ≤ length out.old }

@@ -81,7 +81,7 @@ pub record IsPut (old : WriterValue) (bytes : List ℕ) (new : WriterValue) : Ty
 
 -- ---- the reader
 
--- these are the numbers of the page, and of so many bytes
+-- these are the numbers of the page, and `len` is how many bytes its parcel has
 pub record AreNumbersOf (page : Contents) (missed len : ℕ) (taken : Taken) : Type 0 where
   pub fill : taken.fill ≡ page.fill
   pub first : taken.first ≡ page.first

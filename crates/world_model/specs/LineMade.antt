@@ -17,7 +17,7 @@ abbrev pub after_step : Outcome → (Answer → Core → Made) → Made
 after_step None others = None
 after_step (Some step) others = option_map (λ made. (step.0 ∷ made.0, made.1)) (others step.0 step.1)
 
--- Steps are made, so many at most, as long as they go on.
+-- At most `limit` steps are made, as long as they go on.
 abbrev pub steps_made : (n size : ℕ) → (Lane → Event) → (Answer → Core → Bool) → (limit : ℕ) → Lane → Made
 steps_made n size asks goes_on zero lane = Some ([], lane)
 steps_made n size asks goes_on (suc limit) lane = after_step (step_of n size lane.core (asks lane)) (λ answer core.
@@ -46,8 +46,8 @@ abbrev pub push_made : (n size : ℕ) → Event → List ℕ → (Lane → Made)
 push_made n size event payload others lane =
     after_step (step_of n size lane.core event) (after_push payload others lane)
 
--- The CPU of a line, and what the line makes of that CPU's ring: a frame that is finished, and a take, make so many
--- steps at most. A delivery has nothing with the ring.
+-- The CPU of a line, and what the line makes of that CPU's ring: a frame that is finished, and a take, make at most
+-- `limit` steps. A delivery makes nothing of a ring.
 abbrev pub line_made : (n size limit : ℕ) → Command → ℕ × (Lane → Made)
 line_made n size limit (begin_frame cpu moment payload) =
     (cpu, push_made n size (pushes moment (length payload)) payload (λ lane. Some ([], lane)))

@@ -45,7 +45,7 @@ impl<'a> Lane<'a> {
         self.follow(at, count, log)
     }
 
-    /// Lets the frame on top make steps until it is gone: no frame makes so many as are asked for.
+    /// Has the frame on top make steps until it is gone: `MOST_STEPS` is more than any frame makes.
     #[inline(never)]
     pub(crate) fn finish(&mut self, at: At, log: &mut Vec<LogLine>) -> Result<(), NoMemory>
         requires { IsLaneOf at.cpu.0 self.old }

@@ -37,7 +37,7 @@ impl<'a> Lane<'a> {
         Ok(())
     }
 
-    /// Lets the reader make steps until it answers: no take makes so many as are asked for.
+    /// Has the reader make steps until it answers: `MOST_STEPS` is more than any take makes.
     pub(crate) fn take(
         &mut self,
         alloc: Global,
