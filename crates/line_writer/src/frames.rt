@@ -1,9 +1,9 @@
 //! A writer with the payloads of its frames, and its single calls.
-ghost use Rattle.std.specs.Prelude.{◌≡◌, ◌≤◌, ◌-◌, ◌++◌, ◌↔◌, true, length, replicate};
+ghost use Rattle.std.specs.Prelude.{◌≡◌, ◌↔◌, true};
 ghost use Rattle.ring_frames.specs.declared.answer.Answer.TheVariants.{Pushed};
 
 use nested_writer::WriteFault;
-use ring_frames::Answer;
+use ring_frames::{Answer, write_padded};
 use ring_shared::Writer;
 use trace_model::MAX_FRAMES;
 
@@ -12,16 +12,6 @@ fn is_pushed(answer: Answer) -> bool
     ensures { result ≡ true ↔ answer ≡ Pushed }
 {
     matches!(answer, Answer::Pushed)
-}
-
-/// Puts the payload to the beginning of the slot, and zeros after it.
-fn put_padded(slot: &mut [u8], payload: &[u8])
-    requires { length payload.now ≤ length slot.old }
-    ensures { slot.new ≡ payload.now ++ replicate (length slot.old - length payload.now) 0 }
-{
-    let (front, behind) = slot.split_at_mut(payload.len());
-    front.copy_from_slice(payload);
-    behind.fill(0);
 }
 
 /// The writer of a ring, and the payload of each of its frames: of the bottom frame first.
@@ -119,7 +109,7 @@ impl<'a> LineWriter<'a> {
         ensures none { OnErr result ((slot : Slot) → IsTopSlot self.old.writer.frames.stack.frames slot → ⊥) }
     {
         let payload = self.payloads[self.depth() - 1];
-        put_padded(self.writer.top_mut()?, payload);
+        write_padded(self.writer.top_mut()?, payload);
         let _answer = self.writer.end();
         Ok(())
     }

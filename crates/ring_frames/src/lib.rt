@@ -9,6 +9,7 @@ pub mod answer;
 #[tactic(auto, unfolding(nested_writer::specs::IsStack::IsReachedStack))]
 pub mod frames;
 pub mod laws;
+mod payload;
 pub mod phase;
 pub mod reader;
 mod stage;
@@ -16,5 +17,6 @@ mod stage;
 pub use answer::Answer;
 pub use frames::Frames;
 pub use frames::write::Records;
+pub use payload::write_padded;
 pub use phase::{Phase, Role, StepAnswer};
 pub use reader::{Reader, ReaderPhase};

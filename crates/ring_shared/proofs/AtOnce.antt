@@ -23,18 +23,24 @@ use Rattle.ring_frames.specs.declared.phase.Phase.TheVariants.{Wishing}
 use Rattle.ring_frames.specs.Value.{FramesValue}
 use Rattle.ring_frames.specs.AreFrames.{ring_frames}
 use Rattle.ring_frames.specs.Steps.{IsFrames}
+use Rattle.ring_frames.specs.Fills.{LooksForWish}
 use Rattle.ring_frames.specs.AtOnce.{with_left_frame, IsWriteAtOnce, WritesAtOnce, IsWrittenAlone}
 use Rattle.ring_frames.proofs.Reported.{is_going}
+use Rattle.ring_steps.specs.declared.rule.Shape.{Shape}
+use Rattle.ring_steps.specs.declared.ends.WriterSeat.{WriterSeat}
 use Rattle.ring_steps.specs.Views.{Writing, writing_of}
-use Rattle.ring_steps.specs.Seats.{Leads}
+use Rattle.ring_steps.specs.Seats.{Leads, IsWriterStep}
+use Rattle.ring_steps.specs.Ends.{writing_in, passed_in, writer_table, SameSeat}
 use Rattle.ring_steps.specs.Paging.{IsTopIn}
-use Rattle.ring_steps.specs.Notes.{behind}
-use Rattle.ring_steps.proofs.Behind.{behind_is}
+use Rattle.ring_steps.specs.Notes.{part_after}
+use Rattle.ring_steps.proofs.PartAfter.{part_after_is}
 use Rattle.ring_shared.specs.Value.{WriterValue}
-use Rattle.ring_shared.specs.Calls.{AreWriterFields, IsCall}
+use Rattle.ring_shared.specs.Calls.{AreWriterFields, IsCall, MakesSome}
 use Rattle.ring_shared.specs.Finishing.{at_once, Reserves, Leaves, is_gone}
 use Rattle.ring_shared.specs.WholeWrites.{IsWritten}
-use Rattle.ring_shared.proofs.Behind.{behind_write}
+use Rattle.ring_shared.proofs.PartAfterWrite.{part_after_write}
+use Rattle.ring_shared.proofs.Called.{writer_seen}
+use Rattle.ring_shared.proofs.PageMoves.{looks_for_wish}
 use Rattle.ring_shared.proofs.Standing.{frames_in}
 use Rattle.ring_shared.proofs.Targets.{frames_of}
 use Rattle.ring_shared.proofs.Finishes.{reserving_first, reserving_ends, leaves_behind}
@@ -57,6 +63,10 @@ wish_outcome n c frame below answer after (cases.goes_away alone denied last a i
 open_stay : (n size : ℕ) (c : Core) (event : model.Event) (answer : model.Answer) (after : Core) → IsPrivate c event → model.Step n size c event answer after → after.open_pages ≡ c.open_pages
 open_stay n size c event answer after own step = ap (λ (d : Core). d.open_pages) (changes_privately c after (private_result n size c event answer after own (cases_of step)))
 
+-- no frame is left
+pub none_left : {before after : FramesValue} {moment : ℕ} {payload : List ℕ} → IsWrittenAlone before moment payload after → after.stack.frames ≡ []
+none_left alone = ap (λ (s : Stack). s.frames) alone.stack ∙ alone.none
+
 module _ (v : WriterValue) (w : AreWriterFields v) (moment : ℕ) (payload : List ℕ) (gone : FramesValue) (wrote : WritesAtOnce v.frames moment payload (with_left_frame gone moment (length payload))) (alone : IsWrittenAlone v.frames moment payload gone) where
   abbrev pub frames : FramesValue
   frames = with_left_frame gone moment (length payload)
@@ -71,23 +81,23 @@ module _ (v : WriterValue) (w : AreWriterFields v) (moment : ℕ) (payload : Lis
   start = v.shape.start
 
   abbrev now : Writing
-  now = behind_write v.shape v.part moment payload
+  now = part_after_write v.shape v.part moment payload
 
-  abbrev pub mid : WriterValue
+  abbrev mid : WriterValue
   mid = record v { part = now; frames = frames }
 
   module _ (c : Core) (reached : IsReached n size start c) (is : writing_of c ≡ v.part) where
     abbrev h : IsWriteAtOnce n size start c moment payload (next_number v.frames.stack) frames
     h = wrote n size start c reached (frames_in v w c is)
 
-    pushed_part : writing_of h.pushed ≡ behind v.shape v.part (model.pushes moment (length payload))
-    pushed_part = behind_is v.shape v.part c (model.pushes moment (length payload)) model.pushed h.pushed is h.push_private h.push
+    pushed_part : writing_of h.pushed ≡ part_after v.shape v.part (model.pushes moment (length payload))
+    pushed_part = part_after_is v.shape v.part c (model.pushes moment (length payload)) model.pushed h.pushed is h.push_private h.push
 
-    reserved_part : writing_of h.reserved ≡ behind v.shape (behind v.shape v.part (model.pushes moment (length payload))) model.steps
-    reserved_part = behind_is v.shape (behind v.shape v.part (model.pushes moment (length payload))) h.pushed model.steps (model.reserved_as (next_number v.frames.stack)) h.reserved pushed_part h.reserve_private h.reserve
+    reserved_part : writing_of h.reserved ≡ part_after v.shape (part_after v.shape v.part (model.pushes moment (length payload))) model.steps
+    reserved_part = part_after_is v.shape (part_after v.shape v.part (model.pushes moment (length payload))) h.pushed model.steps (model.reserved_as (next_number v.frames.stack)) h.reserved pushed_part h.reserve_private h.reserve
 
     now_part : writing_of h.after ≡ now
-    now_part = behind_is v.shape (behind v.shape (behind v.shape v.part (model.pushes moment (length payload))) model.steps) h.reserved (model.ends (padded payload)) model.full h.after reserved_part h.end_private h.end
+    now_part = part_after_is v.shape (part_after v.shape (part_after v.shape v.part (model.pushes moment (length payload))) model.steps) h.reserved (model.ends (padded payload)) model.full h.after reserved_part h.end_private h.end
 
   pub leads_write : Leads v.shape v.part now
   leads_write = λ c reached is. (
@@ -127,7 +137,7 @@ module _ (v : WriterValue) (w : AreWriterFields v) (moment : ℕ) (payload : Lis
       ∙ ap (λ (x : Writing). x.open_pages) w.part_is)))
 
   -- the writer after them
-  pub writer_mid : AreWriterFields mid
+  writer_mid : AreWriterFields mid
   writer_mid = record {
     core = first.after;
     reached = after_reached;
@@ -152,12 +162,8 @@ module _ (v : WriterValue) (w : AreWriterFields v) (moment : ℕ) (payload : Lis
       ∙ (ap (λ (p : Phase). ring_frames frames.stack.frames (p ∷ gone.below)) wishes_next
       ∙ ap (λ (ps : List Phase). ring_frames frames.stack.frames (Wishing ∷ ps)) alone.below)
 
-  pub some_mid : frames.stack.frames ≢ []
+  some_mid : frames.stack.frames ≢ []
   some_mid none = let zero = ap (length {A = stack.Frame}) none in absurd (omega arith)
-
-  -- no frame is left of those that are looked through
-  pub none_left : gone.stack.frames ≡ []
-  none_left = ap (λ (s : Stack). s.frames) alone.stack ∙ alone.none
 
   pub wishing_mid : IsTopIn now.frames wishing
   wishing_mid = subst (λ (fs : List Frame). IsTopIn fs wishing) (sym bottom_is) refl
@@ -214,7 +220,7 @@ module _ (v : WriterValue) (w : AreWriterFields v) (moment : ℕ) (payload : Lis
     goes_so (wished_gone a top) ne = ap (λ (x : Writing). x.frames) (sym call.after_is) ∙ top
 
     -- the frame is gone
-    pub written_at_once : result ≢ Going → IsWritten v.shape v.part moment payload after
+    written_at_once : result ≢ Going → IsWritten v.shape v.part moment payload after
     written_at_once ne = written_then result after (is_gone now now after result at_once call (goes_so outcome ne))
 
     stands_so : Wished bottom [] call.answer call.next.frames → result ≡ Going → (next : Frame) × (after.frames ≡ next ∷ []) × IsLeaving next.kind next.state
@@ -222,11 +228,73 @@ module _ (v : WriterValue) (w : AreWriterFields v) (moment : ℕ) (payload : Lis
     stands_so (wished_gone a top) e = absurd (let reports = subst (λ (x : Answer). Rattle.ring_frames.specs.Answers.IsAnswerOf size x call.answer) e call.reports in let both : model.going ≡ model.gone = sym reports ∙ a in cc)
 
     -- it goes on
-    pub stands_still : result ≡ Going → (next : Frame) × (others : List Frame) × (after.frames ≡ next ∷ others) × IsLeaving next.kind next.state
+    stands_still : result ≡ Going → (next : Frame) × (others : List Frame) × (after.frames ≡ next ∷ others) × IsLeaving next.kind next.state
     stands_still e = let (next, top, leaves) = stands_so outcome e in (next, [], top, leaves)
 
     -- and makes steps until it is gone
-    pub written_behind : (last : Answer) (end : Writing) → result ≡ Going → ((frame : Frame) (below : List Frame) → after.frames ≡ frame ∷ below → Leaves v.shape below after last end) → IsWritten v.shape v.part moment payload end
+    written_behind : (last : Answer) (end : Writing) → result ≡ Going → ((frame : Frame) (below : List Frame) → after.frames ≡ frame ∷ below → Leaves v.shape below after last end) → IsWritten v.shape v.part moment payload end
     written_behind last end e rest =
         let (next, top, leaves) = stands_so outcome e in
         written_then last end (leaves_behind v.shape [] now after end last (subst (λ (x : Answer). IsCall v.shape now model.steps x after) e call) (rest next [] top))
+
+-- ---- the call
+
+-- the writer with another seat and other frames
+abbrev pub with_seat : WriterValue → WriterSeat → FramesValue → WriterValue
+with_seat v seat frames = record {
+  shape = seat.shape;
+  table = writer_table seat;
+  part = writing_in seat;
+  passed = passed_in seat;
+  frames = frames;
+  pages = v.pages;
+}
+
+-- A record was written at once, and the look for the wish after that answers so.
+pub record LooksAtOnce (v : WriterValue) (moment : ℕ) (payload : List ℕ) (result : Answer) (new : WriterValue) : Type 0 where
+  pub writer : AreWriterFields v
+  pub gone : FramesValue
+  pub wrote : WritesAtOnce v.frames moment payload (with_left_frame gone moment (length payload))
+  pub alone : IsWrittenAlone v.frames moment payload gone
+  pub makes : MakesSome (mid v writer moment payload gone wrote alone) model.steps result new
+
+-- a step from the part that was noted
+from_noted : {shape noted : Shape} {part now after : Writing} {sees : Core → Type 0} {answer : model.Answer} → noted ≡ shape → part ≡ now → IsWriterStep noted part sees answer after → IsWriterStep shape now sees answer after
+from_noted {shape} {noted} {part} {now} {after} {sees} {answer} same is s =
+    subst (λ (x : Shape). IsWriterStep x now sees answer after) same (subst (λ (x : Writing). IsWriterStep noted x sees answer after) is s)
+
+-- so does a writer whose view is that one
+pub looked : {v x : WriterValue} {noted loaded : WriterSeat} → v ≡ x → AreWriterFields x → (moment : ℕ) (payload : List ℕ) (gone after : FramesValue) (wish : ℕ) (result : Answer)
+    → WritesAtOnce v.frames moment payload (with_left_frame gone moment (length payload))
+    → IsWrittenAlone v.frames moment payload gone
+    → noted.shape ≡ v.shape
+    → writer_table noted ≡ v.table
+    → writing_in noted ≡ part_after_write v.shape v.part moment payload
+    → SameSeat noted loaded
+    → (answer : model.Answer) × IsWriterStep noted.shape (writing_in noted) (λ core. core.wish ≡ wish) answer (writing_in loaded)
+    → LooksForWish (with_left_frame gone moment (length payload)) wish result after
+    → LooksAtOnce x moment payload result (with_seat v loaded after)
+looked {v} {x} {noted} {loaded} view_is writer moment payload gone after wish result wrote alone shape_is table_is part_is same (answer, loads) looks =
+    let w : AreWriterFields v = writer_seen view_is writer in
+    subst (λ (y : WriterValue). LooksAtOnce y moment payload result (with_seat v loaded after)) view_is record {
+      writer = w;
+      gone = gone;
+      wrote = wrote;
+      alone = alone;
+      makes = looks_for_wish (mid v w moment payload gone wrote alone) (with_seat v loaded after) (writer_mid v w moment payload gone wrote alone) (some_mid v w moment payload gone wrote alone)
+          (same.shape ∙ shape_is) (same.table ∙ table_is) _ wish result answer looks refl (from_noted shape_is part_is loads) (λ is. is);
+    }
+
+module _ {v new : WriterValue} {moment : ℕ} {payload : List ℕ} {result : Answer} (l : LooksAtOnce v moment payload result new) where
+  -- its frame is gone
+  pub looked_gone : result ≢ Going → IsWritten v.shape v.part moment payload new.part
+  looked_gone ne = written_at_once v l.writer moment payload l.gone l.wrote l.alone result new.part l.makes.call ne
+
+  -- or it goes on, as one that leaves
+  pub looked_on : result ≡ Going → (next : Frame) × (others : List Frame) × (new.part.frames ≡ next ∷ others) × IsLeaving next.kind next.state
+  looked_on e = stands_still v l.writer moment payload l.gone l.wrote l.alone result new.part l.makes.call e
+
+  -- and makes steps until it is gone
+  pub looked_further : (last : Answer) (end : Writing) → result ≡ Going → ((frame : Frame) (below : List Frame) → new.part.frames ≡ frame ∷ below → Leaves new.shape below new.part last end) → IsWritten v.shape v.part moment payload end
+  looked_further last end e leaves = written_behind v l.writer moment payload l.gone l.wrote l.alone result new.part l.makes.call last end e
+      (λ frame below top. subst (λ (s : Shape). Leaves s below new.part last end) l.makes.shape_is (leaves frame below top))

@@ -1,4 +1,4 @@
-pub mod Behind
+pub mod PartAfterWrite
 pub mod Bounds
 pub mod Called
 pub mod Fields

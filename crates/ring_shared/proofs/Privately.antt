@@ -18,8 +18,8 @@ use Rattle.ring_frames.proofs.Same.{same_frames}
 use Rattle.ring_steps.specs.declared.rule.Shape.{Shape}
 use Rattle.ring_steps.specs.Views.{Writing, writing_of}
 use Rattle.ring_steps.specs.Seats.{Leads}
-use Rattle.ring_steps.specs.Notes.{behind}
-use Rattle.ring_steps.proofs.Behind.{behind_is, leads_behind}
+use Rattle.ring_steps.specs.Notes.{part_after}
+use Rattle.ring_steps.proofs.PartAfter.{part_after_is, leads_after}
 use Rattle.ring_shared.specs.Value.{WriterValue}
 use Rattle.ring_shared.specs.Calls.{IsWriter, AreWriterFields, MakesSome}
 
@@ -32,23 +32,23 @@ frames_there v w c is = let same = is ∙ sym w.part_is in
     (ap (λ (x : Writing). x.done) same)
     (ap (λ (x : Writing). x.opened) same)
 
-pub end_leads : (v : WriterValue) → AreWriterFields v → Leads v.shape v.part (behind v.shape v.part (model.ends (top_bytes v.frames.stack v.frames.stack.frames)))
-end_leads v w = leads_behind v.shape v.part (model.ends (top_bytes v.frames.stack v.frames.stack.frames))
+pub end_leads : (v : WriterValue) → AreWriterFields v → Leads v.shape v.part (part_after v.shape v.part (model.ends (top_bytes v.frames.stack v.frames.stack.frames)))
+end_leads v w = leads_after v.shape v.part (model.ends (top_bytes v.frames.stack v.frames.stack.frames))
     (λ c reached is. (tt, may_end v.shape.pages v.shape.size v.shape.start v.frames c (frames_there v w c is)))
 
-pub step_leads : (v : WriterValue) → AreWriterFields v → PhaseIsPrivate (phase_of v.frames.phase) (opened v.frames.stack) → Leads v.shape v.part (behind v.shape v.part model.steps)
-step_leads v w own = leads_behind v.shape v.part model.steps
+pub step_leads : (v : WriterValue) → AreWriterFields v → PhaseIsPrivate (phase_of v.frames.phase) (opened v.frames.stack) → Leads v.shape v.part (part_after v.shape v.part model.steps)
+step_leads v w own = leads_after v.shape v.part model.steps
     (λ c reached is. (steps_are_private v.shape.pages v.shape.size v.shape.start v.frames c (frames_there v w c is) own, tt))
 
 -- ---- calls
 
 -- what the frames made in private, and the seat has noted, is a call
-private_call : (old : WriterValue) (event : model.Event) (result : Answer) (new : WriterValue) → AreWriterFields old → new.shape ≡ old.shape → new.table ≡ old.table → new.part ≡ behind old.shape old.part event → new.pages ≡ old.pages → MakesPrivate old.frames event result new.frames → MakesSome old event result new
+private_call : (old : WriterValue) (event : model.Event) (result : Answer) (new : WriterValue) → AreWriterFields old → new.shape ≡ old.shape → new.table ≡ old.table → new.part ≡ part_after old.shape old.part event → new.pages ≡ old.pages → MakesPrivate old.frames event result new.frames → MakesSome old event result new
 unfolding IsWriter
 private_call old event result new w shape table noted pages made =
     let n = old.shape.pages in let size = old.shape.size in let start = old.shape.start in
     let m = made n size start w.core w.reached w.frames_are in
-    let after_is : writing_of m.after ≡ new.part = behind_is old.shape old.part w.core event m.answer m.after w.part_is m.private m.step ∙ sym noted in
+    let after_is : writing_of m.after ≡ new.part = part_after_is old.shape old.part w.core event m.answer m.after w.part_is m.private m.step ∙ sym noted in
     let stays = ap (λ (d : Core). d.open_pages) (changes_privately w.core m.after (private_result n size w.core event m.answer m.after m.private (cases_of m.step))) in
     record {
       shape_is = shape;
@@ -73,7 +73,7 @@ private_call old event result new w shape table noted pages made =
     }
 
 -- so of the value that the writer is seen as
-pub seen_call : (old now : WriterValue) (event : WriterValue → model.Event) (result : Answer) (new : WriterValue) → old ≡ now → AreWriterFields now → new.shape ≡ old.shape → new.table ≡ old.table → new.part ≡ behind old.shape old.part (event old) → new.pages ≡ old.pages → MakesPrivate old.frames (event old) result new.frames → MakesSome now (event now) result new
+pub seen_call : (old now : WriterValue) (event : WriterValue → model.Event) (result : Answer) (new : WriterValue) → old ≡ now → AreWriterFields now → new.shape ≡ old.shape → new.table ≡ old.table → new.part ≡ part_after old.shape old.part (event old) → new.pages ≡ old.pages → MakesPrivate old.frames (event old) result new.frames → MakesSome now (event now) result new
 unfolding IsWriter
 seen_call old now event result new is w shape table noted pages made =
     subst (λ (v : WriterValue). MakesSome v (event v) result new) is

@@ -3,7 +3,7 @@ mod new;
 mod steps;
 mod taking;
 
-use ring_frames::Reader as Progress;
+use ring_frames::Reader as TakeState;
 use ring_steps::ReaderSeat;
 use std::fmt;
 use std::marker::Model;
@@ -17,7 +17,7 @@ pub struct Reader {
     /// The reader's page.
     pub(crate) spare: u16,
     /// How far its take has come.
-    pub(crate) at: Progress,
+    pub(crate) at: TakeState,
     /// The number of the oldest fill that isn't closed, as the last take answered it, if it found nothing.
     pub(crate) empty_at: Option<u64>,
 }

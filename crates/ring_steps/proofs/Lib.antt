@@ -5,7 +5,7 @@ pub mod Allowing
 pub mod Words
 pub mod LinkWords
 pub mod Notes
-pub mod Behind
+pub mod PartAfter
 pub mod ReaderSteps
 pub mod FirstParts
 pub mod Starts

@@ -24,7 +24,7 @@ use Rattle.ring_steps.specs.Views.{Writing, writing_of, writing}
 use Rattle.ring_steps.specs.Seats.{Leads, IsWriterStep}
 use Rattle.ring_steps.specs.Ends.{writing_in}
 use Rattle.ring_steps.specs.Paging.{IsWriterReached, IsTopIn}
-use Rattle.ring_steps.specs.Linking.{tail_in, noted_on_top, role_on_top, MarksBehind}
+use Rattle.ring_steps.specs.Linking.{tail_in, noted_on_top, role_on_top, MarksNext}
 use Rattle.ring_steps.proofs.Private.{private_reached}
 use Rattle.ring_steps.proofs.Paging.{top_of}
 use Rattle.ring_steps.proofs.Linking.{link_fits}
@@ -78,9 +78,9 @@ module _ (shape : Shape) (before now : Writing) (known : ∥ IsWriterReached sha
       → (page < shape.pages + 1) × (noted + shape.pages < LINK_FILLS) × (slice_index_or now.open_pages (noted - 1 - now.done) 0 < shape.pages + 1) × (1 ≤ shape.pages)
   passed_bounds phase noted page on spot_is noted_is = ∥∥₁_elim known (Prim.hlevel props) (λ w. passed_of_state phase noted page on spot_is noted_is (state_now shape before now w leads))
 
-  pub behind_fits : (page next behind : ℕ) → MarksBehind shape.pages now page next behind → behind < LINK_FILLS
-  behind_fits page next behind due =
-      let (low, numbers, front, some) = passed_bounds (marking (role_on_top now.frames) (noted_on_top now.frames) page next) (noted_on_top now.frames) page due.phase refl refl in let sum = due.behind_is in omega arith
+  pub after_lost_fits : (page next after_lost : ℕ) → MarksNext shape.pages now page next after_lost → after_lost < LINK_FILLS
+  after_lost_fits page next after_lost due =
+      let (low, numbers, front, some) = passed_bounds (marking (role_on_top now.frames) (noted_on_top now.frames) page next) (noted_on_top now.frames) page due.phase refl refl in let sum = due.after_lost_is in omega arith
 
   -- a frame that clears noted a fill whose position had one before
   lost_of_state : (page noted : ℕ) → IsTopIn now.frames (clearing noted page) → StateNow shape now → shape.pages ≤ noted

@@ -51,24 +51,24 @@ module _ (n : ℕ) (c : Core) (frame : Frame) (below : List Frame) (answer : Ans
   not_late : (role : Role) (noted : ℕ) → role ≡ helper → noted ≢ c.opened → MayContinue role noted c.opened → ⊥
   not_late role noted helps passed on = passed (subst (λ (r : Role). MayContinue r noted c.opened) helps on)
 
-  pub waits : (role : Role) (noted page behind : ℕ) (l : Link) → MayContinue role noted c.opened → behind + n ≡ noted + 1 → link_into n c.links behind ≡ l → l ≡ normal_link l.page behind
+  pub waits : (role : Role) (noted page after_lost : ℕ) (l : Link) → MayContinue role noted c.opened → after_lost + n ≡ noted + 1 → link_into n c.links after_lost ≡ l → l ≡ normal_link l.page after_lost
       → LoadNextStep n c frame below role noted page answer after → To (marking role noted page l.page)
-  waits role noted page behind l on sum link is_next (load_next_late helps late) = absurd (not_late role noted helps late.passed on)
-  waits role noted page behind l on sum link is_next (sees_normal lost next x lost_sum at a is) =
-      let behind_is : suc lost ≡ behind = omega arith in
-      let same : normal_link next (suc lost) ≡ l = sym at ∙ ap (link_into n c.links) behind_is ∙ link in
+  waits role noted page after_lost l on sum link is_next (load_next_late helps late) = absurd (not_late role noted helps late.passed on)
+  waits role noted page after_lost l on sum link is_next (sees_normal lost next x lost_sum at a is) =
+      let after_lost_is : suc lost ≡ after_lost = omega arith in
+      let same : normal_link next (suc lost) ≡ l = sym at ∙ ap (link_into n c.links) after_lost_is ∙ link in
       ap writing_of is ∙ ap (λ (k : Link). writing_of (in_phase c frame below (marking role noted page k.page))) same
-  waits role noted page behind l on sum link is_next (sees_other lost x lost_sum none a is) =
-      let behind_is : suc lost ≡ behind = omega arith in
-      absurd (none l.page (ap (link_into n c.links) behind_is ∙ (link ∙ (is_next ∙ ap (normal_link l.page) (sym behind_is)))))
+  waits role noted page after_lost l on sum link is_next (sees_other lost x lost_sum none a is) =
+      let after_lost_is : suc lost ≡ after_lost = omega arith in
+      absurd (none l.page (ap (link_into n c.links) after_lost_is ∙ (link ∙ (is_next ∙ ap (normal_link l.page) (sym after_lost_is)))))
 
-  pub is_passed : (role : Role) (noted page behind : ℕ) (l : Link) → MayContinue role noted c.opened → behind + n ≡ noted + 1 → link_into n c.links behind ≡ l → ((page : ℕ) → l ≢ normal_link page behind)
+  pub is_passed : (role : Role) (noted page after_lost : ℕ) (l : Link) → MayContinue role noted c.opened → after_lost + n ≡ noted + 1 → link_into n c.links after_lost ≡ l → ((page : ℕ) → l ≢ normal_link page after_lost)
       → LoadNextStep n c frame below role noted page answer after → To (after_next role noted page)
-  is_passed role noted page behind l on sum link differ (load_next_late helps late) = absurd (not_late role noted helps late.passed on)
-  is_passed role noted page behind l on sum link differ (sees_normal lost next x lost_sum at a is) =
-      let behind_is : suc lost ≡ behind = omega arith in
-      absurd (differ next (sym link ∙ (ap (link_into n c.links) (sym behind_is) ∙ (at ∙ ap (normal_link next) behind_is))))
-  is_passed role noted page behind l on sum link differ (sees_other lost x lost_sum none a is) = ap writing_of is
+  is_passed role noted page after_lost l on sum link differ (load_next_late helps late) = absurd (not_late role noted helps late.passed on)
+  is_passed role noted page after_lost l on sum link differ (sees_normal lost next x lost_sum at a is) =
+      let after_lost_is : suc lost ≡ after_lost = omega arith in
+      absurd (differ next (sym link ∙ (ap (link_into n c.links) (sym after_lost_is) ∙ (at ∙ ap (normal_link next) after_lost_is))))
+  is_passed role noted page after_lost l on sum link differ (sees_other lost x lost_sum none a is) = ap writing_of is
 
   pub marked : (role : Role) (noted page next : ℕ) → MayContinue role noted c.opened → MarkHeadStep n c frame below role noted page next answer after → To (after_next role noted page)
   marked role noted page next on (mark_late helps late) = absurd (not_late role noted helps late.passed on)

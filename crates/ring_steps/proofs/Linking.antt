@@ -31,7 +31,7 @@ use Rattle.ring_steps.specs.Views.{Writing, writing_of, Reading, writing, passed
 use Rattle.ring_steps.specs.Shown.{page_word, page_before, AreWords, Homes}
 use Rattle.ring_steps.specs.Seats.{Sat, emptied, IsWriting, WriterReported}
 use Rattle.ring_steps.specs.Paging.{IsTopIn}
-use Rattle.ring_steps.specs.Linking.{tail_in, LooksBehind, MarksBehind, number_or_zero, noted_on_top, role_in, role_on_top, behind_in, SeesLink, LinkReported, ClaimReported, WishReported}
+use Rattle.ring_steps.specs.Linking.{tail_in, LooksNext, MarksNext, number_or_zero, noted_on_top, role_in, role_on_top, after_lost_in, SeesLink, LinkReported, ClaimReported, WishReported}
 use Rattle.ring_steps.proofs.LinkWords.{with_link_word}
 use Rattle.ring_steps.proofs.Private.{stays_shown}
 use Rattle.ring_steps.proofs.Allowing.{IsShownBy, WriterMoves}
@@ -54,29 +54,29 @@ top_role [] phase top = absurd top
 top_role (frame ∷ below) phase top = ap role_in top
 
 -- the frame on top looks at that link, for this fill
-pub looks_at : (n : ℕ) (w : Writing) (role : Role) (noted page behind : ℕ) → IsTopIn w.frames (looking_next role noted page) → MayContinue role noted w.opened → behind + n ≡ noted + 1 → LooksBehind n w page behind
-looks_at n w role noted page behind at on sum =
+pub looks_at : (n : ℕ) (w : Writing) (role : Role) (noted page after_lost : ℕ) → IsTopIn w.frames (looking_next role noted page) → MayContinue role noted w.opened → after_lost + n ≡ noted + 1 → LooksNext n w page after_lost
+looks_at n w role noted page after_lost at on sum =
     let mover : role ≡ role_on_top w.frames = sym (top_role w.frames (looking_next role noted page) at) in
     let fill : noted ≡ noted_on_top w.frames = sym (noted_top w.frames (looking_next role noted page) noted at refl) in record {
       phase = subst (λ (r : Role). IsTopIn w.frames (looking_next r (noted_on_top w.frames) page)) mover (subst (λ (f : ℕ). IsTopIn w.frames (looking_next role f page)) fill at);
       goes_on = subst (λ (r : Role). MayContinue r (noted_on_top w.frames) w.opened) mover (subst (λ (f : ℕ). MayContinue role f w.opened) fill on);
-      behind_is = omega arith;
+      after_lost_is = omega arith;
     }
 
-pub marks_at_next : (n : ℕ) (w : Writing) (role : Role) (noted page next behind : ℕ) → IsTopIn w.frames (marking role noted page next) → MayContinue role noted w.opened → behind + n ≡ noted + 1 → MarksBehind n w page next behind
-marks_at_next n w role noted page next behind at on sum =
+pub marks_at_next : (n : ℕ) (w : Writing) (role : Role) (noted page next after_lost : ℕ) → IsTopIn w.frames (marking role noted page next) → MayContinue role noted w.opened → after_lost + n ≡ noted + 1 → MarksNext n w page next after_lost
+marks_at_next n w role noted page next after_lost at on sum =
     let mover : role ≡ role_on_top w.frames = sym (top_role w.frames (marking role noted page next) at) in
     let fill : noted ≡ noted_on_top w.frames = sym (noted_top w.frames (marking role noted page next) noted at refl) in record {
       phase = subst (λ (r : Role). IsTopIn w.frames (marking r (noted_on_top w.frames) page next)) mover (subst (λ (f : ℕ). IsTopIn w.frames (marking role f page next)) fill at);
       goes_on = subst (λ (r : Role). MayContinue r (noted_on_top w.frames) w.opened) mover (subst (λ (f : ℕ). MayContinue role f w.opened) fill on);
-      behind_is = omega arith;
+      after_lost_is = omega arith;
     }
 
-pub looks_behind : (n : ℕ) (w : Writing) (page behind : ℕ) → LooksBehind n w page behind → behind ≡ behind_in n w
-looks_behind n w page behind due = let sum = due.behind_is in omega arith
+pub looks_after_lost : (n : ℕ) (w : Writing) (page after_lost : ℕ) → LooksNext n w page after_lost → after_lost ≡ after_lost_in n w
+looks_after_lost n w page after_lost due = let sum = due.after_lost_is in omega arith
 
-pub marks_behind : (n : ℕ) (w : Writing) (page next behind : ℕ) → MarksBehind n w page next behind → behind ≡ behind_in n w
-marks_behind n w page next behind due = let sum = due.behind_is in omega arith
+pub marks_after_lost : (n : ℕ) (w : Writing) (page next after_lost : ℕ) → MarksNext n w page next after_lost → after_lost ≡ after_lost_in n w
+marks_after_lost n w page next after_lost due = let sum = due.after_lost_is in omega arith
 
 pub clears_noted : (w : Writing) (page noted : ℕ) → IsTopIn w.frames (clearing noted page) → noted ≡ noted_on_top w.frames
 clears_noted w page noted phase = sym (noted_top w.frames (clearing noted page) noted phase refl)
@@ -175,8 +175,8 @@ module _ (shape : Shape) (me : Sat) (is : IsWriting me) (now : Writing) (c : Cor
       ∙ (front c.opened behind (omega arith) ∙ ap (page_before shape.pages c.order) (sym opened_is)))
 
   -- the page that a frame passed is before the fill after the lost one
-  passed_front : (page noted behind : ℕ) → page ≡ page_at shape.pages c.order noted → behind + shape.pages ≡ noted + 1 → page ≡ page_before shape.pages c.order behind
-  passed_front page noted behind page_is sum = page_is ∙ ap (page_at shape.pages c.order) (let e : noted ≡ behind + shape.pages - 1 = omega arith in e)
+  passed_front : (page noted after_lost : ℕ) → page ≡ page_at shape.pages c.order noted → after_lost + shape.pages ≡ noted + 1 → page ≡ page_before shape.pages c.order after_lost
+  passed_front page noted after_lost page_is sum = page_is ∙ ap (page_at shape.pages c.order) (let e : noted ≡ after_lost + shape.pages - 1 = omega arith in e)
 
   word_there : (page f : ℕ) → page ≡ page_before shape.pages c.order f → word_of (link_into shape.pages c.links f) ≡ slice_index ws (page_word page)
   word_there page f e = sym (ap (λ (p : ℕ). slice_index ws (page_word p)) e ∙ s.are_words.links f)
@@ -224,11 +224,11 @@ module _ (shape : Shape) (me : Sat) (is : IsWriting me) (now : Writing) (c : Cor
       looks tail now.opened top.frame top.below answer after (tail_is ∙ tail_front) opened_is step
       (top_stepped shape.pages shape.size c top.frame top.below (looking now.opened) answer after top.is top.phase_is step)
 
-  nexts : (page behind : ℕ) (frame : Frame) (below : List Frame) (role : Role) (noted : ℕ) (answer : Answer) (after : Core) → page ≡ page_before shape.pages c.order behind → MayContinue role noted c.opened
-      → Step shape.pages shape.size c steps answer after → LoadNextStep shape.pages c frame below role noted page answer after → LoadMoves page behind
-  nexts page behind frame below role noted answer after e on step (load_next_late helps late) = absurd (late.passed (subst (λ (x : Role). MayContinue x noted c.opened) helps on))
-  nexts page behind frame below role noted answer after e on step (sees_normal lost next x sum at a after_is) = loads page behind frame below (marking role noted page next) answer after e step a after_is
-  nexts page behind frame below role noted answer after e on step (sees_other lost x sum other a after_is) = loads page behind frame below (after_next role noted page) answer after e step a after_is
+  nexts : (page after_lost : ℕ) (frame : Frame) (below : List Frame) (role : Role) (noted : ℕ) (answer : Answer) (after : Core) → page ≡ page_before shape.pages c.order after_lost → MayContinue role noted c.opened
+      → Step shape.pages shape.size c steps answer after → LoadNextStep shape.pages c frame below role noted page answer after → LoadMoves page after_lost
+  nexts page after_lost frame below role noted answer after e on step (load_next_late helps late) = absurd (late.passed (subst (λ (x : Role). MayContinue x noted c.opened) helps on))
+  nexts page after_lost frame below role noted answer after e on step (sees_normal lost next x sum at a after_is) = loads page after_lost frame below (marking role noted page next) answer after e step a after_is
+  nexts page after_lost frame below role noted answer after e on step (sees_other lost x sum other a after_is) = loads page after_lost frame below (after_next role noted page) answer after e step a after_is
 
   -- who moves the head, and for which fill, by the frame on top
   abbrev mover : Role
@@ -237,14 +237,14 @@ module _ (shape : Shape) (me : Sat) (is : IsWriting me) (now : Writing) (c : Cor
   abbrev noted : ℕ
   noted = noted_on_top now.frames
 
-  pub load_next_moves : (page behind : ℕ) → LooksBehind shape.pages now page behind → LoadMoves page (behind_in shape.pages now)
-  load_next_moves page behind due =
+  pub load_next_moves : (page after_lost : ℕ) → LooksNext shape.pages now page after_lost → LoadMoves page (after_lost_in shape.pages now)
+  load_next_moves page after_lost due =
       let top = top_of c.frames (looking_next mover noted page) (top_now (looking_next mover noted page) due.phase) in
       let (answer, after, step) = each_event_is_a_step shape.pages shape.size shape.start c steps kept tt in
       let known = top_kept shape.pages c top.frame top.below kept.links top.is in
       let passed = known.passed noted page (ap passed_spot top.phase_is) in
-      subst (λ (fill : ℕ). LoadMoves page fill) (looks_behind shape.pages now page behind due)
-      (nexts page behind top.frame top.below mover noted answer after (passed_front page noted behind passed.2 due.behind_is) (subst (MayContinue mover noted) opened_is due.goes_on) step
+      subst (λ (fill : ℕ). LoadMoves page fill) (looks_after_lost shape.pages now page after_lost due)
+      (nexts page after_lost top.frame top.below mover noted answer after (passed_front page noted after_lost passed.2 due.after_lost_is) (subst (MayContinue mover noted) opened_is due.goes_on) step
       (top_stepped shape.pages shape.size c top.frame top.below (looking_next mover noted page) answer after top.is top.phase_is step))
 
   -- ---- the wish
@@ -356,34 +356,34 @@ module _ (shape : Shape) (me : Sat) (is : IsWriting me) (now : Writing) (c : Cor
       claims_at tail page lost from to top.frame top.below answer after top.is top.phase_is sum fits from_is to_is (tail_is ∙ tail_front) step
       (top_stepped shape.pages shape.size c top.frame top.below (claiming now.opened page) answer after top.is top.phase_is step)
 
-  marks_at : (page next behind from to : ℕ) (frame : Frame) (below : List Frame) (role : Role) (noted : ℕ) (answer : Answer) (after : Core)
-      → MayContinue role noted c.opened → behind + shape.pages ≡ noted + 1 → FitsWord (normal_link next behind) → from ≡ word_of (normal_link next behind) → to ≡ word_of (header_link next behind)
-      → page ≡ page_before shape.pages c.order behind
-      → Step shape.pages shape.size c steps answer after → MarkHeadStep shape.pages c frame below role noted page next answer after → ExchangeMoves page behind from to
-  marks_at page next behind from to frame below role noted answer after on sum fits from_is to_is e step (mark_late helps late) = absurd (late.passed (subst (λ (x : Role). MayContinue x noted c.opened) helps on))
-  marks_at page next behind from to frame below role noted answer after on sum fits from_is to_is e step (marks lost x lost_sum at a after_is) =
-      let same : suc lost ≡ behind = omega arith in
-      done_on page behind from to (normal_link next behind) (header_link next behind) (record frame { phase = after_next role noted page } ∷ below) c.head e from_is to_is
+  marks_at : (page next after_lost from to : ℕ) (frame : Frame) (below : List Frame) (role : Role) (noted : ℕ) (answer : Answer) (after : Core)
+      → MayContinue role noted c.opened → after_lost + shape.pages ≡ noted + 1 → FitsWord (normal_link next after_lost) → from ≡ word_of (normal_link next after_lost) → to ≡ word_of (header_link next after_lost)
+      → page ≡ page_before shape.pages c.order after_lost
+      → Step shape.pages shape.size c steps answer after → MarkHeadStep shape.pages c frame below role noted page next answer after → ExchangeMoves page after_lost from to
+  marks_at page next after_lost from to frame below role noted answer after on sum fits from_is to_is e step (mark_late helps late) = absurd (late.passed (subst (λ (x : Role). MayContinue x noted c.opened) helps on))
+  marks_at page next after_lost from to frame below role noted answer after on sum fits from_is to_is e step (marks lost x lost_sum at a after_is) =
+      let same : suc lost ≡ after_lost = omega arith in
+      done_on page after_lost from to (normal_link next after_lost) (header_link next after_lost) (record frame { phase = after_next role noted page } ∷ below) c.head e from_is to_is
       (subst (λ (f : ℕ). link_into shape.pages c.links f ≡ normal_link next f) same at) (omega arith)
-      (goes answer after (in_phase (with_link shape.pages c behind (header_link next behind)) frame below (after_next role noted page)) step a
+      (goes answer after (in_phase (with_link shape.pages c after_lost (header_link next after_lost)) frame below (after_next role noted page)) step a
       (after_is ∙ ap (λ (f : ℕ). in_phase (with_link shape.pages c f (header_link next f)) frame below (after_next role noted page)) same))
-  marks_at page next behind from to frame below role noted answer after on sum fits from_is to_is e step (mark_fails lost x lost_sum differ a after_is) =
-      let same : suc lost ≡ behind = omega arith in
-      fails_on page behind from to (normal_link next behind) (record frame { phase = after_next role noted page } ∷ below) e from_is fits
+  marks_at page next after_lost from to frame below role noted answer after on sum fits from_is to_is e step (mark_fails lost x lost_sum differ a after_is) =
+      let same : suc lost ≡ after_lost = omega arith in
+      fails_on page after_lost from to (normal_link next after_lost) (record frame { phase = after_next role noted page } ∷ below) e from_is fits
       (λ at. differ (subst (λ (f : ℕ). link_into shape.pages c.links f ≡ normal_link next f) (sym same) at))
       (goes answer after (in_phase c frame below (after_next role noted page)) step a after_is)
 
-  pub mark_moves : (page next behind from to : ℕ) → MarksBehind shape.pages now page next behind → next < LINK_PAGES → from ≡ word_of (normal_link next behind) → to ≡ word_of (header_link next behind)
-      → ExchangeMoves page (behind_in shape.pages now) from to
-  mark_moves page next behind from to due fits from_is to_is =
+  pub mark_moves : (page next after_lost from to : ℕ) → MarksNext shape.pages now page next after_lost → next < LINK_PAGES → from ≡ word_of (normal_link next after_lost) → to ≡ word_of (header_link next after_lost)
+      → ExchangeMoves page (after_lost_in shape.pages now) from to
+  mark_moves page next after_lost from to due fits from_is to_is =
       let top = top_of c.frames (marking mover noted page next) (top_now (marking mover noted page next) due.phase) in
       let (answer, after, step) = each_event_is_a_step shape.pages shape.size shape.start c steps kept tt in
       let known = top_kept shape.pages c top.frame top.below kept.links top.is in
       let passed = known.passed noted page (ap passed_spot top.phase_is) in
-      let (low, high, room, numbers) = known.noted noted (ap noted_fill top.phase_is) in let some = kept.links.some_pages in let sum = due.behind_is in
-      subst (λ (fill : ℕ). ExchangeMoves page fill from to) (marks_behind shape.pages now page next behind due)
-      (marks_at page next behind from to top.frame top.below mover noted answer after (subst (MayContinue mover noted) opened_is due.goes_on) due.behind_is
-      record { page_fits = fits; fill_fits = omega arith } from_is to_is (passed_front page noted behind passed.2 due.behind_is) step
+      let (low, high, room, numbers) = known.noted noted (ap noted_fill top.phase_is) in let some = kept.links.some_pages in let sum = due.after_lost_is in
+      subst (λ (fill : ℕ). ExchangeMoves page fill from to) (marks_after_lost shape.pages now page next after_lost due)
+      (marks_at page next after_lost from to top.frame top.below mover noted answer after (subst (MayContinue mover noted) opened_is due.goes_on) due.after_lost_is
+      record { page_fits = fits; fill_fits = omega arith } from_is to_is (passed_front page noted after_lost passed.2 due.after_lost_is) step
       (top_stepped shape.pages shape.size c top.frame top.below (marking mover noted page next) answer after top.is top.phase_is step))
 
   clears_at : (before page lost noted from to : ℕ) (frame : Frame) (below : List Frame) (answer : Answer) (after : Core) → lost + shape.pages ≡ noted → from ≡ word_of (update_link page lost) → to ≡ word_of (normal_link page noted)

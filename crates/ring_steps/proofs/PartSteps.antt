@@ -13,8 +13,8 @@ use Rattle.ring_steps.specs.declared.rule.Shape.{Shape}
 use Rattle.ring_steps.specs.Views.{Writing, writing_of}
 use Rattle.ring_steps.specs.Seats.{IsWriterStep}
 use Rattle.ring_steps.specs.Paging.{IsTopIn}
-use Rattle.ring_steps.specs.Linking.{noted_on_top, role_on_top, LooksBehind, MarksBehind, frames_in, part_in, found_at, claimed_at, next_at}
-use Rattle.ring_steps.specs.Notes.{alone, part_of, behind, behind_wish}
+use Rattle.ring_steps.specs.Linking.{noted_on_top, role_on_top, LooksNext, MarksNext, frames_in, part_in, found_at, claimed_at, next_at}
+use Rattle.ring_steps.specs.Notes.{alone, part_of, part_after, part_after_wish}
 use Rattle.ring_steps.proofs.Paging.{HasTop, top_of}
 use Rattle.ring_steps.proofs.LinkMoves.{looked, claimed, not_claimed, waits, is_passed, marked, cleared}
 
@@ -59,20 +59,20 @@ module _ (shape : Shape) (c : Core) (frame : Frame) (below : List Frame) (top : 
   there = alone (writing_of c)
 
   -- the part after the step is computed from the part before it
-  abbrev IsBehind : Type 0
-  IsBehind = writing_of after ≡ behind shape (writing_of c) steps
+  abbrev IsPartAfter : Type 0
+  IsPartAfter = writing_of after ≡ part_after shape (writing_of c) steps
 
-  is_behind : (phase : Phase) (next : Core) → frame.phase ≡ phase → FrameStep shape.pages shape.size there frame below phase answer next → writing_of after ≡ writing_of next → IsBehind
-  is_behind phase next at step same = same ∙ sym (ap (part_of (writing_of c)) (computed shape.pages shape.size there frame below phase answer next top at step))
+  is_part_after : (phase : Phase) (next : Core) → frame.phase ≡ phase → FrameStep shape.pages shape.size there frame below phase answer next → writing_of after ≡ writing_of next → IsPartAfter
+  is_part_after phase next at step same = same ∙ sym (ap (part_of (writing_of c)) (computed shape.pages shape.size there frame below phase answer next top at step))
 
-  begun : (page : ℕ) → frame.phase ≡ opening c.opened page → OpenFillStep shape.pages c frame below c.opened page answer after → IsBehind
+  begun : (page : ℕ) → frame.phase ≡ opening c.opened page → OpenFillStep shape.pages c frame below c.opened page answer after → IsPartAfter
   begun page at (open_late late) = absurd (late.passed refl)
-  begun page at (opens now a is) = is_behind (opening c.opened page) (after_begin frame.kind frame.state (with_new_tail there page) frame below) at (opens refl a refl)
+  begun page at (opens now a is) = is_part_after (opening c.opened page) (after_begin frame.kind frame.state (with_new_tail there page) frame below) at (opens refl a refl)
       (ap writing_of is ∙ begun_alone frame.kind frame.state c page frame below)
 
-  closed : frame.phase ≡ releasing → ReleaseFillStep c frame below answer after → IsBehind
-  closed at (releases last more a is) = is_behind releasing _ at (releases last more a refl) (ap writing_of is)
-  closed at (releases_last last more a is) = is_behind releasing _ at (releases_last last more a refl) (ap writing_of is)
+  closed : frame.phase ≡ releasing → ReleaseFillStep c frame below answer after → IsPartAfter
+  closed at (releases last more a is) = is_part_after releasing _ at (releases last more a refl) (ap writing_of is)
+  closed at (releases_last last more a is) = is_part_after releasing _ at (releases_last last more a refl) (ap writing_of is)
 
   -- ---- the wish
 
@@ -85,13 +85,13 @@ module _ (shape : Shape) (c : Core) (frame : Frame) (below : List Frame) (top : 
   granted_here : IsGranted shape.pages wished_there → IsGranted shape.pages c
   granted_here g = record { asks_tail = g.asks_tail; holds_record = g.holds_record; numbers_left = g.numbers_left }
 
-  is_behind_wish : (next : Core) → frame.phase ≡ wishing → LoadWishStep shape.pages wished_there frame below answer next → writing_of after ≡ writing_of next → writing_of after ≡ behind_wish shape (writing_of c) c.wish
-  is_behind_wish next at step same = same ∙ sym (ap (part_of (writing_of c)) (computed shape.pages shape.size wished_there frame below wishing answer next top at step))
+  is_part_after_wish : (next : Core) → frame.phase ≡ wishing → LoadWishStep shape.pages wished_there frame below answer next → writing_of after ≡ writing_of next → writing_of after ≡ part_after_wish shape (writing_of c) c.wish
+  is_part_after_wish next at step same = same ∙ sym (ap (part_of (writing_of c)) (computed shape.pages shape.size wished_there frame below wishing answer next top at step))
 
-  asked : frame.phase ≡ wishing → LoadWishStep shape.pages c frame below answer after → writing_of after ≡ behind_wish shape (writing_of c) c.wish
-  asked at (grants last granted a is) = is_behind_wish _ at (grants last (granted_there granted) a refl) (ap writing_of is)
-  asked at (closes_more last denied more a is) = is_behind_wish _ at (closes_more last (λ g. denied (granted_here g)) more a refl) (ap writing_of is)
-  asked at (goes_away last denied more a is) = is_behind_wish _ at (goes_away last (λ g. denied (granted_here g)) more a refl) (ap writing_of is)
+  asked : frame.phase ≡ wishing → LoadWishStep shape.pages c frame below answer after → writing_of after ≡ part_after_wish shape (writing_of c) c.wish
+  asked at (grants last granted a is) = is_part_after_wish _ at (grants last (granted_there granted) a refl) (ap writing_of is)
+  asked at (closes_more last denied more a is) = is_part_after_wish _ at (closes_more last (λ g. denied (granted_here g)) more a refl) (ap writing_of is)
+  asked at (goes_away last denied more a is) = is_part_after_wish _ at (goes_away last (λ g. denied (granted_here g)) more a refl) (ap writing_of is)
 
 -- ---- the steps that a seat shows
 
@@ -128,7 +128,7 @@ module _ {shape : Shape} {w : Writing} {sees : Core → Type 0} {answer : Answer
       goes_on_in top.frame top.below (looking w.opened) top.is
       (not_claimed shape.pages s.core top.frame top.below answer s.next w.opened page lost opened_there sum (λ there. let e : false ≡ true = is.1 there in cc) (stepped (claiming w.opened page) top))
 
-  module _ (page behind_fill : ℕ) (l : Link) (due : LooksBehind shape.pages w page behind_fill) (link : link_into shape.pages s.core.links behind_fill ≡ l) where
+  module _ (page after_lost : ℕ) (l : Link) (due : LooksNext shape.pages w page after_lost) (link : link_into shape.pages s.core.links after_lost ≡ l) where
     next_on : (phase : Phase) → ((frame : Frame) (below : List Frame) → MayContinue (role_on_top w.frames) (noted_on_top w.frames) s.core.opened
         → FrameStep shape.pages shape.size s.core frame below (looking_next (role_on_top w.frames) (noted_on_top w.frames) page) answer s.next → writing_of s.next ≡ writing_of (in_phase s.core frame below phase))
         → after ≡ part_in w phase
@@ -136,23 +136,23 @@ module _ {shape : Shape} {w : Writing} {sees : Core → Type 0} {answer : Answer
         goes_on_in top.frame top.below phase top.is
         (moves top.frame top.below (subst (MayContinue (role_on_top w.frames) (noted_on_top w.frames)) opened_there due.goes_on) (stepped (looking_next (role_on_top w.frames) (noted_on_top w.frames) page) top))
 
-    passes : ((page : ℕ) → l ≢ normal_link page behind_fill) → after ≡ part_in w (after_next (role_on_top w.frames) (noted_on_top w.frames) page)
+    passes : ((page : ℕ) → l ≢ normal_link page after_lost) → after ≡ part_in w (after_next (role_on_top w.frames) (noted_on_top w.frames) page)
     passes differ = next_on (after_next (role_on_top w.frames) (noted_on_top w.frames) page)
-        (λ frame below on step. is_passed shape.pages s.core frame below answer s.next (role_on_top w.frames) (noted_on_top w.frames) page behind_fill l on due.behind_is link differ step)
+        (λ frame below on step. is_passed shape.pages s.core frame below answer s.next (role_on_top w.frames) (noted_on_top w.frames) page after_lost l on due.after_lost_is link differ step)
 
-    other_mark : (mark : Mark) → l.mark ≡ mark → (mark ≡ normal → ⊥) → (page : ℕ) → l ≢ normal_link page behind_fill
+    other_mark : (mark : Mark) → l.mark ≡ mark → (mark ≡ normal → ⊥) → (page : ℕ) → l ≢ normal_link page after_lost
     other_mark mark is other page e = other (sym is ∙ ap (λ (k : Link). k.mark) e)
 
-    pub part_next : (mark : Mark) (same : Bool) → l.mark ≡ mark → (l.fill == behind_fill) ≡ same → after ≡ part_in w (next_at mark same (role_on_top w.frames) (noted_on_top w.frames) page l.page)
+    pub part_next : (mark : Mark) (same : Bool) → l.mark ≡ mark → (l.fill == after_lost) ≡ same → after ≡ part_in w (next_at mark same (role_on_top w.frames) (noted_on_top w.frames) page l.page)
     part_next normal true is same = next_on (marking (role_on_top w.frames) (noted_on_top w.frames) page l.page)
-        (λ frame below on step. waits shape.pages s.core frame below answer s.next (role_on_top w.frames) (noted_on_top w.frames) page behind_fill l on due.behind_is link
-        (let fill : l.fill ≡ behind_fill = eqb-true l.fill behind_fill same in λ i. record { mark = is i; page = l.page; fill = fill i }) step)
-    part_next normal false is same = passes (λ page e. eqb-false l.fill behind_fill same (ap (λ (k : Link). k.fill) e))
+        (λ frame below on step. waits shape.pages s.core frame below answer s.next (role_on_top w.frames) (noted_on_top w.frames) page after_lost l on due.after_lost_is link
+        (let fill : l.fill ≡ after_lost = eqb-true l.fill after_lost same in λ i. record { mark = is i; page = l.page; fill = fill i }) step)
+    part_next normal false is same = passes (λ page e. eqb-false l.fill after_lost same (ap (λ (k : Link). k.fill) e))
     part_next header same is x = passes (other_mark header is (λ e. cc))
     part_next update same is x = passes (other_mark update is (λ e. cc))
 
-  pub part_marked : (page next behind_fill : ℕ) → MarksBehind shape.pages w page next behind_fill → after ≡ part_in w (after_next (role_on_top w.frames) (noted_on_top w.frames) page)
-  part_marked page next behind_fill due = let top = top_there (marking (role_on_top w.frames) (noted_on_top w.frames) page next) due.phase in
+  pub part_marked : (page next after_lost : ℕ) → MarksNext shape.pages w page next after_lost → after ≡ part_in w (after_next (role_on_top w.frames) (noted_on_top w.frames) page)
+  part_marked page next after_lost due = let top = top_there (marking (role_on_top w.frames) (noted_on_top w.frames) page next) due.phase in
       goes_on_in top.frame top.below (after_next (role_on_top w.frames) (noted_on_top w.frames) page) top.is
       (marked shape.pages s.core top.frame top.below answer s.next (role_on_top w.frames) (noted_on_top w.frames) page next (subst (MayContinue (role_on_top w.frames) (noted_on_top w.frames)) opened_there due.goes_on)
       (stepped (marking (role_on_top w.frames) (noted_on_top w.frames) page next) top))
@@ -163,15 +163,15 @@ module _ {shape : Shape} {w : Writing} {sees : Core → Type 0} {answer : Answer
 
   -- ---- counts, and the wish
 
-  pub part_begun : (page fill : ℕ) → IsTopIn w.frames (opening fill page) → fill ≡ w.opened → after ≡ behind shape w steps
+  pub part_begun : (page fill : ℕ) → IsTopIn w.frames (opening fill page) → fill ≡ w.opened → after ≡ part_after shape w steps
   part_begun page fill at fill_is =
       let top = top_there (opening s.core.opened page) (subst (λ (f : ℕ). IsTopIn w.frames (opening f page)) (fill_is ∙ opened_there) at) in
-      sym s.after_is ∙ (begun shape s.core top.frame top.below top.is answer s.next page top.phase_is (stepped (opening s.core.opened page) top) ∙ ap (λ (x : Writing). behind shape x steps) s.before_is)
+      sym s.after_is ∙ (begun shape s.core top.frame top.below top.is answer s.next page top.phase_is (stepped (opening s.core.opened page) top) ∙ ap (λ (x : Writing). part_after shape x steps) s.before_is)
 
-  pub part_closed : IsTopIn w.frames releasing → after ≡ behind shape w steps
+  pub part_closed : IsTopIn w.frames releasing → after ≡ part_after shape w steps
   part_closed at = let top = top_there releasing at in
-      sym s.after_is ∙ (closed shape s.core top.frame top.below top.is answer s.next top.phase_is (stepped releasing top) ∙ ap (λ (x : Writing). behind shape x steps) s.before_is)
+      sym s.after_is ∙ (closed shape s.core top.frame top.below top.is answer s.next top.phase_is (stepped releasing top) ∙ ap (λ (x : Writing). part_after shape x steps) s.before_is)
 
-  pub part_asked : (wish : ℕ) → IsTopIn w.frames wishing → s.core.wish ≡ wish → after ≡ behind_wish shape w wish
+  pub part_asked : (wish : ℕ) → IsTopIn w.frames wishing → s.core.wish ≡ wish → after ≡ part_after_wish shape w wish
   part_asked wish at is = let top = top_there wishing at in
-      sym s.after_is ∙ (asked shape s.core top.frame top.below top.is answer s.next top.phase_is (stepped wishing top) ∙ (λ i. behind_wish shape (s.before_is i) (is i)))
+      sym s.after_is ∙ (asked shape s.core top.frame top.below top.is answer s.next top.phase_is (stepped wishing top) ∙ (λ i. part_after_wish shape (s.before_is i) (is i)))

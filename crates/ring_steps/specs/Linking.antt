@@ -34,20 +34,20 @@ role_on_top (frame ∷ below) = role_in frame.phase
 
 -- The frame on top looks at the link after this page, which is into the position of this fill: the head was moved on
 -- to it.
-pub record LooksBehind (n : ℕ) (w : Writing) (page behind : ℕ) : Type 0 where
+pub record LooksNext (n : ℕ) (w : Writing) (page after_lost : ℕ) : Type 0 where
   pub phase : IsTopIn w.frames (looking_next (role_on_top w.frames) (noted_on_top w.frames) page)
   pub goes_on : MayContinue (role_on_top w.frames) (noted_on_top w.frames) w.opened
-  pub behind_is : behind + n ≡ noted_on_top w.frames + 1
+  pub after_lost_is : after_lost + n ≡ noted_on_top w.frames + 1
 
 -- and it is about to set the HEADER there
-pub record MarksBehind (n : ℕ) (w : Writing) (page next behind : ℕ) : Type 0 where
+pub record MarksNext (n : ℕ) (w : Writing) (page next after_lost : ℕ) : Type 0 where
   pub phase : IsTopIn w.frames (marking (role_on_top w.frames) (noted_on_top w.frames) page next)
   pub goes_on : MayContinue (role_on_top w.frames) (noted_on_top w.frames) w.opened
-  pub behind_is : behind + n ≡ noted_on_top w.frames + 1
+  pub after_lost_is : after_lost + n ≡ noted_on_top w.frames + 1
 
 -- the fill after the one that is lost for it
-abbrev pub behind_in : ℕ → Writing → ℕ
-behind_in n w = noted_on_top w.frames + 1 - n
+abbrev pub after_lost_in : ℕ → Writing → ℕ
+after_lost_in n w = noted_on_top w.frames + 1 - n
 
 -- what was found in the word of the link into the position of a fill is the link's, and what was known of the head
 -- holds

@@ -34,12 +34,12 @@ part_of w (Some outcome) = writing_of outcome.1
 
 -- The writer's part after an event that finds nothing in a word: a private one, or a store of a count. It is a function
 -- of the part alone.
-abbrev pub behind : Shape → Writing → Event → Writing
-behind shape w event = part_of w (step_of shape.pages shape.size (alone w) event)
+abbrev pub part_after : Shape → Writing → Event → Writing
+part_after shape w event = part_of w (step_of shape.pages shape.size (alone w) event)
 
 -- and after a load of the reader's wish, by what was found
-abbrev pub behind_wish : Shape → Writing → (wish : ℕ) → Writing
-behind_wish shape w wish = part_of w (step_of shape.pages shape.size (record (alone w) { wish = wish }) steps)
+abbrev pub part_after_wish : Shape → Writing → (wish : ℕ) → Writing
+part_after_wish shape w wish = part_of w (step_of shape.pages shape.size (record (alone w) { wish = wish }) steps)
 
 -- the payload takes exactly the slot that the frame on top was given, if that has reserved a record
 abbrev pub FillsSlotOf : Kind → FrameState → List ℕ → Type 0

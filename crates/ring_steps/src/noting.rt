@@ -4,7 +4,7 @@ ghost use Rattle.trace_model.specs.Steps.{pushes, pushes_close, steps, ends};
 ghost use Rattle.link_marks.specs.Seats.{TopIsPrivate};
 ghost use Rattle.ring_steps.specs.Seats.{Leads};
 ghost use Rattle.ring_steps.specs.Ends.{writing_in, SameSeat};
-ghost use Rattle.ring_steps.specs.Notes.{behind, FillsTopSlot};
+ghost use Rattle.ring_steps.specs.Notes.{part_after, FillsTopSlot};
 
 use crate::ends::WriterSeat;
 use crate::ghost_part::ghost_part_of;
@@ -28,7 +28,7 @@ impl WriterSeat {
     #[inline(always)]
     pub fn note_push(&mut self, moment: u64, len: usize)
         ensures same { SameSeat self.old self.new }
-        ensures noted { writing_in self.new ≡ behind self.old.shape (writing_in self.old) (pushes moment len) }
+        ensures noted { writing_in self.new ≡ part_after self.old.shape (writing_in self.old) (pushes moment len) }
     {
         self.note::<Brand, _>(&(moment, len));
     }
@@ -37,7 +37,7 @@ impl WriterSeat {
     #[inline(always)]
     pub fn note_close(&mut self)
         ensures same { SameSeat self.old self.new }
-        ensures noted { writing_in self.new ≡ behind self.old.shape (writing_in self.old) pushes_close }
+        ensures noted { writing_in self.new ≡ part_after self.old.shape (writing_in self.old) pushes_close }
     {
         self.note::<Brand, _>(&());
     }
@@ -48,7 +48,7 @@ impl WriterSeat {
     pub fn note_step(&mut self)
         requires private { TopIsPrivate (writing_in self.old).frames (writing_in self.old).opened }
         ensures same { SameSeat self.old self.new }
-        ensures noted { writing_in self.new ≡ behind self.old.shape (writing_in self.old) steps }
+        ensures noted { writing_in self.new ≡ part_after self.old.shape (writing_in self.old) steps }
     {
         self.note::<Brand, _>(&());
     }
@@ -58,7 +58,7 @@ impl WriterSeat {
     pub fn note_end(&mut self, payload: &[u8])
         requires fills { FillsTopSlot (writing_in self.old).frames payload.now }
         ensures same { SameSeat self.old self.new }
-        ensures noted { writing_in self.new ≡ behind self.old.shape (writing_in self.old) (ends payload.now) }
+        ensures noted { writing_in self.new ≡ part_after self.old.shape (writing_in self.old) (ends payload.now) }
     {
         self.note::<Brand, _>(&payload);
     }

@@ -11,11 +11,11 @@ ghost use Rattle.link_marks.specs.ModelLinks.{mark_of, link_of};
 ghost use Rattle.nested_writer.specs.Released.{IsWrittenPage};
 ghost use Rattle.ring_steps.specs.Views.{writing};
 ghost use Rattle.ring_steps.specs.Seats.{Leads, IsWriterStep};
-ghost use Rattle.ring_steps.specs.Ends.{writing_in, passed_in, writer_table, SameSeat};
+ghost use Rattle.ring_steps.specs.Ends.{writing_in, passed_in, SameSeat};
 ghost use Rattle.ring_steps.specs.Paging.{IsTopIn, begun_answer};
-ghost use Rattle.ring_steps.specs.Linking.{tail_in, noted_on_top, role_on_top, LooksBehind, MarksBehind, part_in, found_at, claimed_at, next_at};
-ghost use Rattle.ring_steps.specs.Moving.{IsWriterMove};
-ghost use Rattle.ring_steps.specs.Notes.{behind, behind_wish};
+ghost use Rattle.ring_steps.specs.Linking.{tail_in, noted_on_top, role_on_top, LooksNext, MarksNext, part_in, found_at, claimed_at, next_at};
+ghost use Rattle.ring_steps.specs.Moving.{IsWriterMove, HasStepped};
+ghost use Rattle.ring_steps.specs.Notes.{part_after, part_after_wish};
 
 use crate::ends::WriterSeat;
 use crate::ghost_part::{ghost_part_at_rest, ghost_part_of};
@@ -40,10 +40,7 @@ impl WriterSeat {
     fn load_step<J: StepReport>(&mut self, word: usize) -> u64
         requires word { word < self.old.shape.pages + 4 }
         requires moves { IsWriterMove self.old.shape self.old.seat.me word (λ n. n) (J.reports self.old.seat.me) }
-        ensures shape { self.new.shape ≡ self.old.shape }
-        ensures table { writer_table self.new ≡ writer_table self.old }
-        ensures rests { writing_in self.new ≡ writing self.new.seat.me.0 }
-        ensures reported { J.reports self.old.seat.me result self.new.seat.me }
+        ensures { HasStepped self.old self.new (J.reports self.old.seat.me result) }
     {
         let found = load::<J, _>(&self.board, self.shape, &mut self.seat, word, &());
         self.ghost_part = ghost_part_at_rest(&self.seat);
@@ -56,10 +53,7 @@ impl WriterSeat {
         requires word { word < self.old.shape.pages + 4 }
         requires moves { IsWriterMove self.old.shape self.old.seat.me word (λ n. either (n == from) to n)
             (J.reports self.old.seat.me) }
-        ensures shape { self.new.shape ≡ self.old.shape }
-        ensures table { writer_table self.new ≡ writer_table self.old }
-        ensures rests { writing_in self.new ≡ writing self.new.seat.me.0 }
-        ensures reported { J.reports self.old.seat.me result self.new.seat.me }
+        ensures { HasStepped self.old self.new (J.reports self.old.seat.me result) }
     {
         let found = exchange::<J, _>(&self.board, self.shape, &mut self.seat, word, from, to, &());
         self.ghost_part = ghost_part_at_rest(&self.seat);
@@ -89,18 +83,18 @@ impl WriterSeat {
 
     /// A load of the next link, which is in the word of this page: that into the position of the fill after the
     /// lost one.
-    pub fn load_next(&mut self, page: u16, behind: FillNo) -> Link
-        requires phase { LooksBehind self.old.shape.pages (writing_in self.old) page behind.0 }
+    pub fn load_next(&mut self, page: u16, after_lost: FillNo) -> Link
+        requires phase { LooksNext self.old.shape.pages (writing_in self.old) page after_lost.0 }
         ensures same { SameSeat self.old self.new }
         ensures fits { FitsWord (link_of result) }
         ensures step { IsWriterStep self.old.shape (writing_in self.old)
-            (λ core. link_into self.old.shape.pages core.links behind.0 ≡ link_of result) going
+            (λ core. link_into self.old.shape.pages core.links after_lost.0 ≡ link_of result) going
             (writing_in self.new) }
         ensures part { writing_in self.new ≡ part_in (writing_in self.old)
-            (next_at (mark_of result.mark) (result.fill == behind.0) (role_on_top (writing_in self.old).frames)
+            (next_at (mark_of result.mark) (result.fill == after_lost.0) (role_on_top (writing_in self.old).frames)
             (noted_on_top (writing_in self.old).frames) page result.page) }
     {
-        let _behind = behind;
+        let _after_lost = after_lost;
         self.recall();
         let found = self.load_step::<Brand>(page as usize + LINKS);
         link_in(found)
@@ -113,7 +107,7 @@ impl WriterSeat {
         ensures step { (answer : Answer)
             × IsWriterStep self.old.shape (writing_in self.old) (λ core. core.wish ≡ result) answer
             (writing_in self.new) }
-        ensures part { writing_in self.new ≡ behind_wish self.old.shape (writing_in self.old) result }
+        ensures part { writing_in self.new ≡ part_after_wish self.old.shape (writing_in self.old) result }
     {
         self.recall();
         self.load_step::<Brand>(WISH)
@@ -144,20 +138,21 @@ impl WriterSeat {
     }
 
     /// A compare and exchange of the next link, in the word of this page, from NORMAL to HEADER; whether it was done.
-    pub fn mark_head(&mut self, page: u16, next: u16, behind: FillNo) -> bool
-        requires phase { MarksBehind self.old.shape.pages (writing_in self.old) page next behind.0 }
+    pub fn mark_head(&mut self, page: u16, next: u16, after_lost: FillNo) -> bool
+        requires phase { MarksNext self.old.shape.pages (writing_in self.old) page next after_lost.0 }
         requires fits { next < LINK_PAGES }
         ensures same { SameSeat self.old self.new }
         ensures step { IsWriterStep self.old.shape (writing_in self.old)
-            (λ core. result ≡ true ↔ link_into self.old.shape.pages core.links behind.0 ≡ normal_link next behind.0)
+            (λ core. result ≡ true
+            ↔ link_into self.old.shape.pages core.links after_lost.0 ≡ normal_link next after_lost.0)
             going (writing_in self.new) }
         ensures part { writing_in self.new ≡ part_in (writing_in self.old)
             (after_next (role_on_top (writing_in self.old).frames) (noted_on_top (writing_in self.old).frames) page) }
     {
         self.recall();
         let word = page as usize + LINKS;
-        let from = normal_word(next, behind);
-        let to = header_word(next, behind);
+        let from = normal_word(next, after_lost);
+        let to = header_word(next, after_lost);
         let found = self.exchange_step::<Brand>(word, from, to);
         found == from
     }
@@ -191,7 +186,7 @@ impl WriterSeat {
         ensures same { SameSeat self.old self.new }
         ensures step { IsWriterStep self.old.shape (writing_in self.old) (λ _. ⊤)
             (begun_answer (writing_in self.old).frames) (writing_in self.new) }
-        ensures part { writing_in self.new ≡ behind self.old.shape (writing_in self.old) steps }
+        ensures part { writing_in self.new ≡ part_after self.old.shape (writing_in self.old) steps }
         ensures body { length result ≡ self.old.shape.size }
     {
         self.recall();
@@ -222,7 +217,7 @@ impl WriterSeat {
             (fill_of (writing_in self.old).history self.old.shape.start (writing_in self.old).done) page }
         ensures same { SameSeat self.old self.new }
         ensures step { IsWriterStep self.old.shape (writing_in self.old) (λ _. ⊤) going (writing_in self.new) }
-        ensures part { writing_in self.new ≡ behind self.old.shape (writing_in self.old) steps }
+        ensures part { writing_in self.new ≡ part_after self.old.shape (writing_in self.old) steps }
     {
         self.recall();
         let fill = page.fill();

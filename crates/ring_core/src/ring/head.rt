@@ -92,10 +92,10 @@ impl Core {
         if self.frames.stops(role, noted) {
             return self.begin_again();
         }
-        let behind = noted - self.positions() + 1;
-        let link = self.link_into(behind);
+        let after_lost = noted - self.positions() + 1;
+        let link = self.link_into(after_lost);
         let phase = match link.mark {
-            Mark::Normal if link.fill == behind => Phase::Marking {
+            Mark::Normal if link.fill == after_lost => Phase::Marking {
                 role,
                 noted,
                 page,
@@ -119,8 +119,8 @@ impl Core {
         if self.frames.stops(role, noted) {
             return self.begin_again();
         }
-        let behind = noted - self.positions() + 1;
-        self.exchange(behind, normal(next, behind), header(next, behind));
+        let after_lost = noted - self.positions() + 1;
+        self.exchange(after_lost, normal(next, after_lost), header(next, after_lost));
         self.go_on(role.after_next(noted, page))
     }
 

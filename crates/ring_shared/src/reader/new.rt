@@ -1,6 +1,6 @@
 //! A new reader's end.
 use crate::reader::Reader;
-use ring_frames::{Reader as Progress, ReaderPhase};
+use ring_frames::{Reader as TakeState, ReaderPhase};
 use ring_steps::ReaderSeat;
 use std::alloc::Global;
 use trace_model::NoMemory;
@@ -23,7 +23,7 @@ impl Reader {
             seat,
             order,
             spare: shape.pages as u16,
-            at: Progress {
+            at: TakeState {
                 phase: ReaderPhase::LoadingHead,
                 hint: shape.start,
                 seen: shape.start,

@@ -7,7 +7,7 @@ use ring_frames::ReaderPhase;
 use trace_model::FillNo;
 
 /// What a link means to a take that looks for the head.
-enum Found {
+enum HeadSeen {
     /// This page is the head, as this fill.
     Head { page: u16, fill: u64 },
     /// The head is moved on, and each fill below this one is passed: the take answers so.
@@ -54,17 +54,17 @@ impl Reader {
         let pages = self.order.len() as u64;
         let front = self.page_at(hint + pages - 1);
         let link = self.seat.load_head(front);
-        match found_at(link, hint, pages) {
-            Found::Head { page, fill } => {
+        match seen_at(link, hint, pages) {
+            HeadSeen::Head { page, fill } => {
                 self.at.phase = ReaderPhase::LoadingDone { page, fill };
                 self.at.hint = fill;
                 TakeStep::Looking(body)
             }
-            Found::Moved { fill } => {
+            HeadSeen::Moved { fill } => {
                 self.at.hint = fill;
                 TakeStep::Done(Take::Moving(FillNo(fill), body))
             }
-            Found::Passed { fill } => {
+            HeadSeen::Passed { fill } => {
                 self.at.hint = fill;
                 TakeStep::Looking(body)
             }
@@ -128,20 +128,20 @@ impl Reader {
 }
 
 /// What the link into the position of the hint means, in a ring of this number of pages.
-fn found_at(link: Link, hint: u64, pages: u64) -> Found
+fn seen_at(link: Link, hint: u64, pages: u64) -> HeadSeen
     requires fits { link.fill < LINK_FILLS }
     requires passed { link.mark ≡ Normal → link.fill ≢ hint → pages ≤ link.fill + 1 }
-    ensures header { link.mark ≡ Header → result ≡ Found.Head link.page link.fill }
-    ensures update { link.mark ≡ Update → result ≡ Found.Moved (link.fill + 1) }
-    ensures owed { link.mark ≡ Normal → link.fill ≡ hint → result ≡ Found.Moved hint }
-    ensures passed { link.mark ≡ Normal → link.fill ≢ hint → result ≡ Found.Passed (link.fill + 1 - pages) }
+    ensures header { link.mark ≡ Header → result ≡ HeadSeen.Head link.page link.fill }
+    ensures update { link.mark ≡ Update → result ≡ HeadSeen.Moved (link.fill + 1) }
+    ensures owed { link.mark ≡ Normal → link.fill ≡ hint → result ≡ HeadSeen.Moved hint }
+    ensures passed { link.mark ≡ Normal → link.fill ≢ hint → result ≡ HeadSeen.Passed (link.fill + 1 - pages) }
 {
     let Link { mark, page, fill } = link;
     match mark {
-        Mark::Header => Found::Head { page, fill },
-        Mark::Update => Found::Moved { fill: fill + 1 },
-        Mark::Normal if fill == hint => Found::Moved { fill: hint },
-        Mark::Normal => Found::Passed {
+        Mark::Header => HeadSeen::Head { page, fill },
+        Mark::Update => HeadSeen::Moved { fill: fill + 1 },
+        Mark::Normal if fill == hint => HeadSeen::Moved { fill: hint },
+        Mark::Normal => HeadSeen::Passed {
             fill: fill + 1 - pages,
         },
     }

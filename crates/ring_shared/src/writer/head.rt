@@ -98,10 +98,10 @@ impl Writer {
         if self.frames.stops(role, noted) {
             return self.begin_again();
         }
-        let behind = noted + 1 - self.frames.pages() as u64;
-        let link = self.seat.load_next(page, FillNo(behind));
+        let after_lost = noted + 1 - self.frames.pages() as u64;
+        let link = self.seat.load_next(page, FillNo(after_lost));
         let phase = match link.mark {
-            Mark::Normal if link.fill == behind => Phase::Marking {
+            Mark::Normal if link.fill == after_lost => Phase::Marking {
                 role,
                 noted,
                 page,
@@ -125,8 +125,8 @@ impl Writer {
         if self.frames.stops(role, noted) {
             return self.begin_again();
         }
-        let behind = noted + 1 - self.frames.pages() as u64;
-        let _marked = self.seat.mark_head(page, next, FillNo(behind));
+        let after_lost = noted + 1 - self.frames.pages() as u64;
+        let _marked = self.seat.mark_head(page, next, FillNo(after_lost));
         self.frames.go_on(role.after_next(noted, page))
     }
 

@@ -3,7 +3,7 @@ use crate::writer::Writer;
 use crate::writer::finish::met_first;
 use nested_writer::frame::Slot;
 use nested_writer::{Ended, WriteFault, Wrote};
-use ring_frames::{Answer, Records, StepAnswer};
+use ring_frames::{Answer, Records, StepAnswer, write_padded};
 use std::marker::Brand;
 
 impl Writer {
@@ -89,7 +89,7 @@ impl Writer {
         ensures keeps { KeepsWriter self.old self.new }
     {
         let slot = self.reserve_record(moment, payload.len())?;
-        put_padded(self.top_mut()?, payload);
+        write_padded(self.top_mut()?, payload);
         self.end_record(slot);
         Ok(())
     }
@@ -141,16 +141,6 @@ impl Writer {
     }
 }
 
-/// Puts the payload to the beginning of the slot, and zeros after it.
-fn put_padded(slot: &mut [u8], payload: &[u8])
-    requires { length payload.now ≤ length slot.old }
-    ensures { slot.new ≡ payload.now ++ replicate (length slot.old - length payload.now) 0 }
-{
-    let (front, behind) = slot.split_at_mut(payload.len());
-    front.copy_from_slice(payload);
-    behind.fill(0);
-}
-
 /// Whether the frame that was ended stays on the stack, as the only one.
 fn stands_alone(answer: Answer) -> bool
     ensures { result ≡ true ↔ answer ≡ HasEnded Full }
@@ -158,6 +148,6 @@ fn stands_alone(answer: Answer) -> bool
     matches!(answer, Answer::Ended(Ended::Full))
 }
 
-ghost use Rattle.std.specs.Prelude.{◌≡◌, ◌≤◌, ◌-◌, ◌++◌, ◌↔◌, true, length, replicate};
+ghost use Rattle.std.specs.Prelude.{◌≡◌, ◌↔◌, true};
 ghost use Rattle.nested_writer.specs.declared.stack.leave.Ended.TheVariants.{Full};
 ghost use Rattle.ring_frames.specs.declared.answer.Answer.TheVariants.{Ended as HasEnded};

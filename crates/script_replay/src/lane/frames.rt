@@ -1,25 +1,13 @@
 //! The steps of the frame on top.
-ghost use Rattle.std.specs.Prelude.{◌≡◌, ◌≤◌, ◌-◌, ◌++◌, length, replicate};
-
 use crate::lane::Lane;
 use nested_writer::WriteFault;
 use replay_log::{At, LogLine, report, report_refusal};
 use ring_core::{Answer, Event};
+use ring_frames::write_padded;
 use trace_model::NoMemory;
 
 /// More steps than a frame or a take makes in a ring of the most pages.
 pub(crate) const MOST_STEPS: u64 = 8192;
-
-/// Puts the payload to the beginning of the slot, and zeros after it.
-#[inline(always)]
-fn put_padded(slot: &mut [u8], payload: &[u8])
-    requires { length payload.now ≤ length slot.old }
-    ensures { slot.new ≡ payload.now ++ replicate (length slot.old - length payload.now) 0 }
-{
-    let (front, behind) = slot.split_at_mut(payload.len());
-    front.copy_from_slice(payload);
-    behind.fill(0);
-}
 
 impl<'a> Lane<'a> {
     ghost use Rattle.std.specs.Prelude.{◌≡◌, ◌≢◌, ℕ, ◌-◌, [], drop, length, OnOk};
@@ -95,7 +83,7 @@ impl<'a> Lane<'a> {
             return self.core.step(Event::Step);
         };
         let payload = self.payloads[self.payloads.len() - 1];
-        put_padded(slot, payload);
+        write_padded(slot, payload);
         self.core.step(Event::End)
     }
 

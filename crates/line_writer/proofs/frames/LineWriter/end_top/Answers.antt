@@ -32,8 +32,8 @@ bounds-self-depth c =
     let deep = c.depth.ensures in
     omega arith
 
-pub put_padded-requires : goal.put_padded-requires
-put_padded-requires c =
+pub write_padded-requires : goal.write_padded-requires
+write_padded-requires c =
     let p : Lent = c.in_ok-top_mut.field-0.now in
     let lent : IsLent c.args.self.now.writer.frames.stack p = c.in_ok-top_mut.ensures.slot.lent in
     let wide = ap (length {A = ℕ}) c.deref_mut.ensures.value ∙ lent_len c.args.self.now.writer.frames.stack p lent in
@@ -48,13 +48,13 @@ returns-clause-ended c =
     let w : WriterValue = c.args.self.now.writer in
     let p : Lent = c.in_ok-top_mut.field-0.now in
     let lent : IsLent w.frames.stack p = c.in_ok-top_mut.ensures.slot.lent in
-    let part : List ℕ = c.put_padded.new.slot in
+    let part : List ℕ = c.write_padded.new.slot in
     let wide = ap (length {A = ℕ}) c.deref_mut.ensures.value ∙ lent_len w.frames.stack p lent in
     end_called c.args.self.now c.requires.is lent.slot lent.on_top c.end-answer.new.self item
     part c.end-answer.result
     (is_top_payload c.args.self.now c.requires.is lent.slot lent.on_top c.depth.result _ c.depth.ensures
     (c.in_ok-top_mut.ensures.fits lent.slot lent.on_top))
-    (c.put_padded.ensures
+    (c.write_padded.ensures
     ∙ ap (λ (k : ℕ). item ++ replicate (k - length item) 0) wide)
     (λ long. written_is w p lent part (c.in_ok-top_mut.ensures.slot.written part (long ∙ sym (lent_len w.frames.stack p lent))))
     (subst (λ (x : WriterValue). MakesSome x (ends (top_bytes x.frames.stack x.frames.stack.frames)) c.end-answer.result c.end-answer.new.self) (lent_is w p lent part) c.end-answer.ensures.makes)

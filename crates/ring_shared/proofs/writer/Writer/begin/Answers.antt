@@ -1,7 +1,7 @@
 use Rattle.std.proofs.Common.{refl}
 use Rattle.trace_model.specs.Steps.{pushes}
 use Rattle.ring_steps.specs.Ends.{writing_in}
-use Rattle.ring_steps.proofs.Behind.{push_leads}
+use Rattle.ring_steps.proofs.PartAfter.{push_leads}
 use Rattle.ring_shared.proofs.Privately.{seen_call}
 use Rattle.ring_shared.proofs.Rooms.{push_rooms, push_refused_rooms}
 use Rattle.ring_shared.specs.Calls.{IsWriter}

@@ -1,7 +1,7 @@
 use Rattle.std.proofs.Common.{refl}
 use Rattle.trace_model.specs.Steps.{pushes_close}
 use Rattle.ring_steps.specs.Ends.{writing_in}
-use Rattle.ring_steps.proofs.Behind.{close_leads}
+use Rattle.ring_steps.proofs.PartAfter.{close_leads}
 use Rattle.ring_shared.proofs.Privately.{seen_call}
 use Rattle.ring_shared.proofs.Rooms.{close_rooms, close_refused_rooms}
 use Rattle.ring_shared.specs.Calls.{IsWriter}

@@ -1,7 +1,7 @@
 use Rattle.trace_model.specs.Steps.{pushes_close}
 use Rattle.ring_steps.specs.Ends.{writing_in}
-use Rattle.ring_steps.specs.Notes.{behind}
+use Rattle.ring_steps.specs.Notes.{part_after}
 use Rattle.ring_shared.proofs.writer.Writer.begin_close.Given as goal
 
 abbrev pub ghosts-note : goal.ghosts-note
-ghosts-note a = record { now = behind a.self.now.shape (writing_in a.self.now) pushes_close }
+ghosts-note a = record { now = part_after a.self.now.shape (writing_in a.self.now) pushes_close }

@@ -18,17 +18,17 @@ use Rattle.ring_steps.proofs.LinkMoves.{noted_after, marked}
 use Rattle.ring_shared.proofs.Nearing.{stays_near}
 use Rattle.ring_shared.proofs.writer.Writer.mark_head.Goals as goal
 
-pub overflow_add-behind : goal.overflow_add-behind
+pub overflow_add-after_lost : goal.overflow_add-after_lost
 unfolding IsWriter
-overflow_add-behind c =
+overflow_add-after_lost c =
     let v : WriterValue = the_view c.self.inside in
     let (low, high, room, numbers) = noted_bounds v (writer_seen c.self.view_is c.requires.framed.writer) (marking (role_of c.args.role) c.args.noted c.args.page c.args.next)
     (top_seen c.self.view_is c.requires.framed.top)
     (phase_seen c.self.view_is c.requires.phase) c.args.noted refl in omega arith
 
-pub overflow_sub-behind : goal.overflow_sub-behind
+pub overflow_sub-after_lost : goal.overflow_sub-after_lost
 unfolding IsWriter
-overflow_sub-behind c =
+overflow_sub-after_lost c =
     let v : WriterValue = the_view c.self.inside in
     let pages : c.pages.result ≡ v.shape.pages = c.pages.ensures.pages ∙ pages_called c.self.view_is c.requires.framed.writer in
     let round : v.shape.pages ≤ c.args.noted = advances_called c.self.view_is c.requires.framed.writer c.requires.framed.top c.requires.phase in omega arith

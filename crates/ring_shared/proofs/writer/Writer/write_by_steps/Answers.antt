@@ -17,8 +17,8 @@ use Rattle.ring_shared.proofs.writer.Writer.write_by_steps.Goals as goal
 one_fault : (a b : WriteFault) → ◌≡◌ {A = Result (Unit {0}) WriteFault} (Err a) (Err b) → a ≡ b
 one_fault a b e = cc
 
-pub put_padded-requires : goal.put_padded-requires
-put_padded-requires c =
+pub write_padded-requires : goal.write_padded-requires
+write_padded-requires c =
     let len : ℕ = length c.args.payload.now in
     let two : WriterValue = c.reserve_record.new.self in
     let lent : IsLent two.frames.stack c.in_ok-top_mut.field-0.now = c.in_ok-top_mut.ensures.slot.lent in
@@ -45,11 +45,11 @@ returns-clause-written c = λ _.
     let p : Lent = c.in_ok-top_mut.field-0.now in
     let lent : IsLent two.frames.stack p = c.in_ok-top_mut.ensures.slot.lent in
     let slot : Slot = lent.slot in
-    let part : List ℕ = c.put_padded.new.slot in
+    let part : List ℕ = c.write_padded.new.slot in
     let r = c.reserve_record.ensures.reserved c.in_ok-slot.slot c.in_ok-slot.was in
     let room : slot.place.len ≡ slot_len (length payload) = record_room x.shape x.part c.args.moment (length payload) two slot r (c.in_ok-top_mut.ensures.fits slot lent.on_top) in
     let wide : length c.deref_mut.result.now ≡ slot.place.len = ap (length {A = ℕ}) c.deref_mut.ensures.value ∙ lent_len two.frames.stack p lent in
-    let same : part ≡ padded payload = c.put_padded.ensures ∙ ap (λ (k : ℕ). payload ++ replicate (k - length payload) 0) (wide ∙ room) in
+    let same : part ≡ padded payload = c.write_padded.ensures ∙ ap (λ (k : ℕ). payload ++ replicate (k - length payload) 0) (wide ∙ room) in
     let long : length part ≡ length (lent_bytes p) = ap (length {A = ℕ}) same ∙ length-padded payload ∙ sym room ∙ sym (lent_len two.frames.stack p lent) in
     written_whole x.shape x.part c.args.moment payload (with_slot_payload two slot part) c.end_record.new.self r c.reserve_record.ensures.ring.0
     (written_top two slot part (written_is two p lent part (c.in_ok-top_mut.ensures.slot.written part long)) ∙ same)
@@ -57,9 +57,9 @@ returns-clause-written c = λ _.
 
 pub returns-clause-keeps : goal.returns-clause-keeps
 returns-clause-keeps c = record {
-  payloads = let x : WriterValue = c.args.self.now in let two : WriterValue = c.reserve_record.new.self in let p : Lent = c.in_ok-top_mut.field-0.now in let lent : IsLent two.frames.stack p = c.in_ok-top_mut.ensures.slot.lent in kept_under x.frames.stack two.frames.stack c.end_record.new.self.frames.stack lent.slot c.put_padded.new.slot
+  payloads = let x : WriterValue = c.args.self.now in let two : WriterValue = c.reserve_record.new.self in let p : Lent = c.in_ok-top_mut.field-0.now in let lent : IsLent two.frames.stack p = c.in_ok-top_mut.ensures.slot.lent in kept_under x.frames.stack two.frames.stack c.end_record.new.self.frames.stack lent.slot c.write_padded.new.slot
       (c.reserve_record.ensures.covers c.in_ok-slot.slot c.in_ok-slot.was) (c.in_ok-top_mut.ensures.slot.others lent.slot lent.on_top)
-      (covered_is two p lent c.put_padded.new.slot c.end_record.new.self.frames.stack c.end_record.ensures.covered);
+      (covered_is two p lent c.write_padded.new.slot c.end_record.new.self.frames.stack c.end_record.ensures.covered);
   ring = search rules;
   writer = search rules;
 }

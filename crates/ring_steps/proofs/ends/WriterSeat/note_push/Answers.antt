@@ -1,5 +1,5 @@
 use Rattle.ring_steps.specs.Ends.{writing_in}
-use Rattle.ring_steps.proofs.Behind.{push_leads}
+use Rattle.ring_steps.proofs.PartAfter.{push_leads}
 use Rattle.ring_steps.proofs.ends.WriterSeat.note_push.Goals as goal
 
 pub note-requires : goal.note-requires

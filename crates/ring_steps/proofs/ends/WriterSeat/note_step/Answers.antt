@@ -1,5 +1,5 @@
 use Rattle.ring_steps.specs.Ends.{writing_in}
-use Rattle.ring_steps.proofs.Behind.{step_leads}
+use Rattle.ring_steps.proofs.PartAfter.{step_leads}
 use Rattle.ring_steps.proofs.ends.WriterSeat.note_step.Goals as goal
 
 pub note-requires : goal.note-requires

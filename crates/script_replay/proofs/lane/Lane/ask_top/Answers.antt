@@ -76,8 +76,8 @@ index-payload-requires c = let ok = c.self.inside.payloads.ok in
     let some = overflow_sub-len c in
     omega (arith, some, c.len.ensures, ok.0)
 
-pub put_padded-requires : goal.put_padded-requires
-put_padded-requires c =
+pub write_padded-requires : goal.write_padded-requires
+write_padded-requires c =
     let lent = c.in-Ok.ensures.slot.lent in
     let has = top_payload c.self.inside _ lent.slot c.self.view_is c.requires lent.on_top
     (c.in-Ok.ensures.fits lent.slot lent.on_top) in
@@ -98,7 +98,7 @@ returns-clause-step c =
     let kept = c.self.inside.payloads in
     let last = last_kept c.self.inside lent.slot c.len.result has (c.len.ensures ∙ kept.ok.0) in
     let payload : List ℕ = c.index-payload.result.now.now in
-    let part : List ℕ = c.put_padded.new.slot in
+    let part : List ℕ = c.write_padded.new.slot in
     let place : c.in-Ok.slot.now.place.len ≡ lent.slot.place.len = λ i. (lent.place_is i).len in
     subst (λ (x : LaneValue). AsksTop x c.step-2.result c.step-2.new.self) c.self.view_is
     (asked_end v lent.slot payload part c.step-2.result c.step-2.new.self lent.on_top fits
@@ -106,5 +106,5 @@ returns-clause-step c =
     (ap (λ (l : List ℕ). length l) (sym c.in-Ok.ensures.slot.payload) ∙ lent.long ∙ place)
     (λ bs fills. ap (λ (t : Stack). top_bytes t v.core.stack.frames) (sym (lent.in_slot bs)) ∙ c.in-Ok.ensures.slot.written bs (fills ∙ sym place ∙ sym lent.long))
     (is_first bytes kept.items (c.len.result - 1) c.index-payload.result.now last c.index-payload.ensures)
-    (c.put_padded.ensures ∙ ap (λ (k : ℕ). payload ++ replicate (k - length payload) 0) (c.deref_mut.ensures.len ∙ place))
+    (c.write_padded.ensures ∙ ap (λ (k : ℕ). payload ++ replicate (k - length payload) 0) (c.deref_mut.ensures.len ∙ place))
     (subst (λ (t : Stack). MakesStep (record v.core { stack = t }) (ends (top_bytes t t.frames)) c.step-2.result c.step-2.new.self) (lent.in_slot part) c.step-2.ensures.obeys.step))

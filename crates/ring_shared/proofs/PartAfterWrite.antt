@@ -4,9 +4,9 @@ use Rattle.trace_model.specs.Words.{padded}
 use Rattle.trace_model.specs.Events.{pushes, steps, ends}
 use Rattle.ring_steps.specs.declared.rule.Shape.{Shape}
 use Rattle.ring_steps.specs.Views.{Writing}
-use Rattle.ring_steps.specs.Notes.{behind}
+use Rattle.ring_steps.specs.Notes.{part_after}
 
 -- its frame is pushed, reserves, and ends with this payload
-abbrev pub behind_write : Shape → Writing → ℕ → List ℕ → Writing
-behind_write shape w moment payload =
-    behind shape (behind shape (behind shape w (pushes moment (length payload))) steps) (ends (padded payload))
+abbrev pub part_after_write : Shape → Writing → ℕ → List ℕ → Writing
+part_after_write shape w moment payload =
+    part_after shape (part_after shape (part_after shape w (pushes moment (length payload))) steps) (ends (padded payload))

@@ -12,7 +12,7 @@ use Rattle.link_marks.proofs.steps.StepsGiven.{each_event_is_a_step}
 use Rattle.ring_steps.specs.declared.rule.Shape.{Shape}
 use Rattle.ring_steps.specs.Views.{Writing, writing_of}
 use Rattle.ring_steps.specs.Seats.{Leads}
-use Rattle.ring_steps.specs.Notes.{alone, part_of, behind, FillsSlotOf, FillsTopSlot}
+use Rattle.ring_steps.specs.Notes.{alone, part_of, part_after, FillsSlotOf, FillsTopSlot}
 
 -- ---- the writer's part
 
@@ -35,8 +35,8 @@ stands_alone w c is = record {
 }
 
 -- after a private step it is the one that is computed
-pub behind_is : (shape : Shape) (w : Writing) (c : Core) (event : model.Event) (answer : model.Answer) (after : Core) → writing_of c ≡ w → IsPrivate c event → model.Step shape.pages shape.size c event answer after → writing_of after ≡ behind shape w event
-behind_is shape w c event answer after is own step =
+pub part_after_is : (shape : Shape) (w : Writing) (c : Core) (event : model.Event) (answer : model.Answer) (after : Core) → writing_of c ≡ w → IsPrivate c event → model.Step shape.pages shape.size c event answer after → writing_of after ≡ part_after shape w event
+part_after_is shape w c event answer after is own step =
     let (next, computed, same) = private_computed shape.pages shape.size c (alone w) event answer after (stands_alone w c is) own step in
     part_is after next same ∙ sym (ap (part_of w) computed)
 
@@ -50,20 +50,20 @@ MayNote shape w event = (c : Core)
     → IsPrivate c event
     × MayAsk c event
 
-pub leads_behind : (shape : Shape) (w : Writing) (event : model.Event) → MayNote shape w event → Leads shape w (behind shape w event)
-leads_behind shape w event may = λ c reached is.
+pub leads_after : (shape : Shape) (w : Writing) (event : model.Event) → MayNote shape w event → Leads shape w (part_after shape w event)
+leads_after shape w event may = λ c reached is.
     let (own, ask) = may c reached is in
     let (answer, after, step) = each_event_is_a_step shape.pages shape.size shape.start c event (reached_kept shape.pages shape.size shape.start c reached) ask in
-    (record { event = event; answer = answer } ∷ [], after, (own, after, step, refl), behind_is shape w c event answer after is own step)
+    (record { event = event; answer = answer } ∷ [], after, (own, after, step, refl), part_after_is shape w c event answer after is own step)
 
-pub push_leads : (shape : Shape) (w : Writing) (moment len : ℕ) → Leads shape w (behind shape w (model.pushes moment len))
-push_leads shape w moment len = leads_behind shape w (model.pushes moment len) (λ c reached is. (tt, tt))
+pub push_leads : (shape : Shape) (w : Writing) (moment len : ℕ) → Leads shape w (part_after shape w (model.pushes moment len))
+push_leads shape w moment len = leads_after shape w (model.pushes moment len) (λ c reached is. (tt, tt))
 
-pub close_leads : (shape : Shape) (w : Writing) → Leads shape w (behind shape w model.pushes_close)
-close_leads shape w = leads_behind shape w model.pushes_close (λ c reached is. (tt, tt))
+pub close_leads : (shape : Shape) (w : Writing) → Leads shape w (part_after shape w model.pushes_close)
+close_leads shape w = leads_after shape w model.pushes_close (λ c reached is. (tt, tt))
 
-pub step_leads : (shape : Shape) (w : Writing) → TopIsPrivate w.frames w.opened → Leads shape w (behind shape w model.steps)
-step_leads shape w own = leads_behind shape w model.steps (λ c reached is. (subst (λ (x : Writing). TopIsPrivate x.frames x.opened) (sym is) own, tt))
+pub step_leads : (shape : Shape) (w : Writing) → TopIsPrivate w.frames w.opened → Leads shape w (part_after shape w model.steps)
+step_leads shape w own = leads_after shape w model.steps (λ c reached is. (subst (λ (x : Writing). TopIsPrivate x.frames x.opened) (sym is) own, tt))
 
 -- what is asked of an end is asked of the frame on top
 may_end : (c : Core) (payload : List ℕ) → FillsTopSlot c.frames payload → MayAsk c (model.ends payload)
@@ -71,6 +71,6 @@ may_end c payload fills frame below number moment len top reserved_is kind_is =
     let at : FillsSlotOf frame.kind frame.state payload = subst (λ (frames : List Frame). FillsTopSlot frames payload) top fills in
     subst (λ (state : FrameState). FillsSlotOf (for_record moment len) state payload) reserved_is (subst (λ (kind : Kind). FillsSlotOf kind frame.state payload) kind_is at)
 
-pub end_leads : (shape : Shape) (w : Writing) (payload : List ℕ) → FillsTopSlot w.frames payload → Leads shape w (behind shape w (model.ends payload))
-end_leads shape w payload fills = leads_behind shape w (model.ends payload)
+pub end_leads : (shape : Shape) (w : Writing) (payload : List ℕ) → FillsTopSlot w.frames payload → Leads shape w (part_after shape w (model.ends payload))
+end_leads shape w payload fills = leads_after shape w (model.ends payload)
     (λ c reached is. (tt, may_end c payload (subst (λ (x : Writing). FillsTopSlot x.frames payload) (sym is) fills)))
