@@ -73,8 +73,8 @@ abbrev pub WritesNothing : SinkRun → Type 0
 WritesNothing sink = Keeps sink.contents sink.contents_after × (sink.failed ≡ false)
 
 -- more than MAX_INPUT bytes were read, and nothing was written
-abbrev pub IsTooLong : SourceRun → SinkRun → Type 0
-IsTooLong source sink = TakesMoreThan MAX_INPUT source.unread source.left source.count_after × WritesNothing sink
+abbrev pub IsInputTooLong : SourceRun → SinkRun → Type 0
+IsInputTooLong source sink = TakesMoreThan MAX_INPUT source.unread source.left source.count_after × WritesNothing sink
 
 -- Neither end had failed before the run.
 pub record IsCommandRun (gives : List ℕ → List ℕ → ℕ → Type 0) (source : SourceRun) (sink : SinkRun) (status : ℕ)
@@ -95,9 +95,10 @@ pub record IsCommandRun (gives : List ℕ → List ℕ → ℕ → Type 0) (sour
   pub write_fault : sink.failed ≡ true → (status ≡ END_FAILED)
       × ((bytes : List ℕ) × WasToWrite gives source bytes × AppendsPrefix sink.contents sink.contents_after bytes)
   -- and if more was read than may be, of a source that had given nothing before, and then nothing was written
-  pub long_fault : source.count ≡ 0 → MAX_INPUT < source.count_after → (status ≡ END_FAILED) × IsTooLong source sink
+  pub long_fault : source.count ≡ 0 → MAX_INPUT < source.count_after
+      → (status ≡ END_FAILED) × IsInputTooLong source sink
   -- else 4 only if an output for the source has it, and then all of that was written
-  pub end_fault : status ≡ END_FAILED → (source.failed ≡ true) ⊎ (sink.failed ≡ true) ⊎ IsTooLong source sink
+  pub end_fault : status ≡ END_FAILED → (source.failed ≡ true) ⊎ (sink.failed ≡ true) ⊎ IsInputTooLong source sink
       ⊎ WritesOutput gives source.unread source.left sink.contents sink.contents_after status
 
 -- ---- calls that are refused

@@ -7,7 +7,7 @@ use Rattle.trace_model.specs.History.{HistoryEvent, push, push_close, open_fill,
 use Rattle.trace_model.specs.Window.{Window, first_window, released_one, took_one, lost_one, window_after, MayMove, MayPass, RingEvent, acts, closes, takes, loses, history_events_of, window_event_of, window_behind, WindowRun, WindowRunFrom}
 use Rattle.link_marks.proofs.histories.WindowRuns.{history_events-append}
 use Rattle.text_model.specs.Script.{wish, Script}
-use Rattle.line_model.specs.Accounts.{moved, window_at, NeedsPage, IsDue, IsAccount}
+use Rattle.line_model.specs.Accounts.{moved, window_at, NeedsPageAfter, IsDue, IsAccount}
 
 act_moves : (w : Window) (a : HistoryEvent) → window_behind w (window_event_of a) ≡ moved w (acts a)
 act_moves w (push moment len) = refl
@@ -110,6 +110,6 @@ pub accounts_are_window_runs : (script : Script) (cpu : ℕ) (events : ℕ → L
     → IsAccount script cpu events
     → (k : ℕ) → WindowRun script.pages script.start (events k) (window_at script.start (events k))
 accounts_are_window_runs script cpu events account k = runs_on script.pages script.start (events k)
-    (λ front. NeedsPage script.size (history_events_of front) (writer_after (history_events_of front)).stack)
+    (λ front. NeedsPageAfter script.size (history_events_of front) (writer_after (history_events_of front)).stack)
     (λ front. (j line : ℕ) × (j < k) × (slice_get script.commands j ≡ Some (line, wish cpu)))
     (λ front behind event is. account.due k front behind event is) [] (events k) refl

@@ -10,18 +10,18 @@ use Rattle.trace_model.proofs.words.Lengths.{slot_len_ge}
 use Rattle.text_model.specs.Script.{Command, begin_frame, step_frame, finish_frame, write, close, step_reader, take_page, wish, deliver}
 use Rattle.link_marks.proofs.histories.WindowRuns.{history_events-append}
 use Rattle.line_model.specs.Lines.{OpenFrame, LineState, frame_count, IsRefusedPush, IsQuiet, IsPush, finishing_after, state_moved, TopRun, with_top_stepped, MayGo, stays_on, goes, TopPart, FinishPart, begins, begins_none, writes, writes_none, LinePart}
-use Rattle.line_model.specs.Accounts.{Frames, Does, IsIdle, IsRefused, Adds, Takes}
+use Rattle.line_model.specs.Accounts.{LineFrames, Does, IsIdle, IsRefused, Adds, Takes}
 
 -- the frames on the stack of a state
-abbrev pub left_of : Bool → Frames
+abbrev pub left_of : Bool → LineFrames
 left_of true = None ∷ []
 left_of false = []
 
-abbrev pub frames_of : List OpenFrame → Bool → Frames
+abbrev pub frames_of : List OpenFrame → Bool → LineFrames
 frames_of [] finishing = left_of finishing
 frames_of (frame ∷ below) finishing = Some frame.payload ∷ frames_of below finishing
 
-abbrev pub on_stack : LineState → Frames
+abbrev pub on_stack : LineState → LineFrames
 on_stack p = frames_of p.frames p.finishing
 
 pub frames_counted : (frames : List OpenFrame) (finishing : Bool)
@@ -56,7 +56,7 @@ quiet n size depth s r (loses ∷ events) few (may, run) =
     quiet n size depth (state_moved s (window_after s.window lost_one)) r events few run
 
 -- what the top frame does, and what is then on the stack
-abbrev Ran : Option (List ℕ) → Frames → List HistoryEvent → Frames → Type 0
+abbrev Ran : Option (List ℕ) → LineFrames → List HistoryEvent → LineFrames → Type 0
 Ran top below history after = (next : Option (List ℕ))
     × Does below top history next
     × (((after ≡ next ∷ below) × (next ≡ None → below ≡ [])) ⊎ ((next ≡ None) × (after ≡ below)))
@@ -102,7 +102,7 @@ after_left n size depth h w top (next ∷ below) b payload events r count run =
     let (none, at) = quiet n size depth _ r events (let it : suc (length below) + (if b then 1 else 0) ≤ depth = omega (arith, count) in it) run in
     (subst (λ (l : List HistoryEvent). Does (frames_of (next ∷ below) b) None l None) (sym none) refl, inr at)
 
-left_ends : (next : Option (List ℕ)) (below after : Frames)
+left_ends : (next : Option (List ℕ)) (below after : LineFrames)
     → next ≡ None
     → ((after ≡ None ∷ below) × (below ≡ [])) ⊎ (after ≡ below)
     → ((after ≡ next ∷ below) × (next ≡ None → below ≡ [])) ⊎ ((next ≡ None) × (after ≡ below))
@@ -137,18 +137,18 @@ ran_open n size depth h w top below b (loses ∷ events) r (may, run) = ran_open
 -- ---- a part of the top frame
 
 -- the same, or nothing, if no frame is on the stack
-abbrev Topped : Frames → List HistoryEvent → Frames → Type 0
+abbrev Topped : LineFrames → List HistoryEvent → LineFrames → Type 0
 Topped [] history after = IsIdle [] history after
 Topped (top ∷ below) history after = Ran top below history after
 
-ends_on_left : (top : Option (List ℕ)) (below : Frames) (history : List HistoryEvent) (reached : Frames)
+ends_on_left : (top : Option (List ℕ)) (below : LineFrames) (history : List HistoryEvent) (reached : LineFrames)
     → length below ≤ 0
     → reached ≡ None ∷ []
     → Ran top below history reached
     → Ran top below history []
-ends_on_left top [] history reached few is (next, does, inl (at, last)) = (next, does, inr (ap (λ (l : Frames). first_of l) (sym at ∙ is), refl))
+ends_on_left top [] history reached few is (next, does, inl (at, last)) = (next, does, inr (ap (λ (l : LineFrames). first_of l) (sym at ∙ is), refl))
   where
-    first_of : Frames → Option (List ℕ)
+    first_of : LineFrames → Option (List ℕ)
     first_of [] = None
     first_of (x ∷ xs) = x
 ends_on_left top [] history reached few is (next, does, inr (none, at)) = (next, does, inr (none, refl))
@@ -156,7 +156,7 @@ ends_on_left top (x ∷ below) history reached few is ran = absurd (let no : ⊥
 
 module _ (n size : ℕ) (events : List RingEvent) (reached after : LineState) where
   -- it is gone, if it was finishing, or nothing more happens
-  went : (top : Option (List ℕ)) (below : Frames)
+  went : (top : Option (List ℕ)) (below : LineFrames)
       → suc (length below) ≤ suc (length (on_stack after))
       → MayGo reached after
       → Ran top below (history_events_of events) (on_stack reached)
@@ -164,8 +164,8 @@ module _ (n size : ℕ) (events : List RingEvent) (reached after : LineState) wh
   went top below least (stays_on e) ran = subst (λ (p : LineState). Ran top below (history_events_of events) (on_stack p)) (sym e) ran
   went top below least (goes none finishing last e) ran =
       let gone : on_stack after ≡ [] = ap on_stack e ∙ ap (λ (l : List OpenFrame). frames_of l false) none in
-      let few : length below ≤ 0 = (let long = ap (λ (l : Frames). length l) gone in omega (arith, least, long)) in
-      subst (λ (l : Frames). Ran top below (history_events_of events) l) (sym gone)
+      let few : length below ≤ 0 = (let long = ap (λ (l : LineFrames). length l) gone in omega (arith, least, long)) in
+      subst (λ (l : LineFrames). Ran top below (history_events_of events) l) (sym gone)
       (ends_on_left top below (history_events_of events) (on_stack reached) few (λ i. frames_of (none i) (finishing i)) ran)
 
   topped : (h : List HistoryEvent) (w : Window) (frames : List OpenFrame) (b : Bool)
@@ -223,11 +223,11 @@ idle : (n : ℕ) (before after : LineState) (events : List RingEvent) → IsQuie
 idle n before after events q = (q.acts_none, ap on_stack q.after_is)
 
 -- the top frame of a part is gone
-gone_top : (top : Option (List ℕ)) (below after : Frames) (history : List HistoryEvent)
+gone_top : (top : Option (List ℕ)) (below after : LineFrames) (history : List HistoryEvent)
     → length after ≤ length below
     → Ran top below history after
     → Does below top history None × (after ≡ below)
-gone_top top below after history few (next, does, inl (at, last)) = absurd (let long = ap (λ (l : Frames). length l) at in let no : ⊥ = omega (arith, few, long) in no)
+gone_top top below after history few (next, does, inl (at, last)) = absurd (let long = ap (λ (l : LineFrames). length l) at in let no : ⊥ = omega (arith, few, long) in no)
 gone_top top below after history few (next, does, inr (none, at)) = (subst (Does below top history) none does, at)
 
 -- a frame is pushed, and is gone
@@ -238,9 +238,9 @@ passes : (n size : ℕ) (push_is : HistoryEvent) (payload : List ℕ) (before be
     → (rest : List HistoryEvent) × (history_events_of (front ++ behind) ≡ push_is ∷ rest) × Does (on_stack before) (Some payload) rest None × (on_stack after ≡ on_stack before)
 passes n size push_is payload before between after front behind one rest least =
     let pushed : on_stack between ≡ Some payload ∷ on_stack before = ap on_stack one.after_is in
-    let long = ap (λ (l : Frames). length l) pushed in
+    let long = ap (λ (l : LineFrames). length l) pushed in
     let gone = rest.is_gone in let here = counted after in let there = counted between in
-    let tops = subst (λ (l : Frames). Topped l (history_events_of behind) (on_stack after)) pushed
+    let tops = subst (λ (l : LineFrames). Topped l (history_events_of behind) (on_stack after)) pushed
     (part_tops n size between after behind rest.top (omega (arith, long, least))) in
     let (does, same) = gone_top (Some payload) (on_stack before) (on_stack after) (history_events_of behind) (omega (arith, gone, here, there, long)) tops in (
       history_events_of behind,
@@ -279,7 +279,7 @@ NotOn cpu (wish at) = at ≢ cpu
 NotOn cpu _ = ⊤
 
 -- another CPU's line
-pub adds_none : (cpu size : ℕ) (command : Command) (frames : Frames) → NotOn cpu command → Adds cpu size command frames [] frames
+pub adds_none : (cpu size : ℕ) (command : Command) (frames : LineFrames) → NotOn cpu command → Adds cpu size command frames [] frames
 adds_none cpu size (begin_frame at moment payload) frames apart = inr (apart, (refl, refl))
 adds_none cpu size (step_frame at count) [] apart = (refl, refl)
 adds_none cpu size (step_frame at count) (top ∷ below) apart = inr (apart, (refl, refl))
@@ -292,7 +292,7 @@ adds_none cpu size (take_page at) frames apart = (refl, refl)
 adds_none cpu size (wish at) frames apart = (refl, refl)
 adds_none cpu size (deliver collector at fill) frames apart = (refl, refl)
 
-pub takes_none : (cpu : ℕ) (command : Command) (frames : Frames) (w : Window) → NotOn cpu command → Takes cpu command frames w []
+pub takes_none : (cpu : ℕ) (command : Command) (frames : LineFrames) (w : Window) → NotOn cpu command → Takes cpu command frames w []
 takes_none cpu (begin_frame at moment payload) frames w apart = refl
 takes_none cpu (step_frame at count) frames w apart = refl
 takes_none cpu (finish_frame at) frames w apart = refl
@@ -304,14 +304,14 @@ takes_none cpu (wish at) frames w apart = refl
 takes_none cpu (deliver collector at fill) frames w apart = refl
 
 module _ (n size cpu : ℕ) (before after : LineState) (events : List RingEvent) where
-  stepped : (at count : ℕ) (frames : Frames)
+  stepped : (at count : ℕ) (frames : LineFrames)
       → at ≡ cpu
       → Topped frames (history_events_of events) (on_stack after)
       → Adds cpu size (step_frame at count) frames (history_events_of events) (on_stack after)
   stepped at count [] here tops = tops
   stepped at count (top ∷ below) here tops = inl (here, tops)
 
-  finished : (at : ℕ) (frames : Frames)
+  finished : (at : ℕ) (frames : LineFrames)
       → at ≡ cpu
       → length (on_stack after) ≤ length frames - 1
       → Topped frames (history_events_of events) (on_stack after)
@@ -350,13 +350,13 @@ module _ (n size cpu : ℕ) (before after : LineState) (events : List RingEvent)
 -- ---- nested frames
 
 -- a frame that has left, with others below it, does nothing more
-ends_left : (payload next : Option (List ℕ)) (below : Frames) (history : List HistoryEvent)
+ends_left : (payload next : Option (List ℕ)) (below : LineFrames) (history : List HistoryEvent)
     → Does (next ∷ below) None history None
     → leave payload ∷ history ≡ leave payload ∷ []
 ends_left payload next below [] does = refl
 ends_left payload next below (event ∷ history) does = absurd does
 
-pub nested_frames_end_by_leaving : (own : List ℕ) (next : Option (List ℕ)) (below : Frames) (history : List HistoryEvent)
+pub nested_frames_end_by_leaving : (own : List ℕ) (next : Option (List ℕ)) (below : LineFrames) (history : List HistoryEvent)
     → Does (next ∷ below) (Some own) history None
     → (front : List HistoryEvent) × (payload : Option (List ℕ)) × (history ≡ front ++ leave payload ∷ [])
 nested_frames_end_by_leaving own next below [] does = absurd (let no : ⊥ = cc in no)

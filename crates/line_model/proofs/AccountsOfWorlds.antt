@@ -36,9 +36,9 @@ use Rattle.world_model.proofs.RunEvents.{run_events, run_has}
 use Rattle.world_model.proofs.WorldsKept.{IsWorldKept, new_kept}
 use Rattle.world_model.proofs.WorldsAt.{other_lines, second_world, others_obeyed, world_at, second_kept, kept_at, world_last}
 use Rattle.line_model.specs.Lines.{LineState, first_state}
-use Rattle.line_model.specs.WriterCalls.{Writer, writer_of, first_writer, TopCalls, StepsCalls, none_to_step, steps_top, FinishCalls, none_to_finish, finishes_top, begins_frame, begins_none, writes_frame, writes_none, LineCalls}
+use Rattle.line_model.specs.WriterCalls.{LineWriting, writer_of, first_writer, TopCalls, StepsCalls, none_to_step, steps_top, FinishCalls, none_to_finish, finishes_top, begins_frame, begins_none, writes_frame, writes_none, LineCalls}
 use Rattle.line_model.specs.LineParts.{IsBetweenLines}
-use Rattle.line_model.specs.Accounts.{Frames, Adds, Takes, window_at, HasNoPage, NeedsPage, IsDue, IsAccount}
+use Rattle.line_model.specs.Accounts.{LineFrames, Adds, Takes, window_at, HasNoPage, NeedsPageAfter, IsDue, IsAccount}
 use Rattle.line_model.proofs.EventsMade.{count_frames}
 use Rattle.line_model.proofs.CallParts.{call_moves}
 use Rattle.line_model.proofs.PushParts.{Pushing, pushing_of}
@@ -64,42 +64,42 @@ moved_least frames after (pops frame below at is) =
     let a = ap (λ (l : List Frame). length l) at in let b = ap (λ (l : List Frame). length l) is in omega (arith, a, b)
 
 module _ (n size start : ℕ) where
-  calls_least : (depth : ℕ) (s : Writer) (payloads : List (List ℕ)) (calls : List Exchange) (t : Writer) (lefts : List (List ℕ))
+  calls_least : (depth : ℕ) (s : LineWriting) (payloads : List (List ℕ)) (calls : List Exchange) (t : LineWriting) (lefts : List (List ℕ))
       → depth ≤ length s.frames
       → TopCalls n size start depth s payloads calls t lefts
       → depth ≤ length t.frames
-  calls_least depth s payloads [] t lefts low (same, all) = subst (λ (v : Writer). depth ≤ length v.frames) same low
+  calls_least depth s payloads [] t lefts low (same, all) = subst (λ (v : LineWriting). depth ≤ length v.frames) same low
   calls_least depth s payloads (x ∷ calls) t lefts low (deep, event, between, call, rest) =
       let least = moved_least s.frames between.frames (call_moves n size start s x between payloads event call) in
       calls_least depth between _ calls t lefts (omega (arith, deep, least)) rest
 
-  steps_least : (count : ℕ) (s : Writer) (payloads : List (List ℕ)) (t : Writer) (lefts : List (List ℕ)) → StepsCalls n size start count s payloads t lefts → length s.frames ≤ suc (length t.frames)
-  steps_least count s payloads t lefts (none_to_step none same all) = let e = ap (λ (v : Writer). length v.frames) same in omega (arith, e)
+  steps_least : (count : ℕ) (s : LineWriting) (payloads : List (List ℕ)) (t : LineWriting) (lefts : List (List ℕ)) → StepsCalls n size start count s payloads t lefts → length s.frames ≤ suc (length t.frames)
+  steps_least count s payloads t lefts (none_to_step none same all) = let e = ap (λ (v : LineWriting). length v.frames) same in omega (arith, e)
   steps_least count s payloads t lefts (steps_top depth x calls deep run few) =
       let low = calls_least depth s payloads (x ∷ calls) t lefts (omega (arith, deep)) run in omega (arith, deep, low)
 
-  finish_least : (s : Writer) (payloads : List (List ℕ)) (t : Writer) (lefts : List (List ℕ)) → FinishCalls n size start s payloads t lefts → length s.frames ≤ suc (length t.frames)
-  finish_least s payloads t lefts (none_to_finish none same all) = let e = ap (λ (v : Writer). length v.frames) same in omega (arith, e)
+  finish_least : (s : LineWriting) (payloads : List (List ℕ)) (t : LineWriting) (lefts : List (List ℕ)) → FinishCalls n size start s payloads t lefts → length s.frames ≤ suc (length t.frames)
+  finish_least s payloads t lefts (none_to_finish none same all) = let e = ap (λ (v : LineWriting). length v.frames) same in omega (arith, e)
   finish_least s payloads t lefts (finishes_top depth calls deep run is_gone) =
       let low = calls_least depth s payloads calls t lefts (omega (arith, deep)) run in omega (arith, deep, low)
 
-  pushed_long : (moment len : ℕ) (s u : Writer) → Pushing size s moment len pushed u → length u.frames ≡ suc (length s.frames)
-  pushed_long moment len s u (inl (e, may, is)) = ap (λ (v : Writer). length v.frames) is
+  pushed_long : (moment len : ℕ) (s u : LineWriting) → Pushing size s moment len pushed u → length u.frames ≡ suc (length s.frames)
+  pushed_long moment len s u (inl (e, may, is)) = ap (λ (v : LineWriting). length v.frames) is
   pushed_long moment len s u (inr (why, e, because, is)) = absurd (let no : ⊥ = cc in no)
 
-  closed_long : (s u : Writer) → Closing s pushed u → length u.frames ≡ suc (length s.frames)
-  closed_long s u (inl (e, few, is)) = ap (λ (v : Writer). length v.frames) is
+  closed_long : (s u : LineWriting) → Closing s pushed u → length u.frames ≡ suc (length s.frames)
+  closed_long s u (inl (e, few, is)) = ap (λ (v : LineWriting). length v.frames) is
   closed_long s u (inr (why, e, many, is)) = absurd (let no : ⊥ = cc in no)
 
-  refused_long : (moment len : ℕ) (why : Refusal) (s u : Writer) → Pushing size s moment len (refused why) u → length u.frames ≡ length s.frames
+  refused_long : (moment len : ℕ) (why : Refusal) (s u : LineWriting) → Pushing size s moment len (refused why) u → length u.frames ≡ length s.frames
   refused_long moment len why s u (inl (e, may, is)) = absurd (let no : ⊥ = cc in no)
-  refused_long moment len why s u (inr (other, e, because, is)) = ap (λ (v : Writer). length v.frames) is
+  refused_long moment len why s u (inr (other, e, because, is)) = ap (λ (v : LineWriting). length v.frames) is
 
-  unclosed_long : (why : Refusal) (s u : Writer) → Closing s (refused why) u → length u.frames ≡ length s.frames
+  unclosed_long : (why : Refusal) (s u : LineWriting) → Closing s (refused why) u → length u.frames ≡ length s.frames
   unclosed_long why s u (inl (e, few, is)) = absurd (let no : ⊥ = cc in no)
-  unclosed_long why s u (inr (other, e, many, is)) = ap (λ (v : Writer). length v.frames) is
+  unclosed_long why s u (inr (other, e, many, is)) = ap (λ (v : LineWriting). length v.frames) is
 
-  calls_spare : (command : Command) (s : Writer) (payloads : List (List ℕ)) (t : Writer) (lefts : List (List ℕ))
+  calls_spare : (command : Command) (s : LineWriting) (payloads : List (List ℕ)) (t : LineWriting) (lefts : List (List ℕ))
       → LineCalls n size start command s payloads t lefts
       → Spares command (length s.frames) (length t.frames)
   calls_spare (begin_frame cpu moment payload) s payloads t lefts (begins_frame call all) =
@@ -118,12 +118,12 @@ module _ (n size start : ℕ) where
       let least = finish_least between ([] ∷ payloads) t lefts rest in omega (arith, long, least)
   calls_spare (close cpu) s payloads t lefts (writes_none why call all) =
       let long = unclosed_long why s t (closing_of n size start (refused why) s t call) in omega (arith, long)
-  calls_spare (step_reader cpu count) s payloads t lefts calls = let e = ap (λ (v : Writer). length v.frames) calls.0 in omega (arith, e)
-  calls_spare (take_page cpu) s payloads t lefts calls = let e = ap (λ (v : Writer). length v.frames) calls.0 in omega (arith, e)
-  calls_spare (wish cpu) s payloads t lefts calls = let e = ap (λ (v : Writer). length v.frames) calls.0 in omega (arith, e)
-  calls_spare (deliver collector cpu fill) s payloads t lefts calls = let e = ap (λ (v : Writer). length v.frames) calls.0 in omega (arith, e)
+  calls_spare (step_reader cpu count) s payloads t lefts calls = let e = ap (λ (v : LineWriting). length v.frames) calls.0 in omega (arith, e)
+  calls_spare (take_page cpu) s payloads t lefts calls = let e = ap (λ (v : LineWriting). length v.frames) calls.0 in omega (arith, e)
+  calls_spare (wish cpu) s payloads t lefts calls = let e = ap (λ (v : LineWriting). length v.frames) calls.0 in omega (arith, e)
+  calls_spare (deliver collector cpu fill) s payloads t lefts calls = let e = ap (λ (v : LineWriting). length v.frames) calls.0 in omega (arith, e)
 
-  stack_count : (p : LineState) (payloads : List (List ℕ)) (s : Writer) → IsBetweenLines n p payloads s → length (on_stack p) ≡ length s.frames
+  stack_count : (p : LineState) (payloads : List (List ℕ)) (s : LineWriting) → IsBetweenLines n p payloads s → length (on_stack p) ≡ length s.frames
   stack_count p payloads s between = frames_counted p.frames p.finishing ∙ count_frames s.frames payloads p.frames p.finishing between.agrees.frames
 
 -- ---- what the fills that a line takes are
@@ -135,15 +135,15 @@ module _ (before after : Lane) (fills : List ℕ) (took : numbers_of (taken_of a
   takes_no : TakesNone before after → fills ≡ []
   takes_no none = append_cancel_left (numbers_of (taken_of before)) fills [] (sym took ∙ ap numbers_of none ∙ sym (append-nil (numbers_of (taken_of before))))
 
-  no_page : (frames : Frames) → length frames ≡ length before.core.frames → HasNone before after → (frames ≢ []) ⊎ ((window_of after.core).head ≡ (window_of after.core).done)
-  no_page frames count (inl some) = inl (λ none. some (is_none before.core.frames (sym count ∙ ap (λ (l : Frames). length l) none)))
+  no_page : (frames : LineFrames) → length frames ≡ length before.core.frames → HasNone before after → (frames ≢ []) ⊎ ((window_of after.core).head ≡ (window_of after.core).done)
+  no_page frames count (inl some) = inl (λ none. some (is_none before.core.frames (sym count ∙ ap (λ (l : LineFrames). length l) none)))
     where
       is_none : (l : List Frame) → length l ≡ 0 → l ≡ []
       is_none [] e = refl
       is_none (frame ∷ l) e = absurd (let no : ⊥ = omega (arith, e) in no)
   no_page frames count (inr same) = inr same
 
-  takes_here : (cpu : ℕ) (command : Command) (frames : Frames)
+  takes_here : (cpu : ℕ) (command : Command) (frames : LineFrames)
       → length frames ≡ length before.core.frames
       → IsOn cpu command
       → TakesOf command before after
@@ -410,7 +410,7 @@ new_stands script w cpu lane limits at new =
     record {
       at = at;
       fit = new_fits script.pages script.start lane new;
-      between = subst (λ (v : Writer). IsBetweenLines script.pages (first_state script.start) lane.payloads v) (sym is)
+      between = subst (λ (v : LineWriting). IsBetweenLines script.pages (first_state script.start) lane.payloads v) (sym is)
           (subst (λ (l : List (List ℕ)). IsBetweenLines script.pages (first_state script.start) l (first_writer script.start)) (sym new.1)
           (start_between script.pages script.start (let least = limits.min_pages in omega (arith, least))));
       reported = record {
@@ -455,7 +455,7 @@ module _ (script : Script) (w : World) (limits : IsWithinLimits script) (of : Wo
 
     none_on : on_stack (at_behind k).state ≡ [] → (at_behind k).lane.core.frames ≡ []
     none_on none = is_none (at_behind k).lane.core.frames (sym (stack_count script.pages script.size script.start (at_behind k).state (at_behind k).lane.payloads (writer_of (at_behind k).lane.core) (at_behind k).stands.between)
-        ∙ ap (λ (l : Frames). length l) none)
+        ∙ ap (λ (l : LineFrames). length l) none)
       where
         is_none : (l : List Frame) → length l ≡ 0 → l ≡ []
         is_none [] e = refl
@@ -464,10 +464,10 @@ module _ (script : Script) (w : World) (limits : IsWithinLimits script) (of : Wo
     rest : on_stack (at_behind k).state ≡ [] → (window_of (at_behind k).lane.core).done + 1 ≡ (window_of (at_behind k).lane.core).opened
     rest none = closed_at_rest script.pages script.size script.start (at_behind k).lane.core ring (none_on none)
 
-    unneeded : on_stack (at_behind k).state ≡ [] → NeedsPage script.size (history_events_of (so_far k)) [] → ⊥
+    unneeded : on_stack (at_behind k).state ≡ [] → NeedsPageAfter script.size (history_events_of (so_far k)) [] → ⊥
     unneeded none needed = rests_unneeded script.pages script.size script.start (at_behind k).lane.core
         ((kept_at script script.commands of.new w of.obeyed first_kept k).reached cpu (at_behind k).lane (at_behind k).stands.at) (none_on none)
-        (subst (λ (h : List HistoryEvent). NeedsPage script.size h []) (at_behind k).stands.reported.history_events needed)
+        (subst (λ (h : List HistoryEvent). NeedsPageAfter script.size h []) (at_behind k).stands.reported.history_events needed)
 
     asked : ((at_behind k).lane.core.wish ≡ 0) ⊎ ((j line : ℕ) × (j < k) × (slice_get script.commands j ≡ Some (line, wish cpu)))
     unfolding first_at
@@ -492,7 +492,7 @@ module _ (script : Script) (w : World) (limits : IsWithinLimits script) (of : Wo
           (reasoned_at script.pages script.size [] (first_window script.start) u front behind (reasons (acts (leave None)) cut) run)
 
       abbrev Needs : Type 0
-      Needs = NeedsPage script.size h (writer_after h).stack
+      Needs = NeedsPageAfter script.size h (writer_after h).stack
 
       abbrev Asked : Type 0
       Asked = (j line : ℕ) × (j < k) × (slice_get script.commands j ≡ Some (line, wish cpu))
@@ -525,18 +525,18 @@ module _ (script : Script) (w : World) (limits : IsWithinLimits script) (of : Wo
         wants : next_reservation h ≡ next_reservation_of stack (reserved_records h)
         wants = ap (λ (s : List PushedFrame). next_reservation_of s (reserved_records h)) e
 
-        needs : NeedsPage script.size h stack → Needs
-        needs needed = subst (NeedsPage script.size h) (sym e) needed
+        needs : NeedsPageAfter script.size h stack → Needs
+        needs needed = subst (NeedsPageAfter script.size h) (sym e) needed
 
-        needs_here : Needs → NeedsPage script.size h stack
-        needs_here needed = subst (NeedsPage script.size h) e needed
+        needs_here : Needs → NeedsPageAfter script.size h stack
+        needs_here needed = subst (NeedsPageAfter script.size h) e needed
 
       no_room : (moment len : ℕ) → (FitsBehind script.size (tail_of h) (reservation_for moment len (reserved_records h)) → ⊥)
           → script.size < fill_len (tail_of h ++ reservation_for moment len (reserved_records h) ∷ [])
       no_room moment len not = omega (arith, not)
 
       -- a fill is begun
-      opens : (stack : List PushedFrame) → (writer_after h).stack ≡ stack → Cut (acts open_fill) → NeedsPage script.size h stack
+      opens : (stack : List PushedFrame) → (writer_after h).stack ≡ stack → Cut (acts open_fill) → NeedsPageAfter script.size h stack
       opens [] e cut =
           let wished_for = subst (MayCloseTail h) e (packed.asked h (history_events_of behind) (cut_history open_fill cut) (wants [] e)) in
           (wished_for, fill_begins cut)

@@ -17,7 +17,7 @@ use Rattle.link_marks.proofs.histories.HistorySteps.{step_owed}
 use Rattle.link_marks.proofs.partition.RingsKept.{reached_kept}
 use Rattle.world_model.specs.Lanes.{event_in, event_on_top, payloads_left}
 use Rattle.line_model.specs.Lines.{LineState, OpenFrame, with_top_stepped, TopRun, ReservesFirst}
-use Rattle.line_model.specs.WriterCalls.{Writer, writer_of}
+use Rattle.line_model.specs.WriterCalls.{LineWriting, writer_of}
 use Rattle.line_model.specs.CallEvents.{IsFinishing, IsTop, IsRecordOnTop, AreOpenFrames, Agrees, stepped, MakesEvents, CallsMakeEvents}
 use Rattle.line_model.proofs.StepsMake.{steps_make}
 use Rattle.line_model.proofs.EventsMade.{Does, last_makes, top_makes, top_leaves}
@@ -240,10 +240,10 @@ module _ (n size start : ℕ) (c : Core) (x : Exchange) (after : Core) (r : IsRi
 
 pub calls_make_events : CallsMakeEvents
 calls_make_events n size start s x t payloads p call some e agrees =
-    subst (λ (v : Writer). MakesEvents n size s v payloads p) call.after_is
-    (subst (λ (v : Writer). MakesEvents n size v (writer_of call.next) payloads p) call.before_is
+    subst (λ (v : LineWriting). MakesEvents n size s v payloads p) call.after_is
+    (subst (λ (v : LineWriting). MakesEvents n size v (writer_of call.next) payloads p) call.before_is
     (let here : Agrees n p payloads (writer_of call.core) = subst (Agrees n p payloads) (sym call.before_is) agrees in
     by_frames n size start call.core x call.next
     (reached_kept n size start call.core call.reached) call.step payloads p here call.core.frames refl
-    (subst (λ (v : Writer). v.frames ≢ []) (sym call.before_is) some) here.frames
-    (subst (λ (v : Writer). x.event ≡ event_on_top v.frames payloads) (sym call.before_is) e)))
+    (subst (λ (v : LineWriting). v.frames ≢ []) (sym call.before_is) some) here.frames
+    (subst (λ (v : LineWriting). x.event ≡ event_on_top v.frames payloads) (sym call.before_is) e)))

@@ -10,7 +10,7 @@ use Rattle.world_model.specs.Lanes.{event_on_top, payloads_left}
 use Rattle.world_model.proofs.FramesMove.{Moves, stays, changes, pops, PushesNone, step_moves}
 use Rattle.world_model.proofs.LanePayloads.{pushes_none}
 use Rattle.line_model.specs.Lines.{LineState, OpenFrame, frame_count, state_after, state_moved, TopRun, MayGo, stays_on, goes, ReservesFirst, TopPart, StepsPart, FinishPart}
-use Rattle.line_model.specs.WriterCalls.{Writer, IsWriterCall, TopCalls}
+use Rattle.line_model.specs.WriterCalls.{LineWriting, IsWriterCall, TopCalls}
 use Rattle.line_model.specs.CallEvents.{Agrees, IsRecordOnTop, stepped}
 use Rattle.line_model.specs.LineParts.{AreForRecords, CallsFinish}
 use Rattle.line_model.proofs.EventsMade.{count_frames}
@@ -39,7 +39,7 @@ reserves_more size p (top ∷ below) history_events more first = λ fresh r want
     first fresh r wants fits in (others ++ more, ap (λ (l : List HistoryEvent). l ++ more) is)
 
 -- the events of calls, with the state that they reach
-record CallsMake (n size depth count : ℕ) (frames : List Frame) (p : LineState) (lefts : List (List ℕ)) (t : Writer)
+record CallsMake (n size depth count : ℕ) (frames : List Frame) (p : LineState) (lefts : List (List ℕ)) (t : LineWriting)
     : Type 0 where
   events : List RingEvent
   reached : LineState
@@ -51,7 +51,7 @@ record CallsMake (n size depth count : ℕ) (frames : List Frame) (p : LineState
   few : AreForRecords frames → length (history_events_of events) ≤ count
 
 -- they are a part of the events of the frame on top
-top_part : (n size depth count : ℕ) (frames : List Frame) (p : LineState) (lefts : List (List ℕ)) (t : Writer)
+top_part : (n size depth count : ℕ) (frames : List Frame) (p : LineState) (lefts : List (List ℕ)) (t : LineWriting)
     → depth ≡ frame_count p - 1
     → (m : CallsMake n size depth count frames p lefts t)
     → TopPart n size p m.events m.behind
@@ -66,7 +66,7 @@ has_some : (frames : List Frame) (depth : ℕ) → length frames ≡ suc depth �
 has_some frames depth e none = let z = ap (λ (fs : List Frame). length fs) none in omega arith
 
 -- the frame is still on the stack, so it wasn't popped
-still_there : (n depth : ℕ) (payloads : List (List ℕ)) (u : Writer) (reached behind : LineState)
+still_there : (n depth : ℕ) (payloads : List (List ℕ)) (u : LineWriting) (reached behind : LineState)
     → MayGo reached behind
     → Agrees n behind payloads u
     → length u.frames ≡ suc depth
@@ -88,17 +88,17 @@ moved_records frames after (pops frame below top is) are =
     subst AreForRecords (sym is) (subst AreForRecords top are).1
 
 -- one call changes, or pops, the top frame
-pub call_moves : (n size start : ℕ) (s : Writer) (x : Exchange) (u : Writer) (payloads : List (List ℕ))
+pub call_moves : (n size start : ℕ) (s : LineWriting) (x : Exchange) (u : LineWriting) (payloads : List (List ℕ))
     → x.event ≡ event_on_top s.frames payloads
     → IsWriterCall n size start s x u
     → Moves s.frames u.frames
 call_moves n size start s x u payloads e call =
-    subst (λ (v : Writer). Moves s.frames v.frames) call.after_is
-    (subst (λ (v : Writer). Moves v.frames call.next.frames) call.before_is
+    subst (λ (v : LineWriting). Moves s.frames v.frames) call.after_is
+    (subst (λ (v : LineWriting). Moves v.frames call.next.frames) call.before_is
     (step_moves n size call.core x.event x.answer call.next
     (subst PushesNone (sym e) (pushes_none s.frames payloads)) (cases_of call.step)))
 
-call_keeps : (n size start : ℕ) (s : Writer) (x : Exchange) (u : Writer) (payloads : List (List ℕ))
+call_keeps : (n size start : ℕ) (s : LineWriting) (x : Exchange) (u : LineWriting) (payloads : List (List ℕ))
     → x.event ≡ event_on_top s.frames payloads
     → IsWriterCall n size start s x u
     → AreForRecords s.frames
@@ -115,7 +115,7 @@ record_on_top (frame ∷ below) depth some ((moment, len, k), rest) =
     λ closes_page. absurd (let both : for_record moment len ≡ for_close = sym k ∙ closes_page in cc)
 
 module _ (n size start depth : ℕ) where
-  calls_make : (s : Writer) (payloads : List (List ℕ)) (x : Exchange) (calls : List Exchange) (t : Writer)
+  calls_make : (s : LineWriting) (payloads : List (List ℕ)) (x : Exchange) (calls : List Exchange) (t : LineWriting)
       (lefts : List (List ℕ)) (p : LineState)
       → Agrees n p payloads s
       → TopCalls n size start depth s payloads (x ∷ calls) t lefts
@@ -157,7 +157,7 @@ module _ (n size start depth : ℕ) where
             omega (arith, length-append (history_events_of m.events) (history_events_of more.events));
       }
 
-  finishes : (s : Writer) (payloads : List (List ℕ)) (t : Writer) (lefts : List (List ℕ)) (p : LineState) (count : ℕ)
+  finishes : (s : LineWriting) (payloads : List (List ℕ)) (t : LineWriting) (lefts : List (List ℕ)) (p : LineState) (count : ℕ)
       → Agrees n p payloads s
       → length s.frames ≡ suc depth
       → length t.frames < suc depth
@@ -174,8 +174,8 @@ module _ (n size start depth : ℕ) where
       )
 
 -- calls, at most this number of them, are a part as of `s`
-pub calls_step : (n size start depth count : ℕ) (s : Writer) (payloads : List (List ℕ)) (x : Exchange)
-    (calls : List Exchange) (t : Writer) (lefts : List (List ℕ)) (p : LineState)
+pub calls_step : (n size start depth count : ℕ) (s : LineWriting) (payloads : List (List ℕ)) (x : Exchange)
+    (calls : List Exchange) (t : LineWriting) (lefts : List (List ℕ)) (p : LineState)
     → Agrees n p payloads s
     → AreForRecords s.frames
     → length s.frames ≡ suc depth
@@ -198,7 +198,7 @@ calls_step n size start depth count s payloads x calls t lefts p agrees are some
 
 pub calls_finish : CallsFinish
 calls_finish n size start depth s payloads [] t lefts p agrees some (same, lasts) low =
-    absurd (let z = ap (λ (v : Writer). length v.frames) same in omega arith)
+    absurd (let z = ap (λ (v : LineWriting). length v.frames) same in omega arith)
 calls_finish n size start depth s payloads (x ∷ calls) t lefts p agrees some called low =
     finishes n size start depth s payloads t lefts p _ agrees some low
     (calls_make n size start depth s payloads x calls t lefts p agrees called)

@@ -10,7 +10,7 @@ use Rattle.trace_model.proofs.steps.StepCases.{StepCases, push_step, push_refuse
 use Rattle.trace_model.proofs.steps.StepSound.{cases_of}
 use Rattle.text_model.specs.Script.{close}
 use Rattle.line_model.specs.Lines.{LineState, frame_count, writes, writes_none, LinePart}
-use Rattle.line_model.specs.WriterCalls.{Writer, writer_of, IsWriterCall, TopCalls}
+use Rattle.line_model.specs.WriterCalls.{LineWriting, writer_of, IsWriterCall, TopCalls}
 use Rattle.line_model.specs.CallEvents.{Agrees}
 use Rattle.line_model.specs.LineParts.{ClosesMake}
 use Rattle.line_model.proofs.EventsMade.{count_frames}
@@ -24,14 +24,14 @@ IsPushesClose (ends payload) = ⊥
 IsPushesClose reads = ⊥
 IsPushesClose wishes = ⊥
 
-abbrev pub closed_with : Writer → Writer
+abbrev pub closed_with : LineWriting → LineWriting
 closed_with s =
     record s {
       frames = record { kind = for_close; state = waiting; phase = idle } ∷ s.frames;
       history = s.history ++ push_close ∷ [];
     }
 
-abbrev pub Closing : Writer → Answer → Writer → Type 0
+abbrev pub Closing : LineWriting → Answer → LineWriting → Type 0
 Closing s answer t = ((answer ≡ pushed) × (length s.frames < MAX_FRAMES) × (t ≡ closed_with s))
     ⊎ ((why : Refusal) × (answer ≡ refused why) × (MAX_FRAMES ≤ length s.frames) × (t ≡ s))
 
@@ -51,12 +51,12 @@ closing n size c answer after (end_early paid frame below e top early a is) = ab
 closing n size c answer after (read_step e made) = absurd (subst IsPushesClose e tt)
 closing n size c answer after (store_wish_step e a is) = absurd (subst IsPushesClose e tt)
 
-pub closing_of : (n size start : ℕ) (answer : Answer) (s u : Writer)
+pub closing_of : (n size start : ℕ) (answer : Answer) (s u : LineWriting)
     → IsWriterCall n size start s record { event = pushes_close; answer = answer } u
     → Closing s answer u
 closing_of n size start answer s u call =
-    subst (λ (v : Writer). Closing s answer v) call.after_is
-    (subst (λ (v : Writer). Closing v answer (writer_of call.next)) call.before_is
+    subst (λ (v : LineWriting). Closing s answer v) call.after_is
+    (subst (λ (v : LineWriting). Closing v answer (writer_of call.next)) call.before_is
     (closing n size call.core answer call.next (cases_of call.step)))
 
 pub closes_make : ClosesMake
@@ -98,7 +98,7 @@ closes_make n size start cpu answer s u payloads calls t lefts p agrees call =
         } in
         let (events, behind, part, after) =
         calls_finish n size start (length s.frames) u ([] ∷ payloads) calls t lefts q
-        (subst (Agrees n q ([] ∷ payloads)) (sym is) made) (ap (λ (v : Writer). length v.frames) is) called
+        (subst (Agrees n q ([] ∷ payloads)) (sym is) made) (ap (λ (v : LineWriting). length v.frames) is) called
         (omega arith) in (
           acts push_close ∷ events,
           behind,

@@ -27,7 +27,7 @@ use Rattle.world_model.specs.Lanes.{Lane, lane_behind, FrameRun, StepsFrame, lac
 use Rattle.world_model.specs.RunEvents.{AreEventsOf, AreEventsOfSteps}
 use Rattle.world_model.proofs.FramesMove.{Moves, stays, changes, pops, PushesNone, step_moves}
 use Rattle.world_model.proofs.LanePayloads.{pushes_none}
-use Rattle.line_model.specs.WriterCalls.{Writer, writer_of, IsWriterCall}
+use Rattle.line_model.specs.WriterCalls.{LineWriting, writer_of, IsWriterCall}
 use Rattle.line_model.specs.CallEvents.{LeavesNone, CallMakes, goes_on, begins, has_reserved, leaves, leaves_fill, closes_one, finds_wish, is_gone}
 use Rattle.line_model.specs.LineParts.{AreForRecords}
 use Rattle.line_model.specs.Accounts.{HasNoPage}
@@ -305,14 +305,14 @@ module _ (n size : ℕ) (c : Core) (below : List Frame) (answer : Answer) (after
   writer_frames frames fresh is = subst (λ (l : List Frame). AreFresh l after.opened) (sym is) fresh
 
   left_kept : (phase : Phase) → CallMakes n size c (closing left phase) below after → Kept
-  left_kept phase (goes_on next active not is) = writer_frames (closing left next ∷ below) (tt, are) (ap (λ (w : Writer). w.frames) is)
-  left_kept phase (begins next active not is) = writer_frames (closing left next ∷ below) (tt, are) (ap (λ (w : Writer). w.frames) is)
+  left_kept phase (goes_on next active not is) = writer_frames (closing left next ∷ below) (tt, are) (ap (λ (w : LineWriting). w.frames) is)
+  left_kept phase (begins next active not is) = writer_frames (closing left next ∷ below) (tt, are) (ap (λ (w : LineWriting). w.frames) is)
   left_kept phase (has_reserved number waits is) = absurd (let no : ⊥ = cc in no)
   left_kept phase (leaves waits none not is) = absurd (let no : ⊥ = cc in no)
   left_kept phase (leaves_fill page closes_page waits none not is) = absurd (let no : ⊥ = cc in no)
-  left_kept phase (closes_one next has_left alone more is) = writer_frames (closing left next ∷ below) (tt, are) (ap (λ (w : Writer). w.frames) is)
-  left_kept phase (finds_wish next has_left alone is) = writer_frames (closing left next ∷ below) (tt, are) (ap (λ (w : Writer). w.frames) is)
-  left_kept phase (is_gone has_left alone last is) = writer_frames [] tt (ap (λ (w : Writer). w.frames) is)
+  left_kept phase (closes_one next has_left alone more is) = writer_frames (closing left next ∷ below) (tt, are) (ap (λ (w : LineWriting). w.frames) is)
+  left_kept phase (finds_wish next has_left alone is) = writer_frames (closing left next ∷ below) (tt, are) (ap (λ (w : LineWriting). w.frames) is)
+  left_kept phase (is_gone has_left alone last is) = writer_frames [] tt (ap (λ (w : LineWriting). w.frames) is)
 
 -- a record frame on top
 moved_fresh : (frame : Frame) (below after : List Frame) (opened moment len : ℕ) → frame.kind ≡ for_record moment len → AreForRecords below → Moves (frame ∷ below) after → AreFresh after opened
@@ -357,18 +357,18 @@ module _ (n size start : ℕ) (c : Core) (answer : Answer) (after : Core) (own :
       → (frame.state ≡ waiting → LeavesNone n size c → after.history ≡ c.history ++ leave None ∷ [] → HasReason n size c.history (window_of c))
       → CallMakes n size c frame below after
       → Reasoned
-  made frame below because (goes_on phase active not is) = none_more (ap (λ (w : Writer). w.history) is)
-  made frame below because (begins phase active not is) = no_leave (open_fill ∷ []) tt (ap (λ (w : Writer). w.history) is)
-  made frame below because (has_reserved number waits is) = no_leave (reserve ∷ []) tt (ap (λ (w : Writer). w.history) is)
+  made frame below because (goes_on phase active not is) = none_more (ap (λ (w : LineWriting). w.history) is)
+  made frame below because (begins phase active not is) = no_leave (open_fill ∷ []) tt (ap (λ (w : LineWriting). w.history) is)
+  made frame below because (has_reserved number waits is) = no_leave (reserve ∷ []) tt (ap (λ (w : LineWriting). w.history) is)
   made frame below because (leaves waits none not is) =
-      one_leaves n size c.history (window_of c) (window_of after) own lossless are.window (ap (λ (w : Writer). w.done) is)
-      (own_are (leave None ∷ []) (ap (λ (w : Writer). w.history) is)) (because waits none (ap (λ (w : Writer). w.history) is))
+      one_leaves n size c.history (window_of c) (window_of after) own lossless are.window (ap (λ (w : LineWriting). w.done) is)
+      (own_are (leave None ∷ []) (ap (λ (w : LineWriting). w.history) is)) (because waits none (ap (λ (w : LineWriting). w.history) is))
   made frame below because (leaves_fill page closes_page waits none not is) =
       fill_wanted n size c.history (window_of c) own lossless none
-      (own_are (open_fill ∷ leave None ∷ []) (ap (λ (w : Writer). w.history) is ∙ append_assoc c.history (open_fill ∷ []) (leave None ∷ [])))
-  made frame below because (closes_one phase has_left alone more is) = none_more (ap (λ (w : Writer). w.history) is)
-  made frame below because (finds_wish phase has_left alone is) = no_leave (wished ∷ []) tt (ap (λ (w : Writer). w.history) is)
-  made frame below because (is_gone has_left alone last is) = none_more (ap (λ (w : Writer). w.history) is)
+      (own_are (open_fill ∷ leave None ∷ []) (ap (λ (w : LineWriting). w.history) is ∙ append_assoc c.history (open_fill ∷ []) (leave None ∷ [])))
+  made frame below because (closes_one phase has_left alone more is) = none_more (ap (λ (w : LineWriting). w.history) is)
+  made frame below because (finds_wish phase has_left alone is) = no_leave (wished ∷ []) tt (ap (λ (w : LineWriting). w.history) is)
+  made frame below because (is_gone has_left alone last is) = none_more (ap (λ (w : LineWriting). w.history) is)
 
   module _ (below : List Frame) (h : List HistoryEvent) (step : Step n size c steps answer after) (is : after.history ≡ c.history ++ h) where
     abbrev framed : Kind → FrameState → Phase → Frame
@@ -587,12 +587,12 @@ push_reasoned n size start c after x exchanges events reached records which none
     }
 
     on_record : (moment len : ℕ) → Pushing size (writer_of c) moment len x.answer (writer_of between) → AreFresh between.frames between.opened
-    on_record moment len (inl (a, may, is)) = subst (λ (l : List Frame). AreFresh l between.opened) (sym (ap (λ (w : Writer). w.frames) is)) (tt, records)
-    on_record moment len (inr (why, a, because, is)) = subst (λ (l : List Frame). AreFresh l between.opened) (sym (ap (λ (w : Writer). w.frames) is)) (records_fresh c.frames between.opened records)
+    on_record moment len (inl (a, may, is)) = subst (λ (l : List Frame). AreFresh l between.opened) (sym (ap (λ (w : LineWriting). w.frames) is)) (tt, records)
+    on_record moment len (inr (why, a, because, is)) = subst (λ (l : List Frame). AreFresh l between.opened) (sym (ap (λ (w : LineWriting). w.frames) is)) (records_fresh c.frames between.opened records)
 
     on_close : Closing (writer_of c) x.answer (writer_of between) → AreFresh between.frames between.opened
-    on_close (inl (a, few, is)) = subst (λ (l : List Frame). AreFresh l between.opened) (sym (ap (λ (w : Writer). w.frames) is)) (tt, records)
-    on_close (inr (why, a, many, is)) = subst (λ (l : List Frame). AreFresh l between.opened) (sym (ap (λ (w : Writer). w.frames) is)) (records_fresh c.frames between.opened records)
+    on_close (inl (a, few, is)) = subst (λ (l : List Frame). AreFresh l between.opened) (sym (ap (λ (w : LineWriting). w.frames) is)) (tt, records)
+    on_close (inr (why, a, many, is)) = subst (λ (l : List Frame). AreFresh l between.opened) (sym (ap (λ (w : LineWriting). w.frames) is)) (records_fresh c.frames between.opened records)
 
     pushed_fresh : ((moment len : ℕ) × (x.event ≡ pushes moment len)) ⊎ (x.event ≡ pushes_close) → AreFresh between.frames between.opened
     pushed_fresh (inl (moment, len, e)) = on_record moment len (pushing_of n size start moment len x.answer (writer_of c) (writer_of between) (call (pushes moment len) e))

@@ -11,7 +11,7 @@ use Rattle.trace_model.specs.Ring.{Core}
 use Rattle.trace_model.specs.Steps.{frames_after_leave, with_new_tail}
 use Rattle.world_model.specs.Lanes.{payloads_left}
 use Rattle.line_model.specs.Lines.{LineState, OpenFrame, frame_count, with_top_stepped, TopRun, state_after, finishing_after, MayLeaveTop, MayGo, stays_on, goes}
-use Rattle.line_model.specs.WriterCalls.{Writer, writer_of}
+use Rattle.line_model.specs.WriterCalls.{LineWriting, writer_of}
 use Rattle.line_model.specs.CallEvents.{DoesntFit, CallMakes, goes_on, begins, has_reserved, leaves, leaves_fill, closes_one, finds_wish, is_gone, AreOpenFrames, Agrees}
 
 -- ---- frames and payloads
@@ -74,7 +74,7 @@ FirstIs size c frame history_events = frame.state ≡ waiting → frame.phase �
 
 -- events from a state to one that agrees with the writer
 pub record Does (n size depth : ℕ) (c : Core) (frame : Frame) (payloads : List (List ℕ)) (p : LineState)
-    (t : Writer) : Type 0 where
+    (t : LineWriting) : Type 0 where
   pub events : List RingEvent
   pub reached : LineState
   pub behind : LineState
@@ -93,7 +93,7 @@ module _ (n size depth : ℕ) (c : Core) (frame : Frame) (below : List Frame) (d
   abbrev line_state : List HistoryEvent → Window → List OpenFrame → Bool → LineState
   line_state history v xs l = record { history = history; window = v; frames = xs; finishing = l }
 
-  abbrev To : List (List ℕ) → LineState → Writer → Type 0
+  abbrev To : List (List ℕ) → LineState → LineWriting → Type 0
   To payloads p t = Does n size depth c frame payloads p t
 
   -- ---- a fill is begun, after a take if no position is free
@@ -172,7 +172,7 @@ module _ (n size depth : ℕ) (c : Core) (frame : Frame) (below : List Frame) (d
           few = λ is_record. omega arith;
         }
     last_makes after settled (begins phase held fit e) room =
-        let grown : c.opened < after.opened = let o = ap (λ (s : Writer). s.opened) e in omega arith in
+        let grown : c.opened < after.opened = let o = ap (λ (s : LineWriting). s.opened) e in omega arith in
         let (h, d, f) = free_now c.history [] true (room grown) in
         subst (To payloads (line_state c.history (counts head c.done c.opened) [] true)) (sym e) record {
           events = d (acts open_fill ∷ []);
@@ -414,7 +414,7 @@ module _ (n size depth : ℕ) (c : Core) (frame : Frame) (below : List Frame) (d
       few = λ is_record. omega arith;
     }
     top_makes after (begins phase st fit e) room =
-        let grown : c.opened < after.opened = let o = ap (λ (s : Writer). s.opened) e in omega arith in
+        let grown : c.opened < after.opened = let o = ap (λ (s : LineWriting). s.opened) e in omega arith in
         let (h, d, f) = free_now c.history (record { payload = top.payload; stepped = true } ∷ rest) l (room grown) in
         subst (To (top.payload ∷ others) from) (sym e) record {
           events = d (acts open_fill ∷ []);
@@ -470,7 +470,7 @@ module _ (n size depth : ℕ) (c : Core) (frame : Frame) (below : List Frame) (d
     top_makes after (leaves waits why fit e) room =
         subst (To (top.payload ∷ others) from) (sym e) (top_leaves None why (unfit fit (leave None ∷ [])))
     top_makes after (leaves_fill page closes_page waits none fit e) room =
-        let grown : c.opened < after.opened = let o = ap (λ (s : Writer). s.opened) e in omega arith in
+        let grown : c.opened < after.opened = let o = ap (λ (s : LineWriting). s.opened) e in omega arith in
         let (h, d, f) = free_now c.history (record { payload = top.payload; stepped = true } ∷ rest) l (room grown) in
         subst (To (top.payload ∷ others) from) (sym e) record {
           events = d (acts open_fill ∷ acts (leave None) ∷ []);

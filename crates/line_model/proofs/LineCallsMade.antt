@@ -8,7 +8,7 @@ use Rattle.text_model.specs.Script.{Command, begin_frame, step_frame, finish_fra
 use Rattle.world_model.specs.Lanes.{payloads_left}
 use Rattle.world_model.proofs.FramesMove.{Moves, stays, changes, pops}
 use Rattle.line_model.specs.Lines.{LineState, OpenFrame, first_state, frame_count, with_top_stepped, ReservesFirst, stays_on, TopPart, FinishPart, IsQuiet, LinePart}
-use Rattle.line_model.specs.WriterCalls.{Writer, first_writer, IsWriterCall, TopCalls, StepsCalls, none_to_step, steps_top, FinishCalls, none_to_finish, finishes_top, BeginCalls, begins_frame, begins_none, WholeCalls, writes_frame, writes_none, LineCalls}
+use Rattle.line_model.specs.WriterCalls.{LineWriting, first_writer, IsWriterCall, TopCalls, StepsCalls, none_to_step, steps_top, FinishCalls, none_to_finish, finishes_top, BeginCalls, begins_frame, begins_none, WholeCalls, writes_frame, writes_none, LineCalls}
 use Rattle.line_model.specs.CallEvents.{AreOpenFrames, Agrees}
 use Rattle.line_model.specs.LineParts.{PushMakes, AreForRecords, IsBetweenLines, LineCallsMake, LinesCallsMake, RestCallsMake, WriterMakesLines}
 use Rattle.line_model.proofs.EventsMade.{count_frames}
@@ -45,21 +45,21 @@ moved_below depth frames after (pops frame rest at is) (inr (top, below, e, deep
     let same : rest ≡ below = ap others_of (sym at ∙ e) in inl (subst AreForRecords (sym (is ∙ same)) are)
 
 module _ (n size start depth : ℕ) where
-  calls_below : (s : Writer) (payloads : List (List ℕ)) (calls : List Exchange) (t : Writer) (lefts : List (List ℕ))
+  calls_below : (s : LineWriting) (payloads : List (List ℕ)) (calls : List Exchange) (t : LineWriting) (lefts : List (List ℕ))
       → TopCalls n size start depth s payloads calls t lefts
       → AreRecordsBelow depth s.frames
       → AreRecordsBelow depth t.frames
-  calls_below s payloads [] t lefts (same, lasts) are = subst (λ (v : Writer). AreRecordsBelow depth v.frames) same are
+  calls_below s payloads [] t lefts (same, lasts) are = subst (λ (v : LineWriting). AreRecordsBelow depth v.frames) same are
   calls_below s payloads (x ∷ calls) t lefts (some, e, u, call, rest) are =
       calls_below u (payloads_left u.frames payloads) calls t lefts rest
       (moved_below depth s.frames u.frames (call_moves n size start s x u payloads e call) are)
 
-  calls_records : (s : Writer) (payloads : List (List ℕ)) (calls : List Exchange) (t : Writer)
+  calls_records : (s : LineWriting) (payloads : List (List ℕ)) (calls : List Exchange) (t : LineWriting)
       (lefts : List (List ℕ))
       → TopCalls n size start depth s payloads calls t lefts
       → AreForRecords s.frames
       → AreForRecords t.frames
-  calls_records s payloads [] t lefts (same, lasts) are = subst (λ (v : Writer). AreForRecords v.frames) same are
+  calls_records s payloads [] t lefts (same, lasts) are = subst (λ (v : LineWriting). AreForRecords v.frames) same are
   calls_records s payloads (x ∷ calls) t lefts (some, e, u, call, rest) are =
       calls_records u (payloads_left u.frames payloads) calls t lefts rest
       (moved_records s.frames u.frames (call_moves n size start s x u payloads e call) are)
@@ -72,7 +72,7 @@ module _ (n size start depth : ℕ) where
 
 -- ---- `f` and `s` without a frame
 
-module _ (n size : ℕ) (p : LineState) (payloads : List (List ℕ)) (s : Writer) (agrees : Agrees n p payloads s)
+module _ (n size : ℕ) (p : LineState) (payloads : List (List ℕ)) (s : LineWriting) (agrees : Agrees n p payloads s)
     (none : s.frames ≡ []) where
   no_frames : p.frames ≡ []
   no_frames = in_frames s.frames none agrees.frames
@@ -99,7 +99,7 @@ module _ (n size : ℕ) (p : LineState) (payloads : List (List ℕ)) (s : Writer
 
 -- ---- the line
 
-module _ (n size start : ℕ) (s : Writer) (payloads : List (List ℕ)) (t : Writer) (lefts : List (List ℕ)) (p : LineState)
+module _ (n size start : ℕ) (s : LineWriting) (payloads : List (List ℕ)) (t : LineWriting) (lefts : List (List ℕ)) (p : LineState)
     (between : IsBetweenLines n p payloads s) where
   -- what a line has made
   abbrev MadePart : (LineState → List RingEvent → LineState → Type 0) → Type 0
@@ -108,7 +108,7 @@ module _ (n size start : ℕ) (s : Writer) (payloads : List (List ℕ)) (t : Wri
   -- nothing is changed
   between_same : t ≡ s → lefts ≡ payloads → IsBetweenLines n p lefts t
   between_same same all =
-      subst (λ (v : Writer). IsBetweenLines n p lefts v) (sym same)
+      subst (λ (v : LineWriting). IsBetweenLines n p lefts v) (sym same)
       (subst (λ (l : List (List ℕ)). IsBetweenLines n p l s) (sym all) between)
 
   quiet : t ≡ s → lefts ≡ payloads → MadePart (IsQuiet n)
@@ -193,7 +193,7 @@ module _ (n size start : ℕ) (s : Writer) (payloads : List (List ℕ)) (t : Wri
         record {
           agrees = subst (λ (l : List (List ℕ)). Agrees n behind l t) (sym all) agrees;
           for_records =
-              subst (λ (v : Writer). AreForRecords v.frames) (sym is)
+              subst (λ (v : LineWriting). AreForRecords v.frames) (sym is)
               ((moment, length payload, refl), between.for_records);
         },
       )
@@ -211,14 +211,14 @@ module _ (n size start : ℕ) (s : Writer) (payloads : List (List ℕ)) (t : Wri
     where
       no_push : Pushing size s moment (length payload) pushed u → ⊥
       no_push (inl (a, may, is)) = let z =
-          ap (λ (l : List Frame). length l) (sym none ∙ ap (λ (v : Writer). v.frames) is) in omega arith
+          ap (λ (l : List Frame). length l) (sym none ∙ ap (λ (v : LineWriting). v.frames) is) in omega arith
       no_push (inr (why, e, because, is)) = absurd (let both : pushed ≡ refused why = e in cc)
   by_write cpu moment payload (writes_frame u call (finishes_top depth calls some called low)) =
       by_push (pushing_of n size start moment (length payload) pushed s u call)
     where
       by_push : Pushing size s moment (length payload) pushed u → MadePart (LinePart n size (write cpu moment payload))
       by_push (inl (a, may, is)) =
-          let long : length u.frames ≡ suc (length s.frames) = ap (λ (v : Writer). length v.frames) is in
+          let long : length u.frames ≡ suc (length s.frames) = ap (λ (v : LineWriting). length v.frames) is in
           let deep : depth ≡ length s.frames = omega arith in
           let calls_at = subst (λ (d : ℕ). TopCalls n size start d u (payload ∷ payloads) calls t lefts) deep called in
           let (events, q, part, agrees) =
@@ -230,7 +230,7 @@ module _ (n size start : ℕ) (s : Writer) (payloads : List (List ℕ)) (t : Wri
             record {
               agrees = agrees;
               for_records = calls_records n size start depth u (payload ∷ payloads) calls t lefts called
-                  (subst (λ (v : Writer). AreForRecords v.frames) (sym is)
+                  (subst (λ (v : LineWriting). AreForRecords v.frames) (sym is)
                   ((moment, length payload, refl), between.for_records));
             },
           )
@@ -246,14 +246,14 @@ module _ (n size start : ℕ) (s : Writer) (payloads : List (List ℕ)) (t : Wri
     where
       no_push : Closing s pushed u → ⊥
       no_push (inl (a, few, is)) = let z =
-          ap (λ (l : List Frame). length l) (sym none ∙ ap (λ (v : Writer). v.frames) is) in omega arith
+          ap (λ (l : List Frame). length l) (sym none ∙ ap (λ (v : LineWriting). v.frames) is) in omega arith
       no_push (inr (why, e, because, is)) = absurd (let both : pushed ≡ refused why = e in cc)
   by_close cpu (writes_frame u call (finishes_top depth calls some called low)) =
       by_push (closing_of n size start pushed s u call)
     where
       by_push : Closing s pushed u → MadePart (LinePart n size (close cpu))
       by_push (inl (a, few, is)) =
-          let long : length u.frames ≡ suc (length s.frames) = ap (λ (v : Writer). length v.frames) is in
+          let long : length u.frames ≡ suc (length s.frames) = ap (λ (v : LineWriting). length v.frames) is in
           let deep : depth ≡ length s.frames = omega arith in
           let calls_at = subst (λ (d : ℕ). TopCalls n size start d u ([] ∷ payloads) calls t lefts) deep called in
           let (events, q, part, agrees) =
@@ -267,7 +267,7 @@ module _ (n size start : ℕ) (s : Writer) (payloads : List (List ℕ)) (t : Wri
               for_records =
                   popped_records n size start depth t.frames low
                   (calls_below n size start depth u ([] ∷ payloads) calls t lefts called
-                  (subst (λ (v : Writer). AreRecordsBelow depth v.frames) (sym is)
+                  (subst (λ (v : LineWriting). AreRecordsBelow depth v.frames) (sym is)
                   (inr (
                     record { kind = for_close; state = waiting; phase = idle },
                     s.frames,

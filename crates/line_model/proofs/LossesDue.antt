@@ -25,19 +25,19 @@ use Rattle.link_marks.proofs.histories.WindowRuns.{acts_behind, run_rises, taken
 use Rattle.link_marks.proofs.links.FrameChanges.{top_kept}
 use Rattle.link_marks.proofs.steps.CountMoves.{losses_need_a_full_ring}
 use Rattle.world_model.specs.RunEvents.{AreEventsOf}
-use Rattle.line_model.specs.Accounts.{NeedsPage}
+use Rattle.line_model.specs.Accounts.{NeedsPageAfter}
 
 -- ---- a frame that is about to begin the next fill
 
 -- a page is needed, and a number is left for it
 abbrev pub IsNeeded : (n size : ℕ) → List HistoryEvent → Window → Type 0
-IsNeeded n size h w = NeedsPage size h (writer_after h).stack × (w.opened + n < LINK_FILLS)
+IsNeeded n size h w = NeedsPageAfter size h (writer_after h).stack × (w.opened + n < LINK_FILLS)
 
 -- what it needs is that a page is needed
 needs_of : (size : ℕ) (h : List HistoryEvent) (below : List Frame) (kind : Kind) (state : FrameState)
     → (state ≡ left → below ≡ [])
     → NeedsFill size (opens_of h) (reserved_records h) (is_wished h) kind state
-    → NeedsPage size h (pushed_onto kind state (pushed_frames below))
+    → NeedsPageAfter size h (pushed_onto kind state (pushed_frames below))
 needs_of size h below (for_record moment len) waiting alone needs =
     let r : Reservation = reservation_for moment len (reserved_records h) in
     let same = ap (λ (l : List Reservation). fill_len (l ++ r ∷ [])) (tail_is h) in
@@ -48,7 +48,7 @@ needs_of size h below for_close waiting alone needs = λ none. needs (sym (tail_
 needs_of size h below (for_record moment len) (reserved number) alone needs = absurd needs
 needs_of size h below for_close (reserved number) alone needs = absurd needs
 needs_of size h below kind left alone (some, holds) =
-    subst (λ (fs : List Frame). NeedsPage size h (pushed_frames fs)) (sym (alone refl)) (holds, λ none. some (sym (tail_is h) ∙ none))
+    subst (λ (fs : List Frame). NeedsPageAfter size h (pushed_frames fs)) (sym (alone refl)) (holds, λ none. some (sym (tail_is h) ∙ none))
 
 page_needed : (n size start : ℕ) (c : Core) (frame : Frame) (below : List Frame)
     → IsRingKept n size start c
@@ -57,7 +57,7 @@ page_needed : (n size start : ℕ) (c : Core) (frame : Frame) (below : List Fram
     → IsNeeded n size c.history (window_of c)
 page_needed n size start c frame below kept top noted =
     let needs = (subst (FramesNeed size (opens_of c.history) (reserved_records c.history) (is_wished c.history) c.opened) top kept.packed.needs).1 noted in (
-      subst (NeedsPage size c.history) (sym (top_stack n start c frame below kept.history top))
+      subst (NeedsPageAfter size c.history) (sym (top_stack n start c frame below kept.history top))
           (needs_of size c.history below frame.kind frame.state (top_agrees c frame below kept.stack top).1 needs),
       ((top_kept n c frame below kept.links top).noted c.opened noted).3,
     )

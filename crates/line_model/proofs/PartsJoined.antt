@@ -3,7 +3,7 @@ use Rattle.std.proofs.Common.{◌≡◌, ℕ, zero, suc, List, length, [], ◌�
 use Rattle.trace_model.specs.Window.{RingEvent}
 use Rattle.world_model.specs.Lanes.{event_on_top, payloads_left}
 use Rattle.line_model.specs.Lines.{LineState, LinePart}
-use Rattle.line_model.specs.WriterCalls.{Writer, IsWriterCall, FinishCalls, LineCalls}
+use Rattle.line_model.specs.WriterCalls.{LineWriting, IsWriterCall, FinishCalls, LineCalls}
 use Rattle.line_model.specs.LineParts.{PartsGoOn, StartIsBetweenLines, TopCallsGoOn, LinesCallsGoOn, RestCallsGoOn}
 
 pub parts_go_on : PartsGoOn
@@ -40,11 +40,11 @@ start_between n start some = record {
 
 pub top_calls_go_on : TopCallsGoOn
 top_calls_go_on n size start depth s payloads [] t lefts x u (same, all) count e call = (
-  subst (λ (v : Writer). length v.frames ≡ suc depth) (sym same) count,
-  subst (λ (v : Writer). x.event ≡ event_on_top v.frames payloads) (sym same)
+  subst (λ (v : LineWriting). length v.frames ≡ suc depth) (sym same) count,
+  subst (λ (v : LineWriting). x.event ≡ event_on_top v.frames payloads) (sym same)
       (subst (λ (l : List (List ℕ)). x.event ≡ event_on_top t.frames l) (sym all) e),
   u,
-  subst (λ (v : Writer). IsWriterCall n size start v x u) (sym same) call,
+  subst (λ (v : LineWriting). IsWriterCall n size start v x u) (sym same) call,
   (refl, ap (payloads_left u.frames) all),
 )
 top_calls_go_on n size start depth s payloads (y ∷ calls) t lefts x u (some, is, between, one, rest) count e call = (
@@ -60,7 +60,7 @@ pub lines_calls_go_on : LinesCallsGoOn
 lines_calls_go_on n size start [] line s payloads t lefts u others (same, all) calls = (
   u,
   others,
-  subst (λ (v : Writer). LineCalls n size start line v payloads u others) same
+  subst (λ (v : LineWriting). LineCalls n size start line v payloads u others) same
       (subst (λ (l : List (List ℕ)). LineCalls n size start line t l u others) all calls),
   (refl, refl),
 )
@@ -71,7 +71,7 @@ pub rest_calls_go_on : RestCallsGoOn
 rest_calls_go_on n size start zero s payloads t lefts u others (same, all) calls = (
   u,
   others,
-  subst (λ (v : Writer). FinishCalls n size start v payloads u others) same
+  subst (λ (v : LineWriting). FinishCalls n size start v payloads u others) same
       (subst (λ (l : List (List ℕ)). FinishCalls n size start t l u others) all calls),
   (refl, refl),
 )

@@ -10,7 +10,7 @@ use Rattle.trace_model.proofs.steps.StepCases.{StepCases, PushRefused, all_stand
 use Rattle.trace_model.proofs.steps.StepSound.{cases_of}
 use Rattle.text_model.specs.Script.{write}
 use Rattle.line_model.specs.Lines.{LineState, frame_count, IsRefusedPush, IsQuiet, IsPush, begins, begins_none, writes, writes_none, LinePart}
-use Rattle.line_model.specs.WriterCalls.{Writer, writer_of, IsWriterCall}
+use Rattle.line_model.specs.WriterCalls.{LineWriting, writer_of, IsWriterCall}
 use Rattle.line_model.specs.CallEvents.{Agrees}
 use Rattle.line_model.specs.LineParts.{PushMakes, PushesMake, WritesMake}
 use Rattle.line_model.proofs.EventsMade.{count_frames}
@@ -40,7 +40,7 @@ abbrev len_of : Event → ℕ
 len_of event = (pushed_of event).1
 
 -- the writer after the push
-abbrev pub writer_with : Writer → ℕ → ℕ → Writer
+abbrev pub writer_with : LineWriting → ℕ → ℕ → LineWriting
 writer_with s moment len =
     record s {
       frames = record { kind = for_record moment len; state = waiting; phase = idle } ∷ s.frames;
@@ -48,10 +48,10 @@ writer_with s moment len =
     }
 
 -- why a push is refused, by the writer
-abbrev pub Refuses : ℕ → Writer → ℕ → ℕ → Type 0
+abbrev pub Refuses : ℕ → LineWriting → ℕ → ℕ → Type 0
 Refuses size s moment len = (MAX_FRAMES ≤ length s.frames) ⊎ (IsTooLong size len ⊎ (MOMENT_LIMIT ≤ moment))
 
-abbrev pub Pushing : ℕ → Writer → ℕ → ℕ → Answer → Writer → Type 0
+abbrev pub Pushing : ℕ → LineWriting → ℕ → ℕ → Answer → LineWriting → Type 0
 Pushing size s moment len answer t =
     ((answer ≡ pushed) × (Refuses size s moment len → ⊥) × (t ≡ writer_with s moment len))
     ⊎ ((why : Refusal) × (answer ≡ refused why) × Refuses size s moment len × (t ≡ s))
@@ -95,15 +95,15 @@ module _ (n size : ℕ) (c : Core) (moment len : ℕ) (answer : Answer) (after :
   pushing (read_step e made) = absurd (subst IsPushes e tt)
   pushing (store_wish_step e a is) = absurd (subst IsPushes e tt)
 
-pub pushing_of : (n size start moment len : ℕ) (answer : Answer) (s u : Writer)
+pub pushing_of : (n size start moment len : ℕ) (answer : Answer) (s u : LineWriting)
     → IsWriterCall n size start s record { event = pushes moment len; answer = answer } u
     → Pushing size s moment len answer u
 pushing_of n size start moment len answer s u call =
-    subst (λ (v : Writer). Pushing size s moment len answer v) call.after_is
-    (subst (λ (v : Writer). Pushing size v moment len answer (writer_of call.next)) call.before_is
+    subst (λ (v : LineWriting). Pushing size s moment len answer v) call.after_is
+    (subst (λ (v : LineWriting). Pushing size v moment len answer (writer_of call.next)) call.before_is
     (pushing n size call.core moment len answer call.next (cases_of call.step)))
 
-module _ (n size : ℕ) (payloads : List (List ℕ)) (s : Writer) (p : LineState) (agrees : Agrees n p payloads s)
+module _ (n size : ℕ) (payloads : List (List ℕ)) (s : LineWriting) (p : LineState) (agrees : Agrees n p payloads s)
     (moment : ℕ) (payload : List ℕ) where
   many : frame_count p ≡ length s.frames
   many = count_frames s.frames payloads p.frames p.finishing agrees.frames
@@ -184,7 +184,7 @@ writes_make n size start cpu moment payload s u payloads calls t lefts p agrees 
         (pushed_agrees n size payloads s p agrees moment payload) in
         let (events, behind, part, after) =
         calls_finish n size start (length s.frames) u (payload ∷ payloads) calls t lefts q here
-        (ap (λ (v : Writer). length v.frames) is) called (omega arith) in (
+        (ap (λ (v : LineWriting). length v.frames) is) called (omega arith) in (
           acts (push moment (length payload)) ∷ events,
           behind,
           writes (acts (push moment (length payload)) ∷ []) events q

@@ -16,7 +16,7 @@ use Rattle.world_model.proofs.Lookups.{get_set_here, get_set_other}
 use Rattle.world_model.proofs.LanePayloads.{new_fits, line_fits}
 use Rattle.world_model.proofs.WorldsKept.{IsWorldKept, new_kept, obeys_kept, world_kept}
 use Rattle.line_model.specs.Lines.{LineState, first_state, LineParts, writer_line, writer_lines, IsBegunByLines, IsMadeByLines}
-use Rattle.line_model.specs.WriterCalls.{Writer, writer_of, first_writer, NoCalls, LineCalls}
+use Rattle.line_model.specs.WriterCalls.{LineWriting, writer_of, first_writer, NoCalls, LineCalls}
 use Rattle.line_model.specs.LineParts.{IsBetweenLines}
 use Rattle.line_model.specs.ReplayedLines.{commands_of, ReplayMakesLines, ReplayCommitsWholeLines, WorldsMakeLines}
 use Rattle.line_model.proofs.PartsJoined.{start_between}
@@ -153,7 +153,7 @@ module _ (script : Script) (cpu : ℕ) (command : Command) (lines : List Command
       }
   line_made on (inr (not, (same, all))) =
       let m = on p
-      (subst (λ (w : Writer). IsBetweenLines script.pages p next.payloads w) (sym same)
+      (subst (λ (w : LineWriting). IsBetweenLines script.pages p next.payloads w) (sym same)
       (subst (λ (l : List (List ℕ)). IsBetweenLines script.pages p l (writer_of lane.core)) (sym all) here)) in
       record {
         events = m.events;
@@ -205,7 +205,7 @@ module _ (script : Script) (lines : List (ℕ × Command)) (w : World) (cpu : �
         done = new.0.done i;
         opened = new.0.opened i;
       }) in
-      subst (λ (v : Writer). IsBetweenLines script.pages (first_state script.start) first.payloads v) (sym is)
+      subst (λ (v : LineWriting). IsBetweenLines script.pages (first_state script.start) first.payloads v) (sym is)
       (subst (λ (l : List (List ℕ)). IsBetweenLines script.pages (first_state script.start) l
       (first_writer script.start)) (sym new.1)
       (start_between script.pages script.start (let low = limits.min_pages in omega arith)))

@@ -11,7 +11,7 @@ use Rattle.link_marks.proofs.partition.RingsKept.{reached_further}
 use Rattle.link_marks.proofs.seats.SeatSteps.{reader_leaves_writer}
 use Rattle.world_model.specs.Lanes.{Lane, lane_behind, payloads_left, payloads_with, FrameRun, StepsFrame, lacks_to_step, steps_on, FinishesFrame, lacks_to_finish, finishes, PushesFrame, FinishesPushed, ReaderRun, Wishes}
 use Rattle.world_model.proofs.LanePayloads.{as_many}
-use Rattle.line_model.specs.WriterCalls.{Writer, writer_of, IsWriterCall, TopCalls, StepsCalls, none_to_step, steps_top, FinishCalls, none_to_finish, finishes_top, BeginCalls, begins_frame, begins_none, WholeCalls, writes_frame, writes_none, NoCalls}
+use Rattle.line_model.specs.WriterCalls.{LineWriting, writer_of, IsWriterCall, TopCalls, StepsCalls, none_to_step, steps_top, FinishCalls, none_to_finish, finishes_top, BeginCalls, begins_frame, begins_none, WholeCalls, writes_frame, writes_none, NoCalls}
 use Rattle.line_model.specs.ReplayedLines.{LineRunsAreCalls}
 use Rattle.line_model.proofs.PushParts.{Pushing, pushing_of}
 use Rattle.line_model.proofs.CloseParts.{Closing, closing_of}
@@ -147,13 +147,13 @@ module _ (n size start : ℕ) where
         (push_answered (refused why) e))
         (ap (λ (l : Lane). l.payloads) same ∙ push_payloads (refused why) e)
 
-  record_answer : (moment len : ℕ) (answer : Answer) (s u : Writer)
+  record_answer : (moment len : ℕ) (answer : Answer) (s u : LineWriting)
       → Pushing size s moment len answer u
       → IsAnswer answer
   record_answer moment len answer s u (inl (e, may, is)) = is_pushed e
   record_answer moment len answer s u (inr (why, e, because, is)) = is_refused why e
 
-  close_answer : (answer : Answer) (s u : Writer) → Closing s answer u → IsAnswer answer
+  close_answer : (answer : Answer) (s u : LineWriting) → Closing s answer u → IsAnswer answer
   close_answer answer s u (inl (e, few, is)) = is_pushed e
   close_answer answer s u (inr (why, e, because, is)) = is_refused why e
 
@@ -179,7 +179,7 @@ module _ (n size start : ℕ) where
       → length before.payloads ≡ length before.core.frames
       → NoCalls (writer_of before.core) before.payloads (writer_of core) (payloads_left core.frames before.payloads)
   behind_stays before core same many =
-      (same, all_left core.frames before.payloads (many ∙ ap (λ (w : Writer). length w.frames) (sym same)))
+      (same, all_left core.frames before.payloads (many ∙ ap (λ (w : LineWriting). length w.frames) (sym same)))
 
   reader_calls : (before after : Lane) (xs : List Exchange)
       → length before.payloads ≡ length before.core.frames
@@ -191,7 +191,7 @@ module _ (n size start : ℕ) where
       let (same, all) = behind_stays before core (reader_stays before.core reads x.answer core tt step) many in
       let (later, others) =
       reader_calls (lane_behind before core) after xs
-      (ap length all ∙ many ∙ ap (λ (w : Writer). length w.frames) (sym same)) run in
+      (ap length all ∙ many ∙ ap (λ (w : LineWriting). length w.frames) (sym same)) run in
       (later ∙ same, others ∙ all)
 
   wish_calls : (before after : Lane) (xs : List Exchange)

@@ -17,7 +17,7 @@ use Rattle.link_marks.proofs.partition.RingsKept.{reached_kept}
 use Rattle.link_marks.proofs.frames.StackSteps.{closed_at_rest}
 use Rattle.link_marks.proofs.histories.StepsAsEvents.{run_reported}
 use Rattle.world_model.specs.Lanes.{event_in, event_on_top, payloads_left}
-use Rattle.line_model.specs.WriterCalls.{Writer, writer_of, IsWriterCall, TopCalls}
+use Rattle.line_model.specs.WriterCalls.{LineWriting, writer_of, IsWriterCall, TopCalls}
 use Rattle.line_model.specs.CallEvents.{CallMakes, goes_on, begins, has_reserved, leaves, leaves_fill, closes_one, finds_wish, is_gone}
 use Rattle.line_model.specs.SingleFrames.{push_of, IsServed, AreServed, SingleFramesAreServed}
 use Rattle.line_model.proofs.FewFills.{fills_are_few}
@@ -30,7 +30,7 @@ use Rattle.line_model.proofs.NeedsDue.{refused_frames_need_pages}
 
 -- The frame waits, after this number of records, and all fills but the tail are closed, or the tail is empty; or it
 -- waits no more; or none is on the stack.
-data IsAlone (records : ℕ) (s : Writer) : Type 0 where
+data IsAlone (records : ℕ) (s : LineWriting) : Type 0 where
   none_left : s.frames ≡ [] → IsAlone records s
   still_waits : (frame : Frame)
       → s.frames ≡ frame ∷ []
@@ -183,7 +183,7 @@ module _ (n size start records : ℕ) (c : Core) (x : Exchange) (after : Core) (
       by_state payloads frame frame.state refl top e (λ at. absurd (not at))
 
 module _ (n size start records : ℕ) where
-  calls_served : (s : Writer) (payloads : List (List ℕ)) (calls : List Exchange) (t : Writer) (lefts : List (List ℕ))
+  calls_served : (s : LineWriting) (payloads : List (List ℕ)) (calls : List Exchange) (t : LineWriting) (lefts : List (List ℕ))
       → IsAlone records s
       → TopCalls n size start 0 s payloads calls t lefts
       → AreServed n start records calls
@@ -192,8 +192,8 @@ module _ (n size start records : ℕ) where
       let here = subst (IsAlone records) (sym call.before_is) alone in
       let some : call.core.frames ≢ [] =
       (λ none. let z = ap (λ (l : List Frame). length l)
-      (ap (λ (w : Writer). w.frames) (sym call.before_is) ∙ none) in omega arith) in
-      let event = subst (λ (w : Writer). x.event ≡ event_on_top w.frames payloads) (sym call.before_is) e in
+      (ap (λ (w : LineWriting). w.frames) (sym call.before_is) ∙ none) in omega arith) in
+      let event = subst (λ (w : LineWriting). x.event ≡ event_on_top w.frames payloads) (sym call.before_is) e in
       let next =
       subst (IsAlone records) call.after_is
       (alone_on n size start records call.core x call.next call.reached call.step payloads some event here) in (
@@ -202,16 +202,16 @@ module _ (n size start records : ℕ) where
       )
 
 -- after its push it is alone
-pushed_alone : (n size start : ℕ) (kind : Kind) (s u : Writer)
+pushed_alone : (n size start : ℕ) (kind : Kind) (s u : LineWriting)
     → s.frames ≡ []
     → IsWriterCall n size start s record { event = push_of kind; answer = pushed } u
     → IsAlone (length (reserved_records s.history)) u
 pushed_alone n size start kind s u none call = by_kind kind call
   where
     closed : s.done + 1 ≡ s.opened
-    closed = subst (λ (w : Writer). w.done + 1 ≡ w.opened) call.before_is
+    closed = subst (λ (w : LineWriting). w.done + 1 ≡ w.opened) call.before_is
         (closed_at_rest n size start call.core (reached_kept n size start call.core call.reached)
-        (ap (λ (w : Writer). w.frames) call.before_is ∙ none))
+        (ap (λ (w : LineWriting). w.frames) call.before_is ∙ none))
 
     by_kind : (k : Kind)
         → IsWriterCall n size start s record { event = push_of k; answer = pushed } u

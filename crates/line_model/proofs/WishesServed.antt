@@ -15,7 +15,7 @@ use Rattle.link_marks.specs.Reached.{IsReached}
 use Rattle.link_marks.proofs.frames.StackSteps.{wishing_left}
 use Rattle.link_marks.proofs.histories.HistorySteps.{top_agrees}
 use Rattle.link_marks.proofs.partition.RingsKept.{ring_start, ring_step}
-use Rattle.line_model.specs.Accounts.{NeedsPage}
+use Rattle.line_model.specs.Accounts.{NeedsPageAfter}
 
 -- ---- the bottom frame
 
@@ -198,5 +198,5 @@ reached_serves n size start c r =
     (λ found. absurd (let none : is_wished r.from.history ≡ false = ap is_wished r.is_new.history in let no : ⊥ = cc in no)) r.run
 
 -- with no frame on the stack no page is needed
-pub rests_unneeded : (n size start : ℕ) (c : Core) → IsReached n size start c → c.frames ≡ [] → NeedsPage size c.history [] → ⊥
+pub rests_unneeded : (n size start : ℕ) (c : Core) → IsReached n size start c → c.frames ≡ [] → NeedsPageAfter size c.history [] → ⊥
 rests_unneeded n size start c r none needed = subst (Serves c.opened) none (reached_serves n size start c r needed.0)

@@ -9,7 +9,7 @@ use Rattle.link_marks.proofs.contents.PackedRuns.{runs_packed}
 use Rattle.link_marks.proofs.partition.RingsKept.{reached_kept, reached_further}
 use Rattle.world_model.specs.Lanes.{payloads_left}
 use Rattle.line_model.specs.Lines.{first_state}
-use Rattle.line_model.specs.WriterCalls.{Writer, first_writer, IsWriterCall, TopCalls, StepsCalls, none_to_step, steps_top, FinishCalls, none_to_finish, finishes_top, begins_frame, begins_none, writes_frame, writes_none, LineCalls, LinesCalls, RestCalls}
+use Rattle.line_model.specs.WriterCalls.{LineWriting, first_writer, IsWriterCall, TopCalls, StepsCalls, none_to_step, steps_top, FinishCalls, none_to_finish, finishes_top, begins_frame, begins_none, writes_frame, writes_none, LineCalls, LinesCalls, RestCalls}
 use Rattle.line_model.specs.WriterHistories.{IsWellFormed, WritersFormHistories, WritersCommitWholeLines}
 use Rattle.line_model.proofs.LineCallsMade.{lines_calls_make}
 use Rattle.line_model.proofs.PartsJoined.{start_between}
@@ -40,19 +40,19 @@ none_formed size = (
 -- ---- calls
 
 module _ (n size start : ℕ) where
-  abbrev Formed : Writer → Type 0
+  abbrev Formed : LineWriting → Type 0
   Formed s = IsWellFormed size s.history
 
-  same_formed : (s t : Writer) → t ≡ s → Formed s → Formed t
+  same_formed : (s t : LineWriting) → t ≡ s → Formed s → Formed t
   same_formed s t same formed = subst Formed (sym same) formed
 
-  call_formed : (s : Writer) (x : Exchange) (t : Writer) → IsWriterCall n size start s x t → Formed t
+  call_formed : (s : LineWriting) (x : Exchange) (t : LineWriting) → IsWriterCall n size start s x t → Formed t
   call_formed s x t call =
       let reached = reached_further n size start call.core x.event x.answer call.next call.reached call.step in
       let kept = reached_kept n size start call.next reached in
       subst Formed call.after_is (kept.history.allowed, runs_packed n size start call.next kept)
 
-  top_formed : (depth : ℕ) (s : Writer) (payloads : List (List ℕ)) (calls : List Exchange) (t : Writer)
+  top_formed : (depth : ℕ) (s : LineWriting) (payloads : List (List ℕ)) (calls : List Exchange) (t : LineWriting)
       (lefts : List (List ℕ))
       → TopCalls n size start depth s payloads calls t lefts
       → Formed s
@@ -61,7 +61,7 @@ module _ (n size start : ℕ) where
   top_formed depth s payloads (x ∷ calls) t lefts (count, e, u, call, rest) formed =
       top_formed depth u (payloads_left u.frames payloads) calls t lefts rest (call_formed s x u call)
 
-  finish_formed : (s : Writer) (payloads : List (List ℕ)) (t : Writer) (lefts : List (List ℕ))
+  finish_formed : (s : LineWriting) (payloads : List (List ℕ)) (t : LineWriting) (lefts : List (List ℕ))
       → FinishCalls n size start s payloads t lefts
       → Formed s
       → Formed t
@@ -69,7 +69,7 @@ module _ (n size start : ℕ) where
   finish_formed s payloads t lefts (finishes_top depth calls some called low) formed =
       top_formed depth s payloads calls t lefts called formed
 
-  module _ (s : Writer) (payloads : List (List ℕ)) (t : Writer) (lefts : List (List ℕ)) where
+  module _ (s : LineWriting) (payloads : List (List ℕ)) (t : LineWriting) (lefts : List (List ℕ)) where
     steps_formed : (count : ℕ) → StepsCalls n size start count s payloads t lefts → Formed s → Formed t
     steps_formed count (none_to_step none same all) formed = same_formed s t same formed
     steps_formed count (steps_top depth x calls some called few) formed =
@@ -91,7 +91,7 @@ module _ (n size start : ℕ) where
     line_formed (close cpu) (writes_frame u call f) formed =
         finish_formed u ([] ∷ payloads) t lefts f (call_formed s _ u call)
 
-  lines_formed : (lines : List Command) (s : Writer) (payloads : List (List ℕ)) (t : Writer) (lefts : List (List ℕ))
+  lines_formed : (lines : List Command) (s : LineWriting) (payloads : List (List ℕ)) (t : LineWriting) (lefts : List (List ℕ))
       → LinesCalls n size start lines s payloads t lefts
       → Formed s
       → Formed t
@@ -99,7 +99,7 @@ module _ (n size start : ℕ) where
   lines_formed (line ∷ lines) s payloads t lefts (u, middle, calls, rest) formed =
       lines_formed lines u middle t lefts rest (line_formed s payloads u middle line calls formed)
 
-  rest_formed : (count : ℕ) (s : Writer) (payloads : List (List ℕ)) (t : Writer) (lefts : List (List ℕ))
+  rest_formed : (count : ℕ) (s : LineWriting) (payloads : List (List ℕ)) (t : LineWriting) (lefts : List (List ℕ))
       → RestCalls n size start count s payloads t lefts
       → Formed s
       → Formed t

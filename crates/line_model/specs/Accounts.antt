@@ -20,12 +20,12 @@ use Rattle.world_model.specs.Printing.{Shown, printed_world}
 
 -- The frames on the stack of a CPU, the top one first: the payload of each (of a close frame an empty one, which isn't
 -- written) until it has left. Only a bottom frame is still there then, to close fills, and for the reader's wish.
-abbrev pub Frames : Type 0
-Frames = List (Option (List ℕ))
+abbrev pub LineFrames : Type 0
+LineFrames = List (Option (List ℕ))
 
 -- What the frame on top does, with these below it: it pushes none, and may leave, once: with the payload of its line,
 -- in whole words, or without a record. When it has left it does nothing more, unless it is the bottom one.
-abbrev pub Does : Frames → Option (List ℕ) → List HistoryEvent → Option (List ℕ) → Type 0
+abbrev pub Does : LineFrames → Option (List ℕ) → List HistoryEvent → Option (List ℕ) → Type 0
 Does below frame [] after = after ≡ frame
 Does below (Some own) (open_fill ∷ history) after = Does below (Some own) history after
 Does below (Some own) (reserve ∷ history) after = Does below (Some own) history after
@@ -36,27 +36,28 @@ Does [] None (wished ∷ history) after = Does [] None history after
 Does below frame (_ ∷ history) after = ⊥
 
 -- nothing is done
-abbrev pub IsIdle : Frames → List HistoryEvent → Frames → Type 0
+abbrev pub IsIdle : LineFrames → List HistoryEvent → LineFrames → Type 0
 IsIdle frames history after = (history ≡ []) × (after ≡ frames)
 
 -- the line is one of this CPU, and Here holds; or nothing is done
-abbrev pub At : (cpu at : ℕ) → Frames → List HistoryEvent → Frames → Type 0 → Type 0
+abbrev pub At : (cpu at : ℕ) → LineFrames → List HistoryEvent → LineFrames → Type 0 → Type 0
 At cpu at frames history after Here = ((at ≡ cpu) × Here) ⊎ ((at ≢ cpu) × IsIdle frames history after)
 
 -- If Refused holds, nothing is done. Else the first event is that of the push, and Then holds of the events after it.
-abbrev pub Pushes : Type 0 → HistoryEvent → (List HistoryEvent → Type 0) → Frames → List HistoryEvent → Frames → Type 0
+abbrev pub Pushes : Type 0 → HistoryEvent → (List HistoryEvent → Type 0)
+    → LineFrames → List HistoryEvent → LineFrames → Type 0
 Pushes Refused event Then frames history after = (Refused × IsIdle frames history after)
     ⊎ ((Refused → ⊥) × (rest : List HistoryEvent) × (history ≡ event ∷ rest) × Then rest)
 
 -- A record frame is refused: the stack is full, its record is too long, or its moment is too late.
-abbrev pub IsRefused : (size moment len : ℕ) → Frames → Type 0
+abbrev pub IsRefused : (size moment len : ℕ) → LineFrames → Type 0
 IsRefused size moment len frames =
     (MAX_FRAMES ≤ length frames) ⊎ (size < encoded_len len 0 true) ⊎ (MOMENT_LIMIT ≤ moment)
 
 -- What a line adds to a CPU's history, if these frames are on its stack: `b` pushes one, `s` has the top one make
 -- steps, `f` has it go, `w` and `c` push one and have it go. After `s` the top one is still there, or gone. It is still
 -- there when it has left only if it is the bottom one.
-abbrev pub Adds : (cpu size : ℕ) → Command → Frames → List HistoryEvent → Frames → Type 0
+abbrev pub Adds : (cpu size : ℕ) → Command → LineFrames → List HistoryEvent → LineFrames → Type 0
 Adds cpu size (begin_frame at moment payload) frames history after = At cpu at frames history after
     (Pushes (IsRefused size moment (length payload) frames) (push moment (length payload))
     (λ rest. (rest ≡ []) × (after ≡ Some payload ∷ frames)) frames history after)
@@ -75,7 +76,7 @@ Adds cpu size _ frames history after = IsIdle frames history after
 
 -- What a line takes of a CPU: these fills; `after` is the window when the line has ended. `t` takes a fill, unless a
 -- frame is on the stack, or none is left that is closed and unread. `r` may take one.
-abbrev pub Takes : ℕ → Command → Frames → Window → List ℕ → Type 0
+abbrev pub Takes : ℕ → Command → LineFrames → Window → List ℕ → Type 0
 Takes cpu (take_page at) frames after fills = ((at ≡ cpu) × (length fills ≡ 1))
     ⊎ ((fills ≡ []) × ((at ≢ cpu) ⊎ ((frames ≢ []) ⊎ (after.head ≡ after.done))))
 Takes cpu (step_reader at count) frames after fills = (fills ≡ []) ⊎ ((at ≡ cpu) × (length fills ≡ 1))
@@ -103,12 +104,12 @@ HasNoPage n w = (w.opened ≡ w.done + n) ⊎ (LINK_FILLS ≤ w.opened + n)
 -- After a history the frame on top needs a page: a record frame whose record doesn't fit in the tail page; a close
 -- frame, if the tail page has a record; or, if all frames have left, the reader, whose wish was found since the last
 -- fill was begun.
-abbrev pub NeedsPage : ℕ → List HistoryEvent → List PushedFrame → Type 0
-NeedsPage size h [] = IsTrue (is_wished h) × (tail_of h ≢ [])
-NeedsPage size h (record_frame moment len None ∷ below) =
+abbrev pub NeedsPageAfter : ℕ → List HistoryEvent → List PushedFrame → Type 0
+NeedsPageAfter size h [] = IsTrue (is_wished h) × (tail_of h ≢ [])
+NeedsPageAfter size h (record_frame moment len None ∷ below) =
     size < fill_len (tail_of h ++ reservation_for moment len (reserved_records h) ∷ [])
-NeedsPage size h (record_frame moment len (Some number) ∷ below) = ⊥
-NeedsPage size h (close_frame ∷ below) = tail_of h ≢ []
+NeedsPageAfter size h (record_frame moment len (Some number) ∷ below) = ⊥
+NeedsPageAfter size h (close_frame ∷ below) = tail_of h ≢ []
 
 -- What may happen at this window of a ring of n positions, while these frames have not left: of the clauses the first
 -- that fits counts. A fill is begun, or the oldest one lost for it, only if a page is needed, and can be had: lost if
@@ -137,7 +138,7 @@ IsDue n w Needs Asked stack event = ⊥
 -- and if no frame is on the stack, all fills but the tail are closed, and no page is needed. Each event was due after
 -- those before it.
 pub record IsAccount (script : Script) (cpu : ℕ) (events : ℕ → List RingEvent) : Type 0 where
-  pub frames : ℕ → Frames
+  pub frames : ℕ → LineFrames
   pub first : (events 0 ≡ []) × (frames 0 ≡ [])
   pub lines : (k line : ℕ) (command : Command)
       → slice_get script.commands k ≡ Some (line, command)
@@ -149,11 +150,11 @@ pub record IsAccount (script : Script) (cpu : ℕ) (events : ℕ → List RingEv
   pub rests : (k : ℕ)
       → frames k ≡ []
       → ((window_at script.start (events k)).done + 1 ≡ (window_at script.start (events k)).opened)
-      × (NeedsPage script.size (history_events_of (events k)) [] → ⊥)
+      × (NeedsPageAfter script.size (history_events_of (events k)) [] → ⊥)
   pub due : (k : ℕ) (front behind : List RingEvent) (event : RingEvent)
       → events k ≡ front ++ event ∷ behind
       → IsDue script.pages (window_at script.start front)
-      (NeedsPage script.size (history_events_of front) (writer_after (history_events_of front)).stack)
+      (NeedsPageAfter script.size (history_events_of front) (writer_after (history_events_of front)).stack)
       ((j line : ℕ) × (j < k) × (slice_get script.commands j ≡ Some (line, wish cpu)))
       (writer_after (history_events_of front)).stack event
 

@@ -10,7 +10,7 @@ use Rattle.trace_model.specs.Steps.{frames_after_leave, with_new_tail, Exchange}
 use Rattle.trace_model.specs.Window.{RingEvent, IsWindow, history_events_of}
 use Rattle.world_model.specs.Lanes.{event_on_top, payloads_left}
 use Rattle.line_model.specs.Lines.{LineState, OpenFrame, with_top_stepped, TopRun, MayGo, ReservesFirst}
-use Rattle.line_model.specs.WriterCalls.{Writer, writer_of, IsWriterCall}
+use Rattle.line_model.specs.WriterCalls.{LineWriting, writer_of, IsWriterCall}
 
 -- A frame may leave without a record: it wants none; or the record doesn't fit, and all pages have fills that aren't
 -- closed, or no number is left.
@@ -126,7 +126,7 @@ AreOpenFrames (frame ∷ below) payloads frames_open finishing =
 
 -- The state is that of the writer. Its head is any that its window allows, since a writer doesn't know the reader's
 -- takes.
-pub record Agrees (n : ℕ) (p : LineState) (payloads : List (List ℕ)) (s : Writer) : Type 0 where
+pub record Agrees (n : ℕ) (p : LineState) (payloads : List (List ℕ)) (s : LineWriting) : Type 0 where
   pub history : p.history ≡ s.history
   pub done : p.window.done ≡ s.done
   pub opened : p.window.opened ≡ s.opened
@@ -145,7 +145,7 @@ IsRecordOnTop (frame ∷ below) = frame.kind ≢ for_close
 -- One call for the top frame makes events of it, from a state that agrees with the writer to one that does again. If
 -- it is the frame's first step and its record fits, the record is reserved. For a record frame there is at most one
 -- history event.
-pub record MakesEvents (n size : ℕ) (s t : Writer) (payloads : List (List ℕ)) (p : LineState) : Type 0 where
+pub record MakesEvents (n size : ℕ) (s t : LineWriting) (payloads : List (List ℕ)) (p : LineState) : Type 0 where
   pub events : List RingEvent
   pub reached : LineState
   pub behind : LineState
@@ -157,7 +157,7 @@ pub record MakesEvents (n size : ℕ) (s t : Writer) (payloads : List (List ℕ)
   pub few : IsRecordOnTop s.frames → length (history_events_of events) ≤ 1
 
 abbrev pub CallsMakeEvents : Type 0
-CallsMakeEvents = (n size start : ℕ) (s : Writer) (x : Exchange) (t : Writer) (payloads : List (List ℕ))
+CallsMakeEvents = (n size start : ℕ) (s : LineWriting) (x : Exchange) (t : LineWriting) (payloads : List (List ℕ))
     (p : LineState)
     → IsWriterCall n size start s x t
     → s.frames ≢ []

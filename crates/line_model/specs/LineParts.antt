@@ -7,15 +7,15 @@ use Rattle.trace_model.specs.Steps.{Answer, pushes, pushes_close, pushed, refuse
 use Rattle.text_model.specs.Script.{Command, begin_frame, write, close}
 use Rattle.world_model.specs.Lanes.{event_on_top, payloads_left}
 use Rattle.line_model.specs.Lines.{LineState, first_state, FinishPart, LinePart, LineParts, FinishParts, IsMadeByLines}
-use Rattle.line_model.specs.WriterCalls.{Writer, first_writer, IsWriterCall, TopCalls, FinishCalls, LineCalls, LinesCalls, RestCalls}
+use Rattle.line_model.specs.WriterCalls.{LineWriting, first_writer, IsWriterCall, TopCalls, FinishCalls, LineCalls, LinesCalls, RestCalls}
 use Rattle.line_model.specs.CallEvents.{Agrees}
 
 -- ---- single calls
 
 -- Calls for the top frame until it is popped are a part as of `f`.
 abbrev pub CallsFinish : Type 0
-CallsFinish = (n size start depth : ℕ) (s : Writer) (payloads : List (List ℕ)) (calls : List Exchange) (t : Writer)
-    (lefts : List (List ℕ)) (p : LineState)
+CallsFinish = (n size start depth : ℕ) (s : LineWriting) (payloads : List (List ℕ)) (calls : List Exchange)
+    (t : LineWriting) (lefts : List (List ℕ)) (p : LineState)
     → Agrees n p payloads s
     → length s.frames ≡ suc depth
     → TopCalls n size start depth s payloads calls t lefts
@@ -24,7 +24,7 @@ CallsFinish = (n size start depth : ℕ) (s : Writer) (payloads : List (List ℕ
 
 -- A push that isn't refused is the part of a `b` line. If it is refused, there is no event, which is the part of a `b`
 -- and of a `w` line.
-abbrev pub PushMakes : (n size cpu moment : ℕ) → List ℕ → Answer → Writer → List (List ℕ) → LineState → Type 0
+abbrev pub PushMakes : (n size cpu moment : ℕ) → List ℕ → Answer → LineWriting → List (List ℕ) → LineState → Type 0
 PushMakes n size cpu moment payload answer u payloads p =
     ((answer ≡ pushed)
     × (behind : LineState)
@@ -38,7 +38,7 @@ PushMakes n size cpu moment payload answer u payloads p =
 
 -- What a push makes.
 abbrev pub PushesMake : Type 0
-PushesMake = (n size start cpu moment : ℕ) (payload : List ℕ) (answer : Answer) (s u : Writer)
+PushesMake = (n size start cpu moment : ℕ) (payload : List ℕ) (answer : Answer) (s u : LineWriting)
     (payloads : List (List ℕ)) (p : LineState)
     → Agrees n p payloads s
     → IsWriterCall n size start s record { event = pushes moment (length payload); answer = answer } u
@@ -46,8 +46,8 @@ PushesMake = (n size start cpu moment : ℕ) (payload : List ℕ) (answer : Answ
 
 -- A push, and calls until its frame is popped, are the part of a `w` line.
 abbrev pub WritesMake : Type 0
-WritesMake = (n size start cpu moment : ℕ) (payload : List ℕ) (s u : Writer) (payloads : List (List ℕ))
-    (calls : List Exchange) (t : Writer) (lefts : List (List ℕ)) (p : LineState)
+WritesMake = (n size start cpu moment : ℕ) (payload : List ℕ) (s u : LineWriting) (payloads : List (List ℕ))
+    (calls : List Exchange) (t : LineWriting) (lefts : List (List ℕ)) (p : LineState)
     → Agrees n p payloads s
     → IsWriterCall n size start s record { event = pushes moment (length payload); answer = pushed } u
     → TopCalls n size start (length s.frames) u (payload ∷ payloads) calls t lefts
@@ -58,8 +58,8 @@ WritesMake = (n size start cpu moment : ℕ) (payload : List ℕ) (s u : Writer)
 
 -- A close frame's push, and calls until it is popped, are the part of a `c` line; if it is refused, there is no event.
 abbrev pub ClosesMake : Type 0
-ClosesMake = (n size start cpu : ℕ) (answer : Answer) (s u : Writer) (payloads : List (List ℕ))
-    (calls : List Exchange) (t : Writer) (lefts : List (List ℕ)) (p : LineState)
+ClosesMake = (n size start cpu : ℕ) (answer : Answer) (s u : LineWriting) (payloads : List (List ℕ))
+    (calls : List Exchange) (t : LineWriting) (lefts : List (List ℕ)) (p : LineState)
     → Agrees n p payloads s
     → IsWriterCall n size start s record { event = pushes_close; answer = answer } u
     → (answer ≡ pushed
@@ -78,7 +78,7 @@ AreForRecords [] = ⊤
 AreForRecords (frame ∷ below) = ((moment : ℕ) × (len : ℕ) × (frame.kind ≡ for_record moment len)) × AreForRecords below
 
 -- Between two lines the state is that of the writer, and no close frame is on the stack: `c` finishes its frame.
-pub record IsBetweenLines (n : ℕ) (p : LineState) (payloads : List (List ℕ)) (s : Writer) : Type 0 where
+pub record IsBetweenLines (n : ℕ) (p : LineState) (payloads : List (List ℕ)) (s : LineWriting) : Type 0 where
   pub agrees : Agrees n p payloads s
   pub for_records : AreForRecords s.frames
 
@@ -90,7 +90,7 @@ StartIsBetweenLines = (n start : ℕ)
 
 -- The calls of a line make its part.
 abbrev pub LineCallsMake : Type 0
-LineCallsMake = (n size start : ℕ) (line : Command) (s : Writer) (payloads : List (List ℕ)) (t : Writer)
+LineCallsMake = (n size start : ℕ) (line : Command) (s : LineWriting) (payloads : List (List ℕ)) (t : LineWriting)
     (lefts : List (List ℕ)) (p : LineState)
     → IsBetweenLines n p payloads s
     → LineCalls n size start line s payloads t lefts
@@ -98,15 +98,15 @@ LineCallsMake = (n size start : ℕ) (line : Command) (s : Writer) (payloads : L
 
 -- The calls of lines make their parts.
 abbrev pub LinesCallsMake : Type 0
-LinesCallsMake = (n size start : ℕ) (lines : List Command) (s : Writer) (payloads : List (List ℕ)) (t : Writer)
-    (lefts : List (List ℕ)) (p : LineState)
+LinesCallsMake = (n size start : ℕ) (lines : List Command) (s : LineWriting) (payloads : List (List ℕ))
+    (t : LineWriting) (lefts : List (List ℕ)) (p : LineState)
     → IsBetweenLines n p payloads s
     → LinesCalls n size start lines s payloads t lefts
     → (events : List RingEvent) × (q : LineState) × LineParts n size lines p events q × IsBetweenLines n q lefts t
 
 -- The frames that are left at the end are finished by parts as of `f`.
 abbrev pub RestCallsMake : Type 0
-RestCallsMake = (n size start count : ℕ) (s : Writer) (payloads : List (List ℕ)) (t : Writer)
+RestCallsMake = (n size start count : ℕ) (s : LineWriting) (payloads : List (List ℕ)) (t : LineWriting)
     (lefts : List (List ℕ)) (p : LineState)
     → IsBetweenLines n p payloads s
     → RestCalls n size start count s payloads t lefts
@@ -121,8 +121,8 @@ PartsGoOn = (n size : ℕ) (lines : List Command) (line : Command) (p q t : Line
 
 -- One more call for the top frame after others; one more line's calls; and one more frame that is finished at the end.
 abbrev pub TopCallsGoOn : Type 0
-TopCallsGoOn = (n size start depth : ℕ) (s : Writer) (payloads : List (List ℕ)) (calls : List Exchange) (t : Writer)
-    (lefts : List (List ℕ)) (x : Exchange) (u : Writer)
+TopCallsGoOn = (n size start depth : ℕ) (s : LineWriting) (payloads : List (List ℕ)) (calls : List Exchange)
+    (t : LineWriting) (lefts : List (List ℕ)) (x : Exchange) (u : LineWriting)
     → TopCalls n size start depth s payloads calls t lefts
     → length t.frames ≡ suc depth
     → x.event ≡ event_on_top t.frames lefts
@@ -130,15 +130,15 @@ TopCallsGoOn = (n size start depth : ℕ) (s : Writer) (payloads : List (List �
     → TopCalls n size start depth s payloads (calls ++ x ∷ []) u (payloads_left u.frames lefts)
 
 abbrev pub LinesCallsGoOn : Type 0
-LinesCallsGoOn = (n size start : ℕ) (lines : List Command) (line : Command) (s : Writer) (payloads : List (List ℕ))
-    (t : Writer) (lefts : List (List ℕ)) (u : Writer) (others : List (List ℕ))
+LinesCallsGoOn = (n size start : ℕ) (lines : List Command) (line : Command) (s : LineWriting) (payloads : List (List ℕ))
+    (t : LineWriting) (lefts : List (List ℕ)) (u : LineWriting) (others : List (List ℕ))
     → LinesCalls n size start lines s payloads t lefts
     → LineCalls n size start line t lefts u others
     → LinesCalls n size start (lines ++ line ∷ []) s payloads u others
 
 abbrev pub RestCallsGoOn : Type 0
-RestCallsGoOn = (n size start count : ℕ) (s : Writer) (payloads : List (List ℕ)) (t : Writer)
-    (lefts : List (List ℕ)) (u : Writer) (others : List (List ℕ))
+RestCallsGoOn = (n size start count : ℕ) (s : LineWriting) (payloads : List (List ℕ)) (t : LineWriting)
+    (lefts : List (List ℕ)) (u : LineWriting) (others : List (List ℕ))
     → RestCalls n size start count s payloads t lefts
     → FinishCalls n size start t lefts u others
     → RestCalls n size start (suc count) s payloads u others
@@ -146,8 +146,8 @@ RestCallsGoOn = (n size start count : ℕ) (s : Writer) (payloads : List (List �
 -- From a new ring, the calls of lines, and then calls that finish the frames which are left until the stack is empty,
 -- make the history of these lines.
 abbrev pub WriterMakesLines : Type 0
-WriterMakesLines = (n size start count : ℕ) (lines : List Command) (s : Writer) (payloads : List (List ℕ))
-    (t : Writer) (lefts : List (List ℕ))
+WriterMakesLines = (n size start count : ℕ) (lines : List Command) (s : LineWriting) (payloads : List (List ℕ))
+    (t : LineWriting) (lefts : List (List ℕ))
     → 1 ≤ n
     → LinesCalls n size start lines (first_writer start) [] s payloads
     → RestCalls n size start count s payloads t lefts

@@ -6,7 +6,7 @@ use Rattle.trace_model.specs.Frames.{Kind, for_record, for_close, crowded, worn}
 use Rattle.trace_model.specs.Ring.{Core}
 use Rattle.trace_model.specs.Steps.{Event, pushes, pushes_close, Answer, pushed, refused, Step, Exchange}
 use Rattle.link_marks.specs.AnswerLaws.{IsInNeed}
-use Rattle.line_model.specs.WriterCalls.{Writer, IsWriterCall, TopCalls}
+use Rattle.line_model.specs.WriterCalls.{LineWriting, IsWriterCall, TopCalls}
 
 -- A frame is refused as crowded or as worn only if it is about to reserve and needs a page.
 abbrev pub RefusedFramesNeedPages : Type 0
@@ -33,8 +33,8 @@ AreServed n start records (x ∷ calls) = IsServed n start records x × AreServe
 
 -- All calls for a frame that was pushed on an empty stack, and above which none is pushed, are served.
 abbrev pub SingleFramesAreServed : Type 0
-SingleFramesAreServed = (n size start : ℕ) (kind : Kind) (payload : List ℕ) (s u : Writer) (calls : List Exchange)
-    (t : Writer) (lefts : List (List ℕ))
+SingleFramesAreServed = (n size start : ℕ) (kind : Kind) (payload : List ℕ) (s u : LineWriting) (calls : List Exchange)
+    (t : LineWriting) (lefts : List (List ℕ))
     → s.frames ≡ []
     → IsWriterCall n size start s record { event = push_of kind; answer = pushed } u
     → TopCalls n size start 0 u (payload ∷ []) calls t lefts

@@ -11,21 +11,21 @@ use Rattle.world_model.specs.Lanes.{event_on_top, payloads_left}
 
 -- The part of a ring that its writer alone changes, as far as lines are concerned: its frames, its history, and the
 -- counts of closed and begun fills.
-pub record Writer : Type 0 where
+pub record LineWriting : Type 0 where
   pub frames : List Frame
   pub history : List HistoryEvent
   pub done : ℕ
   pub opened : ℕ
 
-abbrev pub writer_of : Core → Writer
+abbrev pub writer_of : Core → LineWriting
 writer_of c = record { frames = c.frames; history = c.history; done = c.done; opened = c.opened }
 
 -- the writer of a new ring
-abbrev pub first_writer : ℕ → Writer
+abbrev pub first_writer : ℕ → LineWriting
 first_writer start = record { frames = []; history = []; done = start; opened = start + 1 }
 
 -- One call: a step of some ring that steps reach. The ring has the one writer before it and the other after it.
-pub record IsWriterCall (n size start : ℕ) (before : Writer) (x : Exchange) (after : Writer) : Type 0 where
+pub record IsWriterCall (n size start : ℕ) (before : LineWriting) (x : Exchange) (after : LineWriting) : Type 0 where
   pub core : Core
   pub next : Core
   pub reached : IsReached n size start core
@@ -35,20 +35,20 @@ pub record IsWriterCall (n size start : ℕ) (before : Writer) (x : Exchange) (a
 
 -- Calls for the frame that has depth frames below it, while it is on the stack: its steps, and the end with its
 -- payload. The frames on the stack have these payloads before the calls, the top one's first, and lefts after them.
-abbrev pub TopCalls : (n size start depth : ℕ) → Writer → (payloads : List (List ℕ)) → List Exchange → Writer
+abbrev pub TopCalls : (n size start depth : ℕ) → LineWriting → (payloads : List (List ℕ)) → List Exchange → LineWriting
     → (lefts : List (List ℕ)) → Type 0
 TopCalls n size start depth before payloads [] after lefts = (before ≡ after) × (payloads ≡ lefts)
 TopCalls n size start depth before payloads (x ∷ calls) after lefts =
     (length before.frames ≡ suc depth)
     × (x.event ≡ event_on_top before.frames payloads)
-    × (between : Writer)
+    × (between : LineWriting)
     × IsWriterCall n size start before x between
     × TopCalls n size start depth between (payloads_left between.frames payloads) calls after lefts
 
 -- ---- the calls of a line
 
 -- `s K`: at most K calls for the top frame; none if there is no frame
-pub data StepsCalls (n size start count : ℕ) (before : Writer) (payloads : List (List ℕ)) (after : Writer)
+pub data StepsCalls (n size start count : ℕ) (before : LineWriting) (payloads : List (List ℕ)) (after : LineWriting)
     (lefts : List (List ℕ))
     : Type 0 where
   none_to_step : before.frames ≡ []
@@ -62,7 +62,7 @@ pub data StepsCalls (n size start count : ℕ) (before : Writer) (payloads : Lis
       → StepsCalls n size start count before payloads after lefts
 
 -- `f`: calls for the top frame until it is popped; none if there is no frame
-pub data FinishCalls (n size start : ℕ) (before : Writer) (payloads : List (List ℕ)) (after : Writer)
+pub data FinishCalls (n size start : ℕ) (before : LineWriting) (payloads : List (List ℕ)) (after : LineWriting)
     (lefts : List (List ℕ))
     : Type 0 where
   none_to_finish : before.frames ≡ []
@@ -76,8 +76,8 @@ pub data FinishCalls (n size start : ℕ) (before : Writer) (payloads : List (Li
       → FinishCalls n size start before payloads after lefts
 
 -- `b`: the push of a frame with this payload; or its refusal
-pub data BeginCalls (n size start : ℕ) (event : Event) (payload : List ℕ) (before : Writer) (payloads : List (List ℕ))
-    (after : Writer) (lefts : List (List ℕ))
+pub data BeginCalls (n size start : ℕ) (event : Event) (payload : List ℕ) (before : LineWriting)
+    (payloads : List (List ℕ)) (after : LineWriting) (lefts : List (List ℕ))
     : Type 0 where
   begins_frame :
       IsWriterCall n size start before record { event = event; answer = pushed } after
@@ -89,10 +89,10 @@ pub data BeginCalls (n size start : ℕ) (event : Event) (payload : List ℕ) (b
       → BeginCalls n size start event payload before payloads after lefts
 
 -- `w` and `c`: the push and then as `f`; or its refusal
-pub data WholeCalls (n size start : ℕ) (event : Event) (payload : List ℕ) (before : Writer) (payloads : List (List ℕ))
-    (after : Writer) (lefts : List (List ℕ))
+pub data WholeCalls (n size start : ℕ) (event : Event) (payload : List ℕ) (before : LineWriting)
+    (payloads : List (List ℕ)) (after : LineWriting) (lefts : List (List ℕ))
     : Type 0 where
-  writes_frame : (between : Writer)
+  writes_frame : (between : LineWriting)
       → IsWriterCall n size start before record { event = event; answer = pushed } between
       → FinishCalls n size start between (payload ∷ payloads) after lefts
       → WholeCalls n size start event payload before payloads after lefts
@@ -102,11 +102,11 @@ pub data WholeCalls (n size start : ℕ) (event : Event) (payload : List ℕ) (b
       → WholeCalls n size start event payload before payloads after lefts
 
 -- nothing is called
-abbrev pub NoCalls : Writer → List (List ℕ) → Writer → List (List ℕ) → Type 0
+abbrev pub NoCalls : LineWriting → List (List ℕ) → LineWriting → List (List ℕ) → Type 0
 NoCalls before payloads after lefts = (after ≡ before) × (lefts ≡ payloads)
 
 -- the calls of one line; for a line of the reader or of a collector there are none
-abbrev pub LineCalls : (n size start : ℕ) → Command → Writer → List (List ℕ) → Writer → List (List ℕ) → Type 0
+abbrev pub LineCalls : (n size start : ℕ) → Command → LineWriting → List (List ℕ) → LineWriting → List (List ℕ) → Type 0
 LineCalls n size start (begin_frame cpu moment payload) before payloads after lefts =
     BeginCalls n size start (pushes moment (length payload)) payload before payloads after lefts
 LineCalls n size start (step_frame cpu count) before payloads after lefts =
@@ -120,17 +120,18 @@ LineCalls n size start (close cpu) before payloads after lefts =
 LineCalls n size start _ before payloads after lefts = NoCalls before payloads after lefts
 
 -- the calls of lines, one line after the other
-abbrev pub LinesCalls : (n size start : ℕ) → List Command → Writer → List (List ℕ) → Writer → List (List ℕ) → Type 0
+abbrev pub LinesCalls : (n size start : ℕ) → List Command → LineWriting → List (List ℕ)
+    → LineWriting → List (List ℕ) → Type 0
 LinesCalls n size start [] before payloads after lefts = NoCalls before payloads after lefts
 LinesCalls n size start (line ∷ lines) before payloads after lefts =
-    (between : Writer) × (middle : List (List ℕ))
+    (between : LineWriting) × (middle : List (List ℕ))
     × LineCalls n size start line before payloads between middle
     × LinesCalls n size start lines between middle after lefts
 
 -- the frames on the stack are finished, the top one first, this number of them
-abbrev pub RestCalls : (n size start count : ℕ) → Writer → List (List ℕ) → Writer → List (List ℕ) → Type 0
+abbrev pub RestCalls : (n size start count : ℕ) → LineWriting → List (List ℕ) → LineWriting → List (List ℕ) → Type 0
 RestCalls n size start zero before payloads after lefts = NoCalls before payloads after lefts
 RestCalls n size start (suc count) before payloads after lefts =
-    (between : Writer) × (middle : List (List ℕ))
+    (between : LineWriting) × (middle : List (List ℕ))
     × FinishCalls n size start before payloads between middle
     × RestCalls n size start count between middle after lefts

@@ -4,7 +4,7 @@ use Rattle.trace_model.specs.declared.limits.TheConstants.{MIN_PAGES, LINK_FILLS
 use Rattle.trace_model.specs.History.{HistoryEvent, IsHistory, committed_records}
 use Rattle.trace_model.specs.Packing.{IsPacked}
 use Rattle.text_model.specs.Script.{Command}
-use Rattle.line_model.specs.WriterCalls.{Writer, first_writer, LinesCalls, RestCalls}
+use Rattle.line_model.specs.WriterCalls.{LineWriting, first_writer, LinesCalls, RestCalls}
 use Rattle.line_model.specs.WrittenRecords.{AllWriteOrClose, records_of_lines}
 
 -- the history keeps the discipline of the stack, and is packed in pages of this size
@@ -13,8 +13,8 @@ IsWellFormed size history = IsHistory history × IsPacked history size
 
 -- From a new ring, the calls of lines, and those that finish the frames which are left, make such a history.
 abbrev pub WritersFormHistories : Type 0
-WritersFormHistories = (n size start count : ℕ) (lines : List Command) (s : Writer) (payloads : List (List ℕ))
-    (t : Writer) (lefts : List (List ℕ))
+WritersFormHistories = (n size start count : ℕ) (lines : List Command) (s : LineWriting) (payloads : List (List ℕ))
+    (t : LineWriting) (lefts : List (List ℕ))
     → LinesCalls n size start lines (first_writer start) [] s payloads
     → RestCalls n size start count s payloads t lefts
     → IsWellFormed size s.history × IsWellFormed size t.history
@@ -22,7 +22,7 @@ WritersFormHistories = (n size start count : ℕ) (lines : List Command) (s : Wr
 -- A writer with `w` and `c` lines alone, at most as many as there are numbers left for fills, has committed exactly the
 -- records of its `w` lines that are neither too long nor too late, in order, moments raised.
 abbrev pub WritersCommitWholeLines : Type 0
-WritersCommitWholeLines = (n size start : ℕ) (lines : List Command) (s : Writer) (payloads : List (List ℕ))
+WritersCommitWholeLines = (n size start : ℕ) (lines : List Command) (s : LineWriting) (payloads : List (List ℕ))
     → MIN_PAGES ≤ n
     → AllWriteOrClose lines
     → start + length lines + n ≤ LINK_FILLS

@@ -2,7 +2,7 @@
 use Rattle.std.proofs.Common.{◌≡◌, ◌≢◌, ℕ, suc, ◌+◌, ◌-◌, ◌<◌, ◌≤◌, ◌⊎◌, ⊎_elim, Bool, true, false, List, [], ◌∷◌, ◌++◌, length, refl, sym, ap, ◌∙◌, subst, arith, length-append}
 use Rattle.trace_model.specs.Steps.{Event, pushes, Exchange}
 use Rattle.text_model.specs.Script.{begin_frame, step_frame, finish_frame}
-use Rattle.line_model.specs.WriterCalls.{Writer, IsWriterCall, TopCalls, StepsCalls, steps_top, FinishCalls, finishes_top, begins_frame, begins_none, WholeCalls, writes_frame, writes_none}
+use Rattle.line_model.specs.WriterCalls.{LineWriting, IsWriterCall, TopCalls, StepsCalls, steps_top, FinishCalls, finishes_top, begins_frame, begins_none, WholeCalls, writes_frame, writes_none}
 use Rattle.line_model.proofs.PartsJoined.{top_calls_go_on}
 use Rattle.line_model.proofs.CallParts.{call_moves}
 use Rattle.ring_steps.specs.declared.rule.Shape.{Shape}
@@ -72,10 +72,10 @@ module _ (depth made : ℕ) (old new : LineWriter) (deep : depth ≡ length old.
   abbrev start : ℕ
   start = old.writer.shape.start
 
-  abbrev before : Writer
+  abbrev before : LineWriting
   before = writer_in old.writer.part
 
-  abbrev after : Writer
+  abbrev after : LineWriting
   after = writer_in new.writer.part
 
   deep_is : length old.writer.part.frames ≡ suc (depth - 1)
@@ -90,7 +90,7 @@ module _ (depth made : ℕ) (old new : LineWriter) (deep : depth ≡ length old.
         → StepsCalls pages size start count before (payloads_of old) after (payloads_of new)
     by_calls [] many (same, all) =
         ⊎_elim (λ enough. absurd (omega arith))
-        (λ other. absurd (other (ap (λ (w : Writer). length w.frames) (sym same) ∙ sym deep))) stop
+        (λ other. absurd (other (ap (λ (w : LineWriting). length w.frames) (sym same) ∙ sym deep))) stop
     by_calls (x ∷ calls) many run = steps_top (depth - 1) x calls deep_is run (omega (arith, many))
 
     pub stepped : (cpu : ℕ) → MakesLine (step_frame cpu count) old new

@@ -10,7 +10,7 @@ use Rattle.trace_model.proofs.collections.Elements.{some_is}
 use Rattle.text_model.specs.Script.{Command, finish_frame}
 use Rattle.line_model.specs.Lines.{writer_lines, IsMadeByLines}
 use Rattle.line_model.specs.ReplayedLines.{commands_of}
-use Rattle.line_model.specs.WriterCalls.{Writer, first_writer, LineCalls, LinesCalls, RestCalls, FinishCalls}
+use Rattle.line_model.specs.WriterCalls.{LineWriting, first_writer, LineCalls, LinesCalls, RestCalls, FinishCalls}
 use Rattle.line_model.proofs.PartsJoined.{lines_calls_go_on, rest_calls_go_on}
 use Rattle.line_model.proofs.LineCallsMade.{writer_makes_lines}
 use Rattle.line_model.proofs.WrittenLines.{whole_lines_commit}
@@ -156,7 +156,7 @@ module _ (cpu : ℕ) (commands : List (ℕ × Command)) (before : WriterValue) (
   calls : LinesCalls shape.pages shape.size shape.start lines (first_writer shape.start) [] (writer_in mid.writer.part)
       (payloads_of mid)
   calls =
-      subst (λ (w : Writer). LinesCalls shape.pages shape.size shape.start lines w [] (writer_in mid.writer.part)
+      subst (λ (w : LineWriting). LinesCalls shape.pages shape.size shape.start lines w [] (writer_in mid.writer.part)
       (payloads_of mid)) start_is
       (subst (λ (l : List (List ℕ)). LinesCalls shape.pages shape.size shape.start lines (writer_in first.writer.part) l
       (writer_in mid.writer.part) (payloads_of mid)) none

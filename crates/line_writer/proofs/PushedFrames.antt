@@ -7,7 +7,7 @@ use Rattle.trace_model.specs.Frames.{Frame, Refusal}
 use Rattle.trace_model.specs.Steps as model
 use Rattle.trace_model.specs.Steps.{Event, pushes, pushes_close, pushed, refused}
 use Rattle.world_model.specs.Lanes.{FitsKind, FitFrames}
-use Rattle.line_model.specs.WriterCalls.{Writer, IsWriterCall}
+use Rattle.line_model.specs.WriterCalls.{LineWriting, IsWriterCall}
 use Rattle.line_model.proofs.PushParts.{Pushing, pushing_of}
 use Rattle.line_model.proofs.CloseParts.{Closing, closing_of}
 use Rattle.ring_frames.specs.declared.answer.Answer.{Answer}
@@ -38,7 +38,7 @@ call_of shape before event result after c = record {
 
 -- ---- what a push makes of the frames
 
-pub data IsPushOutcome (payload : List ℕ) (before : Writer) (reported : model.Answer) (after : Writer) : Type 0 where
+pub data IsPushOutcome (payload : List ℕ) (before : LineWriting) (reported : model.Answer) (after : LineWriting) : Type 0 where
   stands : (frame : Frame)
       → reported ≡ pushed
       → after.frames ≡ frame ∷ before.frames
@@ -47,18 +47,18 @@ pub data IsPushOutcome (payload : List ℕ) (before : Writer) (reported : model.
       → IsPushOutcome payload before reported after
   fails : (why : Refusal) → reported ≡ refused why → after ≡ before → IsPushOutcome payload before reported after
 
-of_record : (size moment : ℕ) (payload : List ℕ) (before : Writer) (reported : model.Answer) (after : Writer)
+of_record : (size moment : ℕ) (payload : List ℕ) (before : LineWriting) (reported : model.Answer) (after : LineWriting)
     → Pushing size before moment (length payload) reported after
     → IsPushOutcome payload before reported after
 of_record size moment payload before reported after (inl (e, may, is)) =
-    stands _ e (ap (λ (w : Writer). w.frames) is) refl
+    stands _ e (ap (λ (w : LineWriting). w.frames) is) refl
     (let few : MAX_FRAMES ≤ length before.frames → ⊥ = λ many. may (inl many) in omega arith)
 of_record size moment payload before reported after (inr (why, e, because, is)) = fails why e is
 
-of_close : (before : Writer) (reported : model.Answer) (after : Writer)
+of_close : (before : LineWriting) (reported : model.Answer) (after : LineWriting)
     → Closing before reported after
     → IsPushOutcome [] before reported after
-of_close before reported after (inl (e, few, is)) = stands _ e (ap (λ (w : Writer). w.frames) is) refl few
+of_close before reported after (inl (e, few, is)) = stands _ e (ap (λ (w : LineWriting). w.frames) is) refl few
 of_close before reported after (inr (why, e, many, is)) = fails why e is
 
 module _ (shape : Shape) (before : Writing) (result : Answer) (after : Writing) where
@@ -104,7 +104,7 @@ module _ (old : LineWriter) (is : IsLineWriter old) (v : WriterValue) (event : E
       absurd (reported_pushed old.writer.shape.size result makes.call.answer makes.call.reports e not)
   behind_refused (fails why e same) not =
       let new : LineWriter = record { writer = v; payloads = old.payloads } in
-      let frames : v.part.frames ≡ old.writer.part.frames = ap (λ (w : Writer). w.frames) same in
+      let frames : v.part.frames ≡ old.writer.part.frames = ap (λ (w : LineWriting). w.frames) same in
       let payloads : payloads_of new ≡ payloads_of old =
       ap (λ (l : List Frame). reverse (map (λ (b : Bor (List ℕ)). b.now) (take (length l) old.payloads))) frames in
       record {

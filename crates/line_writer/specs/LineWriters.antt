@@ -5,7 +5,7 @@ use Rattle.trace_model.specs.Frames.{Refusal}
 use Rattle.trace_model.specs.Steps.{Event, pushes, pushed, refused, Exchange}
 use Rattle.text_model.specs.Script.{Command}
 use Rattle.world_model.specs.Lanes.{FitFrames, event_on_top, payloads_left}
-use Rattle.line_model.specs.WriterCalls.{Writer, IsWriterCall, WholeCalls, LineCalls, LinesCalls, RestCalls}
+use Rattle.line_model.specs.WriterCalls.{LineWriting, IsWriterCall, WholeCalls, LineCalls, LinesCalls, RestCalls}
 use Rattle.ring_steps.specs.Views.{Writing}
 use Rattle.ring_shared.specs.Value.{SameWriter}
 use Rattle.ring_shared.specs.Calls.{IsWriter}
@@ -13,7 +13,7 @@ use Rattle.line_writer.specs.declared.frames.LineWriter.{LineWriter}
 use Rattle.line_writer.specs.Distance.{distance}
 
 -- the part of a ring that its writer alone changes, as far as lines are concerned
-abbrev pub writer_in : Writing → Writer
+abbrev pub writer_in : Writing → LineWriting
 writer_in w = record { frames = w.frames; history = w.history; done = w.done; opened = w.opened }
 
 -- the payload of each frame, the top one's first
@@ -63,7 +63,8 @@ pub record CallsTop (old new : LineWriter) : Type 0 where
 
 -- calls of this kind, some or none, lead from one to the other
 pub record MakesCalls
-    (calls : (n size start : ℕ) → Writer → List (List ℕ) → Writer → List (List ℕ) → Type 0) (old new : LineWriter)
+    (calls : (n size start : ℕ) → LineWriting → List (List ℕ) → LineWriting → List (List ℕ) → Type 0)
+    (old new : LineWriter)
     : Type 0 where
   pub is : IsLineWriter new
   pub same : SameWriter old.writer new.writer

@@ -11,8 +11,8 @@ use Rattle.collector.specs.declared.added.Added.TheVariants.{New, Known}
 use Rattle.collector.specs.declared.fault.AddFault.{AddFault}
 use Rattle.collector.specs.declared.fault.AddFault.TheVariants.{NoMemory as no_memory_to_add}
 use Rattle.collector.specs.Faults.{IsAddFault}
-use Rattle.listed_collector.specs.declared.adding.Refusal.{Refusal}
-use Rattle.listed_collector.specs.declared.adding.Refusal.TheVariants.{Parcel as NoParcel, Add as NotAdded}
+use Rattle.listed_collector.specs.declared.adding.AddRefusal.{AddRefusal}
+use Rattle.listed_collector.specs.declared.adding.AddRefusal.TheVariants.{Parcel as NoParcel, Add as NotAdded}
 
 -- The bytes read as a parcel, and it is added to these, or all of it was known.
 pub record IsAdded (old : List Parcel) (bytes : List ℕ) (added : Added) (new : List Parcel) : Type 0 where
@@ -37,7 +37,7 @@ pub record IsNotAdded (old : List Parcel) (bytes : List ℕ) (fault : AddFault) 
   pub no_memory : fault ≡ no_memory_to_add → IsBelow (parcel ∷ []) old → ⊥
 
 -- What is answered says what the parcels are then.
-abbrev pub AddsSo : List Parcel → List ℕ → Result Added Refusal → List Parcel → Type 0
+abbrev pub AddsSo : List Parcel → List ℕ → Result Added AddRefusal → List Parcel → Type 0
 AddsSo old bytes (Ok added) new = IsAdded old bytes added new
 AddsSo old bytes (Err (NoParcel fault)) new = IsNoParcel bytes fault × (new ≡ old)
 AddsSo old bytes (Err (NotAdded fault)) new = IsNotAdded old bytes fault × (new ≡ old)

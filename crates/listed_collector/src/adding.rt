@@ -6,7 +6,7 @@ use std::alloc::Global;
 
 /// Why bytes aren't added. Nothing has changed.
 #[derive(Clone, Copy, Debug, PartialEq, Eq)]
-pub enum Refusal {
+pub enum AddRefusal {
     /// They can't be read as a parcel.
     Parcel(ParcelFault),
     /// The parcel that they are isn't added.
@@ -18,17 +18,17 @@ impl ListedCollector {
     ghost use Rattle.listed_collector.specs.Adding.{AddsSo};
 
     /// Reads a parcel from its bytes and adds it to the collector. The listing stays.
-    pub fn add(&mut self, alloc: Global, bytes: &[u8]) -> Result<Added, Refusal>
+    pub fn add(&mut self, alloc: Global, bytes: &[u8]) -> Result<Added, AddRefusal>
         ensures adds { AddsSo self.old.collector bytes.now result self.new.collector }
         ensures listing { self.new ≡ record self.old { collector = self.new.collector } }
     {
         let parcel = match Parcel::from_bytes(alloc, bytes) {
             Ok(parcel) => parcel,
-            Err(fault) => return Err(Refusal::Parcel(fault)),
+            Err(fault) => return Err(AddRefusal::Parcel(fault)),
         };
         match self.collector.add(parcel) {
             Ok(added) => Ok(added),
-            Err(fault) => Err(Refusal::Add(fault)),
+            Err(fault) => Err(AddRefusal::Add(fault)),
         }
     }
 }

@@ -8,6 +8,6 @@ mod adding;
 mod listed;
 mod missing;
 
-pub use adding::Refusal;
+pub use adding::AddRefusal;
 pub use listed::{Given, LineNumbers, ListedCollector, ListedLine};
 pub use missing::Run;

@@ -46,7 +46,7 @@ abbrev pub with_record : Stack → (moment : ℕ) → List ℕ → Stack
 with_record s moment payload = with_left (with_written s moment payload) moment (length payload)
 
 -- The stack is empty, and the record comes in the short form after another one, at no earlier moment.
-pub record IsPlain (s : Stack) (moment len : ℕ) : Type 0 where
+pub record IsShortAlone (s : Stack) (moment len : ℕ) : Type 0 where
   pub none : s.frames ≡ []
   pub some : 1 ≤ len
   pub short : len ≤ SHORT_LIMIT

@@ -6,7 +6,7 @@ mod read;
 mod write;
 
 use crate::body::Body;
-use crate::put::{Records, put_behind_as, put_payload_behind};
+use crate::put::{PutKind, put_behind_as, put_payload_behind};
 use record_words::{Place, size_of};
 use std::marker::Model;
 use trace_model::{FillNo, RecordNo};
@@ -52,7 +52,7 @@ impl Model for Page {
 
 impl Page {
     ghost use Rattle.std.specs.Prelude.{◌≡◌, ◌+◌, ◌-◌, ◌≤◌, ◌<◌, false, [], length, replicate, IfSome, slice_range, ℕ, List};
-    ghost use Rattle.page_image.specs.declared.put.Records.TheVariants.{Plain};
+    ghost use Rattle.page_image.specs.declared.put.PutKind.TheVariants.{Plain};
     ghost use Rattle.page_image.specs.Plain.{IsPlainIn};
     ghost use Rattle.std.specs.Borrow.{sem};
     ghost use Rattle.page_image.specs.Lending.{LendsPayload, PayloadWritten, StaysPage};
@@ -93,7 +93,7 @@ impl Page {
         requires { CanPut self.old prev moment len }
         ensures { HasPut self.old self.new prev moment len (replicate (slot_len len) 0) result }
     {
-        self.put_as(Records::Any, prev, moment, len)
+        self.put_as(PutKind::Any, prev, moment, len)
     }
 
     /// `put`, for a record as nearly all are: of 1 to `SHORT_LIMIT` bytes, less than `EXTEND_FROM` after the one before
@@ -108,24 +108,24 @@ impl Page {
         requires open { EndsInRecord self.old.bytes }
         ensures { HasPut self.old self.new prev moment len (replicate (slot_len len) 0) result }
     {
-        self.put_as(Records::Plain, prev, moment, len)
+        self.put_as(PutKind::Plain, prev, moment, len)
     }
 
     /// Whether the page is empty; no records of the kind `Plain` may be put into an empty page.
     #[inline(always)]
-    fn is_first(&self, records: Records) -> bool
+    fn is_first(&self, records: PutKind) -> bool
         requires behind { records ≡ Plain → is_blank self.now.bytes ≡ false }
         ensures { result ≡ is_blank self.now.bytes }
     {
         match records {
-            Records::Any => self.end == 0,
-            Records::Plain => false,
+            PutKind::Any => self.end == 0,
+            PutKind::Plain => false,
         }
     }
 
     /// `put`, for these records.
     #[inline(always)]
-    fn put_as(&mut self, records: Records, prev: u64, moment: u64, len: usize) -> Place
+    fn put_as(&mut self, records: PutKind, prev: u64, moment: u64, len: usize) -> Place
         requires plain { records ≡ Plain → IsPlainIn self.old.size (length self.old.bytes) (moment - prev)
             (is_blank self.old.bytes) len }
         requires can { CanPut self.old prev moment len }

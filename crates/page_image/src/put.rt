@@ -3,7 +3,7 @@ ghost use Rattle.std.specs.Prelude.{◌≡◌, ◌+◌, ◌≤◌, ◌<◌, fals
 ghost use Rattle.trace_model.specs.Words.{padded, slot_len};
 ghost use Rattle.record_words.specs.declared.format.TheConstants.{EXTEND_FROM, SHORT_LIMIT};
 ghost use Rattle.page_image.specs.Putting.{HasRoomAfter, PutsBehind};
-ghost use Rattle.page_image.specs.declared.put.Records.TheVariants.{Plain};
+ghost use Rattle.page_image.specs.declared.put.PutKind.TheVariants.{Plain};
 ghost use Rattle.page_image.specs.Plain.{IsPlainIn};
 
 use record_words::{EXTEND_FROM, Place, SHORT_LIMIT, put_payload, put_record, put_short, slot_len};
@@ -50,7 +50,7 @@ pub(crate) fn put_behind(body: &mut [u8], end: usize, delta: u64, first: bool, l
 
 /// Which records a call is for.
 #[derive(Clone, Copy, PartialEq)]
-pub(crate) enum Records {
+pub(crate) enum PutKind {
     /// Any that have room.
     Any,
     /// Those that are as nearly all are: in the short form, after another one, and far enough from the page's end for
@@ -89,7 +89,7 @@ fn put_plain_behind(body: &mut [u8], end: usize, delta: u64, len: usize) -> Plac
 /// `put_behind`, for these records.
 #[inline(always)]
 pub(crate) fn put_behind_as(
-    records: Records,
+    records: PutKind,
     body: &mut [u8],
     end: usize,
     delta: u64,
@@ -101,8 +101,8 @@ pub(crate) fn put_behind_as(
     ensures { PutsBehind body.old body.new end delta first len (replicate (slot_len len) 0) result }
 {
     match records {
-        Records::Any => put_behind(body, end, delta, first, len),
-        Records::Plain => put_plain_behind(body, end, delta, len),
+        PutKind::Any => put_behind(body, end, delta, first, len),
+        PutKind::Plain => put_plain_behind(body, end, delta, len),
     }
 }
 

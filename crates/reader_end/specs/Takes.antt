@@ -3,7 +3,7 @@ use Rattle.std.specs.Prelude.{◌≡◌, ℕ, [], ◌∷◌, ◌++◌, Some, Non
 use Rattle.world_model.specs.World.{parcel_of}
 use Rattle.page_image.specs.Contents.{Contents}
 use Rattle.page_numbers.specs.Parcels.{as_parcels, fitted_parcel}
-use Rattle.ring_shared.specs.Takes.{IsPageTaken, IsEmptyFound, IsSentAway}
+use Rattle.ring_shared.specs.Takes.{IsPageTaken, IsEmptyFound, IsMovingFound}
 use Rattle.reader_end.specs.declared.end.Found.{Found}
 use Rattle.reader_end.specs.declared.end.Found.TheVariants.{Page, Empty, Moving}
 use Rattle.reader_end.specs.Value.{ReaderEndValue}
@@ -26,7 +26,7 @@ pub record IsNoneFound (before after : ReaderEndValue) : Type 0 where
 -- nothing was taken, and the next take continues where this one stopped
 pub record IsPutOff (before after : ReaderEndValue) : Type 0 where
   pub fill : ℕ
-  pub is : IsSentAway before.reader.shape before.reader.part fill after.reader.part
+  pub is : IsMovingFound before.reader.shape before.reader.part fill after.reader.part
   pub empty_at : after.reader.empty_at ≡ None
   pub taken_are : after.taken ≡ before.taken
 

@@ -31,7 +31,7 @@ use Rattle.ring_frames.specs.declared.phase.StepAnswer.TheVariants.{Going as The
 use Rattle.ring_frames.specs.Phases.{as_answer}
 use Rattle.ring_core.specs.Value.{CoreValue, frames_of}
 use Rattle.ring_core.specs.IsCore.{HasStateOf, IsCore}
-use Rattle.ring_core.specs.Heads.{HasHeader, ClaimsHead}
+use Rattle.ring_core.specs.Heads.{HasHeaderMark, ClaimsHead}
 use Rattle.ring_core.specs.Steps.{IsStep, IsLate}
 use Rattle.ring_core.proofs.Stepped.{kept_of}
 use Rattle.ring_frames.proofs.Tops.{topped}
@@ -141,7 +141,7 @@ module _ (n size start : ℕ) (v : CoreValue) (c : Core) (core : IsCore n size s
       (sets (model.claiming noted page) (LookingNext Owner noted page) noted noted (c.head + 1) (update_link page lost) (ap phase_of at) refl refl (omega arith)
       (λ frame below. cases.claims lost it (omega arith) here refl refl))
 
-  pub claims_none : (noted page : ℕ) (new : CoreValue) → v.phase ≡ Claiming noted page → noted ≡ opened v.stack → new ≡ v → ((lost : ℕ) → HasHeader v noted page lost → ⊥)
+  pub claims_none : (noted page : ℕ) (new : CoreValue) → v.phase ≡ Claiming noted page → noted ≡ opened v.stack → new ≡ v → ((lost : ℕ) → HasHeaderMark v noted page lost → ⊥)
       → IsStep n size start c model_steps.steps Going (record new { phase = Looking noted })
   claims_none noted page new at now same none =
       let there = link_shown n size start v c noted core.shows in

@@ -12,10 +12,10 @@ use Rattle.nested_writer.specs.Lending.{with_slot, IsLent}
 use Rattle.ring_frames.specs.Lending.{StaysFrames}
 use Rattle.ring_core.specs.Value.{CoreValue, frames_of}
 use Rattle.ring_core.specs.IsCore.{IsCore}
-use Rattle.ring_core.specs.Lending.{with_reserved, with_top, with_slot_payload, with_top_payload, with_lent}
+use Rattle.ring_core.specs.Lending.{with_reserved, with_top_bytes, with_slot_payload, with_top_payload, with_lent}
 use Rattle.ring_core.proofs.Privately.{shows_reframed}
 
-top_is_slot : (s : Stack) (frames : List Frame) (slot : Slot) (part : List ℕ) → IsTopSlot frames slot → with_top s frames part ≡ with_slot s slot part
+top_is_slot : (s : Stack) (frames : List Frame) (slot : Slot) (part : List ℕ) → IsTopSlot frames slot → with_top_bytes s frames part ≡ with_slot s slot part
 top_is_slot s [] slot part none = absurd none
 top_is_slot s (top ∷ below) slot part has = ap (λ (p : Progress). with_reserved s p part) has
 

@@ -27,13 +27,13 @@ with_reserved s (Reserved slot) part = with_slot s slot part
 with_reserved s (Left noted) part = s
 
 -- the stack with these bytes in the slot of the frame on top
-abbrev pub with_top : Stack → List Frame → List ℕ → Stack
-with_top s [] part = s
-with_top s (top ∷ below) part = with_reserved s top.progress part
+abbrev pub with_top_bytes : Stack → List Frame → List ℕ → Stack
+with_top_bytes s [] part = s
+with_top_bytes s (top ∷ below) part = with_reserved s top.progress part
 
 -- the ring with these bytes in the slot of the frame on top
 abbrev pub with_top_payload : CoreValue → List ℕ → CoreValue
-with_top_payload v part = record v { stack = with_top v.stack v.stack.frames part }
+with_top_payload v part = record v { stack = with_top_bytes v.stack v.stack.frames part }
 
 -- the ring with these bytes in a slot
 abbrev pub with_slot_payload : CoreValue → Slot → List ℕ → CoreValue

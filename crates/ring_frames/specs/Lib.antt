@@ -1,5 +1,5 @@
 pub mod Value
-pub mod Stage
+pub mod PackedPhase
 pub mod Inside
 pub mod AreFrames
 pub mod Answers

@@ -7,7 +7,7 @@ mod top;
 pub mod write;
 
 use crate::phase::{Phase, Role};
-use crate::stage::Stage;
+use crate::packed_phase::PackedPhase;
 use nested_writer::WriterStack;
 use nested_writer::frame::Frame;
 use std::alloc::Global;
@@ -21,7 +21,7 @@ pub struct Frames {
     /// The frames, the pages that they write, and how many fills are begun and closed.
     stack: WriterStack,
     /// How far the frame on top has got. If there is none it says nothing.
-    phase: Stage,
+    phase: PackedPhase,
     /// How far those below it have got, the upper ones first.
     below: VecDeque<Phase>,
 }
@@ -59,7 +59,7 @@ impl Frames {
         let below = VecDeque::with_capacity(alloc, MAX_FRAMES)?;
         Ok(Frames {
             stack,
-            phase: Stage::idle(),
+            phase: PackedPhase::idle(),
             below,
         })
     }

@@ -12,11 +12,11 @@ pub mod laws;
 mod payload;
 pub mod phase;
 pub mod reader;
-mod stage;
+mod packed_phase;
 
 pub use answer::Answer;
 pub use frames::Frames;
-pub use frames::write::Records;
+pub use frames::write::WriteKind;
 pub use payload::write_padded;
 pub use phase::{Phase, Role, StepAnswer};
 pub use reader::{Reader, ReaderPhase};

@@ -8,7 +8,7 @@ use Rattle.ring_frames.specs.declared.reader.Reader.{Reader}
 use Rattle.ring_steps.specs.declared.rule.Shape.{Shape}
 use Rattle.ring_steps.specs.Views.{Reading}
 use Rattle.ring_shared.specs.Value.{ReaderValue}
-use Rattle.ring_shared.specs.Takes.{IsReaderPart, KeepsSlot, SawPage, FoundEmpty, IsReader}
+use Rattle.ring_shared.specs.Takes.{IsReaderPart, KeepsSpare, SawPage, KnowsNoneUnread, IsReader}
 use Rattle.ring_shared.proofs.TakeSteps.{Stays}
 
 -- the reader as the model has it
@@ -21,8 +21,8 @@ module _ (w v : ReaderValue) (same : w ≡ v) (is : IsReader v) where
 
   -- the fields are the reader's part again, after a step that takes nothing or a wish
   pub shown_as : (shape : Shape) (table : TableId) (after : Reading) (reader : ring.Reader) (at : Reader) (wish : ℕ) → shape ≡ w.shape → Stays v.shape (record v.part { wish = wish }) after reader
-      → AreFields reader at → KeepsSlot at.phase after.keeps_spare → SawPage at.phase
-      → ((done : ℕ) → w.empty_at ≡ Some done → FoundEmpty (record w { shape = shape; table = table; part = after; at = at }) done)
+      → AreFields reader at → KeepsSpare at.phase after.keeps_spare → SawPage at.phase
+      → ((done : ℕ) → w.empty_at ≡ Some done → KnowsNoneUnread (record w { shape = shape; table = table; part = after; at = at }) done)
       → IsReader (record w { shape = shape; table = table; part = after; at = at })
   shown_as shape table after reader at wish shape_is s (phase, hint, seen, expected) keeps saw empty = record {
     part = subst (λ (x : Shape). IsReaderPart x after) (sym (shape_is ∙ ap (λ (x : ReaderValue). x.shape) same)) s.known;
@@ -42,7 +42,7 @@ module _ (w v : ReaderValue) (same : w ≡ v) (is : IsReader v) where
   not_empty again done e = let none : w.empty_at ≡ None = ap (λ (x : ReaderValue). x.empty_at) same ∙ again in let both = sym none ∙ e in absurd (cc)
 
   pub shown : (shape : Shape) (table : TableId) (after : Reading) (reader : ring.Reader) (at : Reader) → v.empty_at ≡ None → shape ≡ w.shape → Stays v.shape v.part after reader
-      → AreFields reader at → KeepsSlot at.phase after.keeps_spare → SawPage at.phase
+      → AreFields reader at → KeepsSpare at.phase after.keeps_spare → SawPage at.phase
       → IsReader (record w { shape = shape; table = table; part = after; at = at })
   shown shape table after reader at again shape_is s fields keeps saw = shown_as shape table after reader at v.part.wish shape_is s fields keeps saw (λ done e. absurd (not_empty again done e))
 

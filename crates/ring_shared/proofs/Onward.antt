@@ -15,7 +15,7 @@ use Rattle.ring_steps.specs.Seats.{IsReaderStep}
 use Rattle.ring_shared.specs.declared.take.Take.{Take}
 use Rattle.ring_shared.specs.declared.take.Take.TheVariants.{Page, Empty, Moving}
 use Rattle.ring_shared.specs.declared.take.TakeStep.TheVariants.{Looking}
-use Rattle.ring_shared.specs.Takes.{TakesNothing, IsSentAway, IsTake, ReadsSo, IsAnswered}
+use Rattle.ring_shared.specs.Takes.{TakesNothing, IsMovingFound, IsTake, ReadsSo, IsAnswered}
 use Rattle.ring_shared.proofs.TakeSteps.{Stays, passed_below_hint}
 
 pub nothing_yet : (part : Reading) → TakesNothing part part
@@ -64,7 +64,7 @@ pub goes_on : (shape own : Shape) (before after : Reading) (back : List ℕ) →
 goes_on shape own before after back same a = subst (λ (s : Shape). ReadsSo s before model.reading after) same (subst (λ (reported : model.Answer). ReadsSo own before reported after) a.reports a.step)
 
 -- a take that took too many steps
-pub given_up : (shape : Shape) (before after : Reading) (fill : ℕ) → TakesNothing before after → after.reader.hint ≡ fill → IsSentAway shape before fill after
+pub given_up : (shape : Shape) (before after : Reading) (fill : ℕ) → TakesNothing before after → after.reader.hint ≡ fill → IsMovingFound shape before fill after
 given_up shape before after fill a is = let hint = a.hint_le in record {
   nothing = a;
   hint_le = omega arith;

@@ -13,7 +13,7 @@ use Rattle.page_image.specs.Contents.{Contents}
 use Rattle.nested_writer.specs.Released.{IsWrittenPage}
 use Rattle.ring_steps.specs.declared.rule.Shape.{Shape}
 use Rattle.ring_steps.specs.Views.{Reading}
-use Rattle.ring_steps.specs.Swapping.{HeadTaken, HeadMissed}
+use Rattle.ring_steps.specs.Swapping.{HeadTaken, HeadGone}
 use Rattle.ring_steps.proofs.TakeSteps.{facts, hint_is}
 use Rattle.ring_shared.specs.declared.take.Take.TheVariants.{Page}
 use Rattle.ring_shared.specs.declared.take.TakeStep.TheVariants.{Done}
@@ -57,7 +57,7 @@ module _ (shape : Shape) (before : Reading) (page fill : ℕ) (after : Reading) 
         },
       )
 
-  pub misses : HeadMissed shape before page fill after → Stays shape before after (record before.reader { phase = ring.loading_head; hint = fill + 1 }) × (before.reader.hint ≤ fill + 1)
+  pub misses : HeadGone shape before page fill after → Stays shape before after (record before.reader { phase = ring.loading_head; hint = fill + 1 }) × (before.reader.hint ≤ fill + 1)
   misses h =
       let sees : ring.Core → Type 0 = λ core. ring.link_into shape.pages core.links fill ≢ header_link page fill in
       let seen = (facts shape before after sees model.reading h.step (ring.swapping page fill) at).0 in
@@ -75,5 +75,5 @@ swap_answers shape before page fill after taken h = record {
   reports = (h.reported, refl, record { written = subst (λ (f : ℕ). IsWrittenPage shape.size f h.reported.held taken) (sym h.fill_is) h.written; missed_is = sym h.skipped_is });
 }
 
-pub miss_answers : (shape : Shape) (before : Reading) (page fill : ℕ) (after : Reading) → HeadMissed shape before page fill after → ReadsSo shape before model.reading after
+pub miss_answers : (shape : Shape) (before : Reading) (page fill : ℕ) (after : Reading) → HeadGone shape before page fill after → ReadsSo shape before model.reading after
 miss_answers shape before page fill after h = so shape before after (λ core. ring.link_into shape.pages core.links fill ≢ header_link page fill) model.reading h.step

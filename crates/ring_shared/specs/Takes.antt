@@ -33,11 +33,11 @@ pub record IsReaderPart (shape : Shape) (part : Reading) : Type 0 where
   pub is : IsReading core part
 
 -- the slot of the reader's page is out with it while it is about to swap, and may be until its next load of a link
-abbrev pub KeepsSlot : ReaderPhase → Bool → Type 0
-KeepsSlot LoadingHead keeps = Unit {0}
-KeepsSlot (LoadingDone page fill) keeps = keeps ≡ false
-KeepsSlot (StoringSpareLink page fill) keeps = keeps ≡ false
-KeepsSlot (Swapping page fill) keeps = keeps ≡ true
+abbrev pub KeepsSpare : ReaderPhase → Bool → Type 0
+KeepsSpare LoadingHead keeps = Unit {0}
+KeepsSpare (LoadingDone page fill) keeps = keeps ≡ false
+KeepsSpare (StoringSpareLink page fill) keeps = keeps ≡ false
+KeepsSpare (Swapping page fill) keeps = keeps ≡ true
 
 -- the page that it saw is one that a link can state
 abbrev pub SawPage : ReaderPhase → Type 0
@@ -48,11 +48,11 @@ SawPage (Swapping page fill) = page < LINK_PAGES
 
 -- The last take found that all fills below `done`, the oldest one that isn't closed, are passed: the reader knows
 -- exactly that, is at no take, and doesn't have the spare's slot.
-pub record FoundEmpty (v : ReaderValue) (done : ℕ) : Type 0 where
+pub record KnowsNoneUnread (v : ReaderValue) (done : ℕ) : Type 0 where
   pub hint_is : v.part.reader.hint ≡ done
   pub seen_is : v.part.reader.seen ≡ done
   pub phase_is : v.at.phase ≡ LoadingHead
-  pub no_slot : v.part.keeps_spare ≡ false
+  pub no_spare : v.part.keeps_spare ≡ false
 
 -- The reader's fields are its part of the ring.
 pub record IsReader (v : ReaderValue) : Type 0 where
@@ -63,9 +63,9 @@ pub record IsReader (v : ReaderValue) : Type 0 where
   pub hint_is : v.part.reader.hint ≡ v.at.hint
   pub seen_is : v.part.reader.seen ≡ v.at.seen
   pub expected_is : v.part.reader.expected ≡ v.at.expected
-  pub keeps : KeepsSlot v.at.phase v.part.keeps_spare
+  pub keeps : KeepsSpare v.at.phase v.part.keeps_spare
   pub saw : SawPage v.at.phase
-  pub empty : (done : ℕ) → v.empty_at ≡ Some done → FoundEmpty v done
+  pub empty : (done : ℕ) → v.empty_at ≡ Some done → KnowsNoneUnread v done
 
 -- ---- takes
 
@@ -119,7 +119,7 @@ pub record IsEmptyFound (shape : Shape) (before : Reading) (done : ℕ) (after :
   pub passed : ArePassedBelow shape after done
 
 -- Each fill below this one is taken or lost, and the reader knows exactly that; it knew of no later one.
-pub record IsSentAway (shape : Shape) (before : Reading) (fill : ℕ) (after : Reading) : Type 0 where
+pub record IsMovingFound (shape : Shape) (before : Reading) (fill : ℕ) (after : Reading) : Type 0 where
   pub nothing : TakesNothing before after
   pub hint_le : before.reader.hint ≤ fill
   pub hint_is : after.reader.hint ≡ fill
@@ -128,7 +128,8 @@ pub record IsSentAway (shape : Shape) (before : Reading) (fill : ℕ) (after : R
 abbrev pub IsTake : Shape → Reading → List ℕ → Take → Reading → Type 0
 IsTake shape before body (Page page missed) after = IsPageTaken shape before page missed after
 IsTake shape before body (Empty done back) after = (length back ≡ length body) × IsEmptyFound shape before done after
-IsTake shape before body (Moving fill back) after = (length back ≡ length body) × IsSentAway shape before fill.0 after
+IsTake shape before body (Moving fill back) after =
+    (length back ≡ length body) × IsMovingFound shape before fill.0 after
 
 -- what the take returns: a page of this size, or the body, of this size too
 abbrev pub IsOfSize : ℕ → Take → Type 0
@@ -205,7 +206,7 @@ SameRing before after = (after.shape ≡ before.shape) × (after.table ≡ befor
 abbrev pub EmptyAfter : ReaderValue → TakeStep → Type 0
 EmptyAfter v (Looking back) = Unit {0}
 EmptyAfter v (Done (Page page missed)) = Unit {0}
-EmptyAfter v (Done (Empty done back)) = FoundEmpty v done
+EmptyAfter v (Done (Empty done back)) = KnowsNoneUnread v done
 EmptyAfter v (Done (Moving fill back)) = Unit {0}
 
 -- the reader keeps no `Empty` of a take

@@ -29,7 +29,7 @@ use Rattle.ring_steps.specs.declared.rule.Shape.{Shape}
 use Rattle.ring_steps.specs.Views.{Reading, reading}
 use Rattle.ring_steps.specs.Shown.{page_before, AreWords, Homes, AreHomes, Shows}
 use Rattle.ring_steps.specs.Seats.{Sat, kept_slots, IsSeatOfReader, IsReaderStep}
-use Rattle.ring_steps.specs.Swapping.{HeadTaken, HeadMissed, head_to_take, SwapReported}
+use Rattle.ring_steps.specs.Swapping.{HeadTaken, HeadGone, head_to_take, SwapReported}
 use Rattle.ring_steps.proofs.Allowing.{IsShownBy, ReaderMoves, reader_allows}
 use Rattle.ring_steps.proofs.Observed.{first_records}
 use Rattle.ring_steps.proofs.ObservedMore.{observed_with}
@@ -279,5 +279,5 @@ module _ (shape : Shape) (me after end : Sat) (page fill found : ℕ) (blank : C
       pub missed_seat : IsSeatOfReader end
       missed_seat = emptied_seat spare (spare_is ∙ sym (ap (λ (r : Reading). r.spare) (t.missed unmet).1.after_is)) (ap rest still_there) end_is
 
-      pub missed_reported : HeadMissed shape (reading me.0) page fill (reading end.0)
-      missed_reported = subst (λ (m : Sat). HeadMissed shape (reading me.0) page fill (reading m.0)) (sym end_is) (t.missed unmet).1
+      pub missed_reported : HeadGone shape (reading me.0) page fill (reading end.0)
+      missed_reported = subst (λ (m : Sat). HeadGone shape (reading me.0) page fill (reading m.0)) (sym end_is) (t.missed unmet).1

@@ -24,5 +24,5 @@ pub record IsWriterMove (shape : Shape) (me : Sat) (word : ℕ) (f : ℕ → ℕ
 pub record HasStepped (old new : WriterSeat) (reports : Sat → Type 0) : Type 0 where
   pub shape : new.shape ≡ old.shape
   pub table : writer_table new ≡ writer_table old
-  pub rests : writing_in new ≡ writing new.seat.me.0
+  pub known : writing_in new ≡ writing new.seat.me.0
   pub reported : reports new.seat.me

@@ -43,7 +43,7 @@ pub record HeadTaken (shape : Shape) (before : Reading) (page fill : ℕ) (taken
   pub wish_is : after.wish ≡ before.wish
 
 -- The swap was not done: this page as this fill wasn't the head any more, and the reader looks for it after that fill.
-pub record HeadMissed (shape : Shape) (before : Reading) (page fill : ℕ) (after : Reading) : Type 0 where
+pub record HeadGone (shape : Shape) (before : Reading) (page fill : ℕ) (after : Reading) : Type 0 where
   pub step : IsReaderStep shape before (λ core. link_into shape.pages core.links fill ≢ header_link page fill)
       model.reads model.reading after
   pub after_is : after
@@ -65,4 +65,4 @@ pub record SwapReported (shape : Shape) (before : Sat) (head : Spot) (found : �
       × (after.1 ≡ (head.page, Some taken) ∷ [])
       × HeadTaken shape (reading before.0) head.page head.fill taken (reading after.0)
   pub missed : found ≢ word_of (header_link head.page head.fill)
-      → (after.1 ≡ before.1) × HeadMissed shape (reading before.0) head.page head.fill (reading after.0)
+      → (after.1 ≡ before.1) × HeadGone shape (reading before.0) head.page head.fill (reading after.0)

@@ -31,7 +31,7 @@ pub(crate) fn ghost_part_of<J: ChosenPart, G>(given: &G) -> GhostPart
 
 /// The part that a seat knows: nothing was done in private since its last step on a word.
 #[inline(always)]
-pub(crate) fn ghost_part_at_rest(seat: &TableSeat) -> GhostPart
+pub(crate) fn ghost_part_known(seat: &TableSeat) -> GhostPart
     ensures { result.now ≡ writing seat.now.me.0 }
 {
     ghost_part_of::<Brand, TableSeat>(seat)

@@ -7,7 +7,7 @@ ghost use Rattle.ring_steps.specs.NewRings.{IsShape, AreNewSeats, IsWholeSeat, f
 ghost use Rattle.ring_steps.specs.Views.{laid};
 
 use crate::ends::{ReaderSeat, WriterSeat};
-use crate::ghost_part::ghost_part_at_rest;
+use crate::ghost_part::ghost_part_known;
 use crate::laying::{first_slots, first_words};
 use crate::plays::{TableSeat, load};
 use crate::rule::{Board, Shape};
@@ -77,7 +77,7 @@ pub fn seats_at(
     let board = Arc::new(alloc, table)?;
     let other = Arc::try_clone(&board)?;
     let reader = board.shared.split_seat::<Ends>(&mut seat);
-    let ghost_part = ghost_part_at_rest(&seat);
+    let ghost_part = ghost_part_known(&seat);
     Ok((
         WriterSeat {
             board,

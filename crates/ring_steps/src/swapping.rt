@@ -6,7 +6,7 @@ ghost use Rattle.atomic_table.specs.Table.{rest};
 ghost use Rattle.page_image.specs.Contents.{Contents};
 ghost use Rattle.ring_steps.specs.Shown.{page_before};
 ghost use Rattle.ring_steps.specs.Ends.{reading_in, SameReaderSeat};
-ghost use Rattle.ring_steps.specs.Swapping.{HeadTaken, HeadMissed};
+ghost use Rattle.ring_steps.specs.Swapping.{HeadTaken, HeadGone};
 
 use crate::ends::ReaderSeat;
 use crate::links::{header_word, normal_word};
@@ -38,7 +38,7 @@ impl ReaderSeat {
         ensures same { SameReaderSeat self.old self.new }
         ensures taken { IfOk result (λ taken. HeadTaken self.old.shape (reading_in self.old) page fill.0 taken
             (reading_in self.new)) }
-        ensures missed { IfErr result (λ _. HeadMissed self.old.shape (reading_in self.old) page fill.0
+        ensures failed { IfErr result (λ _. HeadGone self.old.shape (reading_in self.old) page fill.0
             (reading_in self.new)) }
         ensures given_back { IfErr result (λ back. length back ≡ length body) }
         ensures spare { (reading_in self.new).keeps_spare ≡ true }

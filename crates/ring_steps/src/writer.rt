@@ -18,7 +18,7 @@ ghost use Rattle.ring_steps.specs.Moving.{IsWriterMove, HasStepped};
 ghost use Rattle.ring_steps.specs.Notes.{part_after, part_after_wish};
 
 use crate::ends::WriterSeat;
-use crate::ghost_part::{ghost_part_at_rest, ghost_part_of};
+use crate::ghost_part::{ghost_part_known, ghost_part_of};
 use crate::links::{header_word, link_in, normal_word, update_word};
 use crate::plays::{StepReport, exchange, load, store};
 use crate::rule::{DONE, LINKS, OPENED, WISH};
@@ -43,20 +43,20 @@ impl WriterSeat {
         ensures { HasStepped self.old self.new (J.reports self.old.seat.me result) }
     {
         let found = load::<J, _>(&self.board, self.shape, &mut self.seat, word, &());
-        self.ghost_part = ghost_part_at_rest(&self.seat);
+        self.ghost_part = ghost_part_known(&self.seat);
         found
     }
 
     /// A compare and exchange of this word, as a step of the writer; what the word was.
     #[inline(always)]
-    fn exchange_step<J: StepReport>(&mut self, word: usize, from: u64, to: u64) -> u64
+    fn compare_exchange_step<J: StepReport>(&mut self, word: usize, from: u64, to: u64) -> u64
         requires word { word < self.old.shape.pages + 4 }
         requires moves { IsWriterMove self.old.shape self.old.seat.me word (λ n. either (n == from) to n)
             (J.reports self.old.seat.me) }
         ensures { HasStepped self.old self.new (J.reports self.old.seat.me result) }
     {
         let found = exchange::<J, _>(&self.board, self.shape, &mut self.seat, word, from, to, &());
-        self.ghost_part = ghost_part_at_rest(&self.seat);
+        self.ghost_part = ghost_part_known(&self.seat);
         found
     }
 
@@ -133,7 +133,7 @@ impl WriterSeat {
         let word = tail as usize + LINKS;
         let from = header_word(page, lost);
         let to = update_word(page, lost);
-        let found = self.exchange_step::<Brand>(word, from, to);
+        let found = self.compare_exchange_step::<Brand>(word, from, to);
         found == from
     }
 
@@ -153,7 +153,7 @@ impl WriterSeat {
         let word = page as usize + LINKS;
         let from = normal_word(next, after_lost);
         let to = header_word(next, after_lost);
-        let found = self.exchange_step::<Brand>(word, from, to);
+        let found = self.compare_exchange_step::<Brand>(word, from, to);
         found == from
     }
 
@@ -174,7 +174,7 @@ impl WriterSeat {
         let word = front as usize + LINKS;
         let from = update_word(page, FillNo(noted.0 - self.shape.pages as u64));
         let to = normal_word(page, noted);
-        let found = self.exchange_step::<Brand>(word, from, to);
+        let found = self.compare_exchange_step::<Brand>(word, from, to);
         found == from
     }
 
@@ -204,7 +204,7 @@ impl WriterSeat {
         };
         // In the seat's hand this slot comes after those of the older open pages.
         self.seat.turn();
-        self.ghost_part = ghost_part_at_rest(&self.seat);
+        self.ghost_part = ghost_part_known(&self.seat);
         page.into_body()
     }
 
@@ -232,6 +232,6 @@ impl WriterSeat {
             done,
             &self.ghost_part,
         );
-        self.ghost_part = ghost_part_at_rest(&self.seat);
+        self.ghost_part = ghost_part_known(&self.seat);
     }
 }

@@ -9,14 +9,14 @@ use Rattle.collector_text.specs.Prints.{IsPrintOf}
 use Rattle.run_text.specs.Verdicts.{Verdict, IsVerdict, yes, stray, lacks}
 
 -- a CPU and a fill of its ring
-abbrev pub place_text : (cpu fill : ℕ) → List ℕ
-place_text cpu fill = decimal cpu ++ space ∷ decimal fill
+abbrev pub key_text : (cpu fill : ℕ) → List ℕ
+key_text cpu fill = decimal cpu ++ space ∷ decimal fill
 
 -- a verdict
 abbrev pub verdict_text : Verdict → List ℕ
 verdict_text yes = codes "yes"
-verdict_text (stray cpu fill) = codes "stray " ++ place_text cpu fill
-verdict_text (lacks cpu fill) = codes "lacks " ++ place_text cpu fill
+verdict_text (stray cpu fill) = codes "stray " ++ key_text cpu fill
+verdict_text (lacks cpu fill) = codes "lacks " ++ key_text cpu fill
 
 -- the line of an audit
 abbrev pub printed_audit : Verdict → List ℕ

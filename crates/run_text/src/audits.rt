@@ -2,15 +2,15 @@
 ghost use Rattle.std.specs.Prelude.{◌≡◌, ◌++◌, OnOk, OnErr};
 ghost use Rattle.trace_model.specs.Sublist.{IsPrefix};
 ghost use Rattle.run_text.specs.Verdicts.{verdict_of};
-ghost use Rattle.run_text.specs.Printing.{place_text, printed_audit, verdict_text};
+ghost use Rattle.run_text.specs.Printing.{key_text, printed_audit, verdict_text};
 
 use run_audit::{AuditFault, Audited};
 use text_values::put_number;
 use trace_model::{CpuId, FillNo, NoMemory};
 
 /// A CPU and a fill of its ring. On an error a part of that may be put.
-fn put_place(out: &mut Vec<u8>, cpu: CpuId, fill: FillNo) -> Result<(), NoMemory>
-    ensures text { OnOk result (out.new.items ≡ out.old.items ++ place_text cpu.0 fill.0) }
+fn put_key(out: &mut Vec<u8>, cpu: CpuId, fill: FillNo) -> Result<(), NoMemory>
+    ensures text { OnOk result (out.new.items ≡ out.old.items ++ key_text cpu.0 fill.0) }
     ensures behind { IsPrefix out.old.items out.new.items }
 {
     put_number(out, u64::from(cpu.0))?;
@@ -31,11 +31,11 @@ fn put_verdict(out: &mut Vec<u8>, answer: Result<Audited, AuditFault>) -> Result
         }
         Err(AuditFault::Stray(cpu, fill)) => {
             out.extend_from_slice(b"stray ")?;
-            put_place(out, cpu, fill)
+            put_key(out, cpu, fill)
         }
         Err(AuditFault::Lacks(cpu, fill)) => {
             out.extend_from_slice(b"lacks ")?;
-            put_place(out, cpu, fill)
+            put_key(out, cpu, fill)
         }
     }
 }

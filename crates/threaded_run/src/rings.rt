@@ -72,7 +72,7 @@ fn complete_rings<R: Threads + Wait, G: Gate>(
 }
 
 /// The rings of a run, in a scope: all threads that are started are joined, also after a fault.
-fn run_in<'s, E, R: Threads + Wait + Sync, G: Gate>(
+fn run_rings_in<'s, E, R: Threads + Wait + Sync, G: Gate>(
     rt: &'s R,
     scope: &Scope<'s, E>,
     alloc: Global,
@@ -123,7 +123,7 @@ pub(crate) fn run_rings<R: Threads + Wait + Sync, G: Gate>(
                 gate,
                 collectors,
             };
-            run_in(rt, scope, alloc, &job, places, over)
+            run_rings_in(rt, scope, alloc, &job, places, over)
         },
     )
 }

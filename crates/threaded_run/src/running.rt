@@ -70,7 +70,7 @@ fn run_all<'s, E, R: Threads + Wait + Sync, G: Gate>(
 
 /// The threads of a run, in the scope of its collectors' threads. These are joined, also after a fault: they end once
 /// nothing can be sent any more.
-fn run_in<'s, E, R: Threads + Wait + Sync, G: Gate>(
+fn run_with<'s, E, R: Threads + Wait + Sync, G: Gate>(
     rt: &'s R,
     scope: &Scope<'s, E>,
     alloc: Global,
@@ -138,6 +138,6 @@ pub fn run<R: Threads + Wait + Sync, G: Gate>(
         |scope| -> Result<Ran, ReplayFault>
             requires { ArePlaces script.now places.now × (length over.now ≡ script.now.cpus) }
             ensures { IfOk result (IsRan script.entry.now) × IfErr result (IsByGate G.answers gate.entry.now) }
-        { run_in(rt, scope, alloc, script, gate, places, over) },
+        { run_with(rt, scope, alloc, script, gate, places, over) },
     )
 }

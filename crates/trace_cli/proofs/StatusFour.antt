@@ -2,7 +2,7 @@
 use Rattle.std.proofs.Common.{◌≡◌, ◌⊎◌, inl, inr, ◌<◌, ◌≤◌, ℕ, Bool, true, List, refl, subst, arith}
 use Rattle.std.specs.Io.KnownBytes.{Appends}
 use Rattle.trace_model.specs.declared.limits.TheConstants.{MAX_INPUT}
-use Rattle.command_io.specs.CommandRun.{SourceRun, SinkRun, IsTooLong, IsCommandRun, WritesOutput}
+use Rattle.command_io.specs.CommandRun.{SourceRun, SinkRun, IsInputTooLong, IsCommandRun, WritesOutput}
 use Rattle.command_io.specs.declared.output.TheConstants.{THREAD_LINE}
 use Rattle.command_io.specs.declared.status.TheConstants.{END_FAILED}
 use Rattle.image_dump.specs.Dumps.{DumpGives}
@@ -14,7 +14,7 @@ use Rattle.run_command.specs.Runs.{IsRunOutput, RunGives}
 
 -- what it may be then
 abbrev Causes : (gives : List ℕ → List ℕ → ℕ → Type 0) → SourceRun → SinkRun → Type 0
-Causes gives source sink = (source.failed ≡ true) ⊎ (sink.failed ≡ true) ⊎ IsTooLong source sink
+Causes gives source sink = (source.failed ≡ true) ⊎ (sink.failed ≡ true) ⊎ IsInputTooLong source sink
     ⊎ WritesOutput gives source.unread source.left sink.contents sink.contents_after END_FAILED
 
 -- no output of `replay` has it

@@ -26,7 +26,7 @@ use Rattle.ring_shared.specs.Lending.{with_lent}
 use Rattle.ring_shared.specs.Calls.{MakesSome}
 use Rattle.ring_shared.specs.Finishing.{Finishes}
 use Rattle.ring_shared.specs.WholeWrites.{IsWritten, IsRefusedWrite}
-use Rattle.ring_shared.specs.Takes.{IsPageTaken, IsEmptyFound, IsSentAway, TakesSteps, empty_of}
+use Rattle.ring_shared.specs.Takes.{IsPageTaken, IsEmptyFound, IsMovingFound, TakesSteps, empty_of}
 use Rattle.ring_shared.specs.Settling.{IsSettled, unread_page}
 use Rattle.ring_shared.specs.declared.settling.Settled.{Settled}
 use Rattle.tracering_c.specs.declared.ends.ReaderEnd.{ReaderEnd}
@@ -122,7 +122,7 @@ pub data TakesSo (old : ReaderEnd) (out : List ℕ) (was : Taken) (code : ℤ) (
   is_moving : (fill : FillNo)
       → (back : List ℕ)
       → code ≡ pos 16
-      → IsSentAway old.reader.shape old.reader.part fill.0 new.reader.part
+      → IsMovingFound old.reader.shape old.reader.part fill.0 new.reader.part
       → AnswersTake old.reader (Moving fill back) new.reader
       → left ≡ out
       → reported ≡ was

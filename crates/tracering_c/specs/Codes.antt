@@ -9,8 +9,8 @@ use Rattle.page_numbers.specs.declared.fault.ParcelFault.TheVariants.{Image, Num
 use Rattle.collector.specs.declared.added.Added.{Added}
 use Rattle.collector.specs.declared.added.Added.TheVariants.{New, Known}
 use Rattle.collector.specs.declared.fault.AddFault.TheVariants.{Clash, TakenAndMissing, NoMemory as NoMemoryToAdd}
-use Rattle.listed_collector.specs.declared.adding.Refusal.{Refusal}
-use Rattle.listed_collector.specs.declared.adding.Refusal.TheVariants.{Parcel as NoParcel, Add as NotAdded}
+use Rattle.listed_collector.specs.declared.adding.AddRefusal.{AddRefusal}
+use Rattle.listed_collector.specs.declared.adding.AddRefusal.TheVariants.{Parcel as NoParcel, Add as NotAdded}
 use Rattle.listed_collector.specs.declared.listed.LineNumbers.{LineNumbers}
 use Rattle.listed_collector.specs.declared.listed.Given.{Given}
 use Rattle.listed_collector.specs.declared.listed.Given.TheVariants.{Line as IsLine, NoRoom, End}
@@ -76,7 +76,7 @@ parcel_code BadCpu = pos 14
 parcel_code NoMemory = pos 12
 
 -- the number of what is answered to bytes that are to be added
-abbrev pub add_code : Result Added Refusal → ℤ
+abbrev pub add_code : Result Added AddRefusal → ℤ
 add_code (Ok New) = pos 0
 add_code (Ok Known) = negsuc 1
 add_code (Err (NoParcel fault)) = parcel_code fault
@@ -97,7 +97,7 @@ parcel_fault_at was MissedDiffers = was
 parcel_fault_at was BadCpu = was
 parcel_fault_at was NoMemory = was
 
-abbrev pub fault_at : FaultAt → Result Added Refusal → FaultAt
+abbrev pub fault_at : FaultAt → Result Added AddRefusal → FaultAt
 fault_at was (Ok added) = was
 fault_at was (Err (NoParcel fault)) = parcel_fault_at was fault
 fault_at was (Err (NotAdded (Clash cpu number))) = record { number = number.0; cpu = cpu.0 }

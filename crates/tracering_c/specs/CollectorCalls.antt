@@ -3,7 +3,7 @@ use Rattle.std.specs.Prelude.{◌≡◌, ℕ, ℤ, pos, List, length, ltb, cond,
 use Rattle.trace_model.specs.Parcel.{Parcel}
 use Rattle.trace_model.specs.Listing.{IsListing}
 use Rattle.collector.specs.declared.added.Added.{Added}
-use Rattle.listed_collector.specs.declared.adding.Refusal.{Refusal}
+use Rattle.listed_collector.specs.declared.adding.AddRefusal.{AddRefusal}
 use Rattle.listed_collector.specs.declared.listed.Given.{Given}
 use Rattle.listed_collector.specs.declared.listed.ListedCollector.{ListedCollector}
 use Rattle.listed_collector.specs.declared.missing.Run.{Run}
@@ -24,7 +24,7 @@ pub record IsEmpty (listed : ListedCollector) : Type 0 where
 -- The listing stays.
 pub record AddsBytes (old : ListedCollector) (bytes : List ℕ) (was : FaultAt) (code : ℤ) (at : FaultAt)
     (new : ListedCollector) : Type 0 where
-  pub answer : Result Added Refusal
+  pub answer : Result Added AddRefusal
   pub adds : AddsSo old.collector bytes answer new.collector
   pub listing : new ≡ record old { collector = new.collector }
   pub code_is : code ≡ add_code answer

@@ -1,7 +1,7 @@
 //! The numbers by which C is answered: 0 and below if the call did what it says, else a positive one: why it didn't;
 //! what is changed all the same, each call says.
 use collector::{AddFault, Added};
-use listed_collector::{Given, Refusal};
+use listed_collector::{Given, AddRefusal};
 use nested_writer::WriteFault;
 use page_image::ImageFault;
 use page_numbers::ParcelFault;
@@ -131,16 +131,16 @@ fn code_of_parcel(fault: ParcelFault) -> i32
 }
 
 /// The number of what is answered to bytes that are to be added.
-pub fn code_of_add(answer: Result<Added, Refusal>) -> i32
+pub fn code_of_add(answer: Result<Added, AddRefusal>) -> i32
     ensures { result ≡ add_code answer }
 {
     match answer {
         Ok(Added::New) => DONE,
         Ok(Added::Known) => KNOWN,
-        Err(Refusal::Parcel(fault)) => code_of_parcel(fault),
-        Err(Refusal::Add(AddFault::Clash(_, _))) => CLASH,
-        Err(Refusal::Add(AddFault::TakenAndMissing(_, _))) => TAKEN_AND_MISSING,
-        Err(Refusal::Add(AddFault::NoMemory)) => NO_MEMORY,
+        Err(AddRefusal::Parcel(fault)) => code_of_parcel(fault),
+        Err(AddRefusal::Add(AddFault::Clash(_, _))) => CLASH,
+        Err(AddRefusal::Add(AddFault::TakenAndMissing(_, _))) => TAKEN_AND_MISSING,
+        Err(AddRefusal::Add(AddFault::NoMemory)) => NO_MEMORY,
     }
 }
 

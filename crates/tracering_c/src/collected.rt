@@ -1,6 +1,6 @@
 //! What is reported of a collector's parcels and lines, as C keeps it.
 use collector::{AddFault, Added};
-use listed_collector::{Given, LineNumbers, Refusal};
+use listed_collector::{Given, LineNumbers, AddRefusal};
 use page_image::ImageFault;
 use page_numbers::ParcelFault;
 use record_words::WordFault;
@@ -20,19 +20,19 @@ impl FaultAt {
     ghost use Rattle.tracering_c.specs.Codes.{fault_at};
 
     /// Where this answer says that bytes are refused; else as it was.
-    pub(crate) fn of(answer: Result<Added, Refusal>, was: FaultAt) -> FaultAt
+    pub(crate) fn of(answer: Result<Added, AddRefusal>, was: FaultAt) -> FaultAt
         ensures { result ≡ fault_at was answer }
     {
         match answer {
-            Err(Refusal::Add(AddFault::Clash(cpu, number))) => FaultAt {
+            Err(AddRefusal::Add(AddFault::Clash(cpu, number))) => FaultAt {
                 number: number.0,
                 cpu: cpu.0,
             },
-            Err(Refusal::Add(AddFault::TakenAndMissing(cpu, number))) => FaultAt {
+            Err(AddRefusal::Add(AddFault::TakenAndMissing(cpu, number))) => FaultAt {
                 number: number.0,
                 cpu: cpu.0,
             },
-            Err(Refusal::Parcel(ParcelFault::Image(ImageFault::Word(fault)))) => FaultAt {
+            Err(AddRefusal::Parcel(ParcelFault::Image(ImageFault::Word(fault)))) => FaultAt {
                 number: offset_of(fault),
                 cpu: was.cpu,
             },

@@ -5,7 +5,7 @@ ghost use Rattle.trace_model.specs.Window.{RingEvent, WindowRun};
 ghost use Rattle.text_model.specs.Script.{Script};
 ghost use Rattle.text_model.specs.ScriptLimits.{IsWithinLimits};
 ghost use Rattle.world_model.specs.World.{World, WorldOf};
-ghost use Rattle.line_model.specs.Accounts.{Frames, Does, window_at, IsAccount};
+ghost use Rattle.line_model.specs.Accounts.{LineFrames, Does, window_at, IsAccount};
 
 /// In the world of a script there is an account of each of its CPUs.
 pub fn worlds_have_accounts()
@@ -22,7 +22,7 @@ pub fn accounts_are_window_runs()
 /// What a line has a frame do until that frame is gone ends with its leave, if there are others below it: none of these
 /// does anything.
 pub fn nested_frames_end_by_leaving()
-    ensures { (own : List ℕ) (next : Option (List ℕ)) (below : Frames) (history : List HistoryEvent) →
+    ensures { (own : List ℕ) (next : Option (List ℕ)) (below : LineFrames) (history : List HistoryEvent) →
         Does (next ∷ below) (Some own) history None →
         (front : List HistoryEvent) × (payload : Option (List ℕ)) × (history ≡ front ++ leave payload ∷ []) }
 {}

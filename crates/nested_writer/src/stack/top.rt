@@ -13,9 +13,9 @@ use std::marker::Model;
 
 /// Which fields hold the frame on top.
 #[derive(Clone, Copy)]
-enum Phase {
+enum Tag {
     /// The stack is empty.
-    Idle,
+    Empty,
     /// A record frame that noted nothing, for a payload of 1 to `SHORT_LIMIT` bytes: what it was pushed with.
     Waits,
     /// Any other record frame whose record isn't reserved yet: what it was pushed with, and what it noted.
@@ -25,7 +25,7 @@ enum Phase {
     /// A close frame that has a slot, as no frame of a ring ever has: the slot.
     HoldsClose,
     /// A record frame that left and noted nothing: what it was pushed with.
-    Gone,
+    Stays,
     /// Any other frame, which has no slot: itself.
     Other,
 }
@@ -33,7 +33,7 @@ enum Phase {
 /// The frame on top, if there is one.
 #[derive(Drop)]
 pub(crate) struct Top {
-    phase: Phase,
+    tag: Tag,
     /// What a record frame was pushed with, except for one that `other` holds.
     pushed: Pushed,
     /// The number of begun fills that a frame noted which tries.
@@ -62,7 +62,7 @@ impl Top {
         ensures { result ≡ None }
     {
         Top {
-            phase: Phase::Idle,
+            tag: Tag::Empty,
             pushed: Pushed { moment: 0, len: 0 },
             noted: None,
             slot: Slot {
@@ -82,7 +82,7 @@ impl Top {
     pub(crate) fn is_none(&self) -> bool
         ensures { IsTrue result ↔ self.now ≡ None }
     {
-        matches!(self.phase, Phase::Idle)
+        matches!(self.tag, Tag::Empty)
     }
 
     /// The frame.
@@ -94,29 +94,29 @@ impl Top {
             moment: self.pushed.moment,
             len: self.pushed.len,
         };
-        match self.phase {
-            Phase::Idle => None,
-            Phase::Waits => Some(Frame {
+        match self.tag {
+            Tag::Empty => None,
+            Tag::Waits => Some(Frame {
                 purpose,
                 progress: Progress::Waiting(None),
             }),
-            Phase::Tries => Some(Frame {
+            Tag::Tries => Some(Frame {
                 purpose,
                 progress: Progress::Waiting(self.noted),
             }),
-            Phase::Holds => Some(Frame {
+            Tag::Holds => Some(Frame {
                 purpose,
                 progress: Progress::Reserved(self.slot),
             }),
-            Phase::HoldsClose => Some(Frame {
+            Tag::HoldsClose => Some(Frame {
                 purpose: Purpose::Close,
                 progress: Progress::Reserved(self.slot),
             }),
-            Phase::Gone => Some(Frame {
+            Tag::Stays => Some(Frame {
                 purpose,
                 progress: Progress::Left(None),
             }),
-            Phase::Other => Some(self.other),
+            Tag::Other => Some(self.other),
         }
     }
 
@@ -129,7 +129,7 @@ impl Top {
         ensures some { IfSome result (λ pushed. 1 ≤ pushed.len) }
         ensures short { IfSome result (λ pushed. pushed.len ≤ SHORT_LIMIT) }
     {
-        if matches!(self.phase, Phase::Waits) {
+        if matches!(self.tag, Tag::Waits) {
             Some(self.pushed)
         } else {
             None
@@ -142,7 +142,7 @@ impl Top {
         ensures some { IfSome result (λ slot. IsTopSlot (option_to_list self.now) slot) }
         ensures none { result ≡ None ↔ (self.now ≡ None) ⊎ LacksSlot (option_to_list self.now) }
     {
-        if matches!(self.phase, Phase::Holds | Phase::HoldsClose) {
+        if matches!(self.tag, Tag::Holds | Tag::HoldsClose) {
             return Some(self.slot);
         }
         None
@@ -154,7 +154,7 @@ impl Top {
         ensures { IsTrue result → (moment : ℕ) × (len : ℕ) × (slot : Slot) × (self.now
             ≡ Some (record { purpose = Record moment len; progress = Reserved slot })) }
     {
-        matches!(self.phase, Phase::Holds)
+        matches!(self.tag, Tag::Holds)
     }
 
     /// The stack is empty from now on.
@@ -162,7 +162,7 @@ impl Top {
     pub(crate) fn clear(&mut self)
         ensures { self.new ≡ None }
     {
-        self.phase = Phase::Idle;
+        self.tag = Tag::Empty;
     }
 
     /// The frame is this one from now on.
@@ -173,7 +173,7 @@ impl Top {
             (Purpose::Record { moment, len }, Progress::Waiting(None))
                 if len.wrapping_sub(1) < SHORT_LIMIT => { self.wait(moment, len) }
             (Purpose::Record { moment, len }, Progress::Waiting(noted)) => {
-                self.phase = Phase::Tries;
+                self.tag = Tag::Tries;
                 self.pushed = Pushed { moment, len };
                 self.noted = noted;
             }
@@ -181,11 +181,11 @@ impl Top {
                 moment, len, slot,
             ),
             (Purpose::Close, Progress::Reserved(slot)) => {
-                self.phase = Phase::HoldsClose;
+                self.tag = Tag::HoldsClose;
                 self.slot = slot;
             }
             _ => {
-                self.phase = Phase::Other;
+                self.tag = Tag::Other;
                 self.other = frame;
             }
         }
@@ -198,7 +198,7 @@ impl Top {
         requires short { len ≤ SHORT_LIMIT }
         ensures { self.new ≡ Some (record { purpose = Record moment len; progress = Waiting None }) }
     {
-        self.phase = Phase::Waits;
+        self.tag = Tag::Waits;
         self.pushed = Pushed { moment, len };
     }
 
@@ -210,7 +210,7 @@ impl Top {
         ensures { (frame : Frame) → self.old ≡ Some frame
             → self.new ≡ Some (record frame { progress = Reserved slot }) }
     {
-        self.phase = Phase::Holds;
+        self.tag = Tag::Holds;
         self.slot = slot;
     }
 
@@ -221,9 +221,9 @@ impl Top {
         ensures { IfSome result (λ tries. self.now
             ≡ Some (record { purpose = Record tries.0.moment tries.0.len; progress = Waiting tries.1 })) }
     {
-        match self.phase {
-            Phase::Waits => Some((self.pushed, None)),
-            Phase::Tries => Some((self.pushed, self.noted)),
+        match self.tag {
+            Tag::Waits => Some((self.pushed, None)),
+            Tag::Tries => Some((self.pushed, self.noted)),
             _ => None,
         }
     }
@@ -234,8 +234,8 @@ impl Top {
         ensures { (frame : Frame) → self.old ≡ Some frame
             → self.new ≡ Some (record frame { progress = Waiting (Some opened) }) }
     {
-        if matches!(self.phase, Phase::Waits | Phase::Tries) {
-            self.phase = Phase::Tries;
+        if matches!(self.tag, Tag::Waits | Tag::Tries) {
+            self.tag = Tag::Tries;
             self.noted = Some(opened);
         } else {
             self.go_on(Progress::Waiting(Some(opened)));
@@ -247,7 +247,7 @@ impl Top {
     pub(crate) fn hold_any(&mut self, moment: u64, len: usize, slot: Slot)
         ensures { self.new ≡ Some (record { purpose = Record moment len; progress = Reserved slot }) }
     {
-        self.phase = Phase::Holds;
+        self.tag = Tag::Holds;
         self.pushed = Pushed { moment, len };
         self.slot = slot;
     }
@@ -257,7 +257,7 @@ impl Top {
     pub(crate) fn leave(&mut self, moment: u64, len: usize)
         ensures { self.new ≡ Some (record { purpose = Record moment len; progress = Left None }) }
     {
-        self.phase = Phase::Gone;
+        self.tag = Tag::Stays;
         self.pushed = Pushed { moment, len };
     }
 
@@ -277,8 +277,8 @@ impl Top {
         ensures { (frame : Frame) → self.old ≡ Some frame
             → self.new ≡ Some (record frame { progress = Left None }) }
     {
-        if matches!(self.phase, Phase::Holds) {
-            self.phase = Phase::Gone;
+        if matches!(self.tag, Tag::Holds) {
+            self.tag = Tag::Stays;
         } else {
             self.go_on(Progress::Left(None));
         }

@@ -9,7 +9,7 @@ pub enum Wrote {
     /// The record, which was pushed, reserved, filled and ended.
     Record,
     /// Nothing, and nothing has changed: the record is written, or refused, by `begin` and the calls that follow it;
-    /// after `write_if_plain` it may still fit, and then `write_alone` writes it.
+    /// after `write_if_short` it may still fit, and then `write_alone` writes it.
     Nothing,
 }
 
@@ -20,7 +20,7 @@ impl WriterStack {
     ghost use Rattle.trace_model.specs.Words.{padded};
     ghost use Rattle.page_image.specs.Contents.{records_of_page};
     ghost use Rattle.nested_writer.specs.Allotted.{HasEvents};
-    ghost use Rattle.nested_writer.specs.AtOnce.{MayStand, FitsAtOnce, with_written, with_left, with_record, IsPlain};
+    ghost use Rattle.nested_writer.specs.AtOnce.{MayStand, FitsAtOnce, with_written, with_left, with_record, IsShortAlone};
     ghost use Rattle.nested_writer.specs.Promises.{WritesWhatFits, StandsAgain};
     ghost use Rattle.nested_writer.specs.Stack.{opened};
     ghost use Rattle.nested_writer.specs.Calls.{HasRecordRoom, with_bottom, IsAtBottom, MayAddPage};
@@ -74,7 +74,7 @@ impl WriterStack {
     #[inline(always)]
     fn write_plain(&mut self, moment: u64, payload: &[u8]) -> Wrote
         requires stack { IsReachedStack self.old }
-        requires plain { IsPlain self.old moment (length payload.now) }
+        requires plain { IsShortAlone self.old moment (length payload.now) }
         ensures at_once { WritesWhatFits moment payload.now self.old result self.new }
         ensures written { result ≡ Wrote.Record → self.new ≡ with_written self.old moment payload.now }
         ensures frames { self.new.frames ≡ self.old.frames }
@@ -91,10 +91,10 @@ impl WriterStack {
     /// `EXTEND_FROM` after the one before it in the tail, and no earlier. Otherwise nothing changes, even if the record
     /// fits. All that it calls is in line.
     #[inline(always)]
-    pub fn write_if_plain(&mut self, moment: u64, payload: &[u8]) -> Wrote
+    pub fn write_if_short(&mut self, moment: u64, payload: &[u8]) -> Wrote
         requires stack { IsReachedStack self.old }
         ensures plain { result ≡ Wrote.Record
-            ↔ (IsPlain self.old moment (length payload.now) × HasRecordRoom self.old moment (length payload.now)) }
+            ↔ (IsShortAlone self.old moment (length payload.now) × HasRecordRoom self.old moment (length payload.now)) }
         ensures at_once { result ≡ Wrote.Record → WritesWhatFits moment payload.now self.old result self.new }
         ensures written { result ≡ Wrote.Record → self.new ≡ with_written self.old moment payload.now }
         ensures nothing { result ≡ Wrote.Nothing → self.new ≡ self.old }
@@ -128,7 +128,7 @@ impl WriterStack {
         ensures written { result ≡ Wrote.Record → self.new ≡ with_written self.old moment payload.now }
         ensures frames { self.new.frames ≡ self.old.frames }
     {
-        match self.write_if_plain(moment, payload) {
+        match self.write_if_short(moment, payload) {
             Wrote::Record => Wrote::Record,
             Wrote::Nothing => self.write_any(moment, payload),
         }

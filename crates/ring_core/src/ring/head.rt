@@ -11,7 +11,7 @@ impl Core {
     ghost use Rattle.std.specs.Prelude.{◌≡◌, ◌≢◌, ℕ, true, false, []};
     ghost use Rattle.trace_model.specs.Steps as model;
     ghost use Rattle.ring_frames.specs.declared.phase.Phase.TheVariants.{Looking, Claiming, LookingNext, Marking, Clearing};
-    ghost use Rattle.ring_core.specs.Heads.{HasHeader, ClaimsHead};
+    ghost use Rattle.ring_core.specs.Heads.{HasHeaderMark, ClaimsHead};
     ghost use Rattle.ring_frames.specs.Phases.{as_answer};
     ghost use Rattle.ring_frames.specs.Answers.{KeepsPayloads};
     ghost use Rattle.ring_core.specs.Steps.{MakesStep, IsReachedCore};
@@ -72,7 +72,8 @@ impl Core {
     /// the noted one.
     fn exchange_head(&mut self, noted: u64, page: u16) -> bool
         ensures claimed { result ≡ true → (lost : ℕ) × ClaimsHead self.old noted page lost self.new }
-        ensures kept { result ≡ false → (self.new ≡ self.old) × ((lost : ℕ) → HasHeader self.old noted page lost → ⊥) }
+        ensures kept { result ≡ false
+            → (self.new ≡ self.old) × ((lost : ℕ) → HasHeaderMark self.old noted page lost → ⊥) }
     {
         match noted.checked_sub(self.positions()) {
             Some(lost) => self.exchange(noted, header(page, lost), update(page, lost)),

@@ -87,7 +87,7 @@ impl Frames {
         }
         let opened = self.stack.opened();
         if self.stack.done() + 1 < opened {
-            self.phase.close();
+            self.phase.set_releasing();
             return StepAnswer::Going;
         }
         self.stack.pop_bottom();
@@ -118,7 +118,7 @@ impl Frames {
         if !self.stack.ask_close() {
             return false;
         }
-        self.phase.put(Phase::Looking { noted: wish });
+        self.phase.set(Phase::Looking { noted: wish });
         true
     }
 }

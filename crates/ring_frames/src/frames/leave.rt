@@ -54,7 +54,7 @@ impl Frames {
         ensures phase { self.new ≡ with_left_phase self.old }
     {
         match self.below.pop_front() {
-            Some(phase) => self.phase.put(phase),
+            Some(phase) => self.phase.set(phase),
             None => unreachable!(),
         }
     }
@@ -66,9 +66,9 @@ impl Frames {
     {
         let opened = self.stack.opened();
         if self.stack.done() + 1 == opened {
-            self.phase.look_for_wish();
+            self.phase.set_wishing();
         } else {
-            self.phase.close();
+            self.phase.set_releasing();
         }
     }
 }

@@ -48,7 +48,7 @@ impl Frames {
         if covers {
             self.below.push_front_reserved(self.phase.get());
         }
-        self.phase.rest();
+        self.phase.set_idle();
         Answer::Pushed
     }
 }

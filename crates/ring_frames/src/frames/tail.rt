@@ -64,7 +64,7 @@ impl Frames {
             },
             Ok(Allot::NeedsPage) => {
                 let noted = self.stack.opened();
-                self.phase.put(Phase::Looking { noted });
+                self.phase.set(Phase::Looking { noted });
                 Answer::Going
             }
             Err(fault) => {
@@ -140,7 +140,7 @@ impl Frames {
         ensures goes_on { (noted : ℕ) → IsNotedIn self.old.phase phase noted → GoesOnIn self.old phase self.new }
         ensures payloads { KeepsPayloads self.old.stack self.new.stack }
     {
-        self.phase.put(phase);
+        self.phase.set(phase);
         StepAnswer::Going
     }
 

@@ -5,18 +5,18 @@ use nested_writer::Wrote;
 
 /// Which records a call writes at once.
 #[derive(Clone, Copy, Debug, PartialEq, Eq)]
-pub enum Records {
+pub enum WriteKind {
     /// Each that fits.
     Any,
-    /// Those that are as nearly all are (`WriterStack::write_if_plain`).
+    /// Those that are as nearly all are (`WriterStack::write_if_short`).
     Plain,
 }
 
 impl Frames {
     ghost use Rattle.std.specs.Prelude.{◌≡◌, ◌↔◌, ℕ, [], length, false};
-    ghost use Rattle.nested_writer.specs.AtOnce.{FitsAtOnce, IsPlain};
+    ghost use Rattle.nested_writer.specs.AtOnce.{FitsAtOnce, IsShortAlone};
     ghost use Rattle.nested_writer.specs.Calls.{HasRecordRoom};
-    ghost use Rattle.ring_frames.specs.declared.frames.write.Records.TheVariants.{Any, Plain};
+    ghost use Rattle.ring_frames.specs.declared.frames.write.WriteKind.TheVariants.{Any, Plain};
     ghost use Rattle.ring_frames.specs.declared.phase.Phase.TheVariants.{Wishing};
     ghost use Rattle.ring_frames.specs.declared.answer.Answer.TheVariants.{Gone};
     ghost use Rattle.ring_frames.specs.Answers.{KeepsPayloads};
@@ -27,18 +27,18 @@ impl Frames {
 
     /// Writes a record of this moment and payload in one call, if no frame is on the stack, the record fits in the
     /// tail, and it is one of these. No frame is left then, as if the record's frame had left and not looked for the
-    /// reader's wish yet. The caller looks for it by `is_wished` and, if that answers true, by `stay`. In all other
+    /// reader's wish yet. The caller looks for it by `may_be_wished` and, if that answers true, by `stay`. In all other
     /// cases, and if `push` would refuse the record as too long for a page or at too late a moment, nothing changes.
     #[inline(always)]
-    pub fn write(&mut self, records: Records, moment: u64, payload: &[u8]) -> Wrote
+    pub fn write(&mut self, kind: WriteKind, moment: u64, payload: &[u8]) -> Wrote
         requires frames { IsFrames self.old }
         ensures fits { result ≡ Wrote.Record → FitsAtOnce self.old.stack moment (length payload.now) }
-        ensures any { records ≡ Any
+        ensures any { kind ≡ Any
             → FitsAtOnce self.old.stack moment (length payload.now)
             → result ≡ Wrote.Record }
-        ensures plain { records ≡ Plain
+        ensures plain { kind ≡ Plain
             → (result ≡ Wrote.Record
-            ↔ (IsPlain self.old.stack moment (length payload.now)
+            ↔ (IsShortAlone self.old.stack moment (length payload.now)
             × HasRecordRoom self.old.stack moment (length payload.now))) }
         ensures wrote { result ≡ Wrote.Record
             → WritesAtOnce self.old moment payload.now (with_left_frame self.new moment (length payload.now)) }
@@ -46,16 +46,16 @@ impl Frames {
         ensures nothing { result ≡ Wrote.Nothing → self.new ≡ self.old }
         ensures payloads { KeepsPayloads self.old.stack self.new.stack }
     {
-        match records {
-            Records::Any => self.stack.write_alone(moment, payload),
-            Records::Plain => self.stack.write_if_plain(moment, payload),
+        match kind {
+            WriteKind::Any => self.stack.write_alone(moment, payload),
+            WriteKind::Plain => self.stack.write_if_short(moment, payload),
         }
     }
 
     /// Whether the reader's wish may be for the tail, if no other fill is open. If it isn't, a frame that has left and
     /// looks for it is gone.
     #[inline(always)]
-    pub fn is_wished(&self, wish: u64) -> bool
+    pub fn may_be_wished(&self, wish: u64) -> bool
         ensures unasked { result ≡ false → (moment len : ℕ)
             → self.now.stack.frames ≡ []
             → self.now.below ≡ []

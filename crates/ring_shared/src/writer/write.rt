@@ -3,7 +3,7 @@ use crate::writer::Writer;
 use crate::writer::finish::met_first;
 use nested_writer::frame::Slot;
 use nested_writer::{Ended, WriteFault, Wrote};
-use ring_frames::{Answer, Records, StepAnswer, write_padded};
+use ring_frames::{Answer, WriteKind, StepAnswer, write_padded};
 use std::marker::Brand;
 
 impl Writer {
@@ -29,7 +29,7 @@ impl Writer {
         ensures rooms { rooms self.new ≡ rooms self.old }
         ensures keeps { KeepsWriter self.old self.new }
     {
-        match self.write_at_once(Records::Plain, moment, payload) {
+        match self.write_at_once(WriteKind::Plain, moment, payload) {
             Wrote::Record => Ok(()),
             Wrote::Nothing => self.write_rarely(moment, payload),
         }
@@ -46,7 +46,7 @@ impl Writer {
             → IsRefusedWrite self.old.shape self.old.part moment (length payload.now) fault self.new.part }
         ensures keeps { KeepsWriter self.old self.new }
     {
-        match self.write_at_once(Records::Any, moment, payload) {
+        match self.write_at_once(WriteKind::Any, moment, payload) {
             Wrote::Record => Ok(()),
             Wrote::Nothing => self.write_by_steps(moment, payload),
         }
@@ -55,7 +55,7 @@ impl Writer {
     /// Writes a record in one call, if it is one of these, no frame is on the stack, and it fits in the tail. Else
     /// nothing changes.
     #[inline(always)]
-    fn write_at_once(&mut self, records: Records, moment: u64, payload: &[u8]) -> Wrote
+    fn write_at_once(&mut self, records: WriteKind, moment: u64, payload: &[u8]) -> Wrote
         requires writer { IsWriter self.old }
         ensures written { result ≡ Wrote.Record
             → IsWritten self.old.shape self.old.part moment payload.now self.new.part }
@@ -67,7 +67,7 @@ impl Writer {
         };
         self.seat.note::<Brand, _>(&(moment, payload));
         let wish = self.seat.load_wish();
-        if !self.frames.is_wished(wish) {
+        if !self.frames.may_be_wished(wish) {
             return Wrote::Record;
         }
         match self.frames.stay(moment, payload.len(), wish) {

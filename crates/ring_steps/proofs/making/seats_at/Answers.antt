@@ -38,4 +38,4 @@ invariant_of-result-clause-reached c = let shape : Shape = record { pages = c.ar
 
 pub invariant_of-result-clause-pending : goal.invariant_of-result-clause-pending
 invariant_of-result-clause-pending c = let shape : Shape = record { pages = c.args.pages; size = c.args.size; start = c.args.start } in
-    rests shape _ _ c.ghost_part_at_rest-ghost_part.ensures
+    rests shape _ _ c.ghost_part_known-ghost_part.ensures

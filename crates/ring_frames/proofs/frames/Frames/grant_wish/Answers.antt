@@ -40,6 +40,6 @@ returns-clause-granted c = λ _ n size start m reached now asks.
     let next : c.args.wish ≡ opened v.stack = grant.0 ∙ ap (λ (x : FramesValue). opened x.stack) (sym c.self.view_is) in
     let wide = ap (λ (x : FramesValue). x.stack.pages) c.self.view_is in
     let more = grant.1 in
-    rw c.put.ensures
+    rw c.set.ensures
     (subst (λ (o : ℕ). IsLookForWish n size start m Going (record v { stack = c.ask_close.new.self; phase = Looking o })) (sym next)
     (granted n size start v m core some is c.ask_close.new.self (asks ∙ next) (omega arith) ((c.ask_close.ensures.holds_record start m.history core.are.stack_is).0 yes) (c.ask_close.ensures.yes yes) (c.ask_close.ensures.wished yes)))

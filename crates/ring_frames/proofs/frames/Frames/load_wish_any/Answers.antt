@@ -13,7 +13,7 @@ returns-then-done-opened-clause-looks c = λ n size start m reached now asks.
     let v : FramesValue = frames_in c.self.inside in
     let (none, stays) = c.grant_wish.ensures.refused c.if-grant_wish.false in
     let same : c.args.self.now ≡ v = sym (c.self.view_is ∙ stays) in
-    rw c.close.ensures
+    rw c.set_releasing.ensures
     (closes_more n size start v m record { reached = reached; are = subst (λ (x : FramesValue). AreFrames n size start x m) same now } (subst (λ (x : FramesValue). x.stack.frames ≢ []) same c.requires.top)
     (subst (λ (x : FramesValue). x.phase ≡ Wishing) same c.requires.phase) (none n size start m now asks)
     (let begun = c.opened-opened.ensures.begun in let done = c.done.ensures in let more = c.if-done-opened.true in omega arith))

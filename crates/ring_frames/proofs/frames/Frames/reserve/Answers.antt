@@ -70,7 +70,7 @@ returns-in-Ok-NeedsPage-clause-step c = λ n size start s reached now.
     let v : FramesValue = frames_in c.self.inside in
     let core : HasFrames n size start v s = record { reached = reached; are = subst (λ (x : FramesValue). AreFrames n size start x s) (sym c.self.view_is) now } in
     let (top, rest, is) = some_top v.stack.frames (λ none. c.requires.top (ap (λ (x : FramesValue). x.stack.frames) (sym c.self.view_is) ∙ none)) in
-    rw c.put.ensures
+    rw c.set.ensures
     (page_noted n size start v s core (ap (λ (x : FramesValue). x.phase) c.self.view_is ∙ c.requires.phase) top rest is c.allot.new.self c.opened-noted.result
     (subst (λ (a : Allot). IsAllotAnswer v.stack s.history v.stack.frames (Ok a)) c.in-Ok-NeedsPage.field-0-is (c.in-Ok-NeedsPage.ensures.answered start s.history core.are.stack_is))
     (subst (λ (a : Allot). IsAllotted v.stack v.stack.frames (Ok a) c.allot.new.self) c.in-Ok-NeedsPage.field-0-is c.in-Ok-NeedsPage.ensures.after)

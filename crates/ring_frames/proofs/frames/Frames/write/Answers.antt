@@ -44,10 +44,10 @@ pub returns-in-Any-clause-payloads : goal.returns-in-Any-clause-payloads
 returns-in-Any-clause-payloads c = payloads (frames_in c.self.inside) _ c.self.view_is c.write_alone.new.self c.args.moment c.args.payload.now c.write_alone.result (λ is. c.write_alone.ensures.at_once) c.write_alone.ensures.at_once.nothing
 
 pub returns-in-Plain-clause-wrote : goal.returns-in-Plain-clause-wrote
-returns-in-Plain-clause-wrote c = λ is. steps (frames_in c.self.inside) _ c.self.view_is c.write_if_plain.new.self c.args.moment c.args.payload.now c.write_if_plain.result is (c.write_if_plain.ensures.at_once is) (c.write_if_plain.ensures.written is)
+returns-in-Plain-clause-wrote c = λ is. steps (frames_in c.self.inside) _ c.self.view_is c.write_if_short.new.self c.args.moment c.args.payload.now c.write_if_short.result is (c.write_if_short.ensures.at_once is) (c.write_if_short.ensures.written is)
 
 pub returns-in-Plain-clause-alone : goal.returns-in-Plain-clause-alone
-returns-in-Plain-clause-alone c = λ is. alone (frames_in c.self.inside) _ c.self.view_is c.write_if_plain.new.self c.args.moment c.args.payload.now c.write_if_plain.result c.requires.frames is (c.write_if_plain.ensures.at_once is) (c.write_if_plain.ensures.written is)
+returns-in-Plain-clause-alone c = λ is. alone (frames_in c.self.inside) _ c.self.view_is c.write_if_short.new.self c.args.moment c.args.payload.now c.write_if_short.result c.requires.frames is (c.write_if_short.ensures.at_once is) (c.write_if_short.ensures.written is)
 
 pub returns-in-Plain-clause-payloads : goal.returns-in-Plain-clause-payloads
-returns-in-Plain-clause-payloads c = payloads (frames_in c.self.inside) _ c.self.view_is c.write_if_plain.new.self c.args.moment c.args.payload.now c.write_if_plain.result c.write_if_plain.ensures.at_once c.write_if_plain.ensures.nothing
+returns-in-Plain-clause-payloads c = payloads (frames_in c.self.inside) _ c.self.view_is c.write_if_short.new.self c.args.moment c.args.payload.now c.write_if_short.result c.write_if_short.ensures.at_once c.write_if_short.ensures.nothing

@@ -7,7 +7,7 @@ use Rattle.ring_steps.specs.Views.{Reading}
 use Rattle.ring_steps.specs.Ends.{reading_in, reader_table}
 use Rattle.ring_steps.specs.Taking.{page_in, fill_in, DoneLoaded}
 use Rattle.ring_shared.specs.Value.{ReaderValue}
-use Rattle.ring_shared.specs.Takes.{KeepsSlot, SawPage}
+use Rattle.ring_shared.specs.Takes.{KeepsSpare, SawPage}
 use Rattle.ring_shared.proofs.TakeSteps.{nothing, so, counted, none_found}
 use Rattle.ring_shared.proofs.Fields.{fields, shown}
 use Rattle.ring_shared.proofs.reader.Reader.load_done.Goals as goal
@@ -37,7 +37,7 @@ returns-then-done-fill c =
         hint_is = ap (λ (x : ring.Reader). x.hint) s.reader_is ∙ hint;
         seen_is = ap (λ (x : ring.Reader). x.seen) s.reader_is;
         phase_is = refl;
-        no_slot = reported.spare ∙ (ap (λ (w : ReaderValue). w.part.keeps_spare) c.self.view_is ∙ subst (λ (p : ReaderPhase). KeepsSlot p v.part.keeps_spare) c.requires.phase c.requires.taking.reader.keeps);
+        no_spare = reported.spare ∙ (ap (λ (w : ReaderValue). w.part.keeps_spare) c.self.view_is ∙ subst (λ (p : ReaderPhase). KeepsSpare p v.part.keeps_spare) c.requires.phase c.requires.taking.reader.keeps);
       };
       empty_at = search rules;
       ring = search rules;
@@ -59,12 +59,12 @@ returns c =
     (subst (λ (p : ring.ReaderPhase). DoneLoaded c.self.inside.seat.shape (reading_in c.self.inside.seat) done model.reading (ring.storing_spare_link (page_in p) (fill_in p)) after) there
     (reported.closed (subst (λ (p : ring.ReaderPhase). fill_in p < done) (sym there) (omega (arith, c.if-done-fill.false))))) in
     let s = counted v.shape v.part done model.reading storing after h in
-    let no_slot = reported.spare ∙ (ap (λ (w : ReaderValue). w.part.keeps_spare) c.self.view_is ∙ subst (λ (p : ReaderPhase). KeepsSlot p v.part.keeps_spare) c.requires.phase c.requires.taking.reader.keeps) in
+    let no_spare = reported.spare ∙ (ap (λ (w : ReaderValue). w.part.keeps_spare) c.self.view_is ∙ subst (λ (p : ReaderPhase). KeepsSpare p v.part.keeps_spare) c.requires.phase c.requires.taking.reader.keeps) in
     record {
       take_step = (refl, nothing v.shape v.part after (record v.part.reader { phase = storing; seen = done }) s refl refl (omega arith) h.seen_le);
       answered = record { reported = model.reading; step = so v.shape v.part after _ model.reading h.step; reports = refl };
       empty = search rules;
       empty_at = search rules;
       ring = search rules;
-      reader = shown _ v c.self.view_is c.requires.taking.reader new.shape (reader_table new) after (record v.part.reader { phase = storing; seen = done }) _ c.requires.taking.again reported.same.shape s (refl, old.1, refl, old.3) no_slot (subst SawPage c.requires.phase c.requires.taking.reader.saw);
+      reader = shown _ v c.self.view_is c.requires.taking.reader new.shape (reader_table new) after (record v.part.reader { phase = storing; seen = done }) _ c.requires.taking.again reported.same.shape s (refl, old.1, refl, old.3) no_spare (subst SawPage c.requires.phase c.requires.taking.reader.saw);
     }

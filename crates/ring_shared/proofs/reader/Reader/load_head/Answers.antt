@@ -19,7 +19,7 @@ use Rattle.ring_steps.specs.Taking.{LinkLoaded}
 use Rattle.ring_shared.specs.Value.{ReaderValue}
 use Rattle.ring_shared.specs.declared.reader.steps.HeadSeen.{HeadSeen}
 use Rattle.ring_shared.specs.declared.reader.steps.HeadSeen.TheVariants.{Head, Moved, Passed}
-use Rattle.ring_shared.specs.Takes.{KeepsSlot, SawPage, TakesNothing, IsReader}
+use Rattle.ring_shared.specs.Takes.{KeepsSpare, SawPage, TakesNothing, IsReader}
 use Rattle.ring_shared.proofs.TakeSteps.{nothing, passed_below_hint, so, loaded}
 use Rattle.ring_shared.proofs.Fields.{fields, positions, shown}
 use Rattle.ring_shared.proofs.reader.Reader.load_head.Goals as goal
@@ -75,7 +75,7 @@ module _ {w v : ReaderValue} (same : w ≡ v) (is : IsReader v) where
       let old = fields w v same is in
       shown w v same is shape table after (record v.part.reader { phase = ring.loading_head; hint = fill }) (record w.at { hint = fill }) again shape_is
       (loaded v.shape v.part (link_of link) answer ring.loading_head fill after h)
-      (ap reader_phase_of (sym at), refl, old.2, old.3) (subst (λ (p : ReaderPhase). KeepsSlot p after.keeps_spare) (sym at) tt) (subst SawPage (sym at) tt)
+      (ap reader_phase_of (sym at), refl, old.2, old.3) (subst (λ (p : ReaderPhase). KeepsSpare p after.keeps_spare) (sym at) tt) (subst SawPage (sym at) tt)
 
 -- nothing is taken, and the model answers so
 none_taken : (v : ReaderValue) (link : Link) (after : Reading) (answer : model.Answer) (phase : ring.ReaderPhase) (fill : ℕ) → Goes v link after answer phase fill → TakesNothing v.part after

@@ -6,7 +6,7 @@ use Rattle.ring_frames.specs.ReaderPhases.{reader_phase_of}
 use Rattle.ring_steps.specs.declared.rule.Shape.{Shape}
 use Rattle.ring_steps.specs.Views.{Reading}
 use Rattle.ring_steps.specs.Ends.{reading_in, reader_table}
-use Rattle.ring_steps.specs.Swapping.{HeadTaken, HeadMissed}
+use Rattle.ring_steps.specs.Swapping.{HeadTaken, HeadGone}
 use Rattle.ring_shared.specs.declared.take.Take.TheVariants.{Page}
 use Rattle.ring_shared.specs.declared.take.TakeStep.TheVariants.{Done}
 use Rattle.ring_shared.specs.Value.{ReaderValue}
@@ -51,7 +51,7 @@ pub returns-in-Err : goal.returns-in-Err
 returns-in-Err c =
     let v : ReaderValue = c.args.self.now in
     let after : Reading = reading_in c.swap_head-swapped.new.self in
-    let h = subst (λ (w : ReaderValue). HeadMissed w.shape w.part c.args.page c.args.fill after) c.self.view_is c.in-Err.ensures.missed in
+    let h = subst (λ (w : ReaderValue). HeadGone w.shape w.part c.args.page c.args.fill after) c.self.view_is c.in-Err.ensures.failed in
     let at = c.requires.taking.reader.phase_is ∙ ap reader_phase_of c.requires.phase in
     record {
       take_step = let (s, low) = misses v.shape v.part c.args.page c.args.fill after at h in (

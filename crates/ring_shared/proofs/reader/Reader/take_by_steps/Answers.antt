@@ -3,7 +3,7 @@ use Rattle.ring_steps.specs.declared.rule.Shape.{Shape}
 use Rattle.ring_shared.specs.declared.take.TakeStep.{TakeStep}
 use Rattle.ring_shared.specs.declared.take.TakeStep.TheVariants.{Done}
 use Rattle.ring_shared.specs.Value.{ReaderValue}
-use Rattle.ring_shared.specs.Takes.{IsTake, IsSentAway, IsAnswered, most_steps, ReadsOn, no_step, one_more, has_answer, has_none}
+use Rattle.ring_shared.specs.Takes.{IsTake, IsMovingFound, IsAnswered, most_steps, ReadsOn, no_step, one_more, has_answer, has_none}
 use Rattle.ring_shared.proofs.Fields.{positions}
 use Rattle.ring_shared.proofs.Onward.{nothing_yet, nothing_more, answered, given_up, goes_on}
 use Rattle.ring_shared.proofs.reader.Reader.take_by_steps.Goals as goal
@@ -30,7 +30,7 @@ pub returns-clause-took : goal.returns-clause-took
 returns-clause-took c = let kept = c.loop-made.invariant in
     let hint = kept.reader.hint_is ∙ ap (λ (v : ReaderValue). v.at.hint) (sym c.self-2.view_is) in (
       kept.body,
-      subst (λ (shape : Shape). IsSentAway shape c.args.self.now.part c.self-2.inside.at.hint c.loop-made.self.part) kept.ring.0
+      subst (λ (shape : Shape). IsMovingFound shape c.args.self.now.part c.self-2.inside.at.hint c.loop-made.self.part) kept.ring.0
           (given_up c.loop-made.self.shape c.args.self.now.part c.loop-made.self.part c.self-2.inside.at.hint kept.nothing hint),
     )
 

@@ -35,26 +35,26 @@ stay-requires-clause-frames c =
     let v : WriterValue = the_view c.self.inside in
     frames_mid v (writer_seen c.self.view_is c.requires.writer) c.args.moment c.args.payload.now c.write.new.self (c.write.ensures.wrote c.in-Record.is) (c.write.ensures.alone c.in-Record.is)
 
-pub returns-then-not-is_wished-clause-keeps : goal.returns-then-not-is_wished-clause-keeps
+pub returns-then-not-may_be_wished-clause-keeps : goal.returns-then-not-may_be_wished-clause-keeps
 unfolding IsWriter
-returns-then-not-is_wished-clause-keeps c =
+returns-then-not-may_be_wished-clause-keeps c =
     let alone = c.write.ensures.alone c.in-Record.is in
     let l = looked c.self.view_is c.requires.writer c.args.moment c.args.payload.now c.write.new.self c.write.new.self c.load_wish-wish.result Gone
     (c.write.ensures.wrote c.in-Record.is) (c.write.ensures.alone c.in-Record.is) c.note.ensures.same.shape c.note.ensures.same.table c.note.ensures.noted
-    c.load_wish-wish.ensures.same c.load_wish-wish.ensures.step (c.is_wished.ensures.unasked c.if-not-is_wished.true c.args.moment (length c.args.payload.now) (none_left alone) alone.below alone.closed) in
+    c.load_wish-wish.ensures.same c.load_wish-wish.ensures.step (c.may_be_wished.ensures.unasked c.if-not-may_be_wished.true c.args.moment (length c.args.payload.now) (none_left alone) alone.below alone.closed) in
     record {
       payloads = subst (λ (x : WriterValue). KeepsPayloads x.frames.stack c.write.new.self.stack) c.self.view_is c.write.ensures.payloads;
       ring = search rules;
       writer = l.makes.writer;
     }
 
-pub returns-then-not-is_wished-clause-written : goal.returns-then-not-is_wished-clause-written
+pub returns-then-not-may_be_wished-clause-written : goal.returns-then-not-may_be_wished-clause-written
 unfolding IsWriter
-returns-then-not-is_wished-clause-written c = λ _.
+returns-then-not-may_be_wished-clause-written c = λ _.
     let alone = c.write.ensures.alone c.in-Record.is in
     let l = looked c.self.view_is c.requires.writer c.args.moment c.args.payload.now c.write.new.self c.write.new.self c.load_wish-wish.result Gone
     (c.write.ensures.wrote c.in-Record.is) (c.write.ensures.alone c.in-Record.is) c.note.ensures.same.shape c.note.ensures.same.table c.note.ensures.noted
-    c.load_wish-wish.ensures.same c.load_wish-wish.ensures.step (c.is_wished.ensures.unasked c.if-not-is_wished.true c.args.moment (length c.args.payload.now) (none_left alone) alone.below alone.closed) in
+    c.load_wish-wish.ensures.same c.load_wish-wish.ensures.step (c.may_be_wished.ensures.unasked c.if-not-may_be_wished.true c.args.moment (length c.args.payload.now) (none_left alone) alone.below alone.closed) in
     looked_gone l (λ e. cc)
 
 pub returns-in-Gone-clause-keeps : goal.returns-in-Gone-clause-keeps

@@ -42,8 +42,8 @@ invariant_of-self-else-exchange-from-clause-is_reading c = let self = c.args.sel
     (reported_before self.shape self.seat.me c.exchange.new.seat.me c.args.page c.args.fill.0 c.args.spare c.fresh-blank.result self.is_reading c.requires.due c.requires.kept c.requires.spare c.exchange.ensures.3 _ _ c.exchange-2.ensures.reported)
     (λ same. c.if-exchange-from.false (same ∙ sym c.header_word-from.ensures)) c.args.spare c.requires.spare c.lift-else-exchange-from.ensures.seat
 
-pub returns-else-exchange-from-clause-missed : goal.returns-else-exchange-from-clause-missed
-returns-else-exchange-from-clause-missed c = let self = c.args.self.now in
+pub returns-else-exchange-from-clause-failed : goal.returns-else-exchange-from-clause-failed
+returns-else-exchange-from-clause-failed c = let self = c.args.self.now in
     missed_reported self.shape self.seat.me c.exchange-2.new.seat.me c.lift-else-exchange-from.new.seat.me c.args.page c.args.fill.0 c.exchange-2.result c.fresh-blank.result
     (reported_before self.shape self.seat.me c.exchange.new.seat.me c.args.page c.args.fill.0 c.args.spare c.fresh-blank.result self.is_reading c.requires.due c.requires.kept c.requires.spare c.exchange.ensures.3 _ _ c.exchange-2.ensures.reported)
     (λ same. c.if-exchange-from.false (same ∙ sym c.header_word-from.ensures)) c.args.spare c.requires.spare c.lift-else-exchange-from.ensures.seat

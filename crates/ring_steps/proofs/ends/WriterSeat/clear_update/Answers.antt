@@ -21,11 +21,11 @@ pub normal_word-to-requires : goal.normal_word-to-requires
 normal_word-to-requires c = let fits = clear_fits c.args.self.now c.args.page c.args.noted.0 c.args.front c.recall.ensures c.requires.phase c.requires.front in
     record { page_fits = fits.page_fits; fill_fits = fits.noted_fits }
 
-pub exchange_step-found-requires-clause-word : goal.exchange_step-found-requires-clause-word
-exchange_step-found-requires-clause-word c = let low = (clear_fits c.args.self.now c.args.page c.args.noted.0 c.args.front c.recall.ensures c.requires.phase c.requires.front).front_fits in omega arith
+pub compare_exchange_step-found-requires-clause-word : goal.compare_exchange_step-found-requires-clause-word
+compare_exchange_step-found-requires-clause-word c = let low = (clear_fits c.args.self.now c.args.page c.args.noted.0 c.args.front c.recall.ensures c.requires.phase c.requires.front).front_fits in omega arith
 
-pub exchange_step-found-requires-clause-moves : goal.exchange_step-found-requires-clause-moves
-exchange_step-found-requires-clause-moves c = let self = c.args.self.now in
+pub compare_exchange_step-found-requires-clause-moves : goal.compare_exchange_step-found-requires-clause-moves
+compare_exchange_step-found-requires-clause-moves c = let self = c.args.self.now in
     let enough = (clear_fits self c.args.page c.args.noted.0 c.args.front c.recall.ensures c.requires.phase c.requires.front).round in
     writer_move self.shape self.seat.me (writing_in self) _ _ _ self.is_writing c.recall.ensures (λ found after reported. reported_stays after reported)
     (λ core r ws homes s now_is pages low. clear_moves self.shape self.seat.me self.is_writing (writing_in self) core r ws homes s now_is pages low
@@ -36,11 +36,11 @@ pub returns-clause-step : goal.returns-clause-step
 returns-clause-step c = let self = c.args.self.now in
     let fits = clear_fits self c.args.page c.args.noted.0 c.args.front c.recall.ensures c.requires.phase c.requires.front in
     seen_as self.shape _ _ _ _ _
-    (λ core reached seen. subst (λ (fill : ℕ). ((c.exchange_step-found.result == c.update_word-from.result) ≡ true) ↔ (link_into self.shape.pages core.links fill ≡ update_link c.args.page (c.args.noted.0 - self.shape.pages)))
+    (λ core reached seen. subst (λ (fill : ℕ). ((c.compare_exchange_step-found.result == c.update_word-from.result) ≡ true) ↔ (link_into self.shape.pages core.links fill ≡ update_link c.args.page (c.args.noted.0 - self.shape.pages)))
     (sym (clears_noted (writing_in self) c.args.page c.args.noted.0 c.requires.phase))
     (done_seen self.shape self.table.pages_fit _ _ (update_link c.args.page (c.args.noted.0 - self.shape.pages)) record { page_fits = fits.page_fits; fill_fits = fits.lost_fits }
     core reached seen.1 c.update_word-from.result c.update_word-from.ensures))
-    (step_noted _ _ _ _ _ _ c.exchange_step-found.ensures.rests c.exchange_step-found.ensures.reported.step)
+    (step_noted _ _ _ _ _ _ c.compare_exchange_step-found.ensures.known c.compare_exchange_step-found.ensures.reported.step)
 
 -- and it was
 pub returns-clause-done : goal.returns-clause-done

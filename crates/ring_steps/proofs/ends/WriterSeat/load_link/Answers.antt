@@ -27,7 +27,7 @@ pub returns-clause-step : goal.returns-clause-step
 returns-clause-step c = let self = c.args.self.now in
     seen_as self.shape _ _ _ _ _
     (λ core reached seen. (seen.0, link_seen self.shape self.table.pages_fit _ _ (link_of c.link_in.result) c.link_in.ensures.fits core reached seen.1 c.link_in.ensures.word))
-    (step_noted _ _ _ _ _ _ c.load_step-found.ensures.rests c.load_step-found.ensures.reported.step)
+    (step_noted _ _ _ _ _ _ c.load_step-found.ensures.known c.load_step-found.ensures.reported.step)
 
 pub returns-clause-next : goal.returns-clause-next
 returns-clause-next c = let s = returns-clause-step c in

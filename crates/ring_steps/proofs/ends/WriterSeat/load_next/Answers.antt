@@ -30,7 +30,7 @@ returns-clause-step c = let self = c.args.self.now in
     seen_as self.shape _ _ _ _ _
     (λ core reached seen. ap (link_into self.shape.pages core.links) (looks_after_lost self.shape.pages (writing_in self) c.args.page c.args.after_lost.0 c.requires.phase)
     ∙ link_seen self.shape self.table.pages_fit _ _ (link_of c.link_in.result) c.link_in.ensures.fits core reached seen.1 c.link_in.ensures.word)
-    (step_noted _ _ _ _ _ _ c.load_step-found.ensures.rests c.load_step-found.ensures.reported.step)
+    (step_noted _ _ _ _ _ _ c.load_step-found.ensures.known c.load_step-found.ensures.reported.step)
 
 pub returns-clause-part : goal.returns-clause-part
 returns-clause-part c = let s = returns-clause-step c in part_next s c.args.page c.args.after_lost.0 (link_of c.link_in.result) c.requires.phase s.seen _ _ refl refl

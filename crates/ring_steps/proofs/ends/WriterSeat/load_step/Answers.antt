@@ -15,4 +15,4 @@ pub invariant_of-self-clause-reached : goal.invariant_of-self-clause-reached
 invariant_of-self-clause-reached g c = ∣ (c.requires.moves.stays _ _ c.load-found.ensures.reported).reached ∣₁
 
 pub invariant_of-self-clause-pending : goal.invariant_of-self-clause-pending
-invariant_of-self-clause-pending g c = rests c.args.self.now.shape _ _ c.ghost_part_at_rest-self.ensures
+invariant_of-self-clause-pending g c = rests c.args.self.now.shape _ _ c.ghost_part_known-self.ensures

@@ -34,11 +34,11 @@ invariant_of-self-clause-reached c = let reported = opened_seat c.args.self.now.
     c.exchange.new.seat.me c.turn.new.self.me c.exchange.ensures.3 c.turn.ensures.2 in ∣ step_reached c.args.self.now.shape _ _ _ _ reported.step ∣₁
 
 pub invariant_of-self-clause-pending : goal.invariant_of-self-clause-pending
-invariant_of-self-clause-pending c = rests c.args.self.now.shape _ _ c.ghost_part_at_rest-self.ensures
+invariant_of-self-clause-pending c = rests c.args.self.now.shape _ _ c.ghost_part_known-self.ensures
 
 pub returns-clause-step : goal.returns-clause-step
 returns-clause-step c = let reported = opened_seat c.args.self.now.shape (writing_in c.args.self.now) _ c.store.new.seat.me c.store.ensures.reported c.args.number c.args.fill.0 c.requires.phase
-    c.exchange.new.seat.me c.turn.new.self.me c.exchange.ensures.3 c.turn.ensures.2 in step_noted _ _ _ _ _ _ c.ghost_part_at_rest-self.ensures reported.step
+    c.exchange.new.seat.me c.turn.new.self.me c.exchange.ensures.3 c.turn.ensures.2 in step_noted _ _ _ _ _ _ c.ghost_part_known-self.ensures reported.step
 
 pub returns-clause-body : goal.returns-clause-body
 returns-clause-body c = c.into_body.ensures ∙ opened_size c.args.self.now.shape (writing_in c.args.self.now) _ c.store.new.seat.me c.store.ensures.reported c.args.number c.args.fill.0 c.requires.phase

@@ -28,10 +28,10 @@ pub invariant_of-self-clause-reached : goal.invariant_of-self-clause-reached
 invariant_of-self-clause-reached c = ∣ step_reached c.args.self.now.shape _ _ _ _ c.store.ensures.reported.step ∣₁
 
 pub invariant_of-self-clause-pending : goal.invariant_of-self-clause-pending
-invariant_of-self-clause-pending c = rests c.args.self.now.shape _ _ c.ghost_part_at_rest-self.ensures
+invariant_of-self-clause-pending c = rests c.args.self.now.shape _ _ c.ghost_part_known-self.ensures
 
 pub returns-clause-step : goal.returns-clause-step
-returns-clause-step c = step_noted _ _ _ _ _ _ c.ghost_part_at_rest-self.ensures c.store.ensures.reported.step
+returns-clause-step c = step_noted _ _ _ _ _ _ c.ghost_part_known-self.ensures c.store.ensures.reported.step
 
 pub returns-clause-part : goal.returns-clause-part
 returns-clause-part c = part_closed (returns-clause-step c) c.requires.phase

@@ -1,6 +1,6 @@
 use Rattle.std.proofs.Common.{ap, arith}
 use Rattle.ring_steps.proofs.Notes.{rests}
-use Rattle.ring_steps.proofs.ends.WriterSeat.exchange_step.Goals as goal
+use Rattle.ring_steps.proofs.ends.WriterSeat.compare_exchange_step.Goals as goal
 
 pub exchange-found-requires-clause-word : goal.exchange-found-requires-clause-word
 exchange-found-requires-clause-word g c = let words = c.args.self.now.table.words in let same = ap (λ z. z.shared.table_id.words) c.deref.ensures in let low = c.requires.word in omega arith
@@ -15,4 +15,4 @@ pub invariant_of-self-clause-reached : goal.invariant_of-self-clause-reached
 invariant_of-self-clause-reached g c = ∣ (c.requires.moves.stays _ _ c.exchange-found.ensures.reported).reached ∣₁
 
 pub invariant_of-self-clause-pending : goal.invariant_of-self-clause-pending
-invariant_of-self-clause-pending g c = rests c.args.self.now.shape _ _ c.ghost_part_at_rest-self.ensures
+invariant_of-self-clause-pending g c = rests c.args.self.now.shape _ _ c.ghost_part_known-self.ensures

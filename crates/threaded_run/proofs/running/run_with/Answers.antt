@@ -1,6 +1,6 @@
 use Rattle.std.proofs.Common.{◌∙◌}
 use Rattle.threaded_run.proofs.LastStates.{is_ran}
-use Rattle.threaded_run.proofs.running.run_in.Goals as goal
+use Rattle.threaded_run.proofs.running.run_with.Goals as goal
 
 pub returns-clause-ran : goal.returns-clause-ran
 returns-clause-ran g c =

@@ -2,7 +2,7 @@ use Rattle.std.proofs.Common.{◌≡◌, ◌≤◌, ap, ◌∙◌, arith}
 use Rattle.std.proofs.lemmas.Bool.{ltb-false}
 use Rattle.ring_frames.specs.Value.{FramesValue}
 use Rattle.ring_frames.proofs.Staying.{gone_unasked}
-use Rattle.ring_frames.proofs.frames.Frames.is_wished.Goals as goal
+use Rattle.ring_frames.proofs.frames.Frames.may_be_wished.Goals as goal
 
 pub returns : goal.returns
 returns c = record {

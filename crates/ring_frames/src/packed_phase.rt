@@ -27,7 +27,7 @@ enum Tag {
 
 /// How far the frame on top has come.
 #[derive(Drop)]
-pub(crate) struct Stage {
+pub(crate) struct PackedPhase {
     tag: Tag,
     role: Role,
     noted: u64,
@@ -35,24 +35,24 @@ pub(crate) struct Stage {
     next: u16,
 }
 
-impl Model for Stage {
+impl Model for PackedPhase {
     ghost use Rattle.ring_frames.specs.declared.phase.Phase.{Phase};
-    ghost use Rattle.ring_frames.specs.Stage.{phase_in};
+    ghost use Rattle.ring_frames.specs.PackedPhase.{phase_in};
 
     ghost Value = { Phase };
 
     ghost view = { phase_in };
 }
 
-impl Stage {
+impl PackedPhase {
     ghost use Rattle.std.specs.Prelude.{◌≡◌};
     ghost use Rattle.ring_frames.specs.declared.phase.Phase.TheVariants.{Idle, Releasing, Wishing};
 
-    /// It has noted nothing.
-    pub(crate) fn idle() -> Stage
+    /// The phase `Idle`.
+    pub(crate) fn idle() -> PackedPhase
         ensures { result ≡ Idle }
     {
-        Stage {
+        PackedPhase {
             tag: Tag::Idle,
             role: Role::Owner,
             noted: 0,
@@ -90,37 +90,37 @@ impl Stage {
         }
     }
 
-    /// It has noted nothing.
+    /// The phase becomes `Idle`.
     #[inline(always)]
-    pub(crate) fn rest(&mut self)
+    pub(crate) fn set_idle(&mut self)
         ensures { self.new ≡ Idle }
     {
         self.tag = Tag::Idle;
     }
 
-    /// It closes fills.
+    /// The phase becomes `Releasing`.
     #[inline(always)]
-    pub(crate) fn close(&mut self)
+    pub(crate) fn set_releasing(&mut self)
         ensures { self.new ≡ Releasing }
     {
         self.tag = Tag::Releasing;
     }
 
-    /// It looks for the reader's wish.
+    /// The phase becomes `Wishing`.
     #[inline(always)]
-    pub(crate) fn look_for_wish(&mut self)
+    pub(crate) fn set_wishing(&mut self)
         ensures { self.new ≡ Wishing }
     {
         self.tag = Tag::Wishing;
     }
 
-    /// The phase is this one.
+    /// The phase becomes this one.
     #[inline(always)]
-    pub(crate) fn put(&mut self, phase: Phase)
+    pub(crate) fn set(&mut self, phase: Phase)
         ensures { self.new ≡ phase }
     {
         match phase {
-            Phase::Idle => self.rest(),
+            Phase::Idle => self.set_idle(),
             Phase::Looking { noted } => {
                 self.tag = Tag::Looking;
                 self.noted = noted;
@@ -158,8 +158,8 @@ impl Stage {
                 self.noted = noted;
                 self.page = page;
             }
-            Phase::Releasing => self.close(),
-            Phase::Wishing => self.look_for_wish(),
+            Phase::Releasing => self.set_releasing(),
+            Phase::Wishing => self.set_wishing(),
         }
     }
 }

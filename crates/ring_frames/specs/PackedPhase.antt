@@ -3,9 +3,9 @@ use Rattle.std.specs.Prelude.{ℕ}
 use Rattle.ring_frames.specs.declared.phase.Role.{Role}
 use Rattle.ring_frames.specs.declared.phase.Phase.{Phase}
 use Rattle.ring_frames.specs.declared.phase.Phase.TheVariants.{Idle, Looking, Claiming, LookingNext, Marking, Clearing, Opening, Releasing, Wishing}
-use Rattle.ring_frames.specs.declared.stage.Tag.{Tag}
-use Rattle.ring_frames.specs.declared.stage.Tag.TheVariants as tag
-use Rattle.ring_frames.specs.declared.stage.Stage.TheInside.{Inside}
+use Rattle.ring_frames.specs.declared.packed_phase.Tag.{Tag}
+use Rattle.ring_frames.specs.declared.packed_phase.Tag.TheVariants as tag
+use Rattle.ring_frames.specs.declared.packed_phase.PackedPhase.TheInside.{Inside}
 
 abbrev pub phase_by_tag : Tag → Role → (noted page next : ℕ) → Phase
 phase_by_tag tag.Idle role noted page next = Idle
