@@ -6,8 +6,8 @@ mod tail;
 mod top;
 pub mod write;
 
-use crate::phase::{Phase, Role};
 use crate::packed_phase::PackedPhase;
+use crate::phase::{Phase, Role};
 use nested_writer::WriterStack;
 use nested_writer::frame::Frame;
 use std::alloc::Global;

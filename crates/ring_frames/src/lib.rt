@@ -9,10 +9,10 @@ pub mod answer;
 #[tactic(auto, unfolding(nested_writer::specs::IsStack::IsReachedStack))]
 pub mod frames;
 pub mod laws;
+mod packed_phase;
 mod payload;
 pub mod phase;
 pub mod reader;
-mod packed_phase;
 
 pub use answer::Answer;
 pub use frames::Frames;

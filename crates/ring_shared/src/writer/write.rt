@@ -3,7 +3,7 @@ use crate::writer::Writer;
 use crate::writer::finish::met_first;
 use nested_writer::frame::Slot;
 use nested_writer::{Ended, WriteFault, Wrote};
-use ring_frames::{Answer, WriteKind, StepAnswer, write_padded};
+use ring_frames::{Answer, StepAnswer, WriteKind, write_padded};
 use std::marker::Brand;
 
 impl Writer {
