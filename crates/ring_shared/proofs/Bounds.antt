@@ -1,5 +1,5 @@
 -- What a writer knows of the numbers that its steps go by.
-use Rattle.std.proofs.Common.{◌≡◌, ◌≢◌, ℕ, ◌+◌, ◌<◌, ◌≤◌, [], length, Some, sym, ap, ◌∙◌, subst, arith}
+use Rattle.std.proofs.Common.{◌≡◌, ◌≢◌, ℕ, ◌+◌, ◌<◌, ◌≤◌, [], length, Some, refl, sym, ap, ◌∙◌, subst, arith}
 use Rattle.trace_model.specs.declared.limits.TheConstants.{MAX_PAGES, LINK_FILLS}
 use Rattle.trace_model.specs.Frames.{Phase, noted_fill}
 use Rattle.link_marks.specs.KeptLinks.{PhaseKept}
@@ -12,7 +12,9 @@ use Rattle.ring_steps.specs.Views.{Writing}
 use Rattle.ring_frames.specs.Value.{phase_of}
 use Rattle.ring_shared.specs.Value.{WriterValue}
 use Rattle.ring_shared.specs.Calls.{AreWriterFields}
+use Rattle.ring_shared.specs.Promises.{MovesHead}
 use Rattle.ring_frames.specs.declared.phase.Phase as code
+use Rattle.ring_frames.specs.declared.phase.Phase.TheVariants.{Idle, Looking, Claiming, LookingNext, Marking, Clearing, Opening, Releasing, Wishing}
 use Rattle.ring_shared.proofs.Called.{writer_seen, top_seen, phase_seen}
 use Rattle.ring_shared.proofs.Standing.{kept_now, top_in}
 
@@ -71,5 +73,34 @@ module _ {v x : WriterValue} (view_is : v ≡ x) (w : AreWriterFields x) where
   pub pages_called : v.frames.stack.pages ≡ v.shape.pages
   pages_called = (writer_seen view_is w).frames_are.pages_is
 
-  pub advances_called : x.frames.stack.frames ≢ [] → {phase : code.Phase} → x.frames.phase ≡ phase → PhaseAdvances v.shape.pages (writer_seen view_is w).core.links (writer_seen view_is w).core.head (phase_of phase)
-  advances_called some {phase = phase} at = advances v (writer_seen view_is w) (phase_of phase) (top_seen view_is some) (phase_seen view_is at)
+  -- as many pages as the frames answer are the ring's, and what the frame on top saw of the head holds
+  pub fits_called : x.frames.stack.frames ≢ [] → {phase : code.Phase} → x.frames.phase ≡ phase → (pages : ℕ) → pages ≡ v.frames.stack.pages → pages ≤ MAX_PAGES
+      → (pages ≡ v.shape.pages) × HasSeenLink v.shape.pages (writer_seen view_is w).core.links (writer_seen view_is w).core.head (phase_of phase)
+  fits_called some {phase = phase} at pages pages_is few =
+      let same : pages ≡ v.shape.pages = pages_is ∙ pages_called in (
+        same,
+        fits v (writer_seen view_is w) (phase_of phase) (top_seen view_is some) (phase_seen view_is at) (subst (λ (k : ℕ). k ≤ MAX_PAGES) same few),
+      )
+
+  -- the fill that the frame on top noted has a whole round of fills below it, and one above it
+  abbrev HasRound : ℕ → Type 0
+  HasRound noted = (v.shape.pages ≤ noted) × (noted + v.shape.pages < LINK_FILLS)
+
+  round_at : x.frames.stack.frames ≢ [] → (phase : code.Phase) → x.frames.phase ≡ phase → (noted : ℕ) → noted_fill (phase_of phase) ≡ Some noted
+      → (PhaseAdvances v.shape.pages (writer_seen view_is w).core.links (writer_seen view_is w).core.head (phase_of phase) → v.shape.pages ≤ noted) → HasRound noted
+  round_at some phase at noted is wide =
+      let own : AreWriterFields v = writer_seen view_is w in
+      let (low, high, room, numbers) = noted_bounds v own (phase_of phase) (top_seen view_is some) (phase_seen view_is at) noted is in
+      (wide (advances v own (phase_of phase) (top_seen view_is some) (phase_seen view_is at)), numbers)
+
+  -- so it is if the frame moves the head on
+  pub round_called : x.frames.stack.frames ≢ [] → (phase : code.Phase) (noted : ℕ) → x.frames.phase ≡ phase → MovesHead phase noted → HasRound noted
+  round_called some (LookingNext role o page) noted at is = subst HasRound is (round_at some (LookingNext role o page) at o refl (λ round. round))
+  round_called some (Marking role o page next) noted at is = subst HasRound is (round_at some (Marking role o page next) at o refl (λ round. round))
+  round_called some Idle noted at is = absurd is
+  round_called some (Looking o) noted at is = absurd is
+  round_called some (Claiming o page) noted at is = absurd is
+  round_called some (Clearing o page) noted at is = absurd is
+  round_called some (Opening o page) noted at is = absurd is
+  round_called some Releasing noted at is = absurd is
+  round_called some Wishing noted at is = absurd is

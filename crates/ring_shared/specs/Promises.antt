@@ -1,12 +1,14 @@
 -- What a writer's calls promise, each in one word: a call and its rarer cases, which are functions of their own,
 -- promise the same.
-use Rattle.std.specs.Prelude.{◌≡◌, ◌≢◌, List, [], ◌∷◌}
+use Rattle.std.specs.Prelude.{◌≡◌, ◌≢◌, ℕ, List, [], ◌∷◌}
 use Rattle.trace_model.specs.declared.numbers.RecordNo.{RecordNo}
 use Rattle.trace_model.specs.Frames.{Frame}
 use Rattle.link_marks.specs.FrameOutcomes.{IsLeaving}
 use Rattle.nested_writer.specs.declared.fault.WriteFault.{WriteFault}
 use Rattle.ring_frames.specs.declared.answer.Answer.{Answer}
 use Rattle.ring_frames.specs.declared.answer.Answer.TheVariants.{Reserved, Gone, Refused}
+use Rattle.ring_frames.specs.declared.phase.Phase.{Phase}
+use Rattle.ring_frames.specs.declared.phase.Phase.TheVariants.{LookingNext, Marking}
 use Rattle.ring_frames.specs.Answers.{KeepsPayloads, ZerosSlot}
 use Rattle.ring_frames.specs.Lens.{IsOneMore, AreOthersLeft}
 use Rattle.ring_shared.specs.Value.{WriterValue, SameWriter}
@@ -18,6 +20,12 @@ use Rattle.ring_shared.specs.Finishing.{Leaves, IsGoneOrRefused}
 pub record HasFrame (v : WriterValue) : Type 0 where
   pub writer : IsWriter v
   pub top : v.frames.stack.frames ≢ []
+
+-- the frame on its top moves the head on, to open this fill: it looks at the next link, or sets the HEADER there
+abbrev pub MovesHead : Phase → ℕ → Type 0
+MovesHead (LookingNext role noted page) fill = noted ≡ fill
+MovesHead (Marking role noted page next) fill = noted ≡ fill
+MovesHead _ fill = ⊥
 
 -- the frame on its top is one that leaves
 pub record HasLeavingTop (v : WriterValue) : Type 0 where

@@ -9,7 +9,8 @@ use ring_frames::{Phase, Role, StepAnswer};
 use trace_model::FillNo;
 
 impl Writer {
-    ghost use Rattle.std.specs.Prelude.{◌≡◌};
+    ghost use Rattle.std.specs.Prelude.{◌≡◌, ◌+◌, ◌≤◌};
+    ghost use Rattle.trace_model.specs.declared.limits.TheConstants.{MAX_PAGES};
     ghost use Rattle.trace_model.specs.Steps as model;
     ghost use Rattle.ring_frames.specs.declared.phase.Phase.TheVariants.{Looking, Claiming, LookingNext, Marking, Clearing};
     ghost use Rattle.ring_steps.specs.Linking.{tail_in};
@@ -17,7 +18,7 @@ impl Writer {
     ghost use Rattle.ring_frames.specs.Phases.{as_answer};
     ghost use Rattle.ring_shared.specs.Calls.{IsWriter, MakesSome};
     ghost use Rattle.ring_shared.specs.Nearer.{IsNearer};
-    ghost use Rattle.ring_shared.specs.Promises.{HasFrame};
+    ghost use Rattle.ring_shared.specs.Promises.{HasFrame, MovesHead};
 
     /// The page of the last fill that is begun.
     fn tail(&self) -> u16
@@ -85,6 +86,17 @@ impl Writer {
         self.frames.go_on(phase)
     }
 
+    /// The fill after the one that is lost for the fill that the frame on top noted, which moves the head on for it.
+    #[inline(always)]
+    fn after_lost(&self, noted: u64) -> u64
+        requires framed { HasFrame self.now }
+        requires phase { MovesHead self.now.frames.phase noted }
+        ensures fill { result + self.now.shape.pages ≡ noted + 1 }
+        ensures few { self.now.shape.pages ≤ MAX_PAGES }
+    {
+        noted + 1 - self.frames.pages() as u64
+    }
+
     /// A load of the next link, from the word of the page that is passed, to see whether that link still waits for its
     /// HEADER.
     #[inline(always)]
@@ -98,7 +110,7 @@ impl Writer {
         if self.frames.stops(role, noted) {
             return self.begin_again();
         }
-        let after_lost = noted + 1 - self.frames.pages() as u64;
+        let after_lost = self.after_lost(noted);
         let link = self.seat.load_next(page, FillNo(after_lost));
         let phase = match link.mark {
             Mark::Normal if link.fill == after_lost => Phase::Marking {
@@ -125,7 +137,7 @@ impl Writer {
         if self.frames.stops(role, noted) {
             return self.begin_again();
         }
-        let after_lost = noted + 1 - self.frames.pages() as u64;
+        let after_lost = self.after_lost(noted);
         let _marked = self.seat.mark_head(page, next, FillNo(after_lost));
         self.frames.go_on(role.after_next(noted, page))
     }

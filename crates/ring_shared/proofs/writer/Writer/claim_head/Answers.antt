@@ -1,5 +1,4 @@
 use Rattle.std.proofs.Common.{◌≡◌, ℕ, ◌+◌, ◌-◌, ◌≤◌, true, false, Some, refl, sym, ap, ◌∙◌, arith, subst}
-use Rattle.trace_model.specs.declared.limits.TheConstants.{MAX_PAGES}
 use Rattle.trace_model.specs.Frames.{claiming, noted_fill}
 use Rattle.trace_model.specs.Ring.{link_into}
 use Rattle.trace_model.specs.Steps as model
@@ -15,7 +14,7 @@ use Rattle.ring_shared.specs.Calls.{IsWriter, MakesSome}
 use Rattle.ring_shared.specs.contracts.writer.Writer.{the_view}
 use Rattle.ring_shared.proofs.Standing.{phase_shown}
 use Rattle.ring_shared.proofs.Called.{writer_seen, top_seen, phase_seen}
-use Rattle.ring_shared.proofs.Bounds.{opened_now, fits}
+use Rattle.ring_shared.proofs.Bounds.{opened_now, fits_called}
 use Rattle.ring_shared.proofs.GoingOn.{Moves, goes_on_called}
 use Rattle.ring_steps.proofs.LinkMoves.{claimed, not_claimed}
 use Rattle.ring_steps.specs.Ends.{passed_in}
@@ -26,12 +25,7 @@ use Rattle.ring_shared.proofs.writer.Writer.claim_head.Goals as goal
 pub overflow_sub-lost : goal.overflow_sub-lost
 unfolding IsWriter
 overflow_sub-lost c =
-    let v : WriterValue = the_view c.self.inside in
-    let w : IsWriter v = writer_seen c.self.view_is c.requires.framed.writer in
-    let pages : c.pages.result ≡ v.shape.pages = c.pages.ensures.pages ∙ w.frames_are.pages_is in
-    let most = c.pages.ensures.most in let few : v.shape.pages ≤ MAX_PAGES = omega arith in
-    let (round, low, seen) = fits v w (claiming c.args.noted c.args.page) (top_seen c.self.view_is c.requires.framed.top)
-    (phase_seen c.self.view_is c.requires.phase) few in omega arith
+    let (pages, (round, low, seen)) = fits_called c.self.view_is c.requires.framed.writer c.requires.framed.top c.requires.phase c.pages.result c.pages.ensures.pages c.pages.ensures.most in omega arith
 
 pub claim_head-requires-clause-phase : goal.claim_head-requires-clause-phase
 unfolding IsWriter
@@ -50,21 +44,13 @@ unfolding IsWriter
 claim_head-requires-clause-lost c =
     let v : WriterValue = the_view c.self.inside in
     let w : IsWriter v = writer_seen c.self.view_is c.requires.framed.writer in
-    let pages : c.pages.result ≡ v.shape.pages = c.pages.ensures.pages ∙ w.frames_are.pages_is in
-    let most = c.pages.ensures.most in let few : v.shape.pages ≤ MAX_PAGES = omega arith in
-    let (round, low, seen) = fits v w (claiming c.args.noted c.args.page) (top_seen c.self.view_is c.requires.framed.top)
-    (phase_seen c.self.view_is c.requires.phase) few in
+    let (pages, (round, low, seen)) = fits_called c.self.view_is c.requires.framed.writer c.requires.framed.top c.requires.phase c.pages.result c.pages.ensures.pages c.pages.ensures.most in
     let now : c.args.noted ≡ v.part.opened = c.if-noted-opened.false ∙ c.opened.ensures.begun ∙ opened_now v w in omega arith
 
 pub claim_head-requires-clause-fits : goal.claim_head-requires-clause-fits
 unfolding IsWriter
 claim_head-requires-clause-fits c =
-    let v : WriterValue = the_view c.self.inside in
-    let w : IsWriter v = writer_seen c.self.view_is c.requires.framed.writer in
-    let pages : c.pages.result ≡ v.shape.pages = c.pages.ensures.pages ∙ w.frames_are.pages_is in
-    let most = c.pages.ensures.most in
-    (fits v w (claiming c.args.noted c.args.page) (top_seen c.self.view_is c.requires.framed.top)
-    (phase_seen c.self.view_is c.requires.phase) (omega arith)).1
+    let (pages, (round, low, seen)) = fits_called c.self.view_is c.requires.framed.writer c.requires.framed.top c.requires.phase c.pages.result c.pages.ensures.pages c.pages.ensures.most in low
 
 pub returns-clause-makes : goal.returns-clause-makes
 unfolding IsWriter
@@ -72,9 +58,7 @@ returns-clause-makes c =
     let v : WriterValue = the_view c.self.inside in
     let w : IsWriter v = writer_seen c.self.view_is c.requires.framed.writer in
     let now : c.args.noted ≡ v.part.opened = c.if-noted-opened.false ∙ c.opened.ensures.begun ∙ opened_now v w in
-    let pages : c.pages.result ≡ v.shape.pages = c.pages.ensures.pages ∙ w.frames_are.pages_is in
-    let most = c.pages.ensures.most in let few : v.shape.pages ≤ MAX_PAGES = omega arith in
-    let round : v.shape.pages ≤ c.args.noted = (fits v w (claiming c.args.noted c.args.page) (top_seen c.self.view_is c.requires.framed.top) (phase_seen c.self.view_is c.requires.phase) few).0 in
+    let (pages, (round, low, seen)) = fits_called c.self.view_is c.requires.framed.writer c.requires.framed.top c.requires.phase c.pages.result c.pages.ensures.pages c.pages.ensures.most in
     let lost : ℕ = c.args.noted - c.pages.result in
     let sum : lost + v.shape.pages ≡ c.args.noted = omega arith in
     let new : WriterValue = the_view record { seat = c.claim_head.new.self; frames = c.go_on.new.self; pages = c.self.inside.pages } in
@@ -94,13 +78,9 @@ returns-clause-makes c =
 pub returns-clause-nearer : goal.returns-clause-nearer
 unfolding IsWriter
 returns-clause-nearer c =
-    let v : WriterValue = the_view c.self.inside in
-    let w : IsWriter v = writer_seen c.self.view_is c.requires.framed.writer in
     let x : WriterValue = c.args.self.now in
     let m = returns-clause-makes c in
-    let pages : c.pages.result ≡ v.shape.pages = c.pages.ensures.pages ∙ w.frames_are.pages_is in
-    let most = c.pages.ensures.most in let few : v.shape.pages ≤ MAX_PAGES = omega arith in
-    let round : v.shape.pages ≤ c.args.noted = (fits v w (claiming c.args.noted c.args.page) (top_seen c.self.view_is c.requires.framed.top) (phase_seen c.self.view_is c.requires.phase) few).0 in
+    let (pages, (round, low, seen)) = fits_called c.self.view_is c.requires.framed.writer c.requires.framed.top c.requires.phase c.pages.result c.pages.ensures.pages c.pages.ensures.most in
     let same = ap (λ (y : WriterValue). y.shape.pages) c.self.view_is in
     let lost = c.claim_head.ensures.passed in
     nearer_claiming x _ m.shape_is (subst (λ (y : WriterValue). y.passed ≤ passed_in c.claim_head.new.self) c.self.view_is c.claim_head.ensures.same.knows) _ c.args.noted c.args.page m

@@ -1,13 +1,16 @@
-use Rattle.std.proofs.Common.{rules, length, refl, sym, ap, ◌∙◌, subst}
+use Rattle.std.proofs.Common.{◌≡◌, List, ◌∷◌, length, refl, sym, ap, ◌∙◌, subst}
 use Rattle.trace_model.specs.Frames.{Frame}
 use Rattle.trace_model.specs.Steps as model
 use Rattle.ring_frames.specs.declared.answer.Answer.{Answer}
+use Rattle.ring_frames.specs.declared.phase.StepAnswer.TheVariants.{Going}
 use Rattle.ring_frames.specs.Value.{phase_of}
 use Rattle.ring_frames.specs.Phases.{as_answer}
 use Rattle.ring_steps.specs.declared.rule.Shape.{Shape}
+use Rattle.ring_steps.specs.Views.{Writing}
 use Rattle.ring_shared.specs.Value.{WriterValue}
+use Rattle.ring_shared.specs.Promises.{HasFrame}
 use Rattle.ring_shared.specs.Calls.{IsWriter, IsCall}
-use Rattle.ring_shared.specs.Finishing.{at_once}
+use Rattle.ring_shared.specs.Finishing.{Closes, at_once}
 use Rattle.ring_shared.proofs.Depths.{leaving_top}
 use Rattle.ring_shared.proofs.Finishes.{leaving_unnumbered, call_in, same_writer}
 use Rattle.ring_shared.proofs.FinishParts.{closes_then}
@@ -27,25 +30,18 @@ loop-self-init c =
       payloads = same_stack c.args.self.now.frames.stack c.args.self.now.frames.stack refl;
     }
 
-pub release_fill-requires-clause-framed : goal.release_fill-requires-clause-framed
+-- while it closes fills, the frame stands
+still_framed : (shape : Shape) (first : Writing) (now : WriterValue) → IsWriter now → (frame : Frame) × (below : List Frame) × (first.frames ≡ frame ∷ below)
+    → ((frame : Frame) (below : List Frame) → first.frames ≡ frame ∷ below → Closes shape below first Going now.part) → HasFrame now
 unfolding IsWriter
-release_fill-requires-clause-framed c = record {
-  writer = search rules;
-  top = let h = c.loop-self.invariant in
-      let (frame, below, top) = h.some in
-      let (next, at, leaves, goes) = h.closes frame below top in
-      some_stand c.loop-self.self h.writer next below at;
-}
+still_framed shape first now writer (frame, below, top) closes = let (next, at, leaves, goes) = closes frame below top in
+    record { writer = writer; top = some_stand now writer next below at }
+
+pub release_fill-requires-clause-framed : goal.release_fill-requires-clause-framed
+release_fill-requires-clause-framed c = let h = c.loop-self.invariant in still_framed c.args.self.now.shape c.args.self.now.part c.loop-self.self h.writer h.some h.closes
 
 pub load_wish-requires-clause-framed : goal.load_wish-requires-clause-framed
-unfolding IsWriter
-load_wish-requires-clause-framed c = record {
-  writer = search rules;
-  top = let h = c.loop-self.invariant in
-      let (frame, below, top) = h.some in
-      let (next, at, leaves, goes) = h.closes frame below top in
-      some_stand c.loop-self.self h.writer next below at;
-}
+load_wish-requires-clause-framed c = let h = c.loop-self.invariant in still_framed c.args.self.now.shape c.args.self.now.part c.loop-self.self h.writer h.some h.closes
 
 pub loop-self-preserved : goal.loop-self-preserved
 unfolding IsWriter
@@ -60,7 +56,7 @@ loop-self-preserved c =
       writer = makes.writer;
       ring = same_writer c.args.self.now old new (as_answer c.release_fill.result) h.ring makes;
       some = h.some;
-      closes = λ other others is. closes_then shape others c.args.self.now.part old.part new.part Rattle.ring_frames.specs.declared.phase.StepAnswer.TheVariants.Going (h.closes other others is)
+      closes = λ other others is. closes_then shape others c.args.self.now.part old.part new.part Going (h.closes other others is)
           (subst (λ (x : Answer). IsCall shape old.part model.steps x new.part) going (call_in shape old new (as_answer c.release_fill.result) h.ring.0 makes));
       payloads = kept_then c.args.self.now.frames.stack old.frames.stack new.frames.stack h.payloads c.release_fill.ensures.payloads;
     }

@@ -1,4 +1,4 @@
-use Rattle.std.proofs.Common.{◌≡◌, ℕ, ◌+◌, ◌-◌, ◌≤◌, Some, refl, sym, ap, ◌∙◌, subst, arith}
+use Rattle.std.proofs.Common.{◌≡◌, ◌+◌, Some, refl, sym, ap, ◌∙◌, subst}
 use Rattle.trace_model.specs.Links.{Link, normal_link}
 use Rattle.trace_model.specs.Frames.{Phase as ModelPhase, looking_next, noted_fill}
 use Rattle.trace_model.specs.Steps as model
@@ -15,28 +15,13 @@ use Rattle.ring_shared.specs.Calls.{IsWriter, MakesSome}
 use Rattle.ring_shared.specs.contracts.writer.Writer.{the_view}
 use Rattle.ring_shared.proofs.Standing.{phase_shown}
 use Rattle.ring_shared.proofs.Called.{writer_seen, top_seen, phase_seen}
-use Rattle.ring_shared.proofs.Bounds.{pages_called, advances_called, opened_now, noted_bounds, advances}
+use Rattle.ring_shared.proofs.Bounds.{opened_now}
 use Rattle.ring_shared.proofs.GoingOn.{Moves, goes_on_called}
 use Rattle.ring_steps.proofs.Linking.{looks_at}
 use Rattle.ring_steps.proofs.LinkMoves.{noted_after, says_normal, waits, is_passed}
 use Rattle.ring_shared.proofs.Nearing.{stays_near}
 use Rattle.ring_shared.proofs.writer.Writer.load_next.Goals.{in-Normal, in_default, in_default-via-in-Normal+else-link-after_lost, in_default-via-in_default}
 use Rattle.ring_shared.proofs.writer.Writer.load_next.Goals as goal
-
-pub overflow_add-after_lost : goal.overflow_add-after_lost
-unfolding IsWriter
-overflow_add-after_lost c =
-    let v : WriterValue = the_view c.self.inside in
-    let (low, high, room, numbers) = noted_bounds v (writer_seen c.self.view_is c.requires.framed.writer) (looking_next (role_of c.args.role) c.args.noted c.args.page)
-    (top_seen c.self.view_is c.requires.framed.top)
-    (phase_seen c.self.view_is c.requires.phase) c.args.noted refl in omega arith
-
-pub overflow_sub-after_lost : goal.overflow_sub-after_lost
-unfolding IsWriter
-overflow_sub-after_lost c =
-    let v : WriterValue = the_view c.self.inside in
-    let pages : c.pages.result ≡ v.shape.pages = c.pages.ensures.pages ∙ pages_called c.self.view_is c.requires.framed.writer in
-    let round : v.shape.pages ≤ c.args.noted = advances_called c.self.view_is c.requires.framed.writer c.requires.framed.top c.requires.phase in omega arith
 
 pub load_next-link-requires : goal.load_next-link-requires
 unfolding IsWriter
@@ -45,12 +30,11 @@ load_next-link-requires c =
     let w : IsWriter v = writer_seen c.self.view_is c.requires.framed.writer in
     let some = top_seen c.self.view_is c.requires.framed.top in
     let at : phase_of v.frames.phase ≡ looking_next (role_of c.args.role) c.args.noted c.args.page = phase_seen c.self.view_is c.requires.phase in
-    let pages : c.pages.result ≡ v.shape.pages = c.pages.ensures.pages ∙ w.frames_are.pages_is in
-    let round : v.shape.pages ≤ c.args.noted = advances v w (looking_next (role_of c.args.role) c.args.noted c.args.page) some at in
-    let sum : c.args.noted + 1 - c.pages.result + v.shape.pages ≡ c.args.noted + 1 = omega arith in record {
-      phase = looks_at v.shape.pages v.part (role_of c.args.role) c.args.noted c.args.page (c.args.noted + 1 - c.pages.result)
+    let fill = subst (λ (y : WriterValue). c.after_lost-after_lost.result + y.shape.pages ≡ c.args.noted + 1) (sym c.self.view_is) c.after_lost-after_lost.ensures.fill in
+    record {
+      phase = looks_at v.shape.pages v.part (role_of c.args.role) c.args.noted c.args.page c.after_lost-after_lost.result
           (phase_shown v w (looking_next (role_of c.args.role) c.args.noted c.args.page) some at)
-          (subst (MayContinue (role_of c.args.role) c.args.noted) (opened_now v w) (c.stops.ensures.goes_on c.if-stops.false)) sum;
+          (subst (MayContinue (role_of c.args.role) c.args.noted) (opened_now v w) (c.stops.ensures.goes_on c.if-stops.false)) fill;
     }
 
 pub returns-clause-makes : goal.returns-clause-makes
@@ -63,21 +47,18 @@ returns-clause-makes c =
     let s = c.load_next-link.ensures.step in
     let on : MayContinue (role_of c.args.role) c.args.noted s.core.opened = subst (MayContinue (role_of c.args.role) c.args.noted)
     (opened_now v w ∙ ap (λ (p : Writing). p.opened) (sym s.before_is)) (c.stops.ensures.goes_on c.if-stops.false) in
-    let pages : c.pages.result ≡ v.shape.pages = c.pages.ensures.pages ∙ w.frames_are.pages_is in
-    let round : v.shape.pages ≤ c.args.noted = advances v w from (top_seen c.self.view_is c.requires.framed.top) (phase_seen c.self.view_is c.requires.phase) in
-    let after_lost : ℕ = c.args.noted + 1 - c.pages.result in
-    let sum : after_lost + v.shape.pages ≡ c.args.noted + 1 = omega arith in
+    let fill = subst (λ (y : WriterValue). c.after_lost-after_lost.result + y.shape.pages ≡ c.args.noted + 1) (sym c.self.view_is) c.after_lost-after_lost.ensures.fill in
     let l = c.load_next-link.result in
     let marked : Mark → Link = λ (m : Mark). record { mark = mark_of m; page = l.page; fill = l.fill } in
     let goes : (p : Phase) → noted_fill (phase_of p) ≡ Some c.args.noted → c.match-link.phase ≡ p → Moves v from (phase_of p) s.core s.next → MakesSome c.args.self.now model.steps (as_answer c.go_on.result) new =
     λ p noted_is is moves. goes_on_called c.self.view_is c.requires.framed.writer c.requires.framed.top c.requires.phase c.args.noted c.match-link.phase p _ refl noted_is is c.load_next-link.ensures.same.shape c.load_next-link.ensures.same.table refl c.go_on.ensures.goes_on (ap as_answer c.go_on.ensures.answer) s moves in
     elim c.match-link.branch [
       | in-Normal b ↦ goes (Marking c.args.role c.args.noted c.args.page l.page) refl b.phase-is
-          (λ frame below step. waits v.shape.pages s.core frame below model.going s.next (role_of c.args.role) c.args.noted c.args.page after_lost (link_of l) on sum s.seen
+          (λ frame below step. waits v.shape.pages s.core frame below model.going s.next (role_of c.args.role) c.args.noted c.args.page c.after_lost-after_lost.result (link_of l) on fill s.seen
           (ap marked b.in-Normal.is ∙ ap (normal_link l.page) b.if-link-after_lost.true) step)
       | in_default b ↦ goes b.after_next-phase.result (ap noted_fill b.after_next-phase.ensures ∙ noted_after (role_of c.args.role) c.args.noted c.args.page) b.phase-is
           (λ frame below step. subst (λ (p : ModelPhase). writing_of s.next ≡ writing_of (model.in_phase s.core frame below p)) (sym b.after_next-phase.ensures)
-          (is_passed v.shape.pages s.core frame below model.going s.next (role_of c.args.role) c.args.noted c.args.page after_lost (link_of l) on sum s.seen
+          (is_passed v.shape.pages s.core frame below model.going s.next (role_of c.args.role) c.args.noted c.args.page c.after_lost-after_lost.result (link_of l) on fill s.seen
           (λ page e. elim b.in_default.branch [
             | in_default-via-in-Normal+else-link-after_lost d ↦ d.if-link-after_lost.false (ap (λ (k : Link). k.fill) e)
             | in_default-via-in_default d ↦ d.in_default.not-Normal (says_normal l.mark (ap (λ (k : Link). k.mark) e))

@@ -1,4 +1,5 @@
-use Rattle.std.proofs.Common.{◌≡◌, ◌+◌, ◌-◌, ◌≤◌, refl, sym, ap, ◌∙◌, subst, arith}
+use Rattle.std.proofs.Common.{◌≡◌, ◌+◌, ◌≤◌, refl, sym, ap, ◌∙◌, subst}
+use Rattle.trace_model.specs.declared.limits.TheConstants.{MAX_PAGES}
 use Rattle.trace_model.specs.Frames.{Phase as ModelPhase, marking, noted_fill}
 use Rattle.trace_model.specs.Steps as model
 use Rattle.trace_model.specs.Steps.{MayContinue}
@@ -11,27 +12,12 @@ use Rattle.ring_shared.specs.Calls.{IsWriter}
 use Rattle.ring_shared.specs.contracts.writer.Writer.{the_view}
 use Rattle.ring_shared.proofs.Standing.{phase_shown}
 use Rattle.ring_shared.proofs.Called.{writer_seen, top_seen, phase_seen}
-use Rattle.ring_shared.proofs.Bounds.{pages_called, advances_called, opened_now, noted_bounds, advances, fits}
+use Rattle.ring_shared.proofs.Bounds.{opened_now, fits}
 use Rattle.ring_shared.proofs.GoingOn.{goes_on_called}
 use Rattle.ring_steps.proofs.Linking.{marks_at_next}
 use Rattle.ring_steps.proofs.LinkMoves.{noted_after, marked}
 use Rattle.ring_shared.proofs.Nearing.{stays_near}
 use Rattle.ring_shared.proofs.writer.Writer.mark_head.Goals as goal
-
-pub overflow_add-after_lost : goal.overflow_add-after_lost
-unfolding IsWriter
-overflow_add-after_lost c =
-    let v : WriterValue = the_view c.self.inside in
-    let (low, high, room, numbers) = noted_bounds v (writer_seen c.self.view_is c.requires.framed.writer) (marking (role_of c.args.role) c.args.noted c.args.page c.args.next)
-    (top_seen c.self.view_is c.requires.framed.top)
-    (phase_seen c.self.view_is c.requires.phase) c.args.noted refl in omega arith
-
-pub overflow_sub-after_lost : goal.overflow_sub-after_lost
-unfolding IsWriter
-overflow_sub-after_lost c =
-    let v : WriterValue = the_view c.self.inside in
-    let pages : c.pages.result ≡ v.shape.pages = c.pages.ensures.pages ∙ pages_called c.self.view_is c.requires.framed.writer in
-    let round : v.shape.pages ≤ c.args.noted = advances_called c.self.view_is c.requires.framed.writer c.requires.framed.top c.requires.phase in omega arith
 
 pub mark_head-marked-requires-clause-phase : goal.mark_head-marked-requires-clause-phase
 unfolding IsWriter
@@ -40,22 +26,18 @@ mark_head-marked-requires-clause-phase c =
     let w : IsWriter v = writer_seen c.self.view_is c.requires.framed.writer in
     let some = top_seen c.self.view_is c.requires.framed.top in
     let at : phase_of v.frames.phase ≡ marking (role_of c.args.role) c.args.noted c.args.page c.args.next = phase_seen c.self.view_is c.requires.phase in
-    let pages : c.pages.result ≡ v.shape.pages = c.pages.ensures.pages ∙ w.frames_are.pages_is in
-    let round : v.shape.pages ≤ c.args.noted = advances v w (marking (role_of c.args.role) c.args.noted c.args.page c.args.next) some at in
-    let sum : c.args.noted + 1 - c.pages.result + v.shape.pages ≡ c.args.noted + 1 = omega arith in
-    marks_at_next v.shape.pages v.part (role_of c.args.role) c.args.noted c.args.page c.args.next (c.args.noted + 1 - c.pages.result)
+    let fill = subst (λ (y : WriterValue). c.after_lost-after_lost.result + y.shape.pages ≡ c.args.noted + 1) (sym c.self.view_is) c.after_lost-after_lost.ensures.fill in
+    marks_at_next v.shape.pages v.part (role_of c.args.role) c.args.noted c.args.page c.args.next c.after_lost-after_lost.result
     (phase_shown v w (marking (role_of c.args.role) c.args.noted c.args.page c.args.next) some at)
-    (subst (MayContinue (role_of c.args.role) c.args.noted) (opened_now v w) (c.stops.ensures.goes_on c.if-stops.false)) sum
+    (subst (MayContinue (role_of c.args.role) c.args.noted) (opened_now v w) (c.stops.ensures.goes_on c.if-stops.false)) fill
 
 pub mark_head-marked-requires-clause-fits : goal.mark_head-marked-requires-clause-fits
 unfolding IsWriter
 mark_head-marked-requires-clause-fits c =
     let v : WriterValue = the_view c.self.inside in
     let w : IsWriter v = writer_seen c.self.view_is c.requires.framed.writer in
-    let pages : c.pages.result ≡ v.shape.pages = c.pages.ensures.pages ∙ w.frames_are.pages_is in
-    let most = c.pages.ensures.most in
     fits v w (marking (role_of c.args.role) c.args.noted c.args.page c.args.next) (top_seen c.self.view_is c.requires.framed.top)
-    (phase_seen c.self.view_is c.requires.phase) (omega arith)
+    (phase_seen c.self.view_is c.requires.phase) (subst (λ (y : WriterValue). y.shape.pages ≤ MAX_PAGES) (sym c.self.view_is) c.after_lost-after_lost.ensures.few)
 
 pub returns-clause-makes : goal.returns-clause-makes
 unfolding IsWriter
