@@ -22,7 +22,7 @@ pub(crate) fn records_from(parcel: &Parcel, number: u64) -> Records<'_>
 
 /// The first number from `from` on, and below `end`, under which two parcels don't have the same record. If their pages
 /// are alike, as a shared page is to itself, no record is looked at.
-pub(crate) fn first_difference(parcel: &Parcel, other: &Parcel, from: u64, end: u64) -> Option<u64>
+pub fn first_difference(parcel: &Parcel, other: &Parcel, from: u64, end: u64) -> Option<u64>
     requires in_parcel { parcel.now.page.first ≤ from }
     requires in_other { other.now.page.first ≤ from }
     ensures within { IfSome result (λ n. (from ≤ n) × (n < end)) }

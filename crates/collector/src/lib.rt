@@ -20,6 +20,7 @@ mod same;
 
 pub use added::Added;
 pub use collector::Collector;
+pub use entries::first_difference;
 pub use fault::AddFault;
 pub use listed::CpuRecords;
 pub use runs::MissingRuns;

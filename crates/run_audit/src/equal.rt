@@ -2,6 +2,7 @@
 ghost use Rattle.std.specs.Prelude.{◌≡◌, ◌↔◌, IsTrue};
 ghost use Rattle.page_numbers.specs.Parcels.{as_parcel};
 
+use collector::first_difference;
 use page_numbers::Parcel;
 
 /// Whether both parcels have the same records, in the same order. If their pages are alike, as a shared page is to
@@ -10,21 +11,9 @@ fn have_same_records(parcel: &Parcel, other: &Parcel) -> bool
     requires { parcel.now.page.first ≡ other.now.page.first }
     ensures { IsTrue result ↔ ((as_parcel parcel.now).records ≡ (as_parcel other.now).records) }
 {
-    if parcel.has_page_of(other) {
-        return true;
-    }
-    if parcel.count() != other.count() {
-        return false;
-    }
     let first = parcel.first().0;
-    let mut own = parcel.records();
-    let mut others = other.records();
-    for number in first..first + parcel.count() {
-        if own.next() != others.next() {
-            return false;
-        }
-    }
-    true
+    parcel.count() == other.count()
+        && first_difference(parcel, other, first, first + parcel.count()).is_none()
 }
 
 /// Whether the parcels are equal: in their CPU, their fill, their first number, how many numbers are missing before

@@ -1,9 +1,11 @@
 -- What the calls of C make of a ring's ends.
-use Rattle.std.specs.Prelude.{◌≡◌, ◌≢◌, ◌+◌, ◌<◌, ◌≤◌, ℕ, ℤ, pos, ◌++◌, List, [], ◌∷◌, drop, length, Option, Some, None}
+use Rattle.std.specs.Prelude.{◌≡◌, ◌≢◌, ◌↔◌, ◌+◌, ◌<◌, ◌≤◌, ℕ, ℤ, pos, ◌++◌, List, [], ◌∷◌, drop, length, Option, Some, None}
 use Rattle.trace_model.specs.declared.numbers.FillNo.{FillNo}
 use Rattle.trace_model.specs.Steps as model
 use Rattle.trace_model.specs.ParcelBytes.{DecodesParcel}
 use Rattle.nested_writer.specs.declared.fault.WriteFault.{WriteFault}
+use Rattle.nested_writer.specs.declared.frame.Slot.{Slot}
+use Rattle.nested_writer.specs.Calls.{LacksSlot, IsTopSlot}
 use Rattle.nested_writer.specs.Lent.{Lent, lent_bytes, with_bytes}
 use Rattle.nested_writer.specs.Lending.{IsLent}
 use Rattle.ring_frames.specs.declared.answer.Answer.{Answer}
@@ -79,6 +81,29 @@ pub record IsPut (old : WriterValue) (bytes : List ℕ) (new : WriterValue) : Ty
   pub is_lent : IsLent old.frames.stack lent
   pub new_is : new ≡ with_lent old (with_bytes lent (bytes ++ drop (length bytes) (lent_bytes lent)))
 
+-- How many bytes the slot of the record on top has.
+abbrev pub top_room : WriterValue → ℕ
+top_room writer = length (top_bytes writer.frames.stack writer.frames.stack.frames)
+
+-- The bytes are put to the slot of the record on top, or refused, each number for its own reason.
+pub record PutsSo (old : WriterValue) (bytes : List ℕ) (code : ℤ) (new : WriterValue) : Type 0 where
+  -- 0: they are put
+  pub put : code ≡ pos 0 → IsPut old bytes new
+  -- 2: they are longer than the slot
+  pub long : code ≡ pos 2 → top_room old < length bytes
+  -- if there is a slot, they are put exactly if they aren't longer than it
+  pub fits : (slot : Slot) → IsTopSlot old.frames.stack.frames slot → length bytes ≤ top_room old → code ≡ pos 0
+  pub too_long : (slot : Slot)
+      → IsTopSlot old.frames.stack.frames slot
+      → top_room old < length bytes
+      → code ≡ pos 2
+  -- 6: nothing is begun
+  pub no_frame : code ≡ pos 6 ↔ old.frames.stack.frames ≡ []
+  -- 7: what was begun last has reserved no record
+  pub not_reserved : code ≡ pos 7 ↔ LacksSlot old.frames.stack.frames
+  -- whatever the reason, nothing changes
+  pub refused : code ≢ pos 0 → new ≡ old
+
 -- ---- the reader
 
 -- these are the numbers of the page, and `len` is how many bytes its parcel has
@@ -133,6 +158,15 @@ pub data TakesSo (old : ReaderEnd) (out : List ℕ) (was : Taken) (code : ℤ) (
       → left ≡ out
       → reported ≡ was
       → TakesSo old out was code left reported new
+
+-- The wish is for the tail page, and nothing else of the end changes. The answer is 0.
+pub record WishesSo (old : ReaderEnd) (code : ℤ) (new : ReaderEnd) : Type 0 where
+  pub code_is : code ≡ pos 0
+  pub new_is :
+      new
+      ≡ record old {
+        reader = record old.reader { part = record old.reader.part { wish = old.reader.part.reader.seen + 1 } };
+      }
 
 -- ---- both
 

@@ -1,6 +1,7 @@
 pub mod Held
 pub mod Codes
 pub mod Ends
+pub mod Handles
 pub mod Calls
 pub mod CollectorCalls
 pub mod Lending

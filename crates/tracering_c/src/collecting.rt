@@ -3,6 +3,7 @@ ghost use Rattle.std.specs.Prelude.{◌≡◌, ◌≢◌, ◌↔◌, Some, None,
 ghost use Rattle.trace_model.specs.Collection.{IsSame};
 ghost use Rattle.tracering_c.specs.declared.ends.CollectorEnd.{CollectorEnd as EndValue};
 ghost use Rattle.tracering_c.specs.Held.{collector_of};
+ghost use Rattle.tracering_c.specs.Handles.{SaysAbsent, OnCollector};
 ghost use Rattle.tracering_c.specs.CollectorCalls.{IsEmpty, AddsBytes, MissesSo, IsListed, NextSo};
 
 use crate::codes::{
@@ -42,12 +43,9 @@ pub extern "C" fn tracering_raw_collector_add(
     bytes: &[u8],
     at: &mut FaultAt,
 ) -> i32
-    ensures absent { collector_of c.old.held.value ≡ None → result ≡ pos 8 }
-    ensures stays { collector_of c.old.held.value ≡ None → c.new ≡ c.old }
+    ensures absent { SaysAbsent (collector_of c.old.held.value) result c.old c.new }
     ensures at_stays { collector_of c.old.held.value ≡ None → at.new ≡ at.old }
-    ensures adds { (old : EndValue) → collector_of c.old.held.value ≡ Some old
-        → IsSomeAnd (collector_of c.new.held.value) (λ new.
-        AddsBytes old.listed bytes.now at.old result at.new new.listed) }
+    ensures adds { OnCollector c.old c.new (λ old new. AddsBytes old bytes.now at.old result at.new new) }
 {
     if !c.live {
         return ABSENT;
@@ -105,8 +103,7 @@ pub extern "C" fn tracering_raw_collector_list(
     count: &mut usize,
 ) -> i32
     ensures absent { collector_of c.old.held.value ≡ None → result ≡ pos 8 }
-    ensures listed { (old : EndValue) → collector_of c.old.held.value ≡ Some old → result ≡ pos 0
-        → IsSomeAnd (collector_of c.new.held.value) (λ new. IsListed old.listed count.new new.listed) }
+    ensures listed { OnCollector c.old c.new (λ old new. result ≡ pos 0 → IsListed old count.new new) }
     ensures no_memory { (old : EndValue) → collector_of c.old.held.value ≡ Some old → result ≢ pos 0 → result ≡ pos 12 }
     ensures stays { result ≢ pos 0 → collector_of c.new.held.value ≡ collector_of c.old.held.value }
     ensures count_stays { result ≢ pos 0 → count.new ≡ count.old }
@@ -138,13 +135,10 @@ pub extern "C" fn tracering_raw_collector_next(
     out: &mut [u8],
     line: &mut Listed,
 ) -> i32
-    ensures absent { collector_of c.old.held.value ≡ None → result ≡ pos 8 }
-    ensures stays { collector_of c.old.held.value ≡ None → c.new ≡ c.old }
+    ensures absent { SaysAbsent (collector_of c.old.held.value) result c.old c.new }
     ensures out_stays { collector_of c.old.held.value ≡ None → out.new ≡ out.old }
     ensures line_stays { collector_of c.old.held.value ≡ None → line.new ≡ line.old }
-    ensures next { (old : EndValue) → collector_of c.old.held.value ≡ Some old
-        → IsSomeAnd (collector_of c.new.held.value) (λ new.
-        NextSo old.listed out.old line.old result out.new line.new new.listed) }
+    ensures next { OnCollector c.old c.new (λ old new. NextSo old out.old line.old result out.new line.new new) }
 {
     if !c.live {
         return ABSENT;
@@ -198,8 +192,7 @@ fn same_of(left: &ListedCollector, right: &ListedCollector) -> i32
 /// Frees the collector: it is freed at most once. That its memory is released is tested, and not proved.
 #[unsafe(no_mangle)]
 pub extern "C" fn tracering_raw_collector_free(alloc: Global, c: &mut CollectorHandle) -> i32
-    ensures absent { collector_of c.old.held.value ≡ None → result ≡ pos 8 }
-    ensures stays { collector_of c.old.held.value ≡ None → c.new ≡ c.old }
+    ensures absent { SaysAbsent (collector_of c.old.held.value) result c.old c.new }
     ensures freed { (x : EndValue) → collector_of c.old.held.value ≡ Some x → result ≡ pos 0 }
     ensures none { collector_of c.new.held.value ≡ None }
 {

@@ -1,5 +1,5 @@
 //! A new ring; and its ends, freed.
-ghost use Rattle.std.specs.Prelude.{◌≡◌, ◌≢◌, ◌<◌, ◌↔◌, Some, None, IfSome, IfOk, IsSomeAnd, is_some, true, pos};
+ghost use Rattle.std.specs.Prelude.{◌≡◌, ◌≢◌, ◌<◌, ◌↔◌, Some, None, IfOk, IsSomeAnd, is_some, true, pos};
 ghost use Rattle.trace_model.specs.declared.limits.TheConstants.{MAX_CPUS, START_FILL};
 ghost use Rattle.trace_model.specs.Ring.{HasRingLimits};
 ghost use Rattle.ring_shared.specs.NewEnds.{AreNewEnds};
@@ -7,6 +7,7 @@ ghost use Rattle.ring_shared.specs.Calls.{IsWriter};
 ghost use Rattle.tracering_c.specs.declared.ends.WriterEnd.{WriterEnd as WriterValue};
 ghost use Rattle.tracering_c.specs.declared.ends.ReaderEnd.{ReaderEnd as ReaderValue};
 ghost use Rattle.tracering_c.specs.Held.{writer_of, reader_of};
+ghost use Rattle.tracering_c.specs.Handles.{IsWriterHandle, IsReaderHandle, SaysAbsent};
 ghost use Rattle.tracering_c.specs.Ends.{IsReaderEnd};
 ghost use Rattle.tracering_c.specs.Calls.{AnswersNew};
 
@@ -28,8 +29,8 @@ pub extern "C" fn tracering_raw_new(
     pages: usize,
     size: usize,
 ) -> i32
-    requires writer { IfSome (writer_of w.old.held.value) (λ x. IsWriter x.writer) }
-    requires reader { IfSome (reader_of r.old.held.value) (λ x. IsReaderEnd x) }
+    requires writer { IsWriterHandle w.old }
+    requires reader { IsReaderHandle r.old }
     ensures ring { result ≡ pos 0
         → IsSomeAnd (writer_of w.new.held.value) (λ left. IsSomeAnd (reader_of r.new.held.value) (λ right.
         AreNewEnds (record { pages = pages; size = size; start = START_FILL }) left.writer right.reader)) }
@@ -40,8 +41,8 @@ pub extern "C" fn tracering_raw_new(
         → AnswersNew cpu pages size result }
     ensures in_use { is_some (writer_of w.old.held.value) ≡ true → result ≡ pos 9 }
     ensures in_use_too { is_some (reader_of r.old.held.value) ≡ true → result ≡ pos 9 }
-    ensures writer { IfSome (writer_of w.new.held.value) (λ x. IsWriter x.writer) }
-    ensures reader { IfSome (reader_of r.new.held.value) (λ x. IsReaderEnd x) }
+    ensures writer { IsWriterHandle w.new }
+    ensures reader { IsReaderHandle r.new }
 {
     if w.live || r.live {
         return IN_USE;
@@ -96,9 +97,8 @@ fn has_limits(pages: usize, size: usize) -> bool
 /// Frees the writer: it is freed at most once. That its memory is released is tested, and not proved.
 #[unsafe(no_mangle)]
 pub extern "C" fn tracering_raw_writer_free(alloc: Global, w: &mut WriterHandle) -> i32
-    requires writer { IfSome (writer_of w.old.held.value) (λ x. IsWriter x.writer) }
-    ensures absent { writer_of w.old.held.value ≡ None → result ≡ pos 8 }
-    ensures stays { writer_of w.old.held.value ≡ None → w.new ≡ w.old }
+    requires writer { IsWriterHandle w.old }
+    ensures absent { SaysAbsent (writer_of w.old.held.value) result w.old w.new }
     ensures freed { (x : WriterValue) → writer_of w.old.held.value ≡ Some x → result ≡ pos 0 }
     ensures none { writer_of w.new.held.value ≡ None }
 {
@@ -111,9 +111,8 @@ pub extern "C" fn tracering_raw_writer_free(alloc: Global, w: &mut WriterHandle)
 /// Frees the reader: it is freed at most once. That its memory is released is tested, and not proved.
 #[unsafe(no_mangle)]
 pub extern "C" fn tracering_raw_reader_free(alloc: Global, r: &mut ReaderHandle) -> i32
-    requires reader { IfSome (reader_of r.old.held.value) (λ x. IsReaderEnd x) }
-    ensures absent { reader_of r.old.held.value ≡ None → result ≡ pos 8 }
-    ensures stays { reader_of r.old.held.value ≡ None → r.new ≡ r.old }
+    requires reader { IsReaderHandle r.old }
+    ensures absent { SaysAbsent (reader_of r.old.held.value) result r.old r.new }
     ensures freed { (x : ReaderValue) → reader_of r.old.held.value ≡ Some x → result ≡ pos 0 }
     ensures none { reader_of r.new.held.value ≡ None }
 {

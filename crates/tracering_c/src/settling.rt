@@ -1,9 +1,10 @@
 //! The two ends of a ring, settled.
-ghost use Rattle.std.specs.Prelude.{◌≡◌, ◌≢◌, ◌+◌, ◌≤◌, [], Some, None, length, IfSome, pos};
+ghost use Rattle.std.specs.Prelude.{◌≡◌, ◌≢◌, ◌+◌, ◌≤◌, [], Some, None, length, pos};
 ghost use Rattle.ring_shared.specs.Calls.{IsWriter};
 ghost use Rattle.tracering_c.specs.declared.ends.WriterEnd.{WriterEnd as WriterValue};
 ghost use Rattle.tracering_c.specs.declared.ends.ReaderEnd.{ReaderEnd as ReaderValue};
 ghost use Rattle.tracering_c.specs.Held.{writer_of, reader_of};
+ghost use Rattle.tracering_c.specs.Handles.{IsWriterHandle, IsReaderHandle};
 ghost use Rattle.tracering_c.specs.Ends.{IsReaderEnd, AreOfOneRing};
 ghost use Rattle.tracering_c.specs.Calls.{SettlesSo, AnswersSettle};
 
@@ -24,8 +25,8 @@ pub extern "C" fn tracering_raw_settle(
     out: &mut [u8],
     taken: &mut Taken,
 ) -> i32
-    requires writer { IfSome (writer_of w.old.held.value) (λ x. IsWriter x.writer) }
-    requires reader { IfSome (reader_of r.old.held.value) (λ x. IsReaderEnd x) }
+    requires writer { IsWriterHandle w.old }
+    requires reader { IsReaderHandle r.old }
     requires one_ring { (left : WriterValue) (right : ReaderValue)
         → writer_of w.old.held.value ≡ Some left → reader_of r.old.held.value ≡ Some right
         → AreOfOneRing left.writer right.reader }

@@ -1,17 +1,14 @@
 //! The calls on a ring's writer.
-ghost use Rattle.std.specs.Prelude.{◌≡◌, ◌≢◌, ◌≤◌, ◌<◌, ◌↔◌, ◌++◌, [], drop, length};
-ghost use Rattle.std.specs.Prelude.{None, Some, IfSome, IsSomeAnd, pos};
+ghost use Rattle.std.specs.Prelude.{◌≡◌, ◌≤◌, ◌++◌, drop, length, None, Some};
 ghost use Rattle.trace_model.specs.Steps as model;
 ghost use Rattle.trace_model.specs.Words.{slot_len};
-ghost use Rattle.nested_writer.specs.declared.frame.Slot.{Slot};
-ghost use Rattle.nested_writer.specs.Calls.{LacksSlot, IsTopSlot};
-ghost use Rattle.ring_frames.specs.Answers.{top_bytes};
 ghost use Rattle.ring_shared.specs.Value.{SameWriter};
 ghost use Rattle.ring_shared.specs.Calls.{IsWriter};
 ghost use Rattle.tracering_c.specs.declared.ends.WriterEnd.{WriterEnd as EndValue};
 ghost use Rattle.tracering_c.specs.Codes.{answer_code};
 ghost use Rattle.tracering_c.specs.Held.{writer_of};
-ghost use Rattle.tracering_c.specs.Calls.{WritesSo, BeginsSo, FinishesSo, EndsSo, IsPut};
+ghost use Rattle.tracering_c.specs.Handles.{IsWriterHandle, SaysAbsent, OnWriter};
+ghost use Rattle.tracering_c.specs.Calls.{WritesSo, BeginsSo, FinishesSo, EndsSo, PutsSo};
 
 use crate::codes::{ABSENT, DONE, RESERVED, TOO_LONG, code_of};
 use crate::handle::WriterHandle;
@@ -32,15 +29,9 @@ pub extern "C" fn tracering_raw_write(
     moment: u64,
     payload: GivenPayload<'_>,
 ) -> i32
-    requires writer { IfSome (writer_of w.old.held.value) (λ x. IsWriter x.writer) }
-    ensures absent { writer_of w.old.held.value ≡ None → result ≡ pos 8 }
-    ensures stays { writer_of w.old.held.value ≡ None → w.new ≡ w.old }
-    ensures writes { (old : EndValue) → writer_of w.old.held.value ≡ Some old
-        → IsSomeAnd (writer_of w.new.held.value) (λ new.
-        WritesSo old.writer moment payload.entry.bytes.now result new.writer) }
-    ensures ring { (old : EndValue) → writer_of w.old.held.value ≡ Some old
-        → IsSomeAnd (writer_of w.new.held.value) (λ new. SameWriter old.writer new.writer) }
-    ensures writer { IfSome (writer_of w.new.held.value) (λ x. IsWriter x.writer) }
+    requires writer { IsWriterHandle w.old }
+    ensures absent { SaysAbsent (writer_of w.old.held.value) result w.old w.new }
+    ensures writes { OnWriter w.old w.new (λ old new. WritesSo old moment payload.entry.bytes.now result new) }
 {
     if !w.live {
         return ABSENT;
@@ -65,15 +56,10 @@ fn write_on(writer: &mut Writer, moment: u64, payload: &[u8]) -> i32
 /// Begins a record of this moment and of a payload of `len` bytes.
 #[unsafe(no_mangle)]
 pub extern "C" fn tracering_raw_begin(w: &mut WriterHandle, moment: u64, len: usize) -> i32
-    requires writer { IfSome (writer_of w.old.held.value) (λ x. IsWriter x.writer) }
-    ensures absent { writer_of w.old.held.value ≡ None → result ≡ pos 8 }
-    ensures stays { writer_of w.old.held.value ≡ None → w.new ≡ w.old }
-    ensures begins { (old : EndValue) → writer_of w.old.held.value ≡ Some old
-        → IsSomeAnd (writer_of w.new.held.value) (λ new.
-        BeginsSo old.writer (model.pushes moment len) (Some (slot_len len)) result new.writer) }
-    ensures ring { (old : EndValue) → writer_of w.old.held.value ≡ Some old
-        → IsSomeAnd (writer_of w.new.held.value) (λ new. SameWriter old.writer new.writer) }
-    ensures writer { IfSome (writer_of w.new.held.value) (λ x. IsWriter x.writer) }
+    requires writer { IsWriterHandle w.old }
+    ensures absent { SaysAbsent (writer_of w.old.held.value) result w.old w.new }
+    ensures begins { OnWriter w.old w.new (λ old new.
+        BeginsSo old (model.pushes moment len) (Some (slot_len len)) result new) }
 {
     if !w.live {
         return ABSENT;
@@ -84,15 +70,9 @@ pub extern "C" fn tracering_raw_begin(w: &mut WriterHandle, moment: u64, len: us
 /// Begins the close of the tail page.
 #[unsafe(no_mangle)]
 pub extern "C" fn tracering_raw_begin_close(w: &mut WriterHandle) -> i32
-    requires writer { IfSome (writer_of w.old.held.value) (λ x. IsWriter x.writer) }
-    ensures absent { writer_of w.old.held.value ≡ None → result ≡ pos 8 }
-    ensures stays { writer_of w.old.held.value ≡ None → w.new ≡ w.old }
-    ensures begins { (old : EndValue) → writer_of w.old.held.value ≡ Some old
-        → IsSomeAnd (writer_of w.new.held.value) (λ new.
-        BeginsSo old.writer model.pushes_close None result new.writer) }
-    ensures ring { (old : EndValue) → writer_of w.old.held.value ≡ Some old
-        → IsSomeAnd (writer_of w.new.held.value) (λ new. SameWriter old.writer new.writer) }
-    ensures writer { IfSome (writer_of w.new.held.value) (λ x. IsWriter x.writer) }
+    requires writer { IsWriterHandle w.old }
+    ensures absent { SaysAbsent (writer_of w.old.held.value) result w.old w.new }
+    ensures begins { OnWriter w.old w.new (λ old new. BeginsSo old model.pushes_close None result new) }
 {
     if !w.live {
         return ABSENT;
@@ -103,14 +83,9 @@ pub extern "C" fn tracering_raw_begin_close(w: &mut WriterHandle) -> i32
 /// Steps the frame on top until its record is reserved, or it is gone or refused. One that has reserved says so again.
 #[unsafe(no_mangle)]
 pub extern "C" fn tracering_raw_finish(w: &mut WriterHandle) -> i32
-    requires writer { IfSome (writer_of w.old.held.value) (λ x. IsWriter x.writer) }
-    ensures absent { writer_of w.old.held.value ≡ None → result ≡ pos 8 }
-    ensures stays { writer_of w.old.held.value ≡ None → w.new ≡ w.old }
-    ensures finishes { (old : EndValue) → writer_of w.old.held.value ≡ Some old
-        → IsSomeAnd (writer_of w.new.held.value) (λ new. FinishesSo old.writer result new.writer) }
-    ensures ring { (old : EndValue) → writer_of w.old.held.value ≡ Some old
-        → IsSomeAnd (writer_of w.new.held.value) (λ new. SameWriter old.writer new.writer) }
-    ensures writer { IfSome (writer_of w.new.held.value) (λ x. IsWriter x.writer) }
+    requires writer { IsWriterHandle w.old }
+    ensures absent { SaysAbsent (writer_of w.old.held.value) result w.old w.new }
+    ensures finishes { OnWriter w.old w.new (λ old new. FinishesSo old result new) }
 {
     if !w.live {
         return ABSENT;
@@ -121,31 +96,9 @@ pub extern "C" fn tracering_raw_finish(w: &mut WriterHandle) -> i32
 /// Copies the bytes to the front of the slot of the record on top.
 #[unsafe(no_mangle)]
 pub extern "C" fn tracering_raw_put(w: &mut WriterHandle, bytes: &[u8]) -> i32
-    requires writer { IfSome (writer_of w.old.held.value) (λ x. IsWriter x.writer) }
-    ensures absent { writer_of w.old.held.value ≡ None → result ≡ pos 8 }
-    ensures stays { writer_of w.old.held.value ≡ None → w.new ≡ w.old }
-    ensures put { (old : EndValue) → writer_of w.old.held.value ≡ Some old
-        → IsSomeAnd (writer_of w.new.held.value) (λ new. result ≡ pos 0 → IsPut old.writer bytes.now new.writer) }
-    ensures long { (old : EndValue) → writer_of w.old.held.value ≡ Some old
-        → IsSomeAnd (writer_of w.new.held.value) (λ new. result ≡ pos 2
-        → length (top_bytes old.writer.frames.stack old.writer.frames.stack.frames) < length bytes.now) }
-    ensures fits { (old : EndValue) → writer_of w.old.held.value ≡ Some old
-        → (slot : Slot) → IsTopSlot old.writer.frames.stack.frames slot
-        → length bytes.now ≤ length (top_bytes old.writer.frames.stack old.writer.frames.stack.frames)
-        → result ≡ pos 0 }
-    ensures too_long { (old : EndValue) → writer_of w.old.held.value ≡ Some old
-        → (slot : Slot) → IsTopSlot old.writer.frames.stack.frames slot
-        → length (top_bytes old.writer.frames.stack old.writer.frames.stack.frames) < length bytes.now
-        → result ≡ pos 2 }
-    ensures no_frame { (old : EndValue) → writer_of w.old.held.value ≡ Some old
-        → IsSomeAnd (writer_of w.new.held.value) (λ new. result ≡ pos 6 ↔ old.writer.frames.stack.frames ≡ []) }
-    ensures not_reserved { (old : EndValue) → writer_of w.old.held.value ≡ Some old
-        → IsSomeAnd (writer_of w.new.held.value) (λ new. result ≡ pos 7 ↔ LacksSlot old.writer.frames.stack.frames) }
-    ensures refused { (old : EndValue) → writer_of w.old.held.value ≡ Some old
-        → IsSomeAnd (writer_of w.new.held.value) (λ new. result ≢ pos 0 → new ≡ old) }
-    ensures ring { (old : EndValue) → writer_of w.old.held.value ≡ Some old
-        → IsSomeAnd (writer_of w.new.held.value) (λ new. SameWriter old.writer new.writer) }
-    ensures writer { IfSome (writer_of w.new.held.value) (λ x. IsWriter x.writer) }
+    requires writer { IsWriterHandle w.old }
+    ensures absent { SaysAbsent (writer_of w.old.held.value) result w.old w.new }
+    ensures puts { OnWriter w.old w.new (λ old new. PutsSo old bytes.now result new) }
 {
     if !w.live {
         return ABSENT;
@@ -156,18 +109,7 @@ pub extern "C" fn tracering_raw_put(w: &mut WriterHandle, bytes: &[u8]) -> i32
 /// `tracering_raw_put`, of the writer itself.
 fn put_on(writer: &mut Writer, bytes: &[u8]) -> i32
     requires writer { IsWriter writer.old }
-    ensures put { result ≡ pos 0 → IsPut writer.old bytes.now writer.new }
-    ensures long { result ≡ pos 2
-        → length (top_bytes writer.old.frames.stack writer.old.frames.stack.frames) < length bytes.now }
-    ensures fits { (slot : Slot) → IsTopSlot writer.old.frames.stack.frames slot
-        → length bytes.now ≤ length (top_bytes writer.old.frames.stack writer.old.frames.stack.frames)
-        → result ≡ pos 0 }
-    ensures too_long { (slot : Slot) → IsTopSlot writer.old.frames.stack.frames slot
-        → length (top_bytes writer.old.frames.stack writer.old.frames.stack.frames) < length bytes.now
-        → result ≡ pos 2 }
-    ensures no_frame { result ≡ pos 6 ↔ writer.old.frames.stack.frames ≡ [] }
-    ensures not_reserved { result ≡ pos 7 ↔ LacksSlot writer.old.frames.stack.frames }
-    ensures refused { result ≢ pos 0 → writer.new ≡ writer.old }
+    ensures puts { PutsSo writer.old bytes.now result writer.new }
     ensures ring { SameWriter writer.old writer.new }
     ensures writer { IsWriter writer.new }
 {
@@ -195,14 +137,9 @@ fn put_into(slot: &mut [u8], bytes: &[u8])
 /// Ends the record on top with the payload in its slot.
 #[unsafe(no_mangle)]
 pub extern "C" fn tracering_raw_end(w: &mut WriterHandle) -> i32
-    requires writer { IfSome (writer_of w.old.held.value) (λ x. IsWriter x.writer) }
-    ensures absent { writer_of w.old.held.value ≡ None → result ≡ pos 8 }
-    ensures stays { writer_of w.old.held.value ≡ None → w.new ≡ w.old }
-    ensures ends { (old : EndValue) → writer_of w.old.held.value ≡ Some old
-        → IsSomeAnd (writer_of w.new.held.value) (λ new. EndsSo old.writer result new.writer) }
-    ensures ring { (old : EndValue) → writer_of w.old.held.value ≡ Some old
-        → IsSomeAnd (writer_of w.new.held.value) (λ new. SameWriter old.writer new.writer) }
-    ensures writer { IfSome (writer_of w.new.held.value) (λ x. IsWriter x.writer) }
+    requires writer { IsWriterHandle w.old }
+    ensures absent { SaysAbsent (writer_of w.old.held.value) result w.old w.new }
+    ensures ends { OnWriter w.old w.new (λ old new. EndsSo old result new) }
 {
     if !w.live {
         return ABSENT;
@@ -226,7 +163,7 @@ fn code_of_answer(answer: Answer) -> i32
 /// ring.
 #[unsafe(no_mangle)]
 pub extern "C" fn tracering_raw_depth(w: &mut WriterHandle) -> usize
-    requires writer { IfSome (writer_of w.old.held.value) (λ x. IsWriter x.writer) }
+    requires writer { IsWriterHandle w.old }
     ensures none { writer_of w.old.held.value ≡ None → result ≡ 0 }
     ensures depth { (old : EndValue) → writer_of w.old.held.value ≡ Some old → result ≡ length old.writer.part.frames }
     ensures stays { writer_of w.old.held.value ≡ None → w.new ≡ w.old }
