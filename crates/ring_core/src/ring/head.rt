@@ -115,7 +115,11 @@ impl Core {
             return self.begin_again();
         }
         let after_lost = noted - self.positions() + 1;
-        self.exchange(after_lost, normal(next, after_lost), header(next, after_lost));
+        self.exchange(
+            after_lost,
+            normal(next, after_lost),
+            header(next, after_lost),
+        );
         self.go_on(role.after_next(noted, page))
     }
 
