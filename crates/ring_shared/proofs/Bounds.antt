@@ -70,14 +70,14 @@ module _ (v : WriterValue) (w : AreWriterFields v) where
 
 -- what a call knows of the writer's fields, if its view is that one
 module _ {v x : WriterValue} (view_is : v ≡ x) (w : AreWriterFields x) where
-  pub pages_called : v.frames.stack.pages ≡ v.shape.pages
-  pages_called = (writer_seen view_is w).frames_are.pages_is
+  pub pages_called : v.frames.stack.pages ≡ x.shape.pages
+  pages_called = ap (λ (y : WriterValue). y.frames.stack.pages) view_is ∙ w.frames_are.pages_is
 
   -- as many pages as the frames answer are the ring's, and what the frame on top saw of the head holds
   pub fits_called : x.frames.stack.frames ≢ [] → {phase : code.Phase} → x.frames.phase ≡ phase → (pages : ℕ) → pages ≡ v.frames.stack.pages → pages ≤ MAX_PAGES
       → (pages ≡ v.shape.pages) × HasSeenLink v.shape.pages (writer_seen view_is w).core.links (writer_seen view_is w).core.head (phase_of phase)
   fits_called some {phase = phase} at pages pages_is few =
-      let same : pages ≡ v.shape.pages = pages_is ∙ pages_called in (
+      let same : pages ≡ v.shape.pages = pages_is ∙ (writer_seen view_is w).frames_are.pages_is in (
         same,
         fits v (writer_seen view_is w) (phase_of phase) (top_seen view_is some) (phase_seen view_is at) (subst (λ (k : ℕ). k ≤ MAX_PAGES) same few),
       )
