@@ -11,7 +11,7 @@ use crate::lines::put_lines;
 use crate::runs::put_runs;
 use collector::Collector;
 use std::alloc::Global;
-use text_values::put_number;
+use text_values::{drop_if_refused, put_number};
 use trace_model::NoMemory;
 
 /// Where a part of a text is: its bytes from `start` up to `end`.
@@ -110,10 +110,7 @@ pub fn put_collector(
 {
     let start = out.len();
     let put = put_whole(alloc, out, number, collector, before, span);
-    if put.is_err() {
-        out.truncate(start);
-    }
-    put
+    drop_if_refused(out, start, put)
 }
 
 /// The text of each collector, numbered from 0. On an error a part of that may be put.
@@ -145,8 +142,5 @@ pub fn put_collectors(
 {
     let start = out.len();
     let put = put_all(alloc, out, collectors);
-    if put.is_err() {
-        out.truncate(start);
-    }
-    put
+    drop_if_refused(out, start, put)
 }

@@ -18,14 +18,14 @@ use trace_script::{Command, Script};
 
 /// One line. For a line of the reader or of a collector the writer does nothing.
 fn obey_line<'a, G: Gate>(
-    lane: &mut LineWriter<'a>,
+    writer: &mut LineWriter<'a>,
     gate: &G,
     cpu: CpuId,
     command: Command<'a>,
 ) -> Result<(), FillNo>
-    requires is { IsLineWriter lane.old }
+    requires is { IsLineWriter writer.old }
     requires within { (cpus collectors : ℕ) × IsCommandWithin cpus collectors (shown_command command) }
-    ensures line { OnOk result (MakesLine (shown_command command.entry) lane.old lane.new) }
+    ensures line { OnOk result (MakesLine (shown_command command.entry) writer.old writer.new) }
     ensures shut { IfErr result (λ fill. G.answers gate.now who.Writer cpu.0 fill.0 false) }
 {
     match command {
@@ -34,17 +34,17 @@ fn obey_line<'a, G: Gate>(
             payload,
             ..
         } => {
-            lane.begin(cpu, moment.0, payload);
+            writer.begin(cpu, moment.0, payload);
             Ok(())
         }
-        Command::Step { count, .. } => lane.step(gate, cpu, count),
-        Command::Finish { .. } => lane.finish(gate, cpu),
+        Command::Step { count, .. } => writer.step(gate, cpu, count),
+        Command::Finish { .. } => writer.finish(gate, cpu),
         Command::Write {
             moment,
             payload,
             ..
-        } => lane.write(gate, cpu, moment.0, payload),
-        Command::Close { .. } => lane.close(gate, cpu),
+        } => writer.write(gate, cpu, moment.0, payload),
+        Command::Close { .. } => writer.close(gate, cpu),
         Command::StepReader { .. } => Ok(()),
         Command::Take { .. } => Ok(()),
         Command::Wish { .. } => Ok(()),
@@ -54,28 +54,30 @@ fn obey_line<'a, G: Gate>(
 
 /// The lines at these places of the script.
 fn obey_places<'a, G: Gate>(
-    lane: &mut LineWriter<'a>,
+    writer: &mut LineWriter<'a>,
     script: &'a Script,
     places: &Places,
     cpu: CpuId,
     gate: &G,
 ) -> Result<(), FillNo>
-    requires is { IsLineWriter lane.old }
+    requires is { IsLineWriter writer.old }
     requires places { AreLinesOf cpu.0 script.now.commands places.now }
-    ensures lines { OnOk result (MakesLines (writer_lines cpu.0 (commands_of script.now.commands)) lane.old lane.new) }
+    ensures lines { OnOk result (MakesLines (writer_lines cpu.0 (commands_of script.now.commands))
+        writer.old writer.new) }
     ensures shut { IfErr result (λ fill. G.answers gate.now who.Writer cpu.0 fill.0 false) }
 {
     let commands = script.commands();
     for index in 0..places.len() {
         let place = places.place(index);
-        obey_line(lane, gate, cpu, commands.line(place).command)?;
+        obey_line(writer, gate, cpu, commands.line(place).command)?;
     }
     Ok(())
 }
 
 /// Obeys the lines of a CPU's writer, which are at these places of the script, on a new ring; then finishes the frames
-/// that are left, the top one first. After each fill that the writer closes, the gate is asked: the fill at which it
-/// didn't let the writer pass ends this at once.
+/// that are left, the top one first. After each fill that the writer closes, the gate is asked, and gets one more than
+/// the number of that fill (the number of closed fills, if the ring's first one is 0). Where it doesn't let the writer
+/// pass, what it got is answered at once.
 pub fn obey_lines<G: Gate>(
     end: WriterEnd,
     script: &Script,
@@ -88,9 +90,9 @@ pub fn obey_lines<G: Gate>(
     ensures { ObeysLines G.answers gate.now cpu.0 script.now.commands end result }
 {
     let WriterEnd { writer } = end;
-    let mut lane = LineWriter::new(writer);
-    obey_places(&mut lane, script, places, cpu, gate)?;
-    lane.finish_rest(gate, cpu)?;
-    let LineWriter { writer, .. } = lane;
+    let mut writer = LineWriter::new(writer);
+    obey_places(&mut writer, script, places, cpu, gate)?;
+    writer.finish_rest(gate, cpu)?;
+    let LineWriter { writer, .. } = writer;
     Ok(WriterEnd { writer })
 }

@@ -9,7 +9,8 @@ impl<'a> LineWriter<'a> {
     ghost use Rattle.line_writer.specs.declared.gate.Who.TheVariants as who;
     ghost use Rattle.line_writer.specs.LineWriters.{IsLineWriter, CallsTop, MakesLine, FinishesRest};
 
-    /// Asks the gate for each fill that was closed since `done` were: the first one at which it is shut.
+    /// Asks the gate for each fill from the one with the number `done` on that is closed. The gate gets one more than
+    /// the number of that fill. What it got where it is shut is answered.
     #[inline(always)]
     fn pass_closed<G: Gate>(&self, gate: &G, cpu: CpuId, done: u64) -> Result<(), FillNo>
         ensures { IfErr result (λ fill. G.answers gate.now who.Writer cpu.0 fill.0 false) }
@@ -23,7 +24,7 @@ impl<'a> LineWriter<'a> {
         Ok(())
     }
 
-    /// One call for the frame on top. If it closes a fill, the gate is asked: the fill at which it is shut.
+    /// One call for the frame on top. If it closes a fill, the gate is asked. What it got if it is shut is answered.
     pub(crate) fn call_gated<G: Gate>(&mut self, gate: &G, cpu: CpuId) -> Result<(), FillNo>
         requires is { IsLineWriter self.old }
         requires top { self.old.writer.part.frames ≢ [] }

@@ -8,7 +8,7 @@ ghost use Rattle.replay_log.specs.LogTypes.{shown_log, shown_log_line};
 
 use crate::line::LogLine;
 use nested_writer::WriteFault;
-use text_values::put_number;
+use text_values::{drop_if_refused, put_number};
 use trace_model::{CpuId, FillNo, NoMemory, RecordNo};
 
 // On an error all but `put_log` may leave a part of what they put.
@@ -170,8 +170,5 @@ pub fn put_log(out: &mut Vec<u8>, log: &[LogLine]) -> Result<(), NoMemory>
 {
     let start = out.len();
     let put = put_lines(out, log);
-    if put.is_err() {
-        out.truncate(start);
-    }
-    put
+    drop_if_refused(out, start, put)
 }

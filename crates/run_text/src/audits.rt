@@ -5,7 +5,7 @@ ghost use Rattle.run_text.specs.Verdicts.{verdict_of};
 ghost use Rattle.run_text.specs.Printing.{key_text, printed_audit, verdict_text};
 
 use run_audit::{AuditFault, Audited};
-use text_values::put_number;
+use text_values::{drop_if_refused, put_number};
 use trace_model::{CpuId, FillNo, NoMemory};
 
 /// A CPU and a fill of its ring. On an error a part of that may be put.
@@ -59,8 +59,5 @@ pub fn put_audit(out: &mut Vec<u8>, answer: Result<Audited, AuditFault>) -> Resu
 {
     let start = out.len();
     let put = put_line(out, answer);
-    if put.is_err() {
-        out.truncate(start);
-    }
-    put
+    drop_if_refused(out, start, put)
 }

@@ -12,6 +12,7 @@ use collector::Collector;
 use collector_text::{Span, put_collector};
 use run_audit::{AuditFault, Audited, Ledger, audit};
 use std::alloc::Global;
+use text_values::drop_if_refused;
 use trace_model::NoMemory;
 
 /// The audit of a collector.
@@ -83,8 +84,5 @@ pub fn put_run(
 {
     let start = out.len();
     let put = put_all(alloc, out, collectors, ledgers);
-    if put.is_err() {
-        out.truncate(start);
-    }
-    put
+    drop_if_refused(out, start, put)
 }

@@ -5,7 +5,7 @@ use Rattle.std.proofs.lemmas.List.{get_or_default, get_or-set_same, get_or-set_o
 use Rattle.text_model.specs.Script.{Script}
 use Rattle.script_replay.specs.Value.{LaneValue}
 use Rattle.script_replay.specs.Lanes.{IsNewLaneOf}
-use Rattle.script_replay.specs.Places.{in_place, lane_at, AreSameBut, IsLaneFrom, StandsFrom}
+use Rattle.script_replay.specs.Places.{in_place, lane_at, AreSameBut, IsLaneFrom, IsPlacedFrom}
 
 module _ {Z : Type 0} where
   -- the lane that is in a place, as it is lent
@@ -14,11 +14,11 @@ module _ {Z : Type 0} where
       → cpu < length places
       → place ≡ get_or places cpu place
       → place ≡ Some lane
-      → StandsFrom script before (lane_at places cpu)
+      → IsPlacedFrom script before (lane_at places cpu)
       → IsLaneFrom script before lane.value
   lent_from script places cpu before place lane low is some stands =
       let at : get_or places cpu None ≡ Some lane = get_or_default places cpu None place low ∙ sym is ∙ some in
-      subst (StandsFrom script before) (ap in_place at) stands
+      subst (IsPlacedFrom script before) (ap in_place at) stands
 
   -- what is put into a place is there, and all others are the same
   pub put_there : (places : List (Option (Box LaneValue Z))) (cpu : ℕ) (lane : Box LaneValue Z)

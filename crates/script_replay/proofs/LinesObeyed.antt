@@ -29,12 +29,12 @@ use Rattle.page_numbers.specs.Parcels.{as_parcels}
 use Rattle.script_replay.specs.declared.replaying.ReplayState.{ReplayState}
 use Rattle.replay_log.specs.LogTypes.{shown_log, shown_log_line}
 use Rattle.script_replay.specs.Value.{LaneValue}
-use Rattle.script_replay.specs.declared.lane.asked.Asked.{Asked}
-use Rattle.script_replay.specs.Asked.{command_for}
+use Rattle.script_replay.specs.declared.lane.command.LaneCommand.{LaneCommand}
+use Rattle.script_replay.specs.LaneCommands.{command_for}
 use Rattle.script_replay.specs.Lanes.{IsLaneOf, HasLine}
 use Rattle.script_replay.specs.Places.{lane_at, AreSameBut, IsLaneFrom, IsLaneAt}
 use Rattle.deliveries.specs.Deliveries.{AreRising, Adds}
-use Rattle.script_replay.specs.Collected.{IsFound, delivery_of, IsCollected, AreCollected}
+use Rattle.script_replay.specs.Collected.{HasParcel, delivery_of, IsCollected, AreCollected}
 use Rattle.script_replay.specs.Replay.{IsStateAfter, IsReady, LeadsOn}
 use Rattle.script_replay.proofs.Placed.{from_is_lane, first_world, new_at, obeys_ring, place_rises, found_taken, not_taken}
 
@@ -87,7 +87,7 @@ module _ (script : Script) (lines : List (ℕ × Command)) (state : ReplayState)
   pub collectors_count : length state.collectors.items ≡ script.collectors
   collectors_count = part_way.collectors_are.count ∙ kept.collectors
 
-  pub found_page : (cpu fill : ℕ) (parcel : Parcel) → cpu < script.cpus → IsFound (lane_at state.lanes.items cpu) fill parcel → Contains part_way.world.taken parcel × IsFill cpu fill parcel
+  pub found_page : (cpu fill : ℕ) (parcel : Parcel) → cpu < script.cpus → HasParcel (lane_at state.lanes.items cpu) fill parcel → Contains part_way.world.taken parcel × IsFill cpu fill parcel
   found_page cpu fill parcel low found =
       let (lane, at) = lane_of script part_way.world kept cpu low in
       found_taken script part_way.world kept cpu lane at (lane_at state.lanes.items cpu) fill parcel (part_way.lanes_are cpu lane at) found
@@ -105,7 +105,7 @@ module _ (script : Script) (lines : List (ℕ × Command)) (state : ReplayState)
       let there : slice_get part_way.world.delivered collector ≡ Some (get_or part_way.world.delivered collector []) = slice_get-get_or part_way.world.delivered collector [] (omega arith) in
       (get_or part_way.world.delivered collector [], there, part_way.collectors_are.each collector pages (get_or part_way.world.delivered collector []) at there)
 
-  pub may_add : (cpu fill collector : ℕ) (pages : List Parcel) (parcel : Parcel) → cpu < script.cpus → IsFound (lane_at state.lanes.items cpu) fill parcel → slice_get state.collectors.items collector ≡ Some pages → Agree (pages ++ parcel ∷ [])
+  pub may_add : (cpu fill collector : ℕ) (pages : List Parcel) (parcel : Parcel) → cpu < script.cpus → HasParcel (lane_at state.lanes.items cpu) fill parcel → slice_get state.collectors.items collector ≡ Some pages → Agree (pages ++ parcel ∷ [])
   may_add cpu fill collector pages parcel low found at =
       let (delivered, delivered_at, collected) = delivered_to collector pages at in
       let genuine = world_genuine script lines part_way.world limits part_way.behind in
@@ -116,15 +116,15 @@ module _ (script : Script) (lines : List (ℕ × Command)) (state : ReplayState)
 
 -- ---- a line of a ring
 
-module _ (script : Script) (line cpu : ℕ) (asked : Asked) (old new : ReplayState) (v after : LaneValue)
+module _ (script : Script) (line cpu : ℕ) (command : LaneCommand) (old new : ReplayState) (v after : LaneValue)
     (limits : IsWithinLimits script)
     (low : cpu < script.cpus)
     (from : IsLaneFrom script (lane_at old.lanes.items cpu) v)
-    (has : HasLine (command_for cpu asked) line cpu v old.log.items after new.log.items)
+    (has : HasLine (command_for cpu command) line cpu v old.log.items after new.log.items)
     (placed : lane_at new.lanes.items cpu ≡ Some after)
     (others : AreSameBut cpu new.lanes.items old.lanes.items)
     (collectors : new.collectors.items ≡ old.collectors.items) where
-  pub ring_leads : LeadsOn script (line, command_for cpu asked) old new
+  pub ring_leads : LeadsOn script (line, command_for cpu command) old new
   ring_leads = λ lines part_way.
       let kept : IsWorldKept script part_way.world = world_kept script lines part_way.world limits part_way.behind in
       let (lane, at) = lane_of script part_way.world kept cpu low in
@@ -136,12 +136,12 @@ module _ (script : Script) (line cpu : ℕ) (asked : Asked) (old new : ReplaySta
         delivered = part_way.world.delivered;
         log = part_way.world.log ++ log_of line cpu h.exchanges;
       } in
-      let runs : RunsLine script line (command_for cpu asked) cpu part_way.world w = record { lane = lane; lane_is = at; exchanges = h.exchanges; next = h.after; run = h.happened; after_is = refl } in
+      let runs : RunsLine script line (command_for cpu command) cpu part_way.world w = record { lane = lane; lane_is = at; exchanges = h.exchanges; next = h.after; run = h.happened; after_is = refl } in
       let here : IsLaneAt script cpu (lane_at new.lanes.items cpu) h.after = subst (λ (p : Option LaneValue). IsLaneAt script cpu p h.after) (sym placed) h.is_lane in
       record {
         world = w;
-        behind = behind_next script lines line (command_for cpu asked) part_way.world w part_way.behind
-            (obeys_ring script line cpu asked part_way.world w runs);
+        behind = behind_next script lines line (command_for cpu command) part_way.world w part_way.behind
+            (obeys_ring script line cpu command part_way.world w runs);
         lanes_are = λ other next next_at. dite (ℕ_discrete other cpu)
             (λ e. subst (λ (j : ℕ). IsLaneAt script j (lane_at new.lanes.items j) next) (sym e)
             (subst (IsLaneAt script cpu (lane_at new.lanes.items cpu))
@@ -192,7 +192,7 @@ module _ (script : Script) (line collector cpu fill : ℕ) (lines : List (ℕ ×
       }
 
   pub taken_line : (parcel : Parcel) (added : Added) (kept more : List Parcel)
-      → IsFound (lane_at old.lanes.items cpu) fill parcel
+      → HasParcel (lane_at old.lanes.items cpu) fill parcel
       → slice_get old.collectors.items collector ≡ Some kept
       → Adds added kept parcel more
       → new.collectors.items ≡ slice_set old.collectors.items collector more

@@ -23,10 +23,10 @@ use Rattle.script_replay.specs.Value.{LaneValue}
 use Rattle.script_replay.specs.Lanes.{IsLane}
 use Rattle.script_replay.specs.Places.{IsLaneFrom, IsLaneAt}
 use Rattle.deliveries.specs.Deliveries.{AreRising}
-use Rattle.script_replay.specs.Collected.{IsFound}
-use Rattle.script_replay.specs.declared.lane.asked.Asked.{Asked}
-use Rattle.script_replay.specs.declared.lane.asked.Asked.TheVariants.{Begin, Step, Finish, Write, Close, StepReader, Take, Wish}
-use Rattle.script_replay.specs.Asked.{command_for}
+use Rattle.script_replay.specs.Collected.{HasParcel}
+use Rattle.script_replay.specs.declared.lane.command.LaneCommand.{LaneCommand}
+use Rattle.script_replay.specs.declared.lane.command.LaneCommand.TheVariants.{Begin, Step, Finish, Write, Close, StepReader, Take, Wish}
+use Rattle.script_replay.specs.LaneCommands.{command_for}
 
 -- ---- new lanes
 
@@ -65,9 +65,9 @@ new_at script w new cpu lane at = subst (IsNewLane script.pages script.start) (g
 
 -- ---- a line of a ring
 
-pub obeys_ring : (script : Script) (line cpu : ℕ) (asked : Asked) (before after : World)
-    → RunsLine script line (command_for cpu asked) cpu before after
-    → Obeys script line (command_for cpu asked) before after
+pub obeys_ring : (script : Script) (line cpu : ℕ) (command : LaneCommand) (before after : World)
+    → RunsLine script line (command_for cpu command) cpu before after
+    → Obeys script line (command_for cpu command) before after
 obeys_ring script line cpu (Begin moment payload) before after r = r
 obeys_ring script line cpu (Step count) before after r = r
 obeys_ring script line cpu Finish before after r = r
@@ -77,8 +77,8 @@ obeys_ring script line cpu (StepReader count) before after r = r
 obeys_ring script line cpu Take before after r = r
 obeys_ring script line cpu Wish before after r = r
 
-pub ring_within : (cpus collectors cpu : ℕ) (asked : Asked)
-    → IsCommandWithin cpus collectors (command_for cpu asked)
+pub ring_within : (cpus collectors cpu : ℕ) (command : LaneCommand)
+    → IsCommandWithin cpus collectors (command_for cpu command)
     → cpu < cpus
 ring_within cpus collectors cpu (Begin moment payload) within = within.0
 ring_within cpus collectors cpu (Step count) within = within.0
@@ -122,7 +122,7 @@ module _ (script : Script) (w : World) (kept : IsWorldKept script w) (cpu : ℕ)
   of_cpu parcel has = All-contains (λ p. p.cpu ≡ cpu) (map (parcel_of cpu) lane.core.reader.taken) parcel (All-map (λ p. p.cpu ≡ cpu) (parcel_of cpu) lane.core.reader.taken (λ k d low. refl))
       (subst (λ (l : List Parcel). Contains l parcel) (kept.taken cpu lane lane_at) has)
 
-  pub found_taken : (place : Option LaneValue) (fill : ℕ) (parcel : Parcel) → IsLaneAt script cpu place lane → IsFound place fill parcel → Contains w.taken parcel × IsFill cpu fill parcel
+  pub found_taken : (place : Option LaneValue) (fill : ℕ) (parcel : Parcel) → IsLaneAt script cpu place lane → HasParcel place fill parcel → Contains w.taken parcel × IsFill cpu fill parcel
   found_taken None fill parcel at found = absurd found
   found_taken (Some v) fill parcel at (has, is) =
       let has' : Contains (parcels_from cpu w.taken) parcel = subst (λ (l : List Parcel). Contains l parcel) (taken_at (Some v) at) has in

@@ -10,9 +10,9 @@ use Rattle.collector.specs.declared.added.Added.TheVariants.{New, Known}
 use Rattle.script_replay.specs.Value.{LaneValue}
 
 -- the parcel of this fill was taken from the ring of a lane
-abbrev pub IsFound : Option LaneValue → (fill : ℕ) → Parcel → Type 0
-IsFound None fill parcel = ⊥
-IsFound (Some lane) fill parcel = Contains (as_parcels lane.taken) parcel × (parcel.fill ≡ fill)
+abbrev pub HasParcel : Option LaneValue → (fill : ℕ) → Parcel → Type 0
+HasParcel None fill parcel = ⊥
+HasParcel (Some lane) fill parcel = Contains (as_parcels lane.taken) parcel × (parcel.fill ≡ fill)
 
 -- the outcome of a delivery, by what becomes of its parcel
 abbrev pub delivery_of : Added → Delivery

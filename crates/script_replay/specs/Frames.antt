@@ -59,7 +59,7 @@ IsPushOf event.End payload = ⊥
 IsPushOf (event.Read body) payload = ⊥
 IsPushOf event.Wish payload = ⊥
 
--- the push in the model
+-- the push in the model; no other event is asked for (`IsPushOf`)
 abbrev pub push_event : Event → model.Event
 push_event (event.Push moment len) = model.pushes moment len
 push_event event.PushClose = model.pushes_close

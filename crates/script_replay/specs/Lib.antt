@@ -1,5 +1,5 @@
 pub mod Value
-pub mod Asked
+pub mod LaneCommands
 pub mod Lanes
 pub mod Frames
 pub mod Takes

@@ -25,9 +25,9 @@ IsLaneFrom script None v = IsNewLaneOf script.pages script.size script.start v
 IsLaneFrom script (Some before) v = v ≡ before
 
 -- in the place there is a lane now: the one that was made, or a new one
-abbrev pub StandsFrom : Script → (before now : Option LaneValue) → Type 0
-StandsFrom script before None = ⊥
-StandsFrom script before (Some v) = IsLaneFrom script before v
+abbrev pub IsPlacedFrom : Script → (before now : Option LaneValue) → Type 0
+IsPlacedFrom script before None = ⊥
+IsPlacedFrom script before (Some v) = IsLaneFrom script before v
 
 -- the lane of this CPU: it was made and is this one, or is new and wasn't made yet
 abbrev pub IsLaneAt : Script → (cpu : ℕ) → Option LaneValue → Lane → Type 0

@@ -2,7 +2,7 @@
 ghost use Rattle.std.specs.Prelude.{◌≡◌, ◌≢◌, None, IfSome, All};
 ghost use Rattle.page_numbers.specs.Parcels.{as_parcel, as_parcels};
 ghost use Rattle.deliveries.specs.Deliveries.{AreRising};
-ghost use Rattle.script_replay.specs.Collected.{IsFound};
+ghost use Rattle.script_replay.specs.Collected.{HasParcel};
 ghost use Rattle.script_replay.specs.Places.{lane_at};
 
 use crate::lane::Lane;
@@ -17,7 +17,7 @@ pub(crate) fn taken_page<'l, 'a>(
     fill: FillNo,
 ) -> Option<&'l Parcel>
     requires { IfSome (lane_at places.now cpu.0) (λ lane. AreRising (as_parcels lane.taken)) }
-    ensures found { IfSome result (λ parcel. IsFound (lane_at places.now cpu.0) fill.0 (as_parcel parcel.now)) }
+    ensures found { IfSome result (λ parcel. HasParcel (lane_at places.now cpu.0) fill.0 (as_parcel parcel.now)) }
     ensures not_found { result ≡ None
         → IfSome (lane_at places.now cpu.0) (λ lane. All (λ parcel. parcel.fill ≢ fill.0) (as_parcels lane.taken)) }
 {

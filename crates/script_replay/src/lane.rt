@@ -1,10 +1,10 @@
 //! The ring of a CPU, with what a script's lines need of it.
-mod asked;
+mod command;
 mod frames;
 mod pushes;
 mod reader;
 
-pub(crate) use asked::Asked;
+pub(crate) use command::LaneCommand;
 use page_image::Body;
 use page_numbers::Parcel;
 use ring_core::Core;

@@ -1,7 +1,7 @@
 //! The lanes of a script's CPUs, each in the place of its CPU from when a line first names it.
 ghost use Rattle.std.specs.Prelude.{◌≡◌, ℕ, ◌<◌, length, OnOk, IfOk};
 ghost use Rattle.script_replay.specs.Lanes.{IsNewLaneOf};
-ghost use Rattle.script_replay.specs.Places.{lane_at, AreSameBut, StandsFrom};
+ghost use Rattle.script_replay.specs.Places.{lane_at, AreSameBut, IsPlacedFrom};
 
 use crate::lane::Lane;
 use std::alloc::Global;
@@ -37,7 +37,7 @@ pub(crate) fn make_lane<'a>(
     places: &mut Vec<Option<Box<Lane<'a>>>>,
     cpu: CpuId,
 ) -> Result<(), NoMemory>
-    ensures lane { OnOk result (StandsFrom script.now (lane_at places.old.items cpu.0)
+    ensures lane { OnOk result (IsPlacedFrom script.now (lane_at places.old.items cpu.0)
         (lane_at places.new.items cpu.0)) }
     ensures room { OnOk result (cpu.0 < length places.new.items) }
     ensures rest { OnOk result (AreSameBut cpu.0 places.new.items places.old.items) }

@@ -6,13 +6,13 @@ ghost use Rattle.text_model.specs.Script.{deliver as delivers};
 ghost use Rattle.text_model.specs.ScriptLimits.{IsWithinLimits};
 ghost use Rattle.trace_script.specs.ScriptTypes.{shown_command, shown_line};
 ghost use Rattle.replay_log.specs.LogTypes.{shown_log_line};
-ghost use Rattle.script_replay.specs.Asked.{command_for};
+ghost use Rattle.script_replay.specs.LaneCommands.{command_for};
 ghost use Rattle.script_replay.specs.Collected.{delivery_of};
 ghost use Rattle.script_replay.specs.Replay.{IsStateAfter, IsReady, LeadsOn, IsHeadline};
 ghost use Rattle.trace_script.specs.declared.replay_fault.ReplayFault.TheVariants.{NoMemory as no_memory};
 
 use crate::delivery::taken_page;
-use crate::lane::{Asked, Lane};
+use crate::lane::{Lane, LaneCommand};
 use crate::places::make_lane;
 use crate::world::World;
 use collector::{Added, Collector};
@@ -38,14 +38,14 @@ fn obey_ring<'a>(
     state: &mut ReplayState<'a>,
     line: u64,
     cpu: CpuId,
-    asked: Asked<'a>,
+    command: LaneCommand<'a>,
 ) -> Result<(), NoMemory>
-    requires { IsReady script.now (command_for cpu.0 asked) state.old }
-    ensures { OnOk result (LeadsOn script.now (line, command_for cpu.0 asked.entry) state.old state.new) }
+    requires { IsReady script.now (command_for cpu.0 command) state.old }
+    ensures { OnOk result (LeadsOn script.now (line, command_for cpu.0 command.entry) state.old state.new) }
 {
     make_lane(alloc, script, &mut state.lanes, cpu)?;
     match &mut state.lanes[cpu.0 as usize] {
-        Some(lane) => lane.obey(alloc, At { line, cpu }, asked, &mut state.log),
+        Some(lane) => lane.obey(alloc, At { line, cpu }, command, &mut state.log),
         None => unreachable!(),
     }
 }
@@ -128,7 +128,7 @@ fn obey<'a>(
             state,
             number,
             cpu,
-            Asked::Begin(moment, payload),
+            LaneCommand::Begin(moment, payload),
         ),
         Command::Step { cpu, count } => obey_ring(
             alloc,
@@ -136,9 +136,16 @@ fn obey<'a>(
             state,
             number,
             cpu,
-            Asked::Step(count),
+            LaneCommand::Step(count),
         ),
-        Command::Finish { cpu } => obey_ring(alloc, script, state, number, cpu, Asked::Finish),
+        Command::Finish { cpu } => obey_ring(
+            alloc,
+            script,
+            state,
+            number,
+            cpu,
+            LaneCommand::Finish,
+        ),
         Command::Write {
             cpu,
             moment,
@@ -149,19 +156,19 @@ fn obey<'a>(
             state,
             number,
             cpu,
-            Asked::Write(moment, payload),
+            LaneCommand::Write(moment, payload),
         ),
-        Command::Close { cpu } => obey_ring(alloc, script, state, number, cpu, Asked::Close),
+        Command::Close { cpu } => obey_ring(alloc, script, state, number, cpu, LaneCommand::Close),
         Command::StepReader { cpu, count } => obey_ring(
             alloc,
             script,
             state,
             number,
             cpu,
-            Asked::StepReader(count),
+            LaneCommand::StepReader(count),
         ),
-        Command::Take { cpu } => obey_ring(alloc, script, state, number, cpu, Asked::Take),
-        Command::Wish { cpu } => obey_ring(alloc, script, state, number, cpu, Asked::Wish),
+        Command::Take { cpu } => obey_ring(alloc, script, state, number, cpu, LaneCommand::Take),
+        Command::Wish { cpu } => obey_ring(alloc, script, state, number, cpu, LaneCommand::Wish),
     }
 }
 

@@ -3,4 +3,4 @@
 
 mod values;
 
-pub use values::{put_number, put_payload};
+pub use values::{drop_if_refused, put_number, put_payload};

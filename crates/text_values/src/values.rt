@@ -1,5 +1,5 @@
 //! Numbers and payloads as text.
-ghost use Rattle.std.specs.Prelude.{◌≡◌, ◌++◌, OnOk, OnErr};
+ghost use Rattle.std.specs.Prelude.{◌≡◌, ◌++◌, take, OnOk, OnErr};
 ghost use Rattle.std.specs.Fmt.{decimal};
 ghost use Rattle.trace_model.specs.Sublist.{IsPrefix};
 ghost use Rattle.text_model.specs.Text.{hex_text};
@@ -129,6 +129,20 @@ pub fn put_payload(out: &mut Vec<u8>, payload: &[u8]) -> Result<(), NoMemory>
     }
     let start = out.len();
     let put = put_hex(out, payload);
+    drop_if_refused(out, start, put)
+}
+
+/// The answer of a call that put text behind the first `start` bytes of `out`. If memory was refused, what was put is
+/// dropped.
+pub fn drop_if_refused<T>(
+    out: &mut Vec<u8>,
+    start: usize,
+    put: Result<T, NoMemory>,
+) -> Result<T, NoMemory>
+    ensures answer { result ≡ put }
+    ensures kept { OnOk put (out.new ≡ out.old) }
+    ensures dropped { OnErr put (out.new.items ≡ take start out.old.items) }
+{
     if put.is_err() {
         out.truncate(start);
     }

@@ -42,7 +42,7 @@ loop-index-preserved g c =
     one_line c.args.script.now.commands c.commands-commands.result.now
     (writer_lines c.args.cpu.0 (commands_of c.args.script.now.commands)) c.loop-index.index
     c.place-place.result (shown_line c.line.result)
-    c.args.lane.now c.loop-index.lane c.obey_line.new.lane c.commands-commands.ensures.commands
+    c.args.writer.now c.loop-index.writer c.obey_line.new.writer c.commands-commands.ensures.commands
     (line_of c.args.script.now.commands c.args.places.now (writer_lines c.args.cpu.0 (commands_of c.args.script.now.commands)) c.loop-index.index
     c.place-place.result c.requires.places (omega (arith, c.len-index-end.ensures)) c.place-place.ensures)
     c.line.ensures c.loop-index.invariant c.in_ok-obey_line.ensures.line
@@ -50,5 +50,5 @@ loop-index-preserved g c =
 pub returns-clause-lines : goal.returns-clause-lines
 returns-clause-lines g c =
     all_lines c.args.script.now.commands c.args.places.now
-    (writer_lines c.args.cpu.0 (commands_of c.args.script.now.commands)) c.loop-index.index c.args.lane.now
-    c.loop-index.lane c.requires.places (omega (arith, c.len-index-end.ensures)) c.loop-index.invariant
+    (writer_lines c.args.cpu.0 (commands_of c.args.script.now.commands)) c.loop-index.index c.args.writer.now
+    c.loop-index.writer c.requires.places (omega (arith, c.len-index-end.ensures)) c.loop-index.invariant

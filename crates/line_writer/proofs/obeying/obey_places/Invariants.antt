@@ -6,4 +6,4 @@ use Rattle.line_writer.proofs.obeying.obey_places.Given as goal
 
 abbrev pub invariant-loop-index : goal.invariant-loop-index
 invariant-loop-index g l =
-    MakesLines (take l.index (writer_lines l.cpu.0 (commands_of l.script.commands))) l.fn.lane l.lane
+    MakesLines (take l.index (writer_lines l.cpu.0 (commands_of l.script.commands))) l.fn.writer l.writer

@@ -14,7 +14,7 @@ obey-requires c =
     let script = c.args.script.now in
     let ready = c.requires in
     let cpu = c.args.cpu.0 in
-    let low : cpu < script.cpus = ring_within script.cpus script.collectors cpu c.args.asked ready.within in
+    let low : cpu < script.cpus = ring_within script.cpus script.collectors cpu c.args.command ready.within in
     let from = lent_from script c.make_lane.new.places.items cpu (lane_at c.args.state.now.lanes.items cpu) c.index_mut.result.now c.in-Some.lane
     c.in_ok-make_lane.ensures.room c.index_mut.ensures.value c.in-Some.is c.in_ok-make_lane.ensures.lane in
     subst (IsLaneOf cpu) (sym c.deref_mut.ensures.value)
@@ -26,12 +26,12 @@ returns c =
     let ready = c.requires in
     let cpu = c.args.cpu.0 in
     let places = c.make_lane.new.places.items in
-    let low : cpu < script.cpus = ring_within script.cpus script.collectors cpu c.args.asked ready.within in
+    let low : cpu < script.cpus = ring_within script.cpus script.collectors cpu c.args.command ready.within in
     let from = subst (λ (v : LaneValue). IsLaneFrom script (lane_at c.args.state.now.lanes.items cpu) v) (sym c.deref_mut.ensures.value)
     (lent_from script places cpu (lane_at c.args.state.now.lanes.items cpu) c.index_mut.result.now c.in-Some.lane
     c.in_ok-make_lane.ensures.room c.index_mut.ensures.value c.in-Some.is c.in_ok-make_lane.ensures.lane) in
     on_ok_weaker c.obey.result
-    (λ has. ring_leads script c.args.line cpu c.args.asked c.args.state.now _ c.deref_mut.result.now c.obey.new.self
+    (λ has. ring_leads script c.args.line cpu c.args.command c.args.state.now _ c.deref_mut.result.now c.obey.new.self
     ready.limits low from has
     (put_there places cpu (with_value c.in-Some.lane c.obey.new.self) c.in_ok-make_lane.ensures.room)
     (λ other apart. others_stay places cpu (with_value c.in-Some.lane c.obey.new.self) other apart ∙ c.in_ok-make_lane.ensures.rest other apart) refl)

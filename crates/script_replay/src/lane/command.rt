@@ -1,4 +1,4 @@
-//! What a line of a script asks of the lane of its CPU.
+//! What a line of a script asks of the lane of its CPU, and how it is done.
 use crate::lane::Lane;
 use replay_log::{At, LogLine};
 use std::alloc::Global;
@@ -6,7 +6,7 @@ use trace_model::{Moment, NoMemory};
 
 /// What a line asks of a lane: each command of a script but a delivery.
 #[derive(Clone, Copy)]
-pub(crate) enum Asked<'a> {
+pub(crate) enum LaneCommand<'a> {
     /// Push a record frame of this moment and payload.
     Begin(Moment, &'a [u8]),
     /// Let the frame on top make this many steps, or fewer if it is gone before.
@@ -28,7 +28,7 @@ pub(crate) enum Asked<'a> {
 impl<'a> Lane<'a> {
     ghost use Rattle.std.specs.Prelude.{OnOk};
     ghost use Rattle.script_replay.specs.Lanes.{IsLaneOf, HasLine};
-    ghost use Rattle.script_replay.specs.Asked.{command_for};
+    ghost use Rattle.script_replay.specs.LaneCommands.{command_for};
 
     /// Does what a line asks.
     #[inline(always)]
@@ -36,22 +36,22 @@ impl<'a> Lane<'a> {
         &mut self,
         alloc: Global,
         at: At,
-        asked: Asked<'a>,
+        command: LaneCommand<'a>,
         log: &mut Vec<LogLine>,
     ) -> Result<(), NoMemory>
         requires { IsLaneOf at.cpu.0 self.old }
-        ensures { OnOk result (HasLine (command_for at.cpu.0 asked.entry) at.line at.cpu.0
+        ensures { OnOk result (HasLine (command_for at.cpu.0 command.entry) at.line at.cpu.0
             self.old log.old.items self.new log.new.items) }
     {
-        match asked {
-            Asked::Begin(moment, payload) => self.begin(at, moment.0, payload, log),
-            Asked::Step(count) => self.step(at, count, log),
-            Asked::Finish => self.finish(at, log),
-            Asked::Write(moment, payload) => self.write(at, moment.0, payload, log),
-            Asked::Close => self.close(at, log),
-            Asked::StepReader(count) => self.step_reader(alloc, at, count, log),
-            Asked::Take => self.take(alloc, at, log),
-            Asked::Wish => self.wish(at, log),
+        match command {
+            LaneCommand::Begin(moment, payload) => self.begin(at, moment.0, payload, log),
+            LaneCommand::Step(count) => self.step(at, count, log),
+            LaneCommand::Finish => self.finish(at, log),
+            LaneCommand::Write(moment, payload) => self.write(at, moment.0, payload, log),
+            LaneCommand::Close => self.close(at, log),
+            LaneCommand::StepReader(count) => self.step_reader(alloc, at, count, log),
+            LaneCommand::Take => self.take(alloc, at, log),
+            LaneCommand::Wish => self.wish(at, log),
         }
     }
 }
