@@ -7,4 +7,4 @@ pub mod LineRuns
 pub mod WrittenWhole
 pub mod LinesMade
 -- which lines are a CPU's
-pub mod PlacesFound
+pub mod LineIndexesFound

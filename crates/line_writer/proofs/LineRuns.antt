@@ -7,7 +7,7 @@ use Rattle.line_model.proofs.PartsJoined.{top_calls_go_on}
 use Rattle.line_model.proofs.CallParts.{call_moves}
 use Rattle.ring_steps.specs.declared.rule.Shape.{Shape}
 use Rattle.ring_shared.specs.Value.{WriterValue, SameWriter}
-use Rattle.line_writer.specs.declared.frames.LineWriter.{LineWriter}
+use Rattle.line_writer.specs.declared.writer.LineWriter.{LineWriter}
 use Rattle.line_writer.specs.LineWriters.{writer_in, payloads_of, IsLineWriter, Pushes, CallsTop, MakesCalls, MakesLine}
 use Rattle.line_writer.specs.Runs.{HasMadeCalls}
 use Rattle.line_writer.proofs.TopCalls.{moved_few}

@@ -18,7 +18,7 @@ use Rattle.ring_steps.specs.declared.rule.Shape.{Shape}
 use Rattle.ring_steps.specs.NewRings.{first_writing}
 use Rattle.ring_shared.specs.Value.{WriterValue}
 use Rattle.ring_shared.proofs.WholeAppends.{writers_have_histories}
-use Rattle.line_writer.specs.declared.frames.LineWriter.{LineWriter}
+use Rattle.line_writer.specs.declared.writer.LineWriter.{LineWriter}
 use Rattle.line_writer.specs.LineWriters.{writer_in, payloads_of, MakesLine, MakesLines, MakesRest, FinishesRest}
 use Rattle.line_writer.specs.Obeying.{IsLineAt, HasObeyed}
 use Rattle.ring_shared.specs.Calls.{IsWriter}
@@ -57,82 +57,82 @@ module _ (old now next : LineWriter) where
             (payloads_of now) (writer_in next.writer.part) (payloads_of next)) first.same.0 m.made);
       }
 
--- ---- the line at a place
+-- ---- the line at a line_index
 
--- the line of one of the places, with which the lines before it continue
-pub record IsNextLine (commands : List (ℕ × Command)) (lines : List Command) (index place : ℕ) : Type 0 where
+-- the line of one of the indexes, with which the lines before it continue
+pub record IsNextLine (commands : List (ℕ × Command)) (lines : List Command) (index line_index : ℕ) : Type 0 where
   pub line : Command
-  pub at : IsLineAt commands place line
+  pub at : IsLineAt commands line_index line
   pub next : take (suc index) lines ≡ take index lines ++ line ∷ []
 
-pub next_line : (commands : List (ℕ × Command)) (places : List ℕ) (lines : List Command) (index d : ℕ)
-    → AllZip (IsLineAt commands) places lines
-    → index < length places
-    → IsNextLine commands lines index (get_or places index d)
+pub next_line : (commands : List (ℕ × Command)) (indexes : List ℕ) (lines : List Command) (index d : ℕ)
+    → AllZip (IsLineAt commands) indexes lines
+    → index < length indexes
+    → IsNextLine commands lines index (get_or indexes index d)
 next_line commands [] lines index d are low = absurd (omega arith)
-next_line commands (place ∷ places) [] index d are low = absurd are
-next_line commands (place ∷ places) (line ∷ lines) zero d are low = record { line = line; at = are.0; next = refl }
-next_line commands (place ∷ places) (line ∷ lines) (suc index) d are low =
-    let n = next_line commands places lines index d are.1 (omega arith) in
+next_line commands (line_index ∷ indexes) [] index d are low = absurd are
+next_line commands (line_index ∷ indexes) (line ∷ lines) zero d are low = record { line = line; at = are.0; next = refl }
+next_line commands (line_index ∷ indexes) (line ∷ lines) (suc index) d are low =
+    let n = next_line commands indexes lines index d are.1 (omega arith) in
     record { line = n.line; at = n.at; next = ap (λ (l : List Command). line ∷ l) n.next }
 
-pub as_many : (commands : List (ℕ × Command)) (places : List ℕ) (lines : List Command)
-    → AllZip (IsLineAt commands) places lines
-    → length places ≡ length lines
+pub as_many : (commands : List (ℕ × Command)) (indexes : List ℕ) (lines : List Command)
+    → AllZip (IsLineAt commands) indexes lines
+    → length indexes ≡ length lines
 as_many commands [] [] are = refl
 as_many commands [] (line ∷ lines) are = absurd are
-as_many commands (place ∷ places) [] are = absurd are
-as_many commands (place ∷ places) (line ∷ lines) are = ap suc (as_many commands places lines are.1)
+as_many commands (line_index ∷ indexes) [] are = absurd are
+as_many commands (line_index ∷ indexes) (line ∷ lines) are = ap suc (as_many commands indexes lines are.1)
 
 -- ---- the line that is obeyed
 
 pub element : {A : Type 0} (P : A → Type 0) (xs : List A) (k : ℕ) (x : A) → All P xs → slice_get xs k ≡ Some x → P x
 element P xs k x all at = subst P (get_or_from_slice_get xs k x x at) (all k x (slice_get_within xs k x at))
 
--- a place of the CPU's lines is one of a command
-pub is_place : (commands seen : List (ℕ × Command)) (lines : List Command) (index place : ℕ)
+-- a line_index of the CPU's lines is one of a command
+pub is_place : (commands seen : List (ℕ × Command)) (lines : List Command) (index line_index : ℕ)
     → seen ≡ commands
-    → IsNextLine commands lines index place
-    → place < length seen
-is_place commands seen lines index place same n =
-    subst (λ (l : List (ℕ × Command)). place < length l) (sym same)
-    (slice_get_within commands place (n.at.0, n.line) n.at.1)
+    → IsNextLine commands lines index line_index
+    → line_index < length seen
+is_place commands seen lines index line_index same n =
+    subst (λ (l : List (ℕ × Command)). line_index < length l) (sym same)
+    (slice_get_within commands line_index (n.at.0, n.line) n.at.1)
 
 -- the command that is read there is the line
-pub same_line : (commands seen : List (ℕ × Command)) (lines : List Command) (index place : ℕ) (read : ℕ × Command)
+pub same_line : (commands seen : List (ℕ × Command)) (lines : List Command) (index line_index : ℕ) (read : ℕ × Command)
     → seen ≡ commands
-    → (n : IsNextLine commands lines index place)
-    → slice_get seen place ≡ Some read
+    → (n : IsNextLine commands lines index line_index)
+    → slice_get seen line_index ≡ Some read
     → read.1 ≡ n.line
-same_line commands seen lines index place read same n at =
+same_line commands seen lines index line_index read same n at =
     ap (λ (line : ℕ × Command). line.1)
     (some_is read (n.at.0, n.line)
-    (sym at ∙ ap (λ (l : List (ℕ × Command)). slice_get l place) same ∙ n.at.1))
+    (sym at ∙ ap (λ (l : List (ℕ × Command)). slice_get l line_index) same ∙ n.at.1))
 
-pub one_line : (commands seen : List (ℕ × Command)) (lines : List Command) (index place : ℕ) (read : ℕ × Command)
+pub one_line : (commands seen : List (ℕ × Command)) (lines : List Command) (index line_index : ℕ) (read : ℕ × Command)
     (old now next : LineWriter)
     → seen ≡ commands
-    → IsNextLine commands lines index place
-    → slice_get seen place ≡ Some read
+    → IsNextLine commands lines index line_index
+    → slice_get seen line_index ≡ Some read
     → MakesLines (take index lines) old now
     → MakesLine read.1 now next
     → MakesLines (take (index + 1) lines) old next
-one_line commands seen lines index place read old now next same n at first m =
-    let line : read.1 ≡ n.line = same_line commands seen lines index place read same n at in
+one_line commands seen lines index line_index read old now next same n at first m =
+    let line : read.1 ≡ n.line = same_line commands seen lines index line_index read same n at in
     let one : index + 1 ≡ suc index = omega arith in
     subst (λ (k : ℕ). MakesLines (take k lines) old next) (sym one)
     (subst (λ (l : List Command). MakesLines l old next) (sym n.next)
     (line_more old now next (take index lines) n.line first
     (subst (λ (command : Command). MakesLine command now next) line m)))
 
-pub all_lines : (commands : List (ℕ × Command)) (places : List ℕ) (lines : List Command) (index : ℕ)
+pub all_lines : (commands : List (ℕ × Command)) (indexes : List ℕ) (lines : List Command) (index : ℕ)
     (old new : LineWriter)
-    → AllZip (IsLineAt commands) places lines
-    → length places ≤ index
+    → AllZip (IsLineAt commands) indexes lines
+    → length indexes ≤ index
     → MakesLines (take index lines) old new
     → MakesLines lines old new
-all_lines commands places lines index old new are past made =
-    let many = as_many commands places lines are in
+all_lines commands indexes lines index old new are past made =
+    let many = as_many commands indexes lines are in
     subst (λ (l : List Command). MakesLines l old new) (take_all index lines (omega arith)) made
 
 -- ---- the whole

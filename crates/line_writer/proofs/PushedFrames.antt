@@ -18,7 +18,7 @@ use Rattle.ring_steps.specs.declared.rule.Shape.{Shape}
 use Rattle.ring_steps.specs.Views.{Writing}
 use Rattle.ring_shared.specs.Value.{WriterValue}
 use Rattle.ring_shared.specs.Calls.{IsCall, MakesSome}
-use Rattle.line_writer.specs.declared.frames.LineWriter.{LineWriter}
+use Rattle.line_writer.specs.declared.writer.LineWriter.{LineWriter}
 use Rattle.line_writer.specs.LineWriters.{writer_in, payloads_of, IsLineWriter, Pushes}
 use Rattle.line_writer.proofs.FramePayloads.{pushed_first}
 

@@ -40,7 +40,7 @@ use Rattle.ring_shared.specs.Nearer.{rank_of, IsNearer}
 use Rattle.ring_shared.proofs.Targets.{frames_of}
 use Rattle.ring_shared.proofs.PushedEnded.{HasEnded, end_answers}
 use Rattle.ring_shared.proofs.WholeWrites.{HasReservedTop, reserved_top}
-use Rattle.line_writer.specs.declared.frames.LineWriter.{LineWriter}
+use Rattle.line_writer.specs.declared.writer.LineWriter.{LineWriter}
 use Rattle.line_writer.specs.Distance.{stage_of, stage_on_top, distance}
 use Rattle.line_writer.specs.LineWriters.{writer_in, payloads_of, IsLineWriter, CallsTop}
 use Rattle.line_writer.proofs.FramePayloads.{fewer_left, first_is}

@@ -24,7 +24,7 @@ use Rattle.ring_shared.specs.WholeWrites.{GoesAway, IsWritten, IsRefusedPartWay,
 use Rattle.ring_shared.proofs.Finishes.{IsStillReserving, reserving_first, reserving_on, IsStillLeaving, leaving_first, leaving_going}
 use Rattle.ring_shared.proofs.WholeWrites.{HasBegun, has_begun, HasTopRecord, reserved_so, left_full, leaves_below}
 use Rattle.ring_shared.proofs.WholeAppends.{refused_writes_leave_no_frame}
-use Rattle.line_writer.specs.declared.frames.LineWriter.{LineWriter}
+use Rattle.line_writer.specs.declared.writer.LineWriter.{LineWriter}
 use Rattle.line_writer.specs.LineWriters.{writer_in, payloads_of, IsLineWriter, WritesWhole}
 use Rattle.line_writer.proofs.PushedFrames.{call_of, record_answered, refused_push}
 use Rattle.line_writer.proofs.LineRuns.{not_written}

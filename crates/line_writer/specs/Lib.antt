@@ -5,4 +5,4 @@ pub mod Distance
 pub mod LineWriters
 pub mod Runs
 -- which lines are a CPU's
-pub mod Places
+pub mod LineIndexes

@@ -9,7 +9,7 @@ use Rattle.line_model.specs.WriterCalls.{LineWriting, IsWriterCall, WholeCalls, 
 use Rattle.ring_steps.specs.Views.{Writing}
 use Rattle.ring_shared.specs.Value.{SameWriter}
 use Rattle.ring_shared.specs.Calls.{IsWriter}
-use Rattle.line_writer.specs.declared.frames.LineWriter.{LineWriter}
+use Rattle.line_writer.specs.declared.writer.LineWriter.{LineWriter}
 use Rattle.line_writer.specs.Distance.{distance}
 
 -- the part of a ring that its writer alone changes, as far as lines are concerned

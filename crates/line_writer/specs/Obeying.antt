@@ -12,13 +12,13 @@ use Rattle.ring_shared.specs.Value.{WriterValue, SameWriter}
 use Rattle.line_writer.specs.declared.gate.Who.{Who}
 use Rattle.line_writer.specs.declared.gate.Who.TheVariants as who
 
--- the command at this place is the line
-abbrev pub IsLineAt : List (ℕ × Command) → (place : ℕ) → Command → Type 0
-IsLineAt commands place line = (number : ℕ) × (slice_get commands place ≡ Some (number, line))
+-- the command of this index is the line
+abbrev pub IsLineAt : List (ℕ × Command) → (line_index : ℕ) → Command → Type 0
+IsLineAt commands line_index line = (number : ℕ) × (slice_get commands line_index ≡ Some (number, line))
 
--- the places are those of the CPU's writer lines among these commands, one for one, in order
-abbrev pub AreLinesOf : (cpu : ℕ) → List (ℕ × Command) → (places : List ℕ) → Type 0
-AreLinesOf cpu commands places = AllZip (IsLineAt commands) places (writer_lines cpu (commands_of commands))
+-- the indexes are those of the CPU's writer lines among these commands, one for one, in order
+abbrev pub AreLinesOf : (cpu : ℕ) → List (ℕ × Command) → (indexes : List ℕ) → Type 0
+AreLinesOf cpu commands indexes = AllZip (IsLineAt commands) indexes (writer_lines cpu (commands_of commands))
 
 -- From a new ring, the CPU's writer lines have made the history of the same writer, and no frame is left. With `w` and
 -- `c` lines alone, at most as many as there are numbers left for fills, the committed records are exactly those of the

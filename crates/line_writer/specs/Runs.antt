@@ -3,7 +3,7 @@ use Rattle.std.specs.Prelude.{◌≡◌, ℕ, ◌-◌, ◌≤◌, List, length}
 use Rattle.trace_model.specs.Steps.{Exchange}
 use Rattle.line_model.specs.WriterCalls.{TopCalls}
 use Rattle.ring_shared.specs.Value.{SameWriter}
-use Rattle.line_writer.specs.declared.frames.LineWriter.{LineWriter}
+use Rattle.line_writer.specs.declared.writer.LineWriter.{LineWriter}
 use Rattle.line_writer.specs.LineWriters.{writer_in, payloads_of, IsLineWriter}
 
 -- `count` calls were made for the frame that was on top of a stack of `depth` frames

@@ -6,15 +6,15 @@
 #![tactic(auto)]
 
 mod end;
-mod frames;
 mod gate;
+mod line_indexes;
 mod lines;
 mod obeying;
 mod passing;
-mod places;
+mod writer;
 
 pub use end::WriterEnd;
 pub use gate::{Gate, OpenGate, Who};
+pub use line_indexes::LineIndexes;
 pub use lines::lines_by_cpu;
 pub use obeying::obey_lines;
-pub use places::Places;

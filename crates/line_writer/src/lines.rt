@@ -3,9 +3,9 @@ ghost use Rattle.std.specs.Prelude.{◌≡◌, ℕ, List, [], vec_len, Some, IfO
 ghost use Rattle.std.specs.List.{slice_get};
 ghost use Rattle.trace_script.specs.ScriptTypes.{shown_command};
 ghost use Rattle.line_writer.specs.Obeying.{AreLinesOf};
-ghost use Rattle.line_writer.specs.Places.{IsWriterOf};
+ghost use Rattle.line_writer.specs.LineIndexes.{IsWriterOf};
 
-use crate::places::Places;
+use crate::line_indexes::LineIndexes;
 use std::alloc::Global;
 use trace_model::{CpuId, NoMemory};
 use trace_script::{Command, Script};
@@ -27,29 +27,29 @@ fn writer_of(command: Command) -> Option<CpuId>
     }
 }
 
-/// `count` lists without places.
-fn new_lists(alloc: Global, count: usize) -> Result<Vec<Places>, NoMemory>
+/// Makes `count` lists without indexes.
+fn new_lists(alloc: Global, count: usize) -> Result<Vec<LineIndexes>, NoMemory>
     ensures count { IfOk result (λ lists. vec_len lists ≡ count) }
-    ensures new { IfOk result (λ lists. All (λ places. places ≡ []) lists.items) }
+    ensures new { IfOk result (λ lists. All (λ indexes. indexes ≡ []) lists.items) }
 {
     let mut lists = Vec::new(alloc);
     while lists.len() < count {
-        lists.push(Places::new(alloc))?;
+        lists.push(LineIndexes::new(alloc))?;
     }
     Ok(lists)
 }
 
-/// For each CPU the places of its writer lines among the script's commands, in order.
-pub fn lines_by_cpu(alloc: Global, script: &Script) -> Result<Vec<Places>, NoMemory>
+/// For each CPU the indexes of its writer's lines among the script's commands, in order.
+pub fn lines_by_cpu(alloc: Global, script: &Script) -> Result<Vec<LineIndexes>, NoMemory>
     ensures count { IfOk result (λ lists. vec_len lists ≡ script.now.cpus) }
-    ensures lines { IfOk result (λ lists. (cpu : ℕ) (places : List ℕ)
-        → slice_get lists.items cpu ≡ Some places → AreLinesOf cpu script.now.commands places) }
+    ensures lines { IfOk result (λ lists. (cpu : ℕ) (indexes : List ℕ)
+        → slice_get lists.items cpu ≡ Some indexes → AreLinesOf cpu script.now.commands indexes) }
 {
     let mut lists = new_lists(alloc, script.cpus() as usize)?;
     let commands = script.commands();
-    for place in 0..commands.len() {
-        if let Some(cpu) = writer_of(commands.line(place).command) {
-            lists[cpu.0 as usize].push(place)?;
+    for line_index in 0..commands.len() {
+        if let Some(cpu) = writer_of(commands.line(line_index).command) {
+            lists[cpu.0 as usize].push(line_index)?;
         }
     }
     Ok(lists)

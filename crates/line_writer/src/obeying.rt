@@ -10,9 +10,9 @@ ghost use Rattle.line_writer.specs.LineWriters.{IsLineWriter, MakesLine, MakesLi
 ghost use Rattle.line_writer.specs.Obeying.{AreLinesOf, ObeysLines};
 
 use crate::end::WriterEnd;
-use crate::frames::LineWriter;
 use crate::gate::Gate;
-use crate::places::Places;
+use crate::line_indexes::LineIndexes;
+use crate::writer::LineWriter;
 use trace_model::{CpuId, FillNo};
 use trace_script::{Command, Script};
 
@@ -52,46 +52,46 @@ fn obey_line<'a, G: Gate>(
     }
 }
 
-/// The lines at these places of the script.
-fn obey_places<'a, G: Gate>(
+/// Obeys the lines of these indexes in the script.
+fn obey_indexed<'a, G: Gate>(
     writer: &mut LineWriter<'a>,
     script: &'a Script,
-    places: &Places,
+    indexes: &LineIndexes,
     cpu: CpuId,
     gate: &G,
 ) -> Result<(), FillNo>
     requires is { IsLineWriter writer.old }
-    requires places { AreLinesOf cpu.0 script.now.commands places.now }
+    requires indexes { AreLinesOf cpu.0 script.now.commands indexes.now }
     ensures lines { OnOk result (MakesLines (writer_lines cpu.0 (commands_of script.now.commands))
         writer.old writer.new) }
     ensures shut { IfErr result (λ fill. G.answers gate.now who.Writer cpu.0 fill.0 false) }
 {
     let commands = script.commands();
-    for index in 0..places.len() {
-        let place = places.place(index);
-        obey_line(writer, gate, cpu, commands.line(place).command)?;
+    for index in 0..indexes.len() {
+        let line_index = indexes.get(index);
+        obey_line(writer, gate, cpu, commands.line(line_index).command)?;
     }
     Ok(())
 }
 
-/// Obeys the lines of a CPU's writer, which are at these places of the script, on a new ring; then finishes the frames
+/// Obeys the lines of a CPU's writer, which have these indexes in the script, on a new ring; then finishes the frames
 /// that are left, the top one first. After each fill that the writer closes, the gate is asked, and gets one more than
 /// the number of that fill (the number of closed fills, if the ring's first one is 0). Where it doesn't let the writer
 /// pass, what it got is answered at once.
 pub fn obey_lines<G: Gate>(
     end: WriterEnd,
     script: &Script,
-    places: &Places,
+    indexes: &LineIndexes,
     cpu: CpuId,
     gate: &G,
 ) -> Result<WriterEnd, FillNo>
     requires first { end.part ≡ first_writing end.shape }
-    requires places { AreLinesOf cpu.0 script.now.commands places.now }
+    requires indexes { AreLinesOf cpu.0 script.now.commands indexes.now }
     ensures { ObeysLines G.answers gate.now cpu.0 script.now.commands end result }
 {
     let WriterEnd { writer } = end;
     let mut writer = LineWriter::new(writer);
-    obey_places(&mut writer, script, places, cpu, gate)?;
+    obey_indexed(&mut writer, script, indexes, cpu, gate)?;
     writer.finish_rest(gate, cpu)?;
     let LineWriter { writer, .. } = writer;
     Ok(WriterEnd { writer })

@@ -1,6 +1,6 @@
 //! The calls of one line, with a gate that is asked after each fill that they close.
-use crate::frames::LineWriter;
 use crate::gate::{Gate, Who};
+use crate::writer::LineWriter;
 use trace_model::{CpuId, FillNo};
 
 impl<'a> LineWriter<'a> {

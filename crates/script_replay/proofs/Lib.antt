@@ -1,5 +1,5 @@
--- the replay: lanes in their places; what a line leads to; what is answered
-pub mod LanePlaces
+-- the replay: lanes by CPU; what a line leads to; what is answered
+pub mod LanesByCpu
 pub mod Placed
 pub mod LinesObeyed
 pub mod Answered

@@ -32,7 +32,7 @@ use Rattle.script_replay.specs.Value.{LaneValue}
 use Rattle.script_replay.specs.declared.lane.command.LaneCommand.{LaneCommand}
 use Rattle.script_replay.specs.LaneCommands.{command_for}
 use Rattle.script_replay.specs.Lanes.{IsLaneOf, HasLine}
-use Rattle.script_replay.specs.Places.{lane_at, AreSameBut, IsLaneFrom, IsLaneAt}
+use Rattle.script_replay.specs.LanesByCpu.{lane_at, AreSameBut, IsLaneFrom, IsLaneAt}
 use Rattle.deliveries.specs.Deliveries.{AreRising, Adds}
 use Rattle.script_replay.specs.Collected.{HasParcel, delivery_of, IsCollected, AreCollected}
 use Rattle.script_replay.specs.Replay.{IsStateAfter, IsReady, LeadsOn}

@@ -21,7 +21,7 @@ use Rattle.world_model.proofs.WorldsKept.{IsWorldKept}
 use Rattle.page_numbers.specs.Parcels.{as_parcels}
 use Rattle.script_replay.specs.Value.{LaneValue}
 use Rattle.script_replay.specs.Lanes.{IsLane}
-use Rattle.script_replay.specs.Places.{IsLaneFrom, IsLaneAt}
+use Rattle.script_replay.specs.LanesByCpu.{IsLaneFrom, IsLaneAt}
 use Rattle.deliveries.specs.Deliveries.{AreRising}
 use Rattle.script_replay.specs.Collected.{HasParcel}
 use Rattle.script_replay.specs.declared.lane.command.LaneCommand.{LaneCommand}

@@ -3,6 +3,6 @@ pub mod LaneCommands
 pub mod Lanes
 pub mod Frames
 pub mod Takes
-pub mod Places
+pub mod LanesByCpu
 pub mod Collected
 pub mod Replay

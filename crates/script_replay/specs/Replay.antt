@@ -11,7 +11,7 @@ use Rattle.world_model.specs.Headline.{IsExact, IsGenuineWorld}
 use Rattle.replay_log.specs.declared.line.LogLine.{LogLine}
 use Rattle.script_replay.specs.declared.replaying.ReplayState.{ReplayState}
 use Rattle.replay_log.specs.LogTypes.{shown_log}
-use Rattle.script_replay.specs.Places.{lane_at, IsLaneAt}
+use Rattle.script_replay.specs.LanesByCpu.{lane_at, IsLaneAt}
 use Rattle.script_replay.specs.Collected.{AreCollected}
 
 -- ---- what is answered

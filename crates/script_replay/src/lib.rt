@@ -7,7 +7,7 @@
 mod delivery;
 #[tactic(auto, unfolding(ring_core::specs::Steps::IsReachedCore))]
 mod lane;
-mod places;
+mod lanes;
 mod replaying;
 mod world;
 

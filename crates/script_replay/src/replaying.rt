@@ -13,7 +13,7 @@ ghost use Rattle.trace_script.specs.declared.replay_fault.ReplayFault.TheVariant
 
 use crate::delivery::taken_page;
 use crate::lane::{Lane, LaneCommand};
-use crate::places::make_lane;
+use crate::lanes::make_lane;
 use crate::world::World;
 use collector::{Added, Collector};
 use deliveries::collect;

@@ -12,10 +12,10 @@ use Rattle.line_writer.specs.Obeying.{AreLinesOf}
 use Rattle.reader_end.specs.Value.{ReaderEndValue}
 use Rattle.threaded_run.specs.Runs.{shape_of, IsRunHistory, IsRunLedger}
 
--- For each CPU of the script, these are the places of its writer's lines.
-pub record ArePlaces (script : Script) (places : List (List ℕ)) : Type 0 where
-  pub count : length places ≡ script.cpus
-  pub each : (cpu : ℕ) (own : List ℕ) → slice_get places cpu ≡ Some own → AreLinesOf cpu script.commands own
+-- For each CPU of the script, these are the indexes of its writer's lines.
+pub record ArePlaces (script : Script) (indexes : List (List ℕ)) : Type 0 where
+  pub count : length indexes ≡ script.cpus
+  pub each : (cpu : ℕ) (own : List ℕ) → slice_get indexes cpu ≡ Some own → AreLinesOf cpu script.commands own
 
 -- What contracts see of the two threads of a CPU's ring.
 pub record RunningValue (Gate : Type 0) : Type 0 where

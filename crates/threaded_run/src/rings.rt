@@ -6,7 +6,7 @@ ghost use Rattle.threaded_run.specs.Threads.{ArePlaces, AreRunning, AreRunLedger
 use crate::joining::with_next;
 use crate::threads::{Job, Running, complete, start};
 use crossbeam_channel::Sender;
-use line_writer::{Gate, Places};
+use line_writer::{Gate, LineIndexes};
 use page_numbers::Parcel;
 use run_audit::Ledger;
 use std::alloc::Global;
@@ -23,11 +23,11 @@ fn start_rings<'s, E, R: Threads + Wait + Sync, G: Gate>(
     scope: &Scope<'s, E>,
     alloc: Global,
     job: &Job<'s, G>,
-    places: &'s [Places],
+    indexes: &'s [LineIndexes],
     over: &'s [AtomicBool],
     threads: &mut Vec<Running<'s, G>>,
 ) -> Result<(), ReplayFault>
-    requires places { ArePlaces job.now.script.now places.now }
+    requires indexes { ArePlaces job.now.script.now indexes.now }
     requires over { length over.now ≡ job.now.script.now.cpus }
     requires none { vec_len threads.old ≡ 0 }
     requires room { job.now.script.now.cpus ≤ vec_capacity threads.old }
@@ -44,7 +44,7 @@ fn start_rings<'s, E, R: Threads + Wait + Sync, G: Gate>(
             alloc,
             job,
             CpuId(cpu),
-            &places[index],
+            &indexes[index],
             &over[index],
         )?;
         threads.push_reserved(running);
@@ -77,17 +77,17 @@ fn run_rings_in<'s, E, R: Threads + Wait + Sync, G: Gate>(
     scope: &Scope<'s, E>,
     alloc: Global,
     job: &Job<'s, G>,
-    places: &'s [Places],
+    indexes: &'s [LineIndexes],
     over: &'s [AtomicBool],
 ) -> Result<Vec<Ledger>, ReplayFault>
-    requires places { ArePlaces job.now.script.now places.now }
+    requires indexes { ArePlaces job.now.script.now indexes.now }
     requires over { length over.now ≡ job.now.script.now.cpus }
     ensures ledgers { IfOk result (λ ledgers. AreRunLedgers job.now.script.now 0 ledgers.items) }
     ensures count { IfOk result (λ ledgers. vec_len ledgers ≡ job.now.script.now.cpus) }
     ensures shut { IfErr result (IsByGate G.answers job.now.gate.now) }
 {
     let mut threads = Vec::with_capacity(alloc, over.len())?;
-    let started = start_rings(rt, scope, alloc, job, places, over, &mut threads);
+    let started = start_rings(rt, scope, alloc, job, indexes, over, &mut threads);
     let ledgers = complete_rings(rt, alloc, job, threads);
     started?;
     ledgers
@@ -99,11 +99,11 @@ pub(crate) fn run_rings<R: Threads + Wait + Sync, G: Gate>(
     alloc: Global,
     script: &Script,
     gate: &G,
-    places: &[Places],
+    indexes: &[LineIndexes],
     over: &[AtomicBool],
     collectors: &[Sender<Parcel>],
 ) -> Result<Vec<Ledger>, ReplayFault>
-    requires places { ArePlaces script.now places.now }
+    requires indexes { ArePlaces script.now indexes.now }
     requires over { length over.now ≡ script.now.cpus }
     ensures ledgers { IfOk result (λ ledgers. AreRunLedgers script.now 0 ledgers.items) }
     ensures count { IfOk result (λ ledgers. vec_len ledgers ≡ script.now.cpus) }
@@ -113,7 +113,7 @@ pub(crate) fn run_rings<R: Threads + Wait + Sync, G: Gate>(
         thread::scope_env(),
         rt,
         |scope| -> Result<Vec<Ledger>, ReplayFault>
-            requires { ArePlaces script.now places.now × (length over.now ≡ script.now.cpus) }
+            requires { ArePlaces script.now indexes.now × (length over.now ≡ script.now.cpus) }
             ensures { IfOk result (λ ledgers. AreRunLedgers script.entry.now 0 ledgers.items)
                 × IfOk result (λ ledgers. vec_len ledgers ≡ script.entry.now.cpus)
                 × IfErr result (IsByGate G.answers gate.entry.now) }
@@ -123,7 +123,7 @@ pub(crate) fn run_rings<R: Threads + Wait + Sync, G: Gate>(
                 gate,
                 collectors,
             };
-            run_rings_in(rt, scope, alloc, &job, places, over)
+            run_rings_in(rt, scope, alloc, &job, indexes, over)
         },
     )
 }

@@ -9,7 +9,7 @@ use crate::collecting::{Collecting, join_collectors, start_collectors};
 use crate::rings::run_rings;
 use collector::Collector;
 use crossbeam_channel::Sender;
-use line_writer::{Gate, Places, lines_by_cpu};
+use line_writer::{Gate, LineIndexes, lines_by_cpu};
 use page_numbers::Parcel;
 use run_audit::Ledger;
 use std::alloc::Global;
@@ -48,12 +48,12 @@ fn run_all<'s, E, R: Threads + Wait + Sync, G: Gate>(
     alloc: Global,
     script: &Script,
     gate: &G,
-    places: &[Places],
+    indexes: &[LineIndexes],
     over: &[AtomicBool],
     senders: &mut Vec<Sender<Parcel>>,
     threads: &mut Vec<Collecting>,
 ) -> Result<Vec<Ledger>, ReplayFault>
-    requires places { ArePlaces script.now places.now }
+    requires indexes { ArePlaces script.now indexes.now }
     requires over { length over.now ≡ script.now.cpus }
     requires no_senders { vec_len senders.old ≡ 0 }
     requires room_for_senders { script.now.collectors ≤ vec_capacity senders.old }
@@ -65,7 +65,7 @@ fn run_all<'s, E, R: Threads + Wait + Sync, G: Gate>(
     ensures shut { IfErr result (IsByGate G.answers gate.now) }
 {
     start_collectors(rt, scope, alloc, script.collectors(), senders, threads)?;
-    run_rings(rt, alloc, script, gate, places, over, senders.as_slice())
+    run_rings(rt, alloc, script, gate, indexes, over, senders.as_slice())
 }
 
 /// The threads of a run, in the scope of its collectors' threads. These are joined, also after a fault: they end once
@@ -76,10 +76,10 @@ fn run_with<'s, E, R: Threads + Wait + Sync, G: Gate>(
     alloc: Global,
     script: &Script,
     gate: &G,
-    places: &[Places],
+    indexes: &[LineIndexes],
     over: &[AtomicBool],
 ) -> Result<Ran, ReplayFault>
-    requires places { ArePlaces script.now places.now }
+    requires indexes { ArePlaces script.now indexes.now }
     requires over { length over.now ≡ script.now.cpus }
     ensures ran { IfOk result (IsRan script.now) }
     ensures shut { IfErr result (IsByGate G.answers gate.now) }
@@ -93,7 +93,7 @@ fn run_with<'s, E, R: Threads + Wait + Sync, G: Gate>(
         alloc,
         script,
         gate,
-        places,
+        indexes,
         over,
         &mut senders,
         &mut threads,
@@ -128,16 +128,16 @@ pub fn run<R: Threads + Wait + Sync, G: Gate>(
     ensures shut { IfErr result (λ fault. fault ≡ GateShut
         → (who : WhoSeen) × (cpu fill : ℕ) × G.answers gate.now who cpu fill false) }
 {
-    let places = lines_by_cpu(alloc, script)?;
+    let indexes = lines_by_cpu(alloc, script)?;
     let over = new_flags(alloc, script.cpus() as usize)?;
-    let places = places.as_slice();
+    let indexes = indexes.as_slice();
     let over = over.as_slice();
     thread::scope(
         thread::scope_env(),
         rt,
         |scope| -> Result<Ran, ReplayFault>
-            requires { ArePlaces script.now places.now × (length over.now ≡ script.now.cpus) }
+            requires { ArePlaces script.now indexes.now × (length over.now ≡ script.now.cpus) }
             ensures { IfOk result (IsRan script.entry.now) × IfErr result (IsByGate G.answers gate.entry.now) }
-        { run_with(rt, scope, alloc, script, gate, places, over) },
+        { run_with(rt, scope, alloc, script, gate, indexes, over) },
     )
 }

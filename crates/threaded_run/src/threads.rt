@@ -13,7 +13,7 @@ use crate::reading::{Stop, Takes, take_pages};
 use crate::settling::settle_ends;
 use crate::writing::{Writes, write_lines};
 use crossbeam_channel::Sender;
-use line_writer::{Gate, Places, WriterEnd};
+use line_writer::{Gate, LineIndexes, WriterEnd};
 use page_numbers::Parcel;
 use reader_end::ReaderEnd;
 use ring_shared::{Writer, ring_at};
@@ -70,12 +70,12 @@ fn start_writer<'s, E, G: Gate>(
     scope: &Scope<'s, E>,
     job: &Job<'s, G>,
     cpu: CpuId,
-    places: &'s Places,
+    indexes: &'s LineIndexes,
     end: WriterEnd,
     over: &'s AtomicBool,
 ) -> Result<PromisedHandle<Result<WriterEnd, FillNo>, Writes<'s, G>>, ReplayFault>
     requires first { end.part ≡ first_writing end.shape }
-    requires places { AreLinesOf cpu.0 job.now.script.now.commands places.now }
+    requires indexes { AreLinesOf cpu.0 job.now.script.now.commands indexes.now }
     ensures was { IfOk result (λ h. h.promise.was.value ≡ end) }
     ensures cpu { IfOk result (λ h. h.promise.cpu.0 ≡ cpu.0) }
     ensures script { IfOk result (λ h. h.promise.script.now ≡ job.now.script.now) }
@@ -91,9 +91,9 @@ fn start_writer<'s, E, G: Gate>(
         was: Snapshot::of(&end),
     };
     let writes = move || -> Result<WriterEnd, FillNo>
-        requires { (end.part ≡ first_writing end.shape) × AreLinesOf cpu.0 script.now.commands places.now }
+        requires { (end.part ≡ first_writing end.shape) × AreLinesOf cpu.0 script.now.commands indexes.now }
         ensures { ObeysLines G.answers gate.entry.now cpu.0 script.entry.now.commands end result }
-    { write_lines(end, script, places, cpu, gate, over) };
+    { write_lines(end, script, indexes, cpu, gate, over) };
     match scope.spawn_with(promise, writes) {
         Ok(handle) => Ok(handle),
         Err(_) => Err(ReplayFault::NoThread),
@@ -139,11 +139,11 @@ pub(crate) fn start<'s, E, R: Threads + Wait + Sync, G: Gate>(
     alloc: Global,
     job: &Job<'s, G>,
     cpu: CpuId,
-    places: &'s Places,
+    indexes: &'s LineIndexes,
     over: &'s AtomicBool,
 ) -> Result<Running<'s, G>, ReplayFault>
     requires known { cpu.0 < job.now.script.now.cpus }
-    requires places { AreLinesOf cpu.0 job.now.script.now.commands places.now }
+    requires indexes { AreLinesOf cpu.0 job.now.script.now.commands indexes.now }
     ensures cpu { IfOk result (λ r. r.cpu ≡ cpu.0) }
     ensures script { IfOk result (λ r. r.script ≡ job.now.script.now) }
     ensures gate { IfOk result (λ r. r.gate ≡ job.now.gate.now) }
@@ -155,7 +155,7 @@ pub(crate) fn start<'s, E, R: Threads + Wait + Sync, G: Gate>(
     let (writer, reader) = ring_at(alloc, script.pages(), size, script.start().0)?;
     let end = ReaderEnd::new(alloc, cpu, size, reader);
     let reader = start_reader(rt, scope, alloc, job, cpu, end, over)?;
-    match start_writer(scope, job, cpu, places, WriterEnd { writer }, over) {
+    match start_writer(scope, job, cpu, indexes, WriterEnd { writer }, over) {
         Ok(writer) => Ok(Running {
             cpu,
             writer,

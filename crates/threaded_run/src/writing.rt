@@ -3,7 +3,7 @@ ghost use Rattle.std.specs.Prelude.{◌≡◌};
 ghost use Rattle.ring_steps.specs.NewRings.{first_writing};
 ghost use Rattle.line_writer.specs.Obeying.{AreLinesOf, ObeysLines};
 
-use line_writer::{Gate, Places, WriterEnd, obey_lines};
+use line_writer::{Gate, LineIndexes, WriterEnd, obey_lines};
 use std::snapshot::Snapshot;
 use std::sync::atomic::{AtomicBool, Ordering};
 use std::thread::Promise;
@@ -27,16 +27,16 @@ impl<'a, G: Gate> Promise<Result<WriterEnd, FillNo>> for Writes<'a, G> {
 pub(crate) fn write_lines<G: Gate>(
     end: WriterEnd,
     script: &Script,
-    places: &Places,
+    indexes: &LineIndexes,
     cpu: CpuId,
     gate: &G,
     over: &AtomicBool,
 ) -> Result<WriterEnd, FillNo>
     requires first { end.part ≡ first_writing end.shape }
-    requires places { AreLinesOf cpu.0 script.now.commands places.now }
+    requires indexes { AreLinesOf cpu.0 script.now.commands indexes.now }
     ensures { ObeysLines G.answers gate.now cpu.0 script.now.commands end result }
 {
-    let wrote = obey_lines(end, script, places, cpu, gate);
+    let wrote = obey_lines(end, script, indexes, cpu, gate);
     over.store(true, Ordering::SeqCst);
     wrote
 }

@@ -6,7 +6,7 @@ use Rattle.ring_shared.specs.Value.{WriterValue}
 use Rattle.ring_shared.specs.WholeWrites.{IsWritten, IsRefusedWrite}
 use Rattle.ring_shared.specs.Rooms.{rooms}
 use Rattle.ring_frames.specs.Answers.{KeepsPayloads}
-use Rattle.tracering_c.specs.declared.ends.ReaderEnd.{ReaderEnd}
+use Rattle.tracering_c.specs.declared.ends.HeldReader.{HeldReader}
 use Rattle.tracering_c.specs.declared.taken.Taken.{Taken}
 use Rattle.tracering_c.specs.Codes.{fault_code}
 use Rattle.tracering_c.specs.Calls.{WritesSo, TakesSo, is_page, is_empty, is_moving, has_no_room}
@@ -34,7 +34,7 @@ refused_so old moment payload code new fault code_is is payloads same = record {
 }
 
 -- the number of a take's answer fits its type
-pub takes_so : (old : ReaderEnd) (out : List ℕ) (was : Taken) (code : ℤ) (left : List ℕ) (reported : Taken) (new : ReaderEnd) → TakesSo old out was code left reported new → TakesSo old out was (to_z w32 (of_z w32 code)) left reported new
+pub takes_so : (old : HeldReader) (out : List ℕ) (was : Taken) (code : ℤ) (left : List ℕ) (reported : Taken) (new : HeldReader) → TakesSo old out was code left reported new → TakesSo old out was (to_z w32 (of_z w32 code)) left reported new
 takes_so old out was code left reported new (is_page page missed c t a g d) = is_page page missed (ap (λ (n : ℤ). to_z w32 (of_z w32 n)) c) t a g d
 takes_so old out was code left reported new (is_empty done back c e a o w) = is_empty done back (ap (λ (n : ℤ). to_z w32 (of_z w32 n)) c) e a o w
 takes_so old out was code left reported new (is_moving fill back c m a o w) = is_moving fill back (ap (λ (n : ℤ). to_z w32 (of_z w32 n)) c) m a o w

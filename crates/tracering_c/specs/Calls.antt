@@ -31,7 +31,7 @@ use Rattle.ring_shared.specs.WholeWrites.{IsWritten, IsRefusedWrite}
 use Rattle.ring_shared.specs.Takes.{IsPageTaken, IsEmptyFound, IsMovingFound, TakesSteps, empty_of}
 use Rattle.ring_shared.specs.Settling.{IsSettled, unread_page}
 use Rattle.ring_shared.specs.declared.settling.Settled.{Settled}
-use Rattle.tracering_c.specs.declared.ends.ReaderEnd.{ReaderEnd}
+use Rattle.tracering_c.specs.declared.ends.HeldReader.{HeldReader}
 use Rattle.tracering_c.specs.declared.taken.Taken.{Taken}
 use Rattle.tracering_c.specs.Codes.{fault_code, answer_code}
 
@@ -127,8 +127,8 @@ pub record AnswersTake (old : ReaderValue) (answer : Take) (new : ReaderValue) :
 -- A page is taken and given, and the answer is 0; or nothing is taken and nothing is given: no closed page is unread,
 -- or a move of the head isn't finished, or the take has made as many steps as it may, or the buffer is shorter than a
 -- parcel of the ring.
-pub data TakesSo (old : ReaderEnd) (out : List ℕ) (was : Taken) (code : ℤ) (left : List ℕ) (reported : Taken)
-    (new : ReaderEnd) : Type 0 where
+pub data TakesSo (old : HeldReader) (out : List ℕ) (was : Taken) (code : ℤ) (left : List ℕ) (reported : Taken)
+    (new : HeldReader) : Type 0 where
   is_page : (page : Contents) (missed : ℕ)
       → code ≡ pos 0
       → IsPageTaken old.reader.shape old.reader.part page missed new.reader.part
@@ -160,7 +160,7 @@ pub data TakesSo (old : ReaderEnd) (out : List ℕ) (was : Taken) (code : ℤ) (
       → TakesSo old out was code left reported new
 
 -- The wish is for the tail page, and nothing else of the end changes. The answer is 0.
-pub record WishesSo (old : ReaderEnd) (code : ℤ) (new : ReaderEnd) : Type 0 where
+pub record WishesSo (old : HeldReader) (code : ℤ) (new : HeldReader) : Type 0 where
   pub code_is : code ≡ pos 0
   pub new_is :
       new
@@ -180,13 +180,13 @@ IsLastGiven cpu None out left reported = (left ≡ out) × (reported ≡ nothing
 IsLastGiven cpu (Some page) out left reported = IsGiven cpu page 0 out left reported
 
 -- The two ends are joined, and what no take has answered is given.
-pub record SettlesSo (writer : WriterValue) (end : ReaderEnd) (out left : List ℕ) (reported : Taken) : Type 0 where
+pub record SettlesSo (writer : WriterValue) (end : HeldReader) (out left : List ℕ) (reported : Taken) : Type 0 where
   pub settled : Settled
   pub is : IsSettled writer.shape writer.part end.reader.part settled
   pub given : IsLastGiven end.cpu.0 (unread_page settled) out left reported
 
 -- Why two ends are settled into a buffer of this room, or aren't: the first of these that holds is answered.
-pub data AnswersSettle (writer : WriterValue) (end : ReaderEnd) (room : ℕ) (code : ℤ) : Type 0 where
+pub data AnswersSettle (writer : WriterValue) (end : HeldReader) (room : ℕ) (code : ℤ) : Type 0 where
   frames_left : code ≡ pos 18 → writer.part.frames ≢ [] → AnswersSettle writer end room code
   unread : code ≡ pos 19
       → writer.part.frames ≡ []

@@ -3,10 +3,10 @@ use Rattle.std.specs.Prelude.{◌≡◌, ◌<◌, length, IsSomeAnd}
 use Rattle.trace_model.specs.declared.limits.TheConstants.{MAX_CPUS}
 use Rattle.ring_shared.specs.Value.{WriterValue, ReaderValue}
 use Rattle.ring_shared.specs.Takes.{IsReader}
-use Rattle.tracering_c.specs.declared.ends.ReaderEnd.{ReaderEnd}
+use Rattle.tracering_c.specs.declared.ends.HeldReader.{HeldReader}
 
 -- The CPU is one, the reader is one, and the body that its next take hands in has the ring's data size.
-pub record IsReaderEnd (end : ReaderEnd) : Type 0 where
+pub record IsHeldReader (end : HeldReader) : Type 0 where
   pub cpu : end.cpu.0 < MAX_CPUS
   pub reader : IsReader end.reader
   pub body : IsSomeAnd end.body (λ body. length body ≡ end.reader.shape.size)

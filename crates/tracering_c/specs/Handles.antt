@@ -4,12 +4,12 @@ use Rattle.ring_shared.specs.Value.{WriterValue, SameWriter}
 use Rattle.ring_shared.specs.Calls.{IsWriter}
 use Rattle.ring_shared.specs.Takes.{SameRing}
 use Rattle.listed_collector.specs.declared.listed.ListedCollector.{ListedCollector}
-use Rattle.tracering_c.specs.declared.ends.ReaderEnd.{ReaderEnd}
+use Rattle.tracering_c.specs.declared.ends.HeldReader.{HeldReader}
 use Rattle.tracering_c.specs.declared.handle.WriterHandle.{WriterHandle}
 use Rattle.tracering_c.specs.declared.handle.ReaderHandle.{ReaderHandle}
 use Rattle.tracering_c.specs.declared.handle.CollectorHandle.{CollectorHandle}
 use Rattle.tracering_c.specs.Held.{writer_of, reader_of, collector_of}
-use Rattle.tracering_c.specs.Ends.{IsReaderEnd}
+use Rattle.tracering_c.specs.Ends.{IsHeldReader}
 
 -- If the handle has a writer, it is one of a ring.
 abbrev pub IsWriterHandle : WriterHandle → Type 0
@@ -17,7 +17,7 @@ IsWriterHandle handle = IfSome (writer_of handle.held.value) (λ end. IsWriter e
 
 -- If the handle has a reader, it is one of a ring.
 abbrev pub IsReaderHandle : ReaderHandle → Type 0
-IsReaderHandle handle = IfSome (reader_of handle.held.value) (λ end. IsReaderEnd end)
+IsReaderHandle handle = IfSome (reader_of handle.held.value) (λ end. IsHeldReader end)
 
 -- A call on a handle that has nothing says so, and changes nothing of it.
 pub record SaysAbsent {E H : Type 0} (held : Option E) (code : ℤ) (old new : H) : Type 0 where
@@ -40,7 +40,7 @@ pub record OnWriter (old new : WriterHandle) (so : WriterValue → WriterValue �
   pub writer : IsWriterHandle new
 
 -- What a call makes of the reader that a handle has, if it has one.
-pub record OnReader (old new : ReaderHandle) (so : ReaderEnd → ReaderEnd → Type 0) : Type 0 where
+pub record OnReader (old new : ReaderHandle) (so : HeldReader → HeldReader → Type 0) : Type 0 where
   -- the handle has a reader afterwards, and this holds of the reader before and of the one afterwards
   pub is : Becomes (reader_of old.held.value) (reader_of new.held.value) so
   -- it is still the reader of the same ring

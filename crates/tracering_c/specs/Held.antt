@@ -7,16 +7,16 @@ use denote.RawPtr.{Ptr}
 use Rattle.std_alloc.specs.Box.Ownership.{box_owns}
 use Rattle.std.specs.Global.{Global}
 use Rattle.std_heap.specs.contracts.GlobalAllocator.TheImpl.{ghosts}
-use Rattle.tracering_c.specs.declared.ends.WriterEnd.{WriterEnd}
-use Rattle.tracering_c.specs.declared.ends.ReaderEnd.{ReaderEnd}
-use Rattle.tracering_c.specs.declared.ends.CollectorEnd.{CollectorEnd}
-use Rattle.tracering_c.specs.contracts.ends.WriterEnd as writer
-use Rattle.tracering_c.specs.contracts.ends.ReaderEnd as reader
-use Rattle.tracering_c.specs.contracts.ends.CollectorEnd as collector
+use Rattle.tracering_c.specs.declared.ends.HeldWriter.{HeldWriter}
+use Rattle.tracering_c.specs.declared.ends.HeldReader.{HeldReader}
+use Rattle.tracering_c.specs.declared.ends.HeldCollector.{HeldCollector}
+use Rattle.tracering_c.specs.contracts.ends.HeldWriter as writer
+use Rattle.tracering_c.specs.contracts.ends.HeldReader as reader
+use Rattle.tracering_c.specs.contracts.ends.HeldCollector as collector
 
 -- what a handle can hold
 abbrev pub End : Type 0
-End = WriterEnd ⊎ (ReaderEnd ⊎ CollectorEnd)
+End = HeldWriter ⊎ (HeldReader ⊎ HeldCollector)
 
 -- the one value of its type
 abbrev pub heap : Global
@@ -34,21 +34,21 @@ held p (Some (inr (inl x))) = boxed reader.the_row p x
 held p (Some (inr (inr x))) = boxed collector.the_row p x
 
 -- the writer that is held
-abbrev pub writer_of : Option End → Option WriterEnd
+abbrev pub writer_of : Option End → Option HeldWriter
 writer_of None = None
 writer_of (Some (inl x)) = Some x
 writer_of (Some (inr (inl x))) = None
 writer_of (Some (inr (inr x))) = None
 
 -- the reader that is held
-abbrev pub reader_of : Option End → Option ReaderEnd
+abbrev pub reader_of : Option End → Option HeldReader
 reader_of None = None
 reader_of (Some (inl x)) = None
 reader_of (Some (inr (inl x))) = Some x
 reader_of (Some (inr (inr x))) = None
 
 -- the collector that is held
-abbrev pub collector_of : Option End → Option CollectorEnd
+abbrev pub collector_of : Option End → Option HeldCollector
 collector_of None = None
 collector_of (Some (inl x)) = None
 collector_of (Some (inr (inl x))) = None

@@ -3,13 +3,13 @@ use Rattle.std.specs.Prelude.{Some}
 use mathlib.Core.Logic.{inl, inr}
 use Rattle.std.specs.Borrow.{Lends, MutBor, Fml}
 use denote.RattleType.{RattleType}
-use Rattle.tracering_c.specs.declared.ends.WriterEnd.{WriterEnd}
-use Rattle.tracering_c.specs.declared.ends.ReaderEnd.{ReaderEnd}
-use Rattle.tracering_c.specs.declared.ends.CollectorEnd.{CollectorEnd}
+use Rattle.tracering_c.specs.declared.ends.HeldWriter.{HeldWriter}
+use Rattle.tracering_c.specs.declared.ends.HeldReader.{HeldReader}
+use Rattle.tracering_c.specs.declared.ends.HeldCollector.{HeldCollector}
 use Rattle.tracering_c.specs.declared.held.Held.{Held}
-use Rattle.tracering_c.specs.contracts.ends.WriterEnd.{the_row as writer_row}
-use Rattle.tracering_c.specs.contracts.ends.ReaderEnd.{the_row as reader_row}
-use Rattle.tracering_c.specs.contracts.ends.CollectorEnd.{the_row as collector_row}
+use Rattle.tracering_c.specs.contracts.ends.HeldWriter.{the_row as writer_row}
+use Rattle.tracering_c.specs.contracts.ends.HeldReader.{the_row as reader_row}
+use Rattle.tracering_c.specs.contracts.ends.HeldCollector.{the_row as collector_row}
 use Rattle.tracering_c.specs.contracts.held.Held.{the_row as held_row}
 use Rattle.tracering_c.specs.Held.{End}
 
@@ -17,11 +17,11 @@ use Rattle.tracering_c.specs.Held.{End}
 abbrev pub LendsEnd : (R : RattleType) → (R.Denot → End) → MutBor Held → MutBor R.Denot → Fml
 LendsEnd R named s r = Lends held_row R s r (λ x. record s.now { value = Some (named x) })
 
-abbrev pub LendsWriter : MutBor Held → MutBor WriterEnd → Fml
+abbrev pub LendsWriter : MutBor Held → MutBor HeldWriter → Fml
 LendsWriter = LendsEnd writer_row (λ x. inl x)
 
-abbrev pub LendsReader : MutBor Held → MutBor ReaderEnd → Fml
+abbrev pub LendsReader : MutBor Held → MutBor HeldReader → Fml
 LendsReader = LendsEnd reader_row (λ x. inr (inl x))
 
-abbrev pub LendsCollector : MutBor Held → MutBor CollectorEnd → Fml
+abbrev pub LendsCollector : MutBor Held → MutBor HeldCollector → Fml
 LendsCollector = LendsEnd collector_row (λ x. inr (inr x))

@@ -1,7 +1,7 @@
 //! The calls on collectors.
 ghost use Rattle.std.specs.Prelude.{◌≡◌, ◌≢◌, ◌↔◌, Some, None, IsSomeAnd, is_some, true, pos, negsuc};
 ghost use Rattle.trace_model.specs.Collection.{IsSame};
-ghost use Rattle.tracering_c.specs.declared.ends.CollectorEnd.{CollectorEnd as EndValue};
+ghost use Rattle.tracering_c.specs.declared.ends.HeldCollector.{HeldCollector as EndValue};
 ghost use Rattle.tracering_c.specs.Held.{collector_of};
 ghost use Rattle.tracering_c.specs.Handles.{SaysAbsent, OnCollector};
 ghost use Rattle.tracering_c.specs.CollectorCalls.{IsEmpty, AddsBytes, MissesSo, IsListed, NextSo};
@@ -10,7 +10,7 @@ use crate::codes::{
     ABSENT, DIFFERENT, DONE, IN_USE, NO_MEMORY, NO_ROOM, code_of_add, code_of_given,
 };
 use crate::collected::{FaultAt, Listed};
-use crate::ends::CollectorEnd;
+use crate::ends::HeldCollector;
 use crate::handle::CollectorHandle;
 use listed_collector::{ListedCollector, Run};
 use std::alloc::Global;
@@ -28,7 +28,7 @@ pub extern "C" fn tracering_raw_collector_new(alloc: Global, c: &mut CollectorHa
         return IN_USE;
     }
     let listed = ListedCollector::new(alloc);
-    let Ok(end) = Box::new(alloc, CollectorEnd { listed }) else {
+    let Ok(end) = Box::new(alloc, HeldCollector { listed }) else {
         return NO_MEMORY;
     };
     *c = CollectorHandle::of(end);

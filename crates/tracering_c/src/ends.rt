@@ -6,14 +6,14 @@ use trace_model::CpuId;
 
 /// The writer.
 #[derive(Drop)]
-pub struct WriterEnd {
+pub struct HeldWriter {
     /// The ring's writer.
     pub writer: Writer,
 }
 
 /// The reader, the CPU under which its pages are parcels, and the body that its next take hands in.
 #[derive(Drop)]
-pub struct ReaderEnd {
+pub struct HeldReader {
     /// The CPU under which the pages are parcels.
     pub cpu: CpuId,
     /// The ring's reader.
@@ -24,19 +24,19 @@ pub struct ReaderEnd {
 
 /// A collector and its listing.
 #[derive(Drop)]
-pub struct CollectorEnd {
+pub struct HeldCollector {
     /// Both.
     pub listed: ListedCollector,
 }
 
-impl ReaderEnd {
+impl HeldReader {
     ghost use Rattle.std.specs.Prelude.{◌≡◌, ◌≤◌};
     ghost use Rattle.trace_model.specs.declared.limits.TheConstants.{MAX_SIZE};
-    ghost use Rattle.tracering_c.specs.Ends.{IsReaderEnd};
+    ghost use Rattle.tracering_c.specs.Ends.{IsHeldReader};
 
     /// How many bytes of data the ring's pages have.
     pub(crate) fn size(&self) -> usize
-        requires { IsReaderEnd self.now }
+        requires { IsHeldReader self.now }
         ensures size { result ≡ self.now.reader.shape.size }
         ensures limit { result ≤ MAX_SIZE }
     {

@@ -1,11 +1,11 @@
 //! The handles, as C keeps them. Each is a type of its own, since C's types keep them apart.
 ghost use Rattle.std.specs.Prelude.{◌≡◌, true, Some, None, is_some, IsSomeAnd};
-ghost use Rattle.tracering_c.specs.declared.ends.WriterEnd.{WriterEnd as WriterValue};
-ghost use Rattle.tracering_c.specs.declared.ends.ReaderEnd.{ReaderEnd as ReaderValue};
-ghost use Rattle.tracering_c.specs.declared.ends.CollectorEnd.{CollectorEnd as CollectorValue};
+ghost use Rattle.tracering_c.specs.declared.ends.HeldWriter.{HeldWriter as WriterValue};
+ghost use Rattle.tracering_c.specs.declared.ends.HeldReader.{HeldReader as ReaderValue};
+ghost use Rattle.tracering_c.specs.declared.ends.HeldCollector.{HeldCollector as CollectorValue};
 ghost use Rattle.tracering_c.specs.Held.{writer_of, reader_of, collector_of};
 
-use crate::ends::{CollectorEnd, ReaderEnd, WriterEnd};
+use crate::ends::{HeldCollector, HeldReader, HeldWriter};
 use crate::held::Held;
 use loose_box::Loose;
 use std::alloc::Global;
@@ -33,7 +33,7 @@ impl WriterHandle {
     }
 
     /// This writer.
-    pub(crate) fn of(end: Box<WriterEnd, Global>) -> WriterHandle
+    pub(crate) fn of(end: Box<HeldWriter, Global>) -> WriterHandle
         ensures { writer_of result.held.value ≡ Some end.value }
     {
         WriterHandle {
@@ -43,7 +43,7 @@ impl WriterHandle {
     }
 
     /// The writer, if there is one: the handle has none then.
-    pub(crate) fn take_out(&mut self, alloc: Global) -> Option<Box<WriterEnd, Global>>
+    pub(crate) fn take_out(&mut self, alloc: Global) -> Option<Box<HeldWriter, Global>>
         ensures stays { writer_of self.old.held.value ≡ None → self.new ≡ self.old }
         ensures none { writer_of self.old.held.value ≡ None → result ≡ None }
         ensures left { (x : WriterValue) → writer_of self.old.held.value ≡ Some x
@@ -81,7 +81,7 @@ impl ReaderHandle {
     }
 
     /// This reader.
-    pub(crate) fn of(end: Box<ReaderEnd, Global>) -> ReaderHandle
+    pub(crate) fn of(end: Box<HeldReader, Global>) -> ReaderHandle
         ensures { reader_of result.held.value ≡ Some end.value }
     {
         ReaderHandle {
@@ -91,7 +91,7 @@ impl ReaderHandle {
     }
 
     /// The reader, if there is one: the handle has none then.
-    pub(crate) fn take_out(&mut self, alloc: Global) -> Option<Box<ReaderEnd, Global>>
+    pub(crate) fn take_out(&mut self, alloc: Global) -> Option<Box<HeldReader, Global>>
         ensures stays { reader_of self.old.held.value ≡ None → self.new ≡ self.old }
         ensures none { reader_of self.old.held.value ≡ None → result ≡ None }
         ensures left { (x : ReaderValue) → reader_of self.old.held.value ≡ Some x
@@ -129,7 +129,7 @@ impl CollectorHandle {
     }
 
     /// This collector.
-    pub(crate) fn of(end: Box<CollectorEnd, Global>) -> CollectorHandle
+    pub(crate) fn of(end: Box<HeldCollector, Global>) -> CollectorHandle
         ensures { collector_of result.held.value ≡ Some end.value }
     {
         CollectorHandle {
@@ -139,7 +139,7 @@ impl CollectorHandle {
     }
 
     /// The collector, if there is one: the handle has none then.
-    pub(crate) fn take_out(&mut self, alloc: Global) -> Option<Box<CollectorEnd, Global>>
+    pub(crate) fn take_out(&mut self, alloc: Global) -> Option<Box<HeldCollector, Global>>
         ensures stays { collector_of self.old.held.value ≡ None → self.new ≡ self.old }
         ensures none { collector_of self.old.held.value ≡ None → result ≡ None }
         ensures left { (x : CollectorValue) → collector_of self.old.held.value ≡ Some x

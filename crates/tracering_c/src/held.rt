@@ -3,7 +3,7 @@ ghost use Rattle.std.specs.Borrow.{sem};
 ghost use Rattle.std.specs.Prelude.{◌≡◌, Some, None, Option, is_some, true};
 ghost use Rattle.tracering_c.specs.Held.{End, held, writer_of, reader_of, collector_of};
 
-use crate::ends::{CollectorEnd, ReaderEnd, WriterEnd};
+use crate::ends::{HeldCollector, HeldReader, HeldWriter};
 use loose_box::Loose;
 use std::alloc::Global;
 use std::marker::Model;
@@ -43,7 +43,7 @@ impl Held {
 
     /// The writer of this box.
     #[inline(always)]
-    pub(crate) fn of_writer(loose: Loose<WriterEnd, Global>) -> Held
+    pub(crate) fn of_writer(loose: Loose<HeldWriter, Global>) -> Held
         ensures { writer_of result.value ≡ Some loose.value }
     {
         let Loose { at, alloc: _alloc } = loose;
@@ -54,30 +54,30 @@ impl Held {
 
     /// The writer, if there is one.
     #[inline(always)]
-    pub(crate) fn writer(&mut self) -> &mut WriterEnd
+    pub(crate) fn writer(&mut self) -> &mut HeldWriter
         requires { is_some (writer_of self.old.value) ≡ true }
         ensures* writes_back { sem 𝓛 (LendsWriter self.entry result) }
         ensures value { writer_of self.old.value ≡ Some result.now }
     {
-        unsafe { &mut *(self.at as *mut WriterEnd) }
+        unsafe { &mut *(self.at as *mut HeldWriter) }
     }
 
     /// The writer's box.
     #[inline(always)]
-    pub(crate) fn into_writer(self, alloc: Global) -> Loose<WriterEnd, Global>
+    pub(crate) fn into_writer(self, alloc: Global) -> Loose<HeldWriter, Global>
         requires { is_some (writer_of self.value) ≡ true }
         ensures { writer_of self.value ≡ Some result.value }
     {
         let Held { at } = self;
         Loose {
-            at: at as *mut WriterEnd,
+            at: at as *mut HeldWriter,
             alloc,
         }
     }
 
     /// The reader of this box.
     #[inline(always)]
-    pub(crate) fn of_reader(loose: Loose<ReaderEnd, Global>) -> Held
+    pub(crate) fn of_reader(loose: Loose<HeldReader, Global>) -> Held
         ensures { reader_of result.value ≡ Some loose.value }
     {
         let Loose { at, alloc: _alloc } = loose;
@@ -88,30 +88,30 @@ impl Held {
 
     /// The reader, if there is one.
     #[inline(always)]
-    pub(crate) fn reader(&mut self) -> &mut ReaderEnd
+    pub(crate) fn reader(&mut self) -> &mut HeldReader
         requires { is_some (reader_of self.old.value) ≡ true }
         ensures* writes_back { sem 𝓛 (LendsReader self.entry result) }
         ensures value { reader_of self.old.value ≡ Some result.now }
     {
-        unsafe { &mut *(self.at as *mut ReaderEnd) }
+        unsafe { &mut *(self.at as *mut HeldReader) }
     }
 
     /// The reader's box.
     #[inline(always)]
-    pub(crate) fn into_reader(self, alloc: Global) -> Loose<ReaderEnd, Global>
+    pub(crate) fn into_reader(self, alloc: Global) -> Loose<HeldReader, Global>
         requires { is_some (reader_of self.value) ≡ true }
         ensures { reader_of self.value ≡ Some result.value }
     {
         let Held { at } = self;
         Loose {
-            at: at as *mut ReaderEnd,
+            at: at as *mut HeldReader,
             alloc,
         }
     }
 
     /// The collector of this box.
     #[inline(always)]
-    pub(crate) fn of_collector(loose: Loose<CollectorEnd, Global>) -> Held
+    pub(crate) fn of_collector(loose: Loose<HeldCollector, Global>) -> Held
         ensures { collector_of result.value ≡ Some loose.value }
     {
         let Loose { at, alloc: _alloc } = loose;
@@ -122,23 +122,23 @@ impl Held {
 
     /// The collector, if there is one.
     #[inline(always)]
-    pub(crate) fn collector(&mut self) -> &mut CollectorEnd
+    pub(crate) fn collector(&mut self) -> &mut HeldCollector
         requires { is_some (collector_of self.old.value) ≡ true }
         ensures* writes_back { sem 𝓛 (LendsCollector self.entry result) }
         ensures value { collector_of self.old.value ≡ Some result.now }
     {
-        unsafe { &mut *(self.at as *mut CollectorEnd) }
+        unsafe { &mut *(self.at as *mut HeldCollector) }
     }
 
     /// The collector's box.
     #[inline(always)]
-    pub(crate) fn into_collector(self, alloc: Global) -> Loose<CollectorEnd, Global>
+    pub(crate) fn into_collector(self, alloc: Global) -> Loose<HeldCollector, Global>
         requires { is_some (collector_of self.value) ≡ true }
         ensures { collector_of self.value ≡ Some result.value }
     {
         let Held { at } = self;
         Loose {
-            at: at as *mut CollectorEnd,
+            at: at as *mut HeldCollector,
             alloc,
         }
     }

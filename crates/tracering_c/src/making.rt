@@ -4,15 +4,15 @@ ghost use Rattle.trace_model.specs.declared.limits.TheConstants.{MAX_CPUS, START
 ghost use Rattle.trace_model.specs.Ring.{HasRingLimits};
 ghost use Rattle.ring_shared.specs.NewEnds.{AreNewEnds};
 ghost use Rattle.ring_shared.specs.Calls.{IsWriter};
-ghost use Rattle.tracering_c.specs.declared.ends.WriterEnd.{WriterEnd as WriterValue};
-ghost use Rattle.tracering_c.specs.declared.ends.ReaderEnd.{ReaderEnd as ReaderValue};
+ghost use Rattle.tracering_c.specs.declared.ends.HeldWriter.{HeldWriter as WriterValue};
+ghost use Rattle.tracering_c.specs.declared.ends.HeldReader.{HeldReader as ReaderValue};
 ghost use Rattle.tracering_c.specs.Held.{writer_of, reader_of};
 ghost use Rattle.tracering_c.specs.Handles.{IsWriterHandle, IsReaderHandle, SaysAbsent};
-ghost use Rattle.tracering_c.specs.Ends.{IsReaderEnd};
+ghost use Rattle.tracering_c.specs.Ends.{IsHeldReader};
 ghost use Rattle.tracering_c.specs.Calls.{AnswersNew};
 
 use crate::codes::{ABSENT, BAD_CPU, BAD_SIZE, DONE, IN_USE, NO_MEMORY};
-use crate::ends::{ReaderEnd, WriterEnd};
+use crate::ends::{HeldReader, HeldWriter};
 use crate::handle::{ReaderHandle, WriterHandle};
 use page_image::Body;
 use std::alloc::Global;
@@ -67,19 +67,19 @@ fn new_ends(
     cpu: CpuId,
     pages: usize,
     size: usize,
-) -> Result<(Box<WriterEnd, Global>, Box<ReaderEnd, Global>), NoMemory>
+) -> Result<(Box<HeldWriter, Global>, Box<HeldReader, Global>), NoMemory>
     requires limits { HasRingLimits pages size }
     requires known { cpu.0 < MAX_CPUS }
     ensures ring { IfOk result (λ ends. AreNewEnds (record { pages = pages; size = size; start = START_FILL })
         ends.0.value.writer ends.1.value.reader) }
     ensures cpu { IfOk result (λ ends. ends.1.value.cpu.0 ≡ cpu.0) }
     ensures writer { IfOk result (λ ends. IsWriter ends.0.value.writer) }
-    ensures reader { IfOk result (λ ends. IsReaderEnd ends.1.value) }
+    ensures reader { IfOk result (λ ends. IsHeldReader ends.1.value) }
 {
     let (writer, reader) = ring_shared::ring(alloc, pages, size)?;
     let body = Some(Body::new(alloc, size)?);
-    let left = Box::new(alloc, WriterEnd { writer })?;
-    let right = Box::new(alloc, ReaderEnd { cpu, reader, body })?;
+    let left = Box::new(alloc, HeldWriter { writer })?;
+    let right = Box::new(alloc, HeldReader { cpu, reader, body })?;
     Ok((left, right))
 }
 

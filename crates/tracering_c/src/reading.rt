@@ -3,11 +3,11 @@ ghost use Rattle.std.specs.Prelude.{◌≡◌, None};
 ghost use Rattle.ring_shared.specs.Takes.{SameRing};
 ghost use Rattle.tracering_c.specs.Held.{reader_of};
 ghost use Rattle.tracering_c.specs.Handles.{IsReaderHandle, SaysAbsent, OnReader};
-ghost use Rattle.tracering_c.specs.Ends.{IsReaderEnd};
+ghost use Rattle.tracering_c.specs.Ends.{IsHeldReader};
 ghost use Rattle.tracering_c.specs.Calls.{TakesSo, WishesSo};
 
 use crate::codes::{ABSENT, DONE, EMPTY, MOVING, NO_ROOM};
-use crate::ends::ReaderEnd;
+use crate::ends::HeldReader;
 use crate::handle::ReaderHandle;
 use crate::taken::Taken;
 use parcel_buffer::{HEADER, put_parcel};
@@ -29,12 +29,12 @@ pub extern "C" fn tracering_raw_take(r: &mut ReaderHandle, out: &mut [u8], taken
 }
 
 /// `tracering_raw_take`, of the end itself.
-fn take_into(end: &mut ReaderEnd, out: &mut [u8], taken: &mut Taken) -> i32
-    requires reader { IsReaderEnd end.old }
+fn take_into(end: &mut HeldReader, out: &mut [u8], taken: &mut Taken) -> i32
+    requires reader { IsHeldReader end.old }
     ensures takes { TakesSo end.old out.old taken.old result out.new taken.new end.new }
     ensures ring { SameRing end.old.reader end.new.reader }
     ensures cpu { end.new.cpu ≡ end.old.cpu }
-    ensures reader { IsReaderEnd end.new }
+    ensures reader { IsHeldReader end.new }
 {
     let Some(body) = end.body.take() else {
         unreachable!()

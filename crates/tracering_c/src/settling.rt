@@ -1,15 +1,15 @@
 //! The two ends of a ring, settled.
 ghost use Rattle.std.specs.Prelude.{◌≡◌, ◌≢◌, ◌+◌, ◌≤◌, [], Some, None, length, pos};
 ghost use Rattle.ring_shared.specs.Calls.{IsWriter};
-ghost use Rattle.tracering_c.specs.declared.ends.WriterEnd.{WriterEnd as WriterValue};
-ghost use Rattle.tracering_c.specs.declared.ends.ReaderEnd.{ReaderEnd as ReaderValue};
+ghost use Rattle.tracering_c.specs.declared.ends.HeldWriter.{HeldWriter as WriterValue};
+ghost use Rattle.tracering_c.specs.declared.ends.HeldReader.{HeldReader as ReaderValue};
 ghost use Rattle.tracering_c.specs.Held.{writer_of, reader_of};
 ghost use Rattle.tracering_c.specs.Handles.{IsWriterHandle, IsReaderHandle};
-ghost use Rattle.tracering_c.specs.Ends.{IsReaderEnd, AreOfOneRing};
+ghost use Rattle.tracering_c.specs.Ends.{IsHeldReader, AreOfOneRing};
 ghost use Rattle.tracering_c.specs.Calls.{SettlesSo, AnswersSettle};
 
 use crate::codes::{ABSENT, DONE, NO_ROOM, NOT_AT_REST, UNREAD};
-use crate::ends::{ReaderEnd, WriterEnd};
+use crate::ends::{HeldReader, HeldWriter};
 use crate::handle::{ReaderHandle, WriterHandle};
 use crate::taken::Taken;
 use parcel_buffer::{HEADER, put_parcel};
@@ -64,9 +64,9 @@ pub extern "C" fn tracering_raw_settle(
 }
 
 /// Why these ends can't be settled into a buffer of `room` bytes, or `DONE` if they can.
-fn why_not(left: &WriterEnd, right: &ReaderEnd, room: usize) -> i32
+fn why_not(left: &HeldWriter, right: &HeldReader, room: usize) -> i32
     requires writer { IsWriter left.now.writer }
-    requires reader { IsReaderEnd right.now }
+    requires reader { IsHeldReader right.now }
     ensures answers { AnswersSettle left.now.writer right.now room result }
     ensures read { result ≡ pos 0 → right.now.reader.empty_at ≡ Some left.now.writer.part.done }
     ensures room { result ≡ pos 0 → 48 + right.now.reader.shape.size ≤ room }
@@ -85,17 +85,17 @@ fn why_not(left: &WriterEnd, right: &ReaderEnd, room: usize) -> i32
 }
 
 /// `tracering_raw_settle`, of the ends themselves.
-fn settle_into(alloc: Global, left: WriterEnd, right: ReaderEnd, out: &mut [u8]) -> Taken
+fn settle_into(alloc: Global, left: HeldWriter, right: HeldReader, out: &mut [u8]) -> Taken
     requires writer { IsWriter left.writer }
-    requires reader { IsReaderEnd right }
+    requires reader { IsHeldReader right }
     requires one_ring { AreOfOneRing left.writer right.reader }
     requires rest { left.writer.part.frames ≡ [] }
     requires read { right.reader.empty_at ≡ Some left.writer.part.done }
     requires room { 48 + right.reader.shape.size ≤ length out.old }
     ensures { SettlesSo left.writer right out.old out.new result }
 {
-    let ReaderEnd { cpu, reader, .. } = right;
-    let WriterEnd { writer, .. } = left;
+    let HeldReader { cpu, reader, .. } = right;
+    let HeldWriter { writer, .. } = left;
     let settled = match settle(alloc, writer, reader) {
         Ok(settled) => settled,
         Err(SettleFault::NoMemory(..)) => unreachable!(),

@@ -4,7 +4,7 @@ ghost use Rattle.trace_model.specs.Steps as model;
 ghost use Rattle.trace_model.specs.Words.{slot_len};
 ghost use Rattle.ring_shared.specs.Value.{SameWriter};
 ghost use Rattle.ring_shared.specs.Calls.{IsWriter};
-ghost use Rattle.tracering_c.specs.declared.ends.WriterEnd.{WriterEnd as EndValue};
+ghost use Rattle.tracering_c.specs.declared.ends.HeldWriter.{HeldWriter as EndValue};
 ghost use Rattle.tracering_c.specs.Codes.{answer_code};
 ghost use Rattle.tracering_c.specs.Held.{writer_of};
 ghost use Rattle.tracering_c.specs.Handles.{IsWriterHandle, SaysAbsent, OnWriter};

@@ -1,9 +1,9 @@
 use Rattle.std.proofs.Common.{◌≡◌, vec_len}
-use Rattle.line_writer.specs.Places.{ArePlaced}
+use Rattle.line_writer.specs.LineIndexes.{AreIndexed}
 use Rattle.line_writer.proofs.lines.lines_by_cpu.Given as goal
 
-abbrev pub invariant-loop-place : goal.invariant-loop-place
-invariant-loop-place l = record {
+abbrev pub invariant-loop-line_index : goal.invariant-loop-line_index
+invariant-loop-line_index l = record {
   count : vec_len l.lists ≡ l.script.cpus;
-  placed : ArePlaced l.script.commands l.place l.lists.items;
+  placed : AreIndexed l.script.commands l.line_index l.lists.items;
 }

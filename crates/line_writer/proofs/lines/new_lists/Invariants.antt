@@ -5,7 +5,7 @@ use Rattle.line_writer.proofs.lines.new_lists.Given as goal
 abbrev pub invariant-loop-alloc : goal.invariant-loop-alloc
 invariant-loop-alloc l = record {
   few : vec_len l.lists ≤ l.count;
-  none : All (λ places. places ≡ []) l.lists.items;
+  none : All (λ indexes. indexes ≡ []) l.lists.items;
 }
 
 abbrev pub decreases-loop-alloc : goal.decreases-loop-alloc

@@ -10,12 +10,12 @@ use Rattle.std.proofs.Common.{inl, inr}
 use Rattle.std.proofs.Crossing as heap
 use Rattle.std_alloc.proofs.SendSync.{quiet, lies}
 use Rattle.std_heap.proofs.Handle.{handle}
-use Rattle.tracering_c.specs.contracts.ends.WriterEnd as writer
-use Rattle.tracering_c.proofs.ends.WriterEnd.TheSendSync.{the_send as writer_sent}
-use Rattle.tracering_c.specs.contracts.ends.ReaderEnd as reader
-use Rattle.tracering_c.proofs.ends.ReaderEnd.TheSendSync.{the_send as reader_sent}
-use Rattle.tracering_c.specs.contracts.ends.CollectorEnd as collector
-use Rattle.tracering_c.proofs.ends.CollectorEnd.TheSendSync.{the_send as collector_sent}
+use Rattle.tracering_c.specs.contracts.ends.HeldWriter as writer
+use Rattle.tracering_c.proofs.ends.HeldWriter.TheSendSync.{the_send as writer_sent}
+use Rattle.tracering_c.specs.contracts.ends.HeldReader as reader
+use Rattle.tracering_c.proofs.ends.HeldReader.TheSendSync.{the_send as reader_sent}
+use Rattle.tracering_c.specs.contracts.ends.HeldCollector as collector
+use Rattle.tracering_c.proofs.ends.HeldCollector.TheSendSync.{the_send as collector_sent}
 use Rattle.tracering_c.specs.Held.{End, held}
 use Rattle.tracering_c.specs.contracts.held.Held.{the_row, the_type}
 

@@ -1,9 +1,0 @@
-use Rattle.std.proofs.Common.{ℕ, length}
-use Rattle.line_writer.specs.LineWriters.{MakesRest}
-use Rattle.line_writer.proofs.frames.LineWriter.finish_rest.Given as goal
-
-abbrev pub invariant-loop-cpu : goal.invariant-loop-cpu
-invariant-loop-cpu g l = (count : ℕ) × MakesRest count l.fn.self l.self
-
-abbrev pub decreases-loop-cpu : goal.decreases-loop-cpu
-decreases-loop-cpu g l = length l.self.writer.part.frames

@@ -1,0 +1,26 @@
+use Rattle.std.proofs.Common.{◌<◌, inl, inr, sym, ◌∙◌, arith}
+use Rattle.line_writer.proofs.LineRuns.{part_way_more, stepped}
+use Rattle.line_writer.proofs.writer.LineWriter.step.Goals as goal
+
+pub loop-made-preserved : goal.loop-made-preserved
+loop-made-preserved g c =
+    let some : 0 < c.depth-depth.result = let not = c.if-depth-eq0.false in omega arith in
+    record {
+      few = let low = c.loop-made-test.true in omega arith;
+      part_way = part_way_more c.depth-depth.result c.loop-made.made c.args.self.now c.loop-made.self c.call_gated.new.self
+          c.loop-made.invariant.part_way some (sym c.depth.ensures ∙ c.if-depth.true) c.in_ok-call_gated.ensures.calls;
+    }
+
+pub returns-else-depth-clause-line : goal.returns-else-depth-clause-line
+returns-else-depth-clause-line g c =
+    let some : 0 < c.depth-depth.result = let not = c.if-depth-eq0.false in omega arith in
+    stepped c.depth-depth.result c.loop-made.made c.args.self.now c.loop-made.self c.depth-depth.ensures some
+    c.loop-made.invariant.part_way c.args.count c.requires.some c.loop-made.invariant.few
+    (inr (λ same. c.if-depth.false (c.depth.ensures ∙ same)))
+    c.args.cpu.0
+
+pub returns-after-loop-made-clause-line : goal.returns-after-loop-made-clause-line
+returns-after-loop-made-clause-line g c =
+    let some : 0 < c.depth-depth.result = let not = c.if-depth-eq0.false in omega arith in
+    stepped c.depth-depth.result c.loop-made.made c.args.self.now c.loop-made.self c.depth-depth.ensures some
+    c.loop-made.invariant.part_way c.args.count c.requires.some c.loop-made.invariant.few (inl c.loop-made-test.false) c.args.cpu.0

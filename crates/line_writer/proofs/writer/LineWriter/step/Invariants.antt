@@ -1,0 +1,12 @@
+use Rattle.std.proofs.Common.{◌≤◌, ◌-◌}
+use Rattle.line_writer.specs.Runs.{HasMadeCalls}
+use Rattle.line_writer.proofs.writer.LineWriter.step.Given as goal
+
+abbrev pub invariant-loop-made : goal.invariant-loop-made
+invariant-loop-made g l = record {
+  few : l.made ≤ l.count;
+  part_way : HasMadeCalls l.depth l.made l.fn.self l.self;
+}
+
+abbrev pub decreases-loop-made : goal.decreases-loop-made
+decreases-loop-made g l = l.count - l.made
