@@ -13,7 +13,7 @@
 // positive one: why it didn't. What is changed all the same, the call's own text says. Each call may answer these,
 // which its own list leaves out:
 //   TRACERING_NULL     a pointer is null (one to bytes may be, if their number is 0)
-//   TRACERING_ABSENT   the handle has nothing: it is new, or its end was freed or settled
+//   TRACERING_ABSENT   the handle has nothing: it is new, or what it had was freed or settled
 //   TRACERING_BUSY     the handle is in another call, which this one interrupts
 // Then nothing is changed.
 //

@@ -90,11 +90,11 @@ pub element : {A : Type 0} (P : A → Type 0) (xs : List A) (k : ℕ) (x : A) �
 element P xs k x all at = subst P (get_or_from_slice_get xs k x x at) (all k x (slice_get_within xs k x at))
 
 -- a line_index of the CPU's lines is one of a command
-pub is_place : (commands seen : List (ℕ × Command)) (lines : List Command) (index line_index : ℕ)
+pub is_index : (commands seen : List (ℕ × Command)) (lines : List Command) (index line_index : ℕ)
     → seen ≡ commands
     → IsNextLine commands lines index line_index
     → line_index < length seen
-is_place commands seen lines index line_index same n =
+is_index commands seen lines index line_index same n =
     subst (λ (l : List (ℕ × Command)). line_index < length l) (sym same)
     (slice_get_within commands line_index (n.at.0, n.line) n.at.1)
 

@@ -8,7 +8,7 @@ use Rattle.trace_model.specs.Window.{IsCrowded}
 use Rattle.trace_model.specs.Steps.{Event, steps, Answer, NeedsPage, refused, empty, moving, page_taken, Step}
 use Rattle.link_marks.specs.RingKept.{IsRingKept}
 
--- each fill from the first to this one was taken, or lost with a whole round of fills begun after it
+-- each fill from the first on, below this one, was taken, or lost with a whole round of fills begun from it on
 abbrev pub ArePassed : ℕ → ℕ → Core → ℕ → Type 0
 ArePassed n start c f = (g : ℕ) → start ≤ g → g < f → IsTaken c g ⊎ (g + n ≤ c.opened)
 

@@ -36,8 +36,8 @@ pub struct WriterStack {
     top: Top,
     below: VecDeque<Frame>,
     last_moment: u64,
-    /// The longest payload, of at most `SHORT_LIMIT` bytes, of which a record has room on an empty page, whatever its
-    /// length.
+    /// A payload of up to this many bytes, at most `SHORT_LIMIT`, has a record with room on an empty page; a longer one
+    /// may have one, too.
     plain_len: usize,
     /// How far the tail may be filled for any record in the short form to have room after it; 0 if none has.
     plain_end: usize,

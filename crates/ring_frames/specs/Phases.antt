@@ -43,7 +43,7 @@ with_left_phase v = record v {
   below = below_after_leave v.below;
 }
 
--- what a frame's step at the pages answers, as the ring's answer
+-- what a frame's step on a word, or its beginning again, answers, as the ring's answer
 abbrev pub as_answer : StepAnswer → Answer
 as_answer step_answer.Going = Going
 as_answer step_answer.Gone = Gone

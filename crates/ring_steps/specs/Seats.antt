@@ -74,7 +74,8 @@ pub record IsReaderStep (shape : Shape) (before : Reading) (sees : Core → Type
   pub step : Step shape.pages shape.size core event answer next
   pub after_is : IsReading next after
 
--- what each step of the reader shows of its seat
+-- what a step of the reader by which it neither takes nor gives back a slot shows of its seat: a store of the wish
+-- (those of a take: Taking)
 pub record ReaderReported (shape : Shape) (sees : Core → Type 0) (event : Event) (answer : Answer) (before after : Sat)
     : Type 0 where
   pub seat : IsSeatOfReader after

@@ -90,7 +90,8 @@ reading (joined w r) = r
 reading spent = no_reading
 
 -- The views of a ring's seats: at first one knows both parts; then the writer's is the first and the reader's the
--- second; at the end both are one again. What the writer knows to be passed is below the head.
+-- second; at the end both are one again. The number below which the writer knows each fill to be passed is at most the
+-- head.
 pub data AreSeated (w : Writing) (r : Reading) (head : ℕ) : List SeatView → Type 0 where
   begun : AreSeated w r head (laid w r ∷ [])
   made : AreSeated w r head (whole w r ∷ [])

@@ -34,7 +34,8 @@ fn load_done_joined(board: &Board, shape: Shape, seat: &mut TableSeat)
 }
 
 /// Joins the two seats of a ring, and loads once how many fills are closed. So what both know are the parts of one
-/// state that the ring reached. The reader has no slot then: it has made no swap, or has loaded a link since.
+/// state that the ring reached. The reader has no slot then: it hasn't stored its spare's link, or has loaded a
+/// link since.
 pub fn settle(writer: WriterSeat, reader: ReaderSeat)
     requires one_table { reader_table reader ≡ writer_table writer }
     requires no_slot { (reading_in reader).keeps_spare ≡ false }

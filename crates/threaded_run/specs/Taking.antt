@@ -13,7 +13,8 @@ abbrev pub IsStop : {Gate : Type 0} (answers : Gate → Who → (cpu fill : ℕ)
 IsStop answers gate cpu NoMemory = Unit {0}
 IsStop answers gate cpu (Shut fill) = answers gate who.Reader cpu fill.0 false
 
--- The end is still that of the same reader, with the parcels that it took; or the gate didn't let it pass.
+-- The end is still that of the same reader, with the parcels that it took; or the gate didn't let it pass; or memory
+-- was refused.
 abbrev pub HasTaken : {Gate : Type 0} (answers : Gate → Who → (cpu fill : ℕ) → Bool → Type 0) → Gate
     → (cpu : ℕ) → ReaderEndValue → Result ReaderEndValue Stop → Type 0
 HasTaken answers gate cpu before (Ok after) = (after.cpu ≡ before.cpu) × SameRing before.reader after.reader

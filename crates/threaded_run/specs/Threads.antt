@@ -13,7 +13,7 @@ use Rattle.reader_end.specs.Value.{ReaderEndValue}
 use Rattle.threaded_run.specs.Runs.{shape_of, IsRunHistory, IsRunLedger}
 
 -- For each CPU of the script, these are the indexes of its writer's lines.
-pub record ArePlaces (script : Script) (indexes : List (List ℕ)) : Type 0 where
+pub record AreIndexes (script : Script) (indexes : List (List ℕ)) : Type 0 where
   pub count : length indexes ≡ script.cpus
   pub each : (cpu : ℕ) (own : List ℕ) → slice_get indexes cpu ≡ Some own → AreLinesOf cpu script.commands own
 

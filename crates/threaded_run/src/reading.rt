@@ -34,7 +34,7 @@ impl From<NoMemory> for Stop {
 }
 
 /// The promise of a reader's thread, kept by what it returns: it is the same end, with what it took, or the gate
-/// stopped it.
+/// stopped it, or memory was refused.
 #[derive(Drop)]
 pub(crate) struct Takes<'a, G: Gate> {
     pub(crate) gate: &'a G,

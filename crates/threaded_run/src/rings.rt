@@ -1,7 +1,7 @@
 //! The rings of a run.
 ghost use Rattle.std.specs.Prelude.{◌≡◌, ◌≢◌, ◌≤◌, length, vec_len, vec_capacity, OnOk, IfOk, IfErr};
 ghost use Rattle.trace_script.specs.declared.replay_fault.ReplayFault.TheVariants.{GateShut};
-ghost use Rattle.threaded_run.specs.Threads.{ArePlaces, AreRunning, AreRunLedgers, IsByGate};
+ghost use Rattle.threaded_run.specs.Threads.{AreIndexes, AreRunning, AreRunLedgers, IsByGate};
 
 use crate::joining::with_next;
 use crate::threads::{Job, Running, complete, start};
@@ -27,7 +27,7 @@ fn start_rings<'s, E, R: Threads + Wait + Sync, G: Gate>(
     over: &'s [AtomicBool],
     threads: &mut Vec<Running<'s, G>>,
 ) -> Result<(), ReplayFault>
-    requires indexes { ArePlaces job.now.script.now indexes.now }
+    requires indexes { AreIndexes job.now.script.now indexes.now }
     requires over { length over.now ≡ job.now.script.now.cpus }
     requires none { vec_len threads.old ≡ 0 }
     requires room { job.now.script.now.cpus ≤ vec_capacity threads.old }
@@ -80,7 +80,7 @@ fn run_rings_in<'s, E, R: Threads + Wait + Sync, G: Gate>(
     indexes: &'s [LineIndexes],
     over: &'s [AtomicBool],
 ) -> Result<Vec<Ledger>, ReplayFault>
-    requires indexes { ArePlaces job.now.script.now indexes.now }
+    requires indexes { AreIndexes job.now.script.now indexes.now }
     requires over { length over.now ≡ job.now.script.now.cpus }
     ensures ledgers { IfOk result (λ ledgers. AreRunLedgers job.now.script.now 0 ledgers.items) }
     ensures count { IfOk result (λ ledgers. vec_len ledgers ≡ job.now.script.now.cpus) }
@@ -103,7 +103,7 @@ pub(crate) fn run_rings<R: Threads + Wait + Sync, G: Gate>(
     over: &[AtomicBool],
     collectors: &[Sender<Parcel>],
 ) -> Result<Vec<Ledger>, ReplayFault>
-    requires indexes { ArePlaces script.now indexes.now }
+    requires indexes { AreIndexes script.now indexes.now }
     requires over { length over.now ≡ script.now.cpus }
     ensures ledgers { IfOk result (λ ledgers. AreRunLedgers script.now 0 ledgers.items) }
     ensures count { IfOk result (λ ledgers. vec_len ledgers ≡ script.now.cpus) }
@@ -113,7 +113,7 @@ pub(crate) fn run_rings<R: Threads + Wait + Sync, G: Gate>(
         thread::scope_env(),
         rt,
         |scope| -> Result<Vec<Ledger>, ReplayFault>
-            requires { ArePlaces script.now indexes.now × (length over.now ≡ script.now.cpus) }
+            requires { AreIndexes script.now indexes.now × (length over.now ≡ script.now.cpus) }
             ensures { IfOk result (λ ledgers. AreRunLedgers script.entry.now 0 ledgers.items)
                 × IfOk result (λ ledgers. vec_len ledgers ≡ script.entry.now.cpus)
                 × IfErr result (IsByGate G.answers gate.entry.now) }

@@ -3,7 +3,7 @@ ghost use Rattle.std.specs.Prelude.{◌≡◌, ◌≢◌, ℕ, ◌≤◌, length
 ghost use Rattle.trace_script.specs.declared.replay_fault.ReplayFault.TheVariants.{GateShut};
 ghost use Rattle.line_writer.specs.declared.gate.Who.{Who as WhoSeen};
 ghost use Rattle.threaded_run.specs.Runs.{IsRan};
-ghost use Rattle.threaded_run.specs.Threads.{ArePlaces, AreRunLedgers, IsByGate};
+ghost use Rattle.threaded_run.specs.Threads.{AreIndexes, AreRunLedgers, IsByGate};
 
 use crate::collecting::{Collecting, join_collectors, start_collectors};
 use crate::rings::run_rings;
@@ -53,7 +53,7 @@ fn run_all<'s, E, R: Threads + Wait + Sync, G: Gate>(
     senders: &mut Vec<Sender<Parcel>>,
     threads: &mut Vec<Collecting>,
 ) -> Result<Vec<Ledger>, ReplayFault>
-    requires indexes { ArePlaces script.now indexes.now }
+    requires indexes { AreIndexes script.now indexes.now }
     requires over { length over.now ≡ script.now.cpus }
     requires no_senders { vec_len senders.old ≡ 0 }
     requires room_for_senders { script.now.collectors ≤ vec_capacity senders.old }
@@ -79,7 +79,7 @@ fn run_with<'s, E, R: Threads + Wait + Sync, G: Gate>(
     indexes: &[LineIndexes],
     over: &[AtomicBool],
 ) -> Result<Ran, ReplayFault>
-    requires indexes { ArePlaces script.now indexes.now }
+    requires indexes { AreIndexes script.now indexes.now }
     requires over { length over.now ≡ script.now.cpus }
     ensures ran { IfOk result (IsRan script.now) }
     ensures shut { IfErr result (IsByGate G.answers gate.now) }
@@ -136,7 +136,7 @@ pub fn run<R: Threads + Wait + Sync, G: Gate>(
         thread::scope_env(),
         rt,
         |scope| -> Result<Ran, ReplayFault>
-            requires { ArePlaces script.now indexes.now × (length over.now ≡ script.now.cpus) }
+            requires { AreIndexes script.now indexes.now × (length over.now ≡ script.now.cpus) }
             ensures { IfOk result (IsRan script.entry.now) × IfErr result (IsByGate G.answers gate.entry.now) }
         { run_with(rt, scope, alloc, script, gate, indexes, over) },
     )

@@ -29,7 +29,7 @@ const WORN: i32 = 5;
 const NO_FRAME: i32 = 6;
 /// The frame on top has no record.
 const NOT_RESERVED: i32 = 7;
-/// The handle has nothing: it is new, or its end was freed or settled.
+/// The handle has nothing: it is new, or what it had was freed or settled.
 pub const ABSENT: i32 = 8;
 /// A handle that something new is to go to has something.
 pub const IN_USE: i32 = 9;
@@ -47,9 +47,9 @@ pub const MOVING: i32 = 16;
 pub const NO_ROOM: i32 = 17;
 /// The writer has begun a record, or a close, that isn't completed.
 pub const NOT_AT_REST: i32 = 18;
-/// The last take didn't find that all closed pages are taken.
+/// The last take didn't find that all closed pages are taken or lost.
 pub const UNREAD: i32 = 19;
-/// There are fewer bytes than an image's header takes.
+/// There are fewer bytes than a parcel has before its page's data (48).
 const TOO_SHORT: i32 = 20;
 /// The size that an image states is above what follows, or the image is too long.
 const BAD_IMAGE_SIZE: i32 = 21;
@@ -103,7 +103,7 @@ fn code_of_word(fault: WordFault) -> i32
     }
 }
 
-/// The number of an image's fault: 20 to 25.
+/// The number of an image's fault: 20 to 25, or that there is no memory.
 fn code_of_image(fault: ImageFault) -> i32
     ensures { result ≡ image_code fault }
 {

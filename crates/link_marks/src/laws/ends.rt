@@ -3,8 +3,8 @@ ghost use Rattle.link_marks.specs.FrameOutcomes.{FramesLeave, FramesReserve};
 ghost use Rattle.link_marks.specs.Ranks.{EndsComeToAnEnd, FramesAreNearTheirEnd, StepsComeToAnEnd, TakesAreNearTheirAnswer, TakesComeToAnAnswer};
 ghost use Rattle.link_marks.specs.WriterRanks.{WriterStepsComeToAnEnd, WritersAreNearTheirEnd};
 
-/// If nothing comes between, each step after which a frame is still on the stack lowers a number that is small from the
-/// start.
+/// If nothing comes between, each step of a frame that hasn't reserved, and each end, after which it is still on the
+/// stack lowers a number that is small from the start.
 pub fn frames_come_to_an_end()
     ensures steps { StepsComeToAnEnd }
     ensures ends { EndsComeToAnEnd }

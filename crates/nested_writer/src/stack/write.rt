@@ -72,9 +72,9 @@ impl WriterStack {
 
     /// `write_alone`, for a record as nearly all are.
     #[inline(always)]
-    fn write_plain(&mut self, moment: u64, payload: &[u8]) -> Wrote
+    fn write_short(&mut self, moment: u64, payload: &[u8]) -> Wrote
         requires stack { IsReachedStack self.old }
-        requires plain { IsShortAlone self.old moment (length payload.now) }
+        requires short { IsShortAlone self.old moment (length payload.now) }
         ensures at_once { WritesWhatFits moment payload.now self.old result self.new }
         ensures written { result ≡ Wrote.Record → self.new ≡ with_written self.old moment payload.now }
         ensures frames { self.new.frames ≡ self.old.frames }
@@ -93,7 +93,7 @@ impl WriterStack {
     #[inline(always)]
     pub fn write_if_short(&mut self, moment: u64, payload: &[u8]) -> Wrote
         requires stack { IsReachedStack self.old }
-        ensures plain { result ≡ Wrote.Record
+        ensures short { result ≡ Wrote.Record
             ↔ (IsShortAlone self.old moment (length payload.now) × HasRecordRoom self.old moment (length payload.now)) }
         ensures at_once { result ≡ Wrote.Record → WritesWhatFits moment payload.now self.old result self.new }
         ensures written { result ≡ Wrote.Record → self.new ≡ with_written self.old moment payload.now }
@@ -115,7 +115,7 @@ impl WriterStack {
         if moment.wrapping_sub(self.last_moment) >= EXTEND_FROM {
             return Wrote::Nothing;
         }
-        self.write_plain(moment, payload)
+        self.write_short(moment, payload)
     }
 
     /// Writes a record of this moment and payload in one call, if the stack is empty and it fits in the tail: what

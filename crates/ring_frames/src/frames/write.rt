@@ -9,14 +9,14 @@ pub enum WriteKind {
     /// Each that fits.
     Any,
     /// Those that are as nearly all are (`WriterStack::write_if_short`).
-    Plain,
+    Short,
 }
 
 impl Frames {
     ghost use Rattle.std.specs.Prelude.{◌≡◌, ◌↔◌, ℕ, [], length, false};
     ghost use Rattle.nested_writer.specs.AtOnce.{FitsAtOnce, IsShortAlone};
     ghost use Rattle.nested_writer.specs.Calls.{HasRecordRoom};
-    ghost use Rattle.ring_frames.specs.declared.frames.write.WriteKind.TheVariants.{Any, Plain};
+    ghost use Rattle.ring_frames.specs.declared.frames.write.WriteKind.TheVariants.{Any, Short};
     ghost use Rattle.ring_frames.specs.declared.phase.Phase.TheVariants.{Wishing};
     ghost use Rattle.ring_frames.specs.declared.answer.Answer.TheVariants.{Gone};
     ghost use Rattle.ring_frames.specs.Answers.{KeepsPayloads};
@@ -36,7 +36,7 @@ impl Frames {
         ensures any { kind ≡ Any
             → FitsAtOnce self.old.stack moment (length payload.now)
             → result ≡ Wrote.Record }
-        ensures plain { kind ≡ Plain
+        ensures short { kind ≡ Short
             → (result ≡ Wrote.Record
             ↔ (IsShortAlone self.old.stack moment (length payload.now)
             × HasRecordRoom self.old.stack moment (length payload.now))) }
@@ -48,7 +48,7 @@ impl Frames {
     {
         match kind {
             WriteKind::Any => self.stack.write_alone(moment, payload),
-            WriteKind::Plain => self.stack.write_if_short(moment, payload),
+            WriteKind::Short => self.stack.write_if_short(moment, payload),
         }
     }
 

@@ -18,8 +18,8 @@ impl Writer {
     ghost use Rattle.ring_shared.specs.WholeWrites.{IsWritten, IsRefusedWrite, IsReserved, EndsRecord};
 
     /// Writes a record of this moment and payload in one call: what `begin`, `finish_top`, the payload's copy into what
-    /// `top_mut` lends, `end` and `finish_top` do together, nested in the frames on the stack. Refused as `begin` is,
-    /// or as `Crowded` or `Worn`, and then no record is left.
+    /// `top_mut` lends, `end`, and `finish_top` if no frame is below, do together, nested in the frames on the stack.
+    /// Refused as `begin` is, or as `Crowded` or `Worn`, and then no record is left.
     #[inline(always)]
     pub fn write(&mut self, moment: u64, payload: &[u8]) -> Result<(), WriteFault>
         requires writer { IsWriter self.old }
@@ -29,7 +29,7 @@ impl Writer {
         ensures rooms { rooms self.new ≡ rooms self.old }
         ensures keeps { KeepsWriter self.old self.new }
     {
-        match self.write_at_once(WriteKind::Plain, moment, payload) {
+        match self.write_at_once(WriteKind::Short, moment, payload) {
             Wrote::Record => Ok(()),
             Wrote::Nothing => self.write_rarely(moment, payload),
         }

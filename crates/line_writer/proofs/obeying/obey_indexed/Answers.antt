@@ -6,7 +6,7 @@ use Rattle.trace_script.specs.ScriptTypes.{shown_line}
 use Rattle.line_model.specs.Lines.{writer_lines}
 use Rattle.line_model.specs.ReplayedLines.{commands_of}
 use Rattle.line_writer.specs.Obeying.{IsLineAt}
-use Rattle.line_writer.proofs.LinesMade.{IsNextLine, next_line, is_place, one_line, all_lines, element}
+use Rattle.line_writer.proofs.LinesMade.{IsNextLine, next_line, is_index, one_line, all_lines, element}
 use Rattle.line_writer.proofs.obeying.obey_indexed.Goals as goal
 
 -- the line of the line_index that is read
@@ -20,7 +20,7 @@ line_of commands indexes lines index line_index are low is =
 
 pub line-requires : goal.line-requires
 line-requires g c =
-    is_place c.args.script.now.commands c.commands-commands.result.now
+    is_index c.args.script.now.commands c.commands-commands.result.now
     (writer_lines c.args.cpu.0 (commands_of c.args.script.now.commands)) c.loop-index.index
     c.get-line_index.result c.commands-commands.ensures.commands
     (line_of c.args.script.now.commands c.args.indexes.now (writer_lines c.args.cpu.0 (commands_of c.args.script.now.commands)) c.loop-index.index

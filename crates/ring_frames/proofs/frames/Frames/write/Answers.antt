@@ -43,11 +43,11 @@ returns-in-Any-clause-alone c = λ is. alone (frames_in c.self.inside) _ c.self.
 pub returns-in-Any-clause-payloads : goal.returns-in-Any-clause-payloads
 returns-in-Any-clause-payloads c = payloads (frames_in c.self.inside) _ c.self.view_is c.write_alone.new.self c.args.moment c.args.payload.now c.write_alone.result (λ is. c.write_alone.ensures.at_once) c.write_alone.ensures.at_once.nothing
 
-pub returns-in-Plain-clause-wrote : goal.returns-in-Plain-clause-wrote
-returns-in-Plain-clause-wrote c = λ is. steps (frames_in c.self.inside) _ c.self.view_is c.write_if_short.new.self c.args.moment c.args.payload.now c.write_if_short.result is (c.write_if_short.ensures.at_once is) (c.write_if_short.ensures.written is)
+pub returns-in-Short-clause-wrote : goal.returns-in-Short-clause-wrote
+returns-in-Short-clause-wrote c = λ is. steps (frames_in c.self.inside) _ c.self.view_is c.write_if_short.new.self c.args.moment c.args.payload.now c.write_if_short.result is (c.write_if_short.ensures.at_once is) (c.write_if_short.ensures.written is)
 
-pub returns-in-Plain-clause-alone : goal.returns-in-Plain-clause-alone
-returns-in-Plain-clause-alone c = λ is. alone (frames_in c.self.inside) _ c.self.view_is c.write_if_short.new.self c.args.moment c.args.payload.now c.write_if_short.result c.requires.frames is (c.write_if_short.ensures.at_once is) (c.write_if_short.ensures.written is)
+pub returns-in-Short-clause-alone : goal.returns-in-Short-clause-alone
+returns-in-Short-clause-alone c = λ is. alone (frames_in c.self.inside) _ c.self.view_is c.write_if_short.new.self c.args.moment c.args.payload.now c.write_if_short.result c.requires.frames is (c.write_if_short.ensures.at_once is) (c.write_if_short.ensures.written is)
 
-pub returns-in-Plain-clause-payloads : goal.returns-in-Plain-clause-payloads
-returns-in-Plain-clause-payloads c = payloads (frames_in c.self.inside) _ c.self.view_is c.write_if_short.new.self c.args.moment c.args.payload.now c.write_if_short.result c.write_if_short.ensures.at_once c.write_if_short.ensures.nothing
+pub returns-in-Short-clause-payloads : goal.returns-in-Short-clause-payloads
+returns-in-Short-clause-payloads c = payloads (frames_in c.self.inside) _ c.self.view_is c.write_if_short.new.self c.args.moment c.args.payload.now c.write_if_short.result c.write_if_short.ensures.at_once c.write_if_short.ensures.nothing
