@@ -131,7 +131,7 @@ enum {
     TRACERING_TIME_OVERFLOW = 25, // a moment doesn't fit 64 bits
     TRACERING_NUMBER_OVERFLOW = 26, // the number after the last record's doesn't fit 64 bits
     TRACERING_MISSED_TOO_MANY = 27, // more numbers are missing before the first record's than there are
-    TRACERING_MISSED_DIFFERS = 28, // the page states other missed events than the number before it
+    TRACERING_MISSED_DIFFERS = 28, // the page states other missed records than the number before it
     TRACERING_CLASH = 29,        // there are two different records of one CPU's number
     TRACERING_TAKEN_AND_MISSING = 30, // a CPU's number has a record and is missing
     TRACERING_END = 31           // next: all lines of the listing were given

@@ -45,8 +45,8 @@ fn put_again(out: &mut Vec<u8>, span: Span) -> Result<(), NoMemory>
 }
 
 /// The text of a collector below its head line: a line for each record, by time, and one for each run of missing
-/// numbers. The text of an earlier collector, if there is one, is at `span`; if both have and miss the same, it is put
-/// once more. On an error a part of the new text may be put.
+/// numbers. What is below the head line of an earlier collector's text, if there is one, is at `span`; if both have and
+/// miss the same, it is put once more. On an error a part of the new text may be put.
 fn put_below(
     alloc: Global,
     out: &mut Vec<u8>,
@@ -92,8 +92,8 @@ fn put_whole(
 
 /// Puts the text of a collector under this number: a line `collector K`, below it a line for each of its records, by
 /// time, and a line for each run of a CPU's missing numbers, by rising CPU and number. Returns the place of all that is
-/// below the first line. The text of an earlier collector is at `span`; if both have and miss the same, it is copied.
-/// If memory is refused, the text is as before.
+/// below the first line. What is below the first line of an earlier collector's text is at `span`; if both have and
+/// miss the same, it is copied. If memory is refused, the text is as before.
 pub fn put_collector(
     alloc: Global,
     out: &mut Vec<u8>,

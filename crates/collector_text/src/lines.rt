@@ -14,7 +14,7 @@ use text_values::put_payload;
 use time_merge::{Line, listing};
 use trace_model::NoMemory;
 
-/// As many bytes as the numbers of a line take at most, each with a space after it.
+/// Room for the three numbers of a line, each of which takes at most 21 bytes with the space after it.
 const FRONT: usize = 64;
 
 /// Puts the number in decimal and a space, so that they end here, and answers where they begin.

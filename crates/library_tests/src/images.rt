@@ -8,7 +8,7 @@ use std::process::Abort;
 use std::test::Fail;
 use trace_model::{FillNo, MAX_IMAGE, MAX_SIZE, MIN_SIZE, MOMENT_LIMIT, NoMemory, RecordNo};
 
-/// The size of a page, the moment and the payload of its one record, how many events were missed before it, what its
+/// The size of a page, the moment and the payload of its one record, how many records were missed before it, what its
 /// image states of them, and the image.
 const IMAGES: &[(usize, u64, &[u8], u64, Missed, &[u8])] = &[
     (
@@ -59,7 +59,7 @@ fn page_of(
     Ok(page)
 }
 
-/// Compares the reading of these bytes with a page, and with what is stated of missed events.
+/// Compares the reading of these bytes with a page, and with what is stated of missed records.
 fn compare(
     rt: &(impl Abort + AllocGlobal),
     bytes: &[u8],

@@ -18,7 +18,7 @@ use Rattle.page_image.specs.declared.image.header.Header.{Header}
 use Rattle.page_image.specs.declared.image.header.TheConstants.{HEADER, NUMBER, STORED}
 use Rattle.page_image.specs.Contents.{Contents}
 
--- what the answer states of missed events
+-- what the answer states of missed records
 abbrev pub missed_of : MissedAnswer → Missed
 missed_of NoneReported = none
 missed_of Unknown = unknown

@@ -34,7 +34,7 @@ IsRefused parcel MissedDiffers = ⊥
 IsRefused parcel BadCpu = MAX_CPUS ≤ parcel.cpu
 IsRefused parcel NoMemory = IsParcel parcel
 
--- why what would be this parcel, read from an image that states this of missed events, is refused: the numbers before
+-- why what would be this parcel, read from an image that states this of missed records, is refused: the numbers before
 -- the image state otherwise, or one of those; memory is refused only if nothing else is wrong
 abbrev pub IsRefusedAs : Parcel → Missed → ParcelFault → Type 0
 IsRefusedAs parcel reported (Image fault) = ⊥

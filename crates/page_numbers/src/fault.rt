@@ -17,7 +17,7 @@ pub enum ParcelFault {
     NumberOverflow,
     /// More numbers are missing before the first record's than there are.
     MissedTooMany,
-    /// The image states other missed events than the number before it.
+    /// The image states other missed records than the number before it.
     MissedDiffers,
     /// The CPU's number isn't below `MAX_CPUS`.
     BadCpu,

@@ -87,7 +87,7 @@ impl Numbers {
         }
     }
 
-    /// Whether the image states of missed events what the last number does.
+    /// Whether the image states of missed records what the last number does.
     pub(crate) fn agree_with(self, reported: Missed) -> bool
         ensures { IsTrue result ↔ AgreesWith (missed_of reported) self.missed }
     {

@@ -17,13 +17,13 @@ use trace_model::CpuId;
 /// How many bytes of a parcel are before its page's data: four numbers, the page's time, and its commit word.
 pub const HEADER: usize = 48;
 
-/// How many bytes the count of missed events takes.
+/// How many bytes the count of missed records takes.
 const NUMBER: usize = 8;
 
-/// Bit 30 of a commit word: a count of missed events is stored after the data.
+/// Bit 30 of a commit word: a count of missed records is stored after the data.
 const STORED: u64 = 1 << 30;
 
-/// Bit 31 of a commit word: events were missed.
+/// Bit 31 of a commit word: records were missed.
 const MISSED: u64 = 1 << 31;
 
 /// Puts the page to the front of `out` as a parcel of this CPU, with `missed` numbers missing before its records: the
@@ -63,7 +63,7 @@ fn room(page: &Page) -> usize
     page.size() - page.end()
 }
 
-/// Whether a count of missed events is stored after `end` bytes of data, on a page of this size.
+/// Whether a count of missed records is stored after `end` bytes of data, on a page of this size.
 fn stores_count(end: usize, missed: u64, size: usize) -> bool
     requires end { end ≤ size }
     requires limit { size ≤ MAX_SIZE }
@@ -85,7 +85,7 @@ fn commit_number(end: usize, missed: u64, stored: bool) -> u64
     end as u64 + count + events
 }
 
-/// Puts the count of missed events to `at`, if it is stored: the answer is where the bytes after it begin.
+/// Puts the count of missed records to `at`, if it is stored: the answer is where the bytes after it begin.
 fn put_count(out: &mut [u8], at: usize, missed: u64, stored: bool) -> usize
     requires room { stored ≡ true → at + NUMBER ≤ length out.old }
     requires short { at + NUMBER ≤ usize.MAX }

@@ -14,7 +14,7 @@ const HEADER_FAULTS: [&str; 3] = ["TooShort", "BadSize", "BadCount"];
 
 const WORD_FAULTS: [&str; 3] = ["Cut", "BadLength", "TimeOverflow"];
 
-// Bit 31 of commit says that events were missed, and bit 30 beside it that their number is after the data.
+// Bit 31 of commit says that records were missed, and bit 30 beside it that their number is after the data.
 const MISSED: u64 = 1 << 31;
 
 const COUNTED: u64 = 1 << 30;

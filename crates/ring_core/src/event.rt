@@ -7,7 +7,7 @@ pub use ring_frames::Answer;
 pub enum Event {
     /// A writer begins: a frame is pushed for a record.
     Push {
-        /// The record's moment, below `MOMENT_LIMIT`.
+        /// The record's moment; one that isn't below `MOMENT_LIMIT` is refused.
         moment: u64,
         /// The payload's length in bytes.
         len: usize,

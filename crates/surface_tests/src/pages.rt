@@ -72,7 +72,7 @@ fn a_page_is_an_image(rt: HostRuntime) -> Result<(), Fail> {
     Ok(())
 }
 
-/// What an image states of events that were missed before its page.
+/// What an image states of records that were missed before its page.
 fn missed_in(alloc: Global, image: &[u8]) -> Result<Missed, Fail> {
     let image = read_image(alloc, image)?;
     Ok(image.missed)

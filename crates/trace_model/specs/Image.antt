@@ -18,8 +18,8 @@ unfoldable pub from_le64 : List ℕ → ℕ
 from_le64 bytes = from_le_bytes w64 bytes
 
 -- The commit word: bits 0 to 29 are the size of the data in bytes, bit 30 says that a count of missed records
--- is stored, bit 31 that records were missed before the page. Bits 32 to 63 mean nothing: kernels set
--- them all if bit 31 is set.
+-- is stored, bit 31 that records were missed before the page. Bits 32 to 63 mean nothing: kernel 6.1
+-- sets them all if bit 31 is set.
 pub record Commit : Type 0 where
   pub size : ℕ
   pub is_stored : Bool

@@ -17,7 +17,7 @@ abbrev pub with_numbers : ℕ → ℕ → ℕ → ℕ → List ℕ → List ℕ
 with_numbers cpu fill first missed image = le64 cpu ++ (le64 fill ++ (le64 first ++ (le64 missed ++ image)))
 
 -- The bytes of this parcel that are written where its page has this time, data and size: its numbers, and the
--- page's image, with the parcel's number of missed events.
+-- page's image, with the parcel's number of missed records.
 abbrev pub bytes_of_parcel : Parcel → ℕ → List ℕ → ℕ → List ℕ
 bytes_of_parcel parcel time contents size =
     with_numbers parcel.cpu parcel.fill parcel.first parcel.missed (image_of time contents parcel.missed size)
@@ -31,14 +31,14 @@ pub record HasNumbers (bytes : List ℕ) (cpu fill first missed : ℕ) (image : 
   pub missed_fits : missed < 2 ^ 64
   pub long : 16 ≤ length image
 
--- What an image states of missed events agrees with this number of them.
+-- What an image states of missed records agrees with this number of them.
 abbrev pub AgreesWith : Missed → ℕ → Type 0
 AgreesWith none missed = missed ≡ 0
 AgreesWith unknown missed = 0 < missed
 AgreesWith (counted number) missed = (0 < missed) × (number ≡ missed)
 
 -- The bytes have the numbers of this parcel, its CPU is one, and the image after them reads as its records and
--- states this of missed events.
+-- states this of missed records.
 pub record HasImage (bytes : List ℕ) (parcel : Parcel) (reported : Missed) : Type 0 where
   pub image : List ℕ
   pub numbers : HasNumbers bytes parcel.cpu parcel.fill parcel.first parcel.missed image
@@ -58,7 +58,7 @@ pub record DecodesParcel (bytes : List ℕ) (parcel : Parcel) : Type 0 where
 
 -- bad_cpu: there is no such CPU. bad_image: the image has this fault, or the bytes are too short for one.
 -- number_overflow: the number after the last record's is above 2^64 - 1. missed_too_many: more numbers are
--- missing than are before the first one. missed_differs: the image states otherwise of missed events than the numbers.
+-- missing than are before the first one. missed_differs: the image states otherwise of missed records than the numbers.
 pub data ParcelCause : Type 0 where
   bad_cpu : ParcelCause
   bad_image : (cause : ImageCause) → ParcelCause

@@ -11,7 +11,7 @@ use Rattle.trace_model.specs.Words.{Word, short_data, long_data, padding, time_e
 unfoldable pub from_le32 : List ℕ → ℕ
 from_le32 bytes = from_le_bytes w32 bytes
 
--- what a word of n bytes makes of them, and the bytes after them, if there are n
+-- what is made of the first n of these bytes, and the bytes after them, if there are n
 abbrev pub part_of : {X : Type 0} → ℕ → List ℕ → (List ℕ → X) → Option (X × List ℕ)
 part_of n bytes make = if nat_lt (length bytes) n then None else Some (make (take n bytes), drop n bytes)
 

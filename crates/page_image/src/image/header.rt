@@ -27,7 +27,7 @@ pub(crate) struct Commit {
     pub(crate) size: usize,
     /// A count of missed records is stored after the records, if any were missed.
     is_stored: bool,
-    /// Events were missed.
+    /// Records were missed before the page.
     is_missed: bool,
 }
 

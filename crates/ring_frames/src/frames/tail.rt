@@ -144,7 +144,7 @@ impl Frames {
         StepAnswer::Going
     }
 
-    /// The close frame on top leaves, since the tail that it was to close is closed.
+    /// The close frame on top leaves, since the fill after the tail that it was to close is begun.
     fn leave_closed(&mut self) -> StepAnswer
         requires shown { AreSomeFrames self.old }
         requires close { (noted : ℕ) × IsCloseTop self.old noted × (noted ≢ opened self.old.stack) }

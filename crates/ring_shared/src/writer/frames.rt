@@ -26,9 +26,9 @@ impl Writer {
     ghost use Rattle.ring_shared.specs.Rooms.{rooms};
     ghost use Rattle.ring_shared.specs.Promises.{HasFrame};
 
-    /// A writer begins: a frame is pushed for a record of this moment, below `MOMENT_LIMIT`, and of a payload of `len`
-    /// bytes. `Pushed`; or refused, and nothing changed: `TooDeep` if there are four frames, `TooLong` if the record
-    /// has no room on an empty page, `LateMoment`, the first of these that holds.
+    /// A writer begins: a frame is pushed for a record of this moment, and of a payload of `len` bytes. `Pushed`; or
+    /// refused, and nothing changed: `TooDeep` if there are four frames, `TooLong` if the record has no room on an
+    /// empty page, `LateMoment`, the first of these that holds.
     #[inline(always)]
     pub fn begin(&mut self, moment: u64, len: usize) -> Answer
         requires writer { IsWriter self.old }
