@@ -1,6 +1,9 @@
 //! What a stack does by itself, which no exchange with a ring can show: the rows of a ring are in the text that
 //! `ring_rows` reads.
-ghost use Rattle.std.specs.Prelude.{IfOk};
+ghost use Rattle.std.specs.Prelude.{◌≡◌, [], IfOk};
+ghost use Rattle.trace_model.specs.declared.limits.TheConstants.{START_FILL};
+ghost use Rattle.nested_writer.specs.Stack.{new_stack};
+ghost use Rattle.nested_writer.specs.Calls.{IsAtBottom};
 ghost use Rattle.nested_writer.specs.IsStack.{IsReachedStack};
 
 use nested_writer::Wrote::{Nothing, Record};
@@ -33,10 +36,14 @@ fn nothing_is_written_under_a_frame(rt: HostRuntime) -> Result<(), Fail> {
     Ok(())
 }
 
-/// A record that is written alone leaves no frame, so that the next one is written too; a frame can be put back then.
-#[test]
-fn a_record_written_alone_leaves_no_frame(rt: HostRuntime) -> Result<(), Fail> {
-    let mut stack = WriterStack::new(rt.alloc(), 2, 32)?;
+/// Writes records alone, the last one in vain, as a frame is put back before it.
+fn write_alone(rt: &impl Abort, stack: &mut WriterStack)
+    requires stack { IsReachedStack stack.old }
+    requires new { stack.old ≡ new_stack 2 32 START_FILL }
+    ensures stack { IsReachedStack stack.new }
+    ensures bottom { IsAtBottom stack.new.frames }
+    ensures alone { stack.new.older ≡ [] }
+{
     assert!(rt; stack.write_alone(9, b"") == Record);
     assert!(rt; stack.write_alone(9, b"abcd") == Record);
     assert!(rt; stack.write_alone(9, b"123456789abcdefg") == Nothing);
@@ -45,6 +52,13 @@ fn a_record_written_alone_leaves_no_frame(rt: HostRuntime) -> Result<(), Fail> {
     assert!(rt; stack.ask_close_for(10, 2));
     assert!(rt; stack.is_at_bottom());
     assert!(rt; stack.write_alone(11, b"z") == Nothing);
+}
+
+/// A record that is written alone leaves no frame, so that the next one is written too; a frame can be put back then.
+#[test]
+fn a_record_written_alone_leaves_no_frame(rt: HostRuntime) -> Result<(), Fail> {
+    let mut stack = WriterStack::new(rt.alloc(), 2, 32)?;
+    write_alone(&rt, &mut stack);
     stack.pop_bottom();
     let tail = stack.into_tail();
     assert!(rt; tail.count() == 3);
@@ -89,16 +103,23 @@ fn end_with_page(rt: &impl Abort, stack: &mut WriterStack, body: Body)
     assert!(rt; stack.end() == Ok(Ended::Full));
 }
 
+/// The front page, which holds the record, is closed.
+fn drop_record(rt: &impl Abort, stack: &mut WriterStack)
+    requires { IsReachedStack stack.old }
+{
+    assert!(rt; stack.is_at_bottom());
+    assert!(rt; stack.opened() - stack.done() > 1);
+    let page = stack.drop_front();
+    assert!(rt; (page.fill().0, page.first().0, page.time()) == (0, 0, 1));
+    assert!(rt; page.data() == b"\x01\0\0\0\0\0\0\0".as_slice());
+}
+
 /// A close frame that needed no page needs one once a record came, which a frame of a ring gives no time for.
 #[test]
 fn a_close_frame_needs_a_page_once_a_record_came(rt: HostRuntime) -> Result<(), Fail> {
     let body = Body::new(rt.alloc(), 32)?;
     let mut stack = late_to_close(&rt)?;
     end_with_page(&rt, &mut stack, body);
-    assert!(rt; stack.is_at_bottom());
-    assert!(rt; stack.opened() - stack.done() > 1);
-    let page = stack.drop_front();
-    assert!(rt; (page.fill().0, page.first().0, page.time()) == (0, 0, 1));
-    assert!(rt; page.data() == b"\x01\0\0\0\0\0\0\0".as_slice());
+    drop_record(&rt, &mut stack);
     Ok(())
 }

@@ -109,19 +109,24 @@ fn a_page_reports_what_was_put_into_it(rt: HostRuntime) -> Result<(), Fail> {
     Ok(())
 }
 
+/// Gives a page other numbers, and then its body to another page; `fitted` is a copy of the first one.
+fn compare_renumbered(rt: &impl Abort, page: Page, fitted: &Page) {
+    let page = page.numbered(RecordNo(9), FillNo(4));
+    assert!(rt; page.first() == RecordNo(9) && page.fill() == FillNo(4));
+    assert!(rt; page.has_data_of(fitted));
+    let body = page.into_body();
+    assert!(rt; body.size() == ROOM);
+    let mut page = Page::fresh(body, RecordNo(7), FillNo(3));
+    assert!(rt; !page.has_data_of(fitted));
+    let _place = page.put_payload(0, 3, b"\x11\x22\x33\x44\x55");
+    assert!(rt; page.data() == &FAR_APART_DATA[..12]);
+}
+
 #[test]
 fn a_page_is_copied_to_its_length_and_given_other_numbers(rt: HostRuntime) -> Result<(), Fail> {
     let page = page_of(&rt, rt.alloc(), ROOM, FAR_APART)?;
     let fitted = page.fitted(rt.alloc())?;
     compare(&rt, &fitted, 28);
-    let page = page.numbered(RecordNo(9), FillNo(4));
-    assert!(rt; page.first() == RecordNo(9) && page.fill() == FillNo(4));
-    assert!(rt; page.has_data_of(&fitted));
-    let body = page.into_body();
-    assert!(rt; body.size() == ROOM);
-    let mut page = Page::fresh(body, RecordNo(7), FillNo(3));
-    assert!(rt; !page.has_data_of(&fitted));
-    let _place = page.put_payload(0, 3, b"\x11\x22\x33\x44\x55");
-    assert!(rt; page.data() == &FAR_APART_DATA[..12]);
+    compare_renumbered(&rt, page, &fitted);
     Ok(())
 }

@@ -1,7 +1,9 @@
 //! The two ends of a running ring, in one thread.
-ghost use Rattle.std.specs.Prelude.{◌≡◌, length};
+ghost use Rattle.std.specs.Prelude.{◌≡◌, ◌∷◌, length, Some, IfOk};
+ghost use Rattle.trace_model.specs.Words.{slot_len};
 ghost use Rattle.ring_shared.specs.Value.{SameWriter};
 ghost use Rattle.ring_shared.specs.Calls.{IsWriter};
+ghost use Rattle.ring_shared.specs.Rooms.{rooms};
 ghost use Rattle.ring_shared.specs.Takes.{IsReader, SameRing};
 
 use nested_writer::{Ended, WriteFault};
@@ -86,6 +88,21 @@ fn take_all(reader: &mut Reader, body: Body) -> u64
     64
 }
 
+/// Begins a record and reserves it.
+fn reserve(writer: &mut Writer, moment: u64, len: usize) -> Result<(), Fail>
+    requires writer { IsWriter writer.old }
+    ensures writer { IsWriter writer.new }
+    ensures room { IfOk result (λ _. rooms writer.new ≡ Some (slot_len len) ∷ rooms writer.old) }
+{
+    let Answer::Pushed = writer.begin(moment, len) else {
+        return Err(Fail::new("no frame is pushed"));
+    };
+    let Answer::Reserved(_) = writer.finish_top() else {
+        return Err(Fail::new("no record is reserved"));
+    };
+    Ok(())
+}
+
 /// Writes a record, each step by a call of its own.
 fn write_by_steps(rt: &impl Abort, writer: &mut Writer) -> Result<(), Fail>
     requires { IsWriter writer.old }
@@ -121,16 +138,11 @@ fn what_cannot_be_written_is_refused(rt: HostRuntime) -> Result<(), Fail> {
     Ok(())
 }
 
-/// Writes a record amid which another one is refused.
+/// Writes a record in the middle of which another one is refused.
 fn write_on(rt: &impl Abort, writer: &mut Writer) -> Result<(), Fail>
     requires { IsWriter writer.old }
 {
-    let Answer::Pushed = writer.begin(10, 5) else {
-        return Err(Fail::new("no frame is pushed"));
-    };
-    let Answer::Reserved(_) = writer.finish_top() else {
-        return Err(Fail::new("no record is reserved"));
-    };
+    reserve(writer, 10, 5)?;
     let Answer::Refused(WriteFault::TooLong) = writer.begin(20, 29) else {
         return Err(Fail::new("a record is begun that no page holds"));
     };
@@ -293,21 +305,16 @@ fn what_is_unread_is_settled(rt: HostRuntime) -> Result<(), Fail> {
     Ok(())
 }
 
-/// Writes a record amid which another one is written.
+/// Writes a record in the middle of which another one is written.
 fn write_nested(rt: &impl Abort, writer: &mut Writer) -> Result<(), Fail>
     requires { IsWriter writer.old }
 {
-    let Answer::Pushed = writer.begin(10, 4) else {
-        return Err(Fail::new("no frame is pushed"));
-    };
-    let Answer::Reserved(_) = writer.finish_top() else {
-        return Err(Fail::new("no record is reserved"));
-    };
+    reserve(writer, 10, 4)?;
     let Answer::Pushed = writer.begin(20, 4) else {
-        return Err(Fail::new("no frame is pushed amid another one"));
+        return Err(Fail::new("no frame is pushed in the middle of another one"));
     };
     let Answer::Reserved(_) = writer.step() else {
-        return Err(Fail::new("no record is reserved amid another one"));
+        return Err(Fail::new("no record is reserved in the middle of another one"));
     };
     writer.top_mut()?.copy_from_slice(b"bbbb");
     let Answer::Ended(Ended::Pending) = writer.end() else {
@@ -343,7 +350,7 @@ fn a_page_more_than_the_ring_has_is_refused(rt: HostRuntime) -> Result<(), Fail>
     Ok(())
 }
 
-/// Writes a record amid which one is refused that needs a page. Its frame is on top again then.
+/// Writes a record in the middle of which one is refused that needs a page. Its frame is on top again then.
 fn write_last(rt: &impl Abort, writer: &mut Writer) -> Result<(), Fail>
     requires { IsWriter writer.old }
 {
@@ -354,7 +361,7 @@ fn write_last(rt: &impl Abort, writer: &mut Writer) -> Result<(), Fail>
         return Err(Fail::new("no record is reserved"));
     };
     let Answer::Pushed = writer.begin(2, WHOLE) else {
-        return Err(Fail::new("no frame is pushed amid another one"));
+        return Err(Fail::new("no frame is pushed in the middle of another one"));
     };
     let Answer::Refused(WriteFault::Worn) = writer.step() else {
         return Err(Fail::new("a fill is begun after the last"));

@@ -1,9 +1,7 @@
 //! The stack of a ring's nested writers, by itself.
-ghost use Rattle.std.specs.Prelude.{◌≡◌, [], IfOk};
-ghost use Rattle.trace_model.specs.declared.limits.TheConstants.{START_FILL};
-ghost use Rattle.nested_writer.specs.Stack.{new_stack};
-ghost use Rattle.nested_writer.specs.Calls.{IsAtBottom};
+ghost use Rattle.std.specs.Prelude.{IfOk};
 ghost use Rattle.nested_writer.specs.IsStack.{IsReachedStack};
+ghost use Rattle.surface_tests.specs.Stacks.{IsNewStack, IsAtRest};
 
 use nested_writer::{Allot, Ended, WriteFault, WriterStack, Wrote};
 use page_image::{Body, Page, Place};
@@ -22,7 +20,7 @@ const SECOND: Allot = Allot::Fits(Place { start: 12, len: 4 });
 /// The place of a payload that fills a page of 32 bytes.
 const WHOLE: Allot = Allot::Fits(Place { start: 4, len: 28 });
 
-/// Reserves a record at each of these moments, each amid the one before: the example of a loop at the crate's head.
+/// Reserves a record at each of these moments, each within the one before: the example of a loop at the crate's head.
 fn reserve_all(stack: &mut WriterStack, moments: &[u64]) -> Result<(), WriteFault>
     requires stack { IsReachedStack stack.old }
     ensures stack { IsReachedStack stack.new }
@@ -40,13 +38,19 @@ fn compare(rt: &impl Abort, page: &Page, fill: u64, first: u64, data: &[u8]) {
     assert!(rt; page.data() == data);
 }
 
+/// Takes a stack apart, and compares its tail.
+fn compare_tail(rt: &impl Abort, stack: WriterStack, fill: u64, first: u64, data: &[u8])
+    requires { IsAtRest stack }
+{
+    let mut stack = stack;
+    stack.pop_bottom();
+    compare(rt, &stack.into_tail(), fill, first, data);
+}
+
 /// Writes a record, each step by a call of its own.
 fn write_by_calls(rt: &impl Abort, stack: &mut WriterStack) -> Result<(), WriteFault>
-    requires stack { IsReachedStack stack.old }
-    requires new { stack.old ≡ new_stack 2 32 START_FILL }
-    ensures stack { IsReachedStack stack.new }
-    ensures alone { IfOk result (λ _. stack.new.older ≡ []) }
-    ensures bottom { IfOk result (λ _. IsAtBottom stack.new.frames) }
+    requires { IsNewStack stack.old }
+    ensures { IfOk result (λ _. IsAtRest stack.new) }
 {
     stack.begin(100, 4)?;
     assert!(rt; stack.allot() == Ok(FRONT));
@@ -59,19 +63,14 @@ fn write_by_calls(rt: &impl Abort, stack: &mut WriterStack) -> Result<(), WriteF
 fn a_record_is_written_by_its_calls(rt: HostRuntime) -> Result<(), Fail> {
     let mut stack = WriterStack::new(rt.alloc(), 2, 32)?;
     write_by_calls(&rt, &mut stack)?;
-    stack.pop_bottom();
-    let tail = stack.into_tail();
-    compare(&rt, &tail, 0, 0, b"\x01\0\0\0\x01\x02\x03\x04");
+    compare_tail(&rt, stack, 0, 0, b"\x01\0\0\0\x01\x02\x03\x04");
     Ok(())
 }
 
 /// Writes a record and closes its page, which is answered.
 fn close(rt: &impl Abort, alloc: Global, stack: &mut WriterStack) -> Result<Page, Fail>
-    requires stack { IsReachedStack stack.old }
-    requires new { stack.old ≡ new_stack 2 32 START_FILL }
-    ensures stack { IsReachedStack stack.new }
-    ensures alone { IfOk result (λ _. stack.new.older ≡ []) }
-    ensures bottom { IfOk result (λ _. IsAtBottom stack.new.frames) }
+    requires { IsNewStack stack.old }
+    ensures { IfOk result (λ _. IsAtRest stack.new) }
 {
     assert!(rt; stack.write(100, b"aaaa") == Wrote::Record);
     stack.pop_bottom();
@@ -88,19 +87,14 @@ fn a_page_is_closed(rt: HostRuntime) -> Result<(), Fail> {
     let mut stack = WriterStack::new(rt.alloc(), 2, 32)?;
     let front = close(&rt, rt.alloc(), &mut stack)?;
     compare(&rt, &front, 0, 0, b"\x01\0\0\0aaaa");
-    stack.pop_bottom();
-    let tail = stack.into_tail();
-    compare(&rt, &tail, 1, 1, b"");
+    compare_tail(&rt, stack, 1, 1, b"");
     Ok(())
 }
 
-/// Writes a record amid which another one is written.
+/// Writes a record in the middle of which another one is written.
 fn write_nested(rt: &impl Abort, stack: &mut WriterStack) -> Result<(), WriteFault>
-    requires stack { IsReachedStack stack.old }
-    requires new { stack.old ≡ new_stack 2 32 START_FILL }
-    ensures stack { IsReachedStack stack.new }
-    ensures alone { IfOk result (λ _. stack.new.older ≡ []) }
-    ensures bottom { IfOk result (λ _. IsAtBottom stack.new.frames) }
+    requires { IsNewStack stack.old }
+    ensures { IfOk result (λ _. IsAtRest stack.new) }
 {
     stack.begin(10, 4)?;
     assert!(rt; stack.allot() == Ok(FRONT));
@@ -117,16 +111,13 @@ fn write_nested(rt: &impl Abort, stack: &mut WriterStack) -> Result<(), WriteFau
 fn a_nested_record_is_pending(rt: HostRuntime) -> Result<(), Fail> {
     let mut stack = WriterStack::new(rt.alloc(), 2, 32)?;
     write_nested(&rt, &mut stack)?;
-    stack.pop_bottom();
-    let tail = stack.into_tail();
-    compare(&rt, &tail, 0, 0, b"\x01\0\0\0aaaa\x41\x01\0\0bbbb");
+    compare_tail(&rt, stack, 0, 0, b"\x01\0\0\0aaaa\x41\x01\0\0bbbb");
     Ok(())
 }
 
-/// Reserves a record on each of a new stack's two pages, amid the second of which a third one is refused.
+/// Reserves a record on each of a new stack's two pages, one within the other. A third one within these is refused.
 fn crowd(rt: &impl Abort, alloc: Global, stack: &mut WriterStack) -> Result<(), Fail>
-    requires stack { IsReachedStack stack.old }
-    requires new { stack.old ≡ new_stack 2 32 START_FILL }
+    requires { IsNewStack stack.old }
 {
     stack.begin(1, 28)?;
     let Allot::Fits(_) = stack.allot()? else {
@@ -161,11 +152,8 @@ fn a_third_page_is_refused_while_two_are_open(rt: HostRuntime) -> Result<(), Fai
 
 /// Writes a record and closes its page, for which the frame at the bottom is asked; the page is answered as a parcel.
 fn close_asked(rt: &impl Abort, alloc: Global, stack: &mut WriterStack) -> Result<Parcel, Fail>
-    requires stack { IsReachedStack stack.old }
-    requires new { stack.old ≡ new_stack 2 32 START_FILL }
-    ensures stack { IsReachedStack stack.new }
-    ensures alone { IfOk result (λ _. stack.new.older ≡ []) }
-    ensures bottom { IfOk result (λ _. IsAtBottom stack.new.frames) }
+    requires { IsNewStack stack.old }
+    ensures { IfOk result (λ _. IsAtRest stack.new) }
 {
     stack.begin(1, 28)?;
     assert!(rt; stack.allot() == Ok(WHOLE));
@@ -189,8 +177,7 @@ fn a_tail_is_closed_if_it_is_asked_for(rt: HostRuntime) -> Result<(), Fail> {
 
 /// Writes single bytes of a payload.
 fn write_bytes(rt: &impl Abort, stack: &mut WriterStack) -> Result<(), Fail>
-    requires stack { IsReachedStack stack.old }
-    requires new { stack.old ≡ new_stack 2 32 START_FILL }
+    requires { IsNewStack stack.old }
 {
     stack.begin(1, 5)?;
     let Allot::Fits(_) = stack.allot()? else {

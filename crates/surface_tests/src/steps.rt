@@ -1,9 +1,8 @@
 //! The two seats of a ring, at which each call is one step.
-ghost use Rattle.std.specs.Prelude.{◌≡◌, [], ◌∷◌, length, Some, None, IfOk};
-ghost use Rattle.trace_model.specs.History.{push, push_close, reserve, open_fill, leave};
-ghost use Rattle.trace_model.specs.Frames.{for_record, for_close, waiting, reserved, left, owner, idle, looking_next, wishing};
+ghost use Rattle.std.specs.Prelude.{◌≡◌, length, IfOk};
 ghost use Rattle.ring_steps.specs.Ends.{writing_in, reading_in};
 ghost use Rattle.ring_steps.specs.NewRings.{first_writing, first_reading};
+ghost use Rattle.surface_tests.specs.Seats.{two_pages, second_begun, first_closed, first_claimed};
 
 use link_marks::{Link, Mark, header};
 use page_image::{Body, Page};
@@ -30,7 +29,7 @@ fn a_wish_is_stored(rt: HostRuntime) -> Result<(), Fail> {
 
 /// A take from a new ring, whose steps go by what they find.
 fn take(rt: &impl Abort, reader: &mut ReaderSeat, spare: Body) -> Result<(), Fail>
-    requires shape { reader.old.shape ≡ record { pages = 2; size = 32; start = 0 } }
+    requires shape { reader.old.shape ≡ two_pages }
     requires new { reading_in reader.old ≡ first_reading reader.old.shape }
     requires body { length spare ≡ 32 }
 {
@@ -72,19 +71,13 @@ fn a_record_is_noted_and_the_wish_is_loaded(rt: HostRuntime) -> Result<(), Fail>
     Ok(())
 }
 
-/// A record in the first page, amid which a close frame begins the second.
+/// A record in the first page, during which a close frame begins the second.
 fn begin_second(writer: &mut WriterSeat) -> Result<Body, Fail>
-    requires shape { writer.old.shape ≡ record { pages = 2; size = 32; start = 0 } }
+    requires shape { writer.old.shape ≡ two_pages }
     requires new { writing_in writer.old ≡ first_writing writer.old.shape }
     ensures shape { writer.new.shape ≡ writer.old.shape }
     ensures body { IfOk result (λ body. length body ≡ 32) }
-    ensures part { IfOk result (λ _. writing_in writer.new ≡ record {
-      frames = record { kind = for_record 1 0; state = reserved 0; phase = idle } ∷ [];
-      open_pages = 0 ∷ 1 ∷ [];
-      history = push 1 0 ∷ reserve ∷ push_close ∷ open_fill ∷ leave None ∷ [];
-      done = 0;
-      opened = 2;
-    }) }
+    ensures part { IfOk result (λ _. writing_in writer.new ≡ second_begun) }
 {
     writer.note_push(1, 0);
     writer.note_step();
@@ -103,23 +96,11 @@ fn begin_second(writer: &mut WriterSeat) -> Result<Body, Fail>
 
 /// The record ends, and the first page is closed.
 fn close_first(writer: &mut WriterSeat, body: Body)
-    requires shape { writer.old.shape ≡ record { pages = 2; size = 32; start = 0 } }
+    requires shape { writer.old.shape ≡ two_pages }
     requires body { length body ≡ 32 }
-    requires part { writing_in writer.old ≡ record {
-      frames = record { kind = for_record 1 0; state = reserved 0; phase = idle } ∷ [];
-      open_pages = 0 ∷ 1 ∷ [];
-      history = push 1 0 ∷ reserve ∷ push_close ∷ open_fill ∷ leave None ∷ [];
-      done = 0;
-      opened = 2;
-    } }
+    requires part { writing_in writer.old ≡ second_begun }
     ensures shape { writer.new.shape ≡ writer.old.shape }
-    ensures part { writing_in writer.new ≡ record {
-      frames = record { kind = for_record 1 0; state = left; phase = wishing } ∷ [];
-      open_pages = 1 ∷ [];
-      history = push 1 0 ∷ reserve ∷ push_close ∷ open_fill ∷ leave None ∷ leave (Some []) ∷ [];
-      done = 1;
-      opened = 2;
-    } }
+    ensures part { writing_in writer.new ≡ first_closed }
 {
     writer.note_end(&[]);
     let mut front = Page::fresh(body, RecordNo(0), FillNo(0));
@@ -127,23 +108,12 @@ fn close_first(writer: &mut WriterSeat, body: Body)
     writer.release_fill(0, front);
 }
 
-/// Another record, amid which a close frame claims the head.
+/// Another record, during which a close frame claims the head.
 fn claim_first(writer: &mut WriterSeat) -> Result<(), Fail>
-    requires shape { writer.old.shape ≡ record { pages = 2; size = 32; start = 0 } }
-    requires part { writing_in writer.old ≡ record {
-      frames = record { kind = for_record 1 0; state = left; phase = wishing } ∷ [];
-      open_pages = 1 ∷ [];
-      history = push 1 0 ∷ reserve ∷ push_close ∷ open_fill ∷ leave None ∷ leave (Some []) ∷ [];
-      done = 1;
-      opened = 2;
-    } }
+    requires shape { writer.old.shape ≡ two_pages }
+    requires part { writing_in writer.old ≡ first_closed }
     ensures shape { writer.new.shape ≡ writer.old.shape }
-    ensures frames { IfOk result (λ _. (writing_in writer.new).frames
-        ≡ record { kind = for_close; state = waiting; phase = looking_next owner 2 0 }
-        ∷ record { kind = for_record 2 0; state = reserved 1; phase = idle }
-        ∷ record { kind = for_record 1 0; state = left; phase = wishing } ∷ []) }
-    ensures pages { IfOk result (λ _. (writing_in writer.new).open_pages ≡ 1 ∷ []) }
-    ensures counts { IfOk result (λ _. ((writing_in writer.new).done ≡ 1) × ((writing_in writer.new).opened ≡ 2)) }
+    ensures part { IfOk result (λ _. writing_in writer.new ≡ first_claimed) }
 {
     writer.note_push(2, 0);
     writer.note_step();
@@ -165,13 +135,8 @@ fn claim_first(writer: &mut WriterSeat) -> Result<(), Fail>
 
 /// The second page becomes the head, and a third fill is begun on the first page.
 fn begin_third(writer: &mut WriterSeat) -> Result<Body, Fail>
-    requires shape { writer.old.shape ≡ record { pages = 2; size = 32; start = 0 } }
-    requires frames { (writing_in writer.old).frames
-        ≡ record { kind = for_close; state = waiting; phase = looking_next owner 2 0 }
-        ∷ record { kind = for_record 2 0; state = reserved 1; phase = idle }
-        ∷ record { kind = for_record 1 0; state = left; phase = wishing } ∷ [] }
-    requires pages { (writing_in writer.old).open_pages ≡ 1 ∷ [] }
-    requires counts { ((writing_in writer.old).done ≡ 1) × ((writing_in writer.old).opened ≡ 2) }
+    requires shape { writer.old.shape ≡ two_pages }
+    requires part { writing_in writer.old ≡ first_claimed }
     ensures body { IfOk result (λ body. length body ≡ 32) }
 {
     let Link {
@@ -187,7 +152,7 @@ fn begin_third(writer: &mut WriterSeat) -> Result<Body, Fail>
     Ok(writer.open_fill(0, FillNo(2)))
 }
 
-/// A record amid which its page is closed; then another, amid which the head is moved past the first page.
+/// A page is closed during its record. During another one the head is moved past it.
 #[test]
 fn a_page_is_closed_and_lost(rt: HostRuntime) -> Result<(), Fail> {
     let (mut writer, _reader) = seats(rt.alloc(), 2, 32)?;
