@@ -86,6 +86,22 @@ fn put_again(
     put(out, alloc, &row.ask(event))
 }
 
+/// Puts what is answered to an event, which is on the line of this number.
+fn put_asked(
+    out: &mut String,
+    alloc: Global,
+    row: &mut Collectors,
+    number: u64,
+    event: &Event,
+) -> Result<(), Fault> {
+    match row.ask(event) {
+        Err(Refusal::NoMemory) => put_again(out, alloc, row, event)?,
+        Err(Refusal::NoCollector) => return Err(Fault::NoCollector(number)),
+        answer => put(out, alloc, &answer)?,
+    }
+    Ok(())
+}
+
 /// The text as far as it was read: the collectors of the row.
 #[derive(Drop)]
 pub struct Rows {
@@ -122,11 +138,7 @@ impl Rows {
             return Err(Fault::NoCollector(number));
         };
         let mut out = format!(in alloc; "{text} -> ")?;
-        match row.ask(&event) {
-            Err(Refusal::NoMemory) => put_again(&mut out, alloc, row, &event)?,
-            Err(Refusal::NoCollector) => return Err(Fault::NoCollector(number)),
-            answer => put(&mut out, alloc, &answer)?,
-        }
+        put_asked(&mut out, alloc, row, number, &event)?;
         Ok(Some(out))
     }
 

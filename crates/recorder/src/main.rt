@@ -16,7 +16,6 @@ use crate::fault::Fault;
 use crate::recording::record;
 use crate::taking::{take_beside, take_pages};
 use collector::Collector;
-use nested_writer::WriteFault;
 use ring_shared::{Reader, Writer, ring};
 use std::alloc::Global;
 use std::process::ExitCode;
@@ -34,27 +33,26 @@ const LARGE: CpuId = CpuId(1);
 /// The bytes of data of each page of both rings.
 const SIZE: usize = 64;
 
-/// What the thread of the writer of the larger ring and the one of its reader leave.
-type Taken = (Result<(), WriteFault>, Result<(Reader, Collector), Fault>);
-
 /// Records the events of the larger ring in one thread, and takes its pages in another.
 fn record_and_take<R: Threads + Sync>(
     rt: &R,
     alloc: Global,
     writer: Writer,
     reader: Reader,
-) -> Taken
+) -> Result<(Reader, Collector), Fault>
     requires writer { IsWriter writer }
     requires reader { IsReader reader }
     requires size { reader.shape.size ≡ 64 }
-    ensures reader { IfOk result.1 (λ taken. IsReader taken.0) }
-    ensures size { IfOk result.1 (λ taken. taken.0.shape.size ≡ 64) }
+    ensures reader { IfOk result (λ taken. IsReader taken.0) }
+    ensures size { IfOk result (λ taken. taken.0.shape.size ≡ 64) }
 {
-    thread::join(
+    let (recorded, taken) = thread::join(
         rt,
         move || record(writer, b"call"),
         move || take_beside(alloc, LARGE, reader),
-    )
+    );
+    recorded?;
+    taken
 }
 
 /// Records the events of both CPUs, and collects what their rings keep of them.
@@ -62,24 +60,23 @@ fn collect<R: Threads + AllocGlobal + Sync>(rt: &R) -> Result<Collector, Fault> 
     let alloc = rt.alloc();
     let (irqs, mut kept_irqs) = ring(alloc, 3, SIZE)?;
     let (calls, kept_calls) = ring(alloc, 16, SIZE)?;
-    let (irqs, (calls, taken)) = thread::join(
+    let (recorded, taken) = thread::join(
         rt,
         move || record(irqs, b"irq "),
-        move || -> Taken
+        move || -> Result<(Reader, Collector), Fault>
             requires { IsWriter calls × IsReader kept_calls × (kept_calls.shape.size ≡ 64) }
-            ensures { IfOk result.1 (λ taken. IsReader taken.0 × (taken.0.shape.size ≡ 64)) }
+            ensures { IfOk result (λ taken. IsReader taken.0 × (taken.0.shape.size ≡ 64)) }
         { record_and_take(rt, alloc, calls, kept_calls) },
     );
-    irqs?;
-    calls?;
+    recorded?;
     let (mut kept_calls, mut collector) = taken?;
     take_pages(alloc, SMALL, &mut kept_irqs, &mut collector)?;
     take_pages(alloc, LARGE, &mut kept_calls, &mut collector)?;
     Ok(collector)
 }
 
-/// Prints each record by time, with its CPU and its number, and then the numbers that are missing.
-fn print<R: Print + AllocGlobal>(rt: &R, collector: &Collector) -> Result<(), Fault> {
+/// Prints each record by time, with its CPU and its number.
+fn print_records<R: Print + AllocGlobal>(rt: &R, collector: &Collector) -> Result<(), Fault> {
     for line in &listing(rt.alloc(), collector)? {
         let event = str::from_utf8(line.bytes).unwrap_or("?");
         println!(rt;
@@ -87,6 +84,11 @@ fn print<R: Print + AllocGlobal>(rt: &R, collector: &Collector) -> Result<(), Fa
             line.moment.0, line.cpu.0, line.number.0
         )?;
     }
+    Ok(())
+}
+
+/// Prints the numbers that are missing.
+fn print_missing<R: Print>(rt: &R, collector: &Collector) -> Result<(), Fault> {
     for cpu in [SMALL, LARGE] {
         for (first, last) in collector.missing(cpu) {
             println!(rt; "cpu {}: {} to {} are missing", cpu.0, first.0, last.0)?;
@@ -98,7 +100,8 @@ fn print<R: Print + AllocGlobal>(rt: &R, collector: &Collector) -> Result<(), Fa
 /// Records, and prints what is left of it.
 fn run<R: Threads + Print + AllocGlobal + Sync>(rt: &R) -> Result<(), Fault> {
     let collector = collect(rt)?;
-    print(rt, &collector)
+    print_records(rt, &collector)?;
+    print_missing(rt, &collector)
 }
 
 fn main(rt: HostRuntime) -> ExitCode {
