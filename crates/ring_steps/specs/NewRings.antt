@@ -17,7 +17,7 @@ pub record IsShape (shape : Shape) : Type 0 where
   pub limits : HasRingLimits shape.pages shape.size
   pub numbers_left : shape.start + shape.pages < LINK_FILLS
 
--- count numbers, from one on
+-- `count` numbers one after the other, of which the first is `from`
 abbrev pub counted : (from count : ℕ) → List ℕ
 counted from zero = []
 counted from (suc count) = from ∷ counted (suc from) count

@@ -2,7 +2,8 @@
 //!
 //! The words and the page slots of a ring lie in one table with two seats, the writer's and the reader's. Its rule says
 //! that they show a state of the ring's model with what the two ends know (`docs/MODEL.md`, "The running ring"); each
-//! call here is one step of that model. What the writer does in private between its steps is noted for proofs alone.
+//! call of a seat, but for the notes, is one step of that model. What the writer does in private between its steps is
+//! noted for proofs alone.
 #![tactic(auto)]
 
 mod ends;

@@ -15,7 +15,7 @@ use std::sync::atomic::{AtomicBool, Ordering};
 use std::thread::Promise;
 use trace_model::{CpuId, FillNo, NoMemory};
 
-/// Why a reader's thread has stopped before a take found nothing.
+/// Why a reader's thread has stopped before its last take: one that began after its writer was over, and found nothing.
 #[derive(Clone, Copy, Debug)]
 pub(crate) enum Stop {
     NoMemory,

@@ -75,8 +75,8 @@ impl Writer {
         self.frames.end()
     }
 
-    /// The record of the frame on top is reserved, or a page is needed, or the frame is refused. A frame that has
-    /// reserved gets its number again.
+    /// The record of the frame on top is reserved, or it is a close frame that has nothing to close and leaves; or a
+    /// page is needed, and noted or refused. A frame that has reserved gets its number again.
     #[inline(always)]
     pub(crate) fn reserve(&mut self) -> Answer
         requires framed { HasFrame self.old }

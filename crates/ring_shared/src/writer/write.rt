@@ -35,8 +35,8 @@ impl Writer {
         }
     }
 
-    /// `write`, of a record that isn't as nearly all are. So `write` has no call before which it would have to save
-    /// registers.
+    /// `write`, if no short record was written at once: another frame is on the stack, the tail has no room, or the
+    /// record isn't as nearly all are. It isn't inlined, since that is rare.
     #[cold]
     #[inline(never)]
     fn write_rarely(&mut self, moment: u64, payload: &[u8]) -> Result<(), WriteFault>
