@@ -108,7 +108,7 @@ enum {
     TRACERING_TOO_LONG = 2,      // the payload doesn't fit a page; put: the bytes don't fit the slot
     TRACERING_LATE_MOMENT = 3,   // the moment is 2^59 or later
     TRACERING_CROWDED = 4,       // a page is needed, and all are begun and not closed
-    TRACERING_WORN = 5,          // a page is needed, and no number is left for one more use of a page: there are 2^48
+    TRACERING_WORN = 5,          // a page is needed, and no number is left for its use: there are 2^48 - `pages`
     TRACERING_NO_FRAME = 6,      // nothing is begun
     TRACERING_NOT_RESERVED = 7,  // the frame on top has no record: not yet, not any more, or it is a close
     TRACERING_ABSENT = 8,        // the handle has nothing

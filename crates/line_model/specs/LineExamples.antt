@@ -26,7 +26,8 @@ NestedFrames = IsMadeByLines 2 32 0
 abbrev pub DroppedWrite : Type 0
 DroppedWrite = IsMadeByLines 2 32 0 (write 0 7 (1 ∷ 2 ∷ 3 ∷ 4 ∷ []) ∷ []) []
 
--- The records of three lines: the second one's moment is raised, and the third one is too long.
+-- The records of three `w` lines, with a `c` line after the first: the second one's moment is raised, and the third one
+-- is too long.
 abbrev pub RecordsOfThree : List ℕ → Type 0
 RecordsOfThree payload =
     records_of_lines 32 0 (write 0 7 (1 ∷ 2 ∷ 3 ∷ 4 ∷ []) ∷ close 0 ∷ write 0 5 (5 ∷ []) ∷ write 0 9 payload ∷ [])

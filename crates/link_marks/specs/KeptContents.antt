@@ -17,8 +17,8 @@ abbrev pub Holds : ℕ → ℕ → List ℕ → List PageRecords → List ℕ �
 Holds n start order held cuts records f =
     slice_index_or held (page_at n order f) empty_page ≡ cut_fill start cuts records f
 
--- The fills are as many as are begun, each page has room for one, and those that are begun and not taken or
--- lost are in their pages.
+-- The fills are as many as are begun, the first of them at or before the head, and their cuts rise; it is known what
+-- each of the n + 1 pages holds; and those that are begun and not taken or lost are in their pages.
 pub record PagesKept (n start : ℕ) (order : List ℕ) (held : List PageRecords) (cuts : List ℕ)
     (records : List Reservation) (head opened : ℕ)
     : Type 0 where

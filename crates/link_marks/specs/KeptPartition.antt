@@ -24,7 +24,7 @@ HaveFirsts taken = (k : ℕ) (t : TakenFill)
     → slice_get taken k ≡ Some t
     → first_of (pieces_of taken) k ≡ Some t.held.first
 
--- The reader expects no number above the head's first one; and the records below that number are,
+-- The number that the reader expects is at most the head's first one; and the records below the expected number are,
 -- in order, those that it took and those that were lost between. What it took are fills of the history, from
 -- below the head.
 pub record PartitionAt (start : ℕ) (history : List HistoryEvent) (head expected : ℕ) (taken : List TakenFill)

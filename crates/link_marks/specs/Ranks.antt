@@ -11,7 +11,7 @@ use Rattle.link_marks.specs.RingKept.{IsRingKept}
 
 -- ---- a frame
 
--- a frame whose record isn't reserved has a way longer by all that a frame still does when it has left
+-- a frame that hasn't left has a way longer by all that it still does when it has left
 abbrev pub state_rank : FrameState → ℕ
 state_rank waiting = 20
 state_rank (reserved number) = 20

@@ -5,14 +5,14 @@ use std::marker::Model;
 use trace_model::{Moment, RecordNo};
 
 /// A record of a page: its number among its CPU's records, its moment, and its bytes, which are the page's own,
-/// with the zeros that fill the record's slot.
+/// with those that fill the record's slot.
 #[derive(Clone, Copy, Debug, PartialEq, Eq)]
 pub struct Entry<'a> {
     /// Its number among the records of its CPU, from 0.
     pub number: RecordNo,
     /// When it was made.
     pub moment: Moment,
-    /// Its slot: the payload, and zeros up to whole words.
+    /// Its slot: the payload, and what fills it up to a multiple of 4 bytes: zeros, if this project wrote the page.
     pub bytes: &'a [u8],
 }
 

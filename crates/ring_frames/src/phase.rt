@@ -67,7 +67,7 @@ pub enum Phase {
     },
     /// It has left, and closes fills.
     Releasing,
-    /// It has left, no fill is left to close, and it looks for the reader's wish.
+    /// It has left, no fill was left to close, and it looks for the reader's wish.
     Wishing,
 }
 

@@ -100,7 +100,7 @@ impl WriterSeat {
         link_in(found)
     }
 
-    /// A load of the reader's wish, when no fill is left to close.
+    /// A load of the reader's wish, by a frame that had no fill left to close; another may have begun one since.
     pub fn load_wish(&mut self) -> u64
         requires phase { IsTopIn (writing_in self.old).frames wishing }
         ensures same { SameSeat self.old self.new }

@@ -54,7 +54,7 @@ pub data Role : Type 0 where
 
 -- How far a frame has come with the ring's words, in this order: idle, it has noted nothing; looking, claiming,
 -- looking_next, marking, clearing, opening, the rows of docs/FORMATS.md, "Writer frames"; releasing, it closes fills;
--- wishing, none is left to close, and it looks for the reader's wish. noted: the number of begun fills when it found
+-- wishing, none was left to close, and it looks for the reader's wish. noted: the number of begun fills when it found
 -- that it needs a page, which is the number of the fill to open. page: the page at that fill's position. next: the page
 -- after that.
 pub data Phase : Type 0 where

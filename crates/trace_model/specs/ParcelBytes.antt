@@ -5,8 +5,8 @@ use Rattle.trace_model.specs.Image.{le64, Missed, none, unknown, counted, Decode
 use Rattle.trace_model.specs.Parcel.{Parcel}
 use Rattle.trace_model.specs.declared.limits.TheConstants.{MAX_CPUS}
 
--- What holds of each parcel: there is such a CPU, its records have numbers below 2^64, and it misses at most as
--- many numbers as there are before its first one.
+-- What holds of each parcel: there is such a CPU, the number after its last record's is below 2^64, and it misses at
+-- most as many numbers as there are before its first one.
 pub record IsParcel (parcel : Parcel) : Type 0 where
   pub cpu_known : parcel.cpu < MAX_CPUS
   pub numbers_fit : parcel.first + length parcel.records < 2 ^ 64
