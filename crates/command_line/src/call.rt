@@ -22,7 +22,7 @@ pub enum Call {
 /// Why the command line asks for nothing.
 #[derive(Clone, Copy, Debug, PartialEq, Eq)]
 pub enum CallFault {
-    /// The parse refuses the words, or they call for help, or they name no command.
+    /// A word can't be read, or the parse refuses the words, or they call for help, or they name no command.
     Usage,
     /// Memory was refused.
     NoMemory,

@@ -1,4 +1,5 @@
-//! That a text has one output: the contract of a function with an empty body.
+//! What is printed for a text: a world or a fault, one output, and a world that is genuine. Each is the contract of a
+//! function with an empty body.
 ghost use Rattle.std.specs.Prelude.{◌≡◌, ◌↔◌, ◌⊎◌, ℕ, Bool, List};
 ghost use Rattle.world_model.specs.World.{WorldOf};
 ghost use Rattle.world_model.specs.Headline.{IsGenuineWorld};

@@ -41,7 +41,7 @@ impl<T: Drop> From<AllocFailed<T>> for ScriptFault {
 /// What is wrong with a line, wherever it is.
 #[derive(Clone, Copy, Debug, PartialEq, Eq)]
 pub enum LineFault {
-    /// The line has another form, or is absent.
+    /// The line has another form.
     BadLine,
     /// A field is no decimal number of 64 bits.
     BadNumber,
