@@ -112,6 +112,14 @@ fn reported_fault(alloc: Global, text: &[u8], lines: u64) -> Result<(u64, usize)
     Err(Fail::from("no line of a fault"))
 }
 
+// A script is refused with this text.
+fn compare_fault(rt: &(impl Abort + AllocGlobal), script: &[u8], text: &[u8]) -> Result<(), Fail> {
+    let (status, same) = replayed(rt.alloc(), script, false)?;
+    assert!(rt; status == REFUSED);
+    assert!(rt; same.as_slice() == text);
+    Ok(())
+}
+
 // A refused script reports its first faulty line: the lines up to that one have this fault too, and those before
 // it have none, unless their header isn't whole. Gives the index of the fault's name.
 fn compare_refused(
@@ -121,9 +129,7 @@ fn compare_refused(
 ) -> Result<usize, Fail> {
     let alloc = rt.alloc();
     let (number, index) = reported_fault(alloc, text, count_lines(script))?;
-    let (status, same) = replayed(alloc, first_lines(script, number), false)?;
-    assert!(rt; status == REFUSED);
-    assert!(rt; same.as_slice() == text);
+    compare_fault(rt, first_lines(script, number), text)?;
     let (status, before) = replayed(alloc, first_lines(script, number.saturating_sub(1)), false)?;
     if status != DONE {
         let lacks = format!(in alloc; "line {number}: BadLine\n")?;
@@ -141,6 +147,17 @@ fn compare_done(rt: &(impl Abort + AllocGlobal), script: &[u8], text: &[u8]) -> 
     Ok(())
 }
 
+// A script is replayed, or refused for its first fault. Gives an index for each of these answers.
+fn compare_script(rt: &(impl Abort + AllocGlobal), script: &[u8]) -> Result<usize, Fail> {
+    let (status, text) = replayed(rt.alloc(), script, false)?;
+    if status == DONE {
+        compare_done(rt, script, &text)?;
+        return Ok(FAULTS.len());
+    }
+    assert!(rt; status == REFUSED);
+    compare_refused(rt, script, &text)
+}
+
 #[test]
 fn any_script_is_replayed_or_refused_for_its_first_fault(rt: HostRuntime) -> Result<(), Fail> {
     let alloc = rt.alloc();
@@ -152,14 +169,7 @@ fn any_script_is_replayed_or_refused_for_its_first_fault(rt: HostRuntime) -> Res
         } else {
             changed_script(alloc, &mut numbers)?
         };
-        let (status, text) = replayed(alloc, &script, false)?;
-        let index = if status == DONE {
-            compare_done(&rt, &script, &text)?;
-            FAULTS.len()
-        } else {
-            assert!(rt; status == REFUSED);
-            compare_refused(&rt, &script, &text)?
-        };
+        let index = compare_script(&rt, &script)?;
         assert!(rt; index < met.len());
         met[index] = 1;
     }

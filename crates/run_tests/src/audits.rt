@@ -103,16 +103,28 @@ fn ledger_of(rt: &(impl Abort + AllocGlobal), parcels: &[&[u8]]) -> Result<Ledge
     })
 }
 
-/// Audits the collector of a row.
-fn compare(rt: &(impl Abort + AllocGlobal), row: &Row) -> Result<(), Fail> {
+/// A collector of these parcels.
+fn collector_of(rt: &impl AllocGlobal, delivered: &[&[u8]]) -> Result<Collector, Fail> {
     let mut collector = Collector::new(rt.alloc());
-    for bytes in row.delivered {
+    for bytes in delivered {
         let _added = collector.add(Parcel::from_bytes(rt.alloc(), bytes)?);
     }
+    Ok(collector)
+}
+
+/// The ledger of each CPU.
+fn ledgers_of(rt: &(impl Abort + AllocGlobal), taken: &[&[&[u8]]]) -> Result<Vec<Ledger>, Fail> {
     let mut ledgers = Vec::new(rt.alloc());
-    for parcels in row.taken {
+    for parcels in taken {
         ledgers.push(ledger_of(rt, parcels)?)?;
     }
+    Ok(ledgers)
+}
+
+/// Audits the collector of a row.
+fn compare(rt: &(impl Abort + AllocGlobal), row: &Row) -> Result<(), Fail> {
+    let collector = collector_of(rt, row.delivered)?;
+    let ledgers = ledgers_of(rt, row.taken)?;
     assert!(rt; audit(&collector, &ledgers) == row.answer);
     Ok(())
 }

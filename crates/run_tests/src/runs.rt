@@ -155,20 +155,25 @@ fn an_overflow_is_taken_or_missed(rt: HostRuntime) -> Result<(), Fail> {
     Ok(())
 }
 
+/// Each collector of a run has one record of each of so many CPUs.
+fn compare_wide(rt: &impl Abort, ran: &Ran, cpus: u8, collectors: usize) {
+    assert!(rt; ran.collectors.len() == collectors);
+    check_audits(rt, ran);
+    for collector in &ran.collectors {
+        for cpu in 0..cpus {
+            let bytes = [cpu, 0, 0, 0];
+            compare(rt, collector, CpuId(u32::from(cpu)), &[(1, &bytes)]);
+        }
+    }
+}
+
 #[test]
 fn many_cpus_and_collectors_run_at_once(rt: HostRuntime) -> Result<(), Fail> {
     for (cpus, collectors) in WIDTHS {
         let script = wide_script(rt.alloc(), *cpus, *collectors)?;
         for _ in 0..WIDE_RUNS {
             let ran = run_of(&rt, script.as_bytes(), &OpenGate)?;
-            assert!(rt; ran.collectors.len() == *collectors);
-            check_audits(&rt, &ran);
-            for collector in &ran.collectors {
-                for cpu in 0..*cpus {
-                    let bytes = [cpu, 0, 0, 0];
-                    compare(&rt, collector, CpuId(u32::from(cpu)), &[(1, &bytes)]);
-                }
-            }
+            compare_wide(&rt, &ran, *cpus, *collectors);
         }
     }
     Ok(())

@@ -340,8 +340,8 @@ fn run_threads<R: Threads + Abort + Sync>(
 
 /// A new ring is written in one thread and read in another, and its records accounted for at rest.
 fn run_ring<R: Threads + Abort + Sync>(rt: &R, alloc: Global) -> Result<(), NoMemory> {
-    let (writer, reader) = ring(alloc, PAGES, SIZE)?;
     let body = Body::new(alloc, SIZE)?;
+    let (writer, reader) = ring(alloc, PAGES, SIZE)?;
     let writing = Writing { writer, next: 0 };
     let reading = Reading {
         reader,
