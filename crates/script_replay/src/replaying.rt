@@ -201,7 +201,8 @@ fn obey_all<'a>(alloc: Global, script: &'a Script) -> Result<ReplayState<'a>, No
     Ok(state)
 }
 
-/// Replays a script over rings, one for each CPU of whose ring its lines ask anything. It answers no fault but `NoMemory`.
+/// Replays a script over rings, one for each CPU of whose ring its lines ask anything. It answers no fault but
+/// `NoMemory`.
 pub fn replay(alloc: Global, script: &Script) -> Result<World, ReplayFault>
     ensures headline { IfOk result (λ world. IsHeadline script.now world.collectors.items world.log.items) }
     ensures memory { IsOkUnless result no_memory }

@@ -1,7 +1,7 @@
 -- What the writer's seat knows between the steps of a test, in which a page is closed and lost.
-use Rattle.std.specs.Prelude.{[], ◌∷◌, List, Some, None}
+use Rattle.std.specs.Prelude.{[], ◌∷◌, Some, None}
 use Rattle.trace_model.specs.History.{push, push_close, reserve, open_fill, leave}
-use Rattle.trace_model.specs.Frames.{Frame, for_record, for_close, waiting, reserved, left, owner, idle, looking_next, wishing}
+use Rattle.trace_model.specs.Frames.{for_record, for_close, waiting, reserved, left, owner, idle, looking_next, wishing}
 use Rattle.ring_steps.specs.declared.rule.Shape.{Shape}
 use Rattle.ring_steps.specs.Views.{Writing}
 
