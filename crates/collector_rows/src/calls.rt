@@ -10,7 +10,7 @@ use thiserror::Error;
 use trace_model::{CpuId, NoMemory, RecordNo};
 
 /// What a call answers that does what it is asked.
-#[derive(Debug, Drop)]
+#[derive(Drop)]
 pub enum Answer {
     /// The page of an image.
     Image(Image),

@@ -4,7 +4,7 @@ use std::str::SplitWhitespace;
 use trace_model::{CpuId, FillNo, NoMemory, RecordNo};
 
 /// The numbers of a page that is to be a parcel.
-#[derive(Clone, Copy, Debug)]
+#[derive(Clone, Copy)]
 pub struct Numbers {
     pub cpu: CpuId,
     pub fill: FillNo,
@@ -13,7 +13,7 @@ pub struct Numbers {
 }
 
 /// What a line asks. A collector of the row is named by its number, from 0.
-#[derive(Debug, Drop)]
+#[derive(Drop)]
 pub enum Event {
     /// Which page has this image?
     Image(Vec<u8>),

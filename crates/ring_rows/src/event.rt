@@ -5,7 +5,7 @@ use std::str::SplitWhitespace;
 use trace_model::{LINK_FILLS, MAX_PAGES, MAX_SIZE, MIN_PAGES, MIN_SIZE, NoMemory, START_FILL};
 
 /// What a line asks.
-#[derive(Debug, Drop)]
+#[derive(Drop)]
 pub enum Event {
     /// A record frame is pushed, with its moment and its payload's length in bytes.
     Push { moment: u64, len: usize },
@@ -40,7 +40,7 @@ pub enum Event {
 }
 
 /// A ring that there can be: its pages, their data size in bytes, and its first fill.
-#[derive(Clone, Copy, Debug)]
+#[derive(Clone, Copy)]
 pub struct Shape {
     pub pages: usize,
     pub size: usize,
