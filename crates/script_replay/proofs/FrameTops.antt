@@ -26,7 +26,7 @@ use Rattle.ring_frames.proofs.Lent.{slot_keeps}
 use Rattle.ring_core.specs.IsCore.{HasStateOf, IsCore}
 use Rattle.ring_frames.specs.Answers.{top_bytes}
 use Rattle.ring_core.specs.Steps.{IsStep, MakesStep}
-use Rattle.ring_core.specs.Lending.{with_reserved, with_top, with_slot_payload, StaysRing, FitsFrame}
+use Rattle.ring_core.specs.Lending.{with_reserved, with_top_bytes, with_slot_payload, StaysRing, FitsFrame}
 use Rattle.script_replay.specs.Value.{LaneValue}
 use Rattle.script_replay.specs.Lanes.{IsLane}
 use Rattle.script_replay.specs.Frames.{AsksTop}
@@ -130,7 +130,7 @@ has_top_payload n size start cpu old lane slot is top fits =
 
 top_is_slot : (s : Stack) (frames : List stack.Frame) (slot : Slot) (part : List ℕ)
     → IsTopSlot frames slot
-    → with_top s frames part ≡ with_slot s slot part
+    → with_top_bytes s frames part ≡ with_slot s slot part
 top_is_slot s [] slot part top = absurd top
 top_is_slot s (f ∷ frames) slot part top = ap (λ (p : Progress). with_reserved s p part) top
 
