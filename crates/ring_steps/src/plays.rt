@@ -80,7 +80,7 @@ pub(crate) fn store<J: StepReport, G>(
 
 /// Makes a word `to` if it is `from`, and answers what it was. `given` is as for `load`.
 #[inline(always)]
-pub(crate) fn exchange<J: StepReport, G>(
+pub(crate) fn compare_exchange<J: StepReport, G>(
     board: &Board,
     shape: Shape,
     seat: &mut TableSeat,

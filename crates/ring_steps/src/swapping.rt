@@ -10,7 +10,7 @@ ghost use Rattle.ring_steps.specs.Swapping.{HeadTaken, HeadGone};
 
 use crate::ends::ReaderSeat;
 use crate::links::{header_word, normal_word};
-use crate::plays::{TableSeat, exchange};
+use crate::plays::{TableSeat, compare_exchange};
 use crate::rule::{Board, LINKS};
 use page_image::{Body, Page};
 use std::marker::Brand;
@@ -50,7 +50,7 @@ impl ReaderSeat {
         let word = front as usize + LINKS;
         let from = header_word(page, fill);
         let to = normal_word(spare, FillNo(fill.0 + self.shape.pages as u64));
-        if exchange::<Brand, _>(&self.board, self.shape, &mut self.seat, word, from, to, &())
+        if compare_exchange::<Brand, _>(&self.board, self.shape, &mut self.seat, word, from, to, &())
             == from
         {
             Ok(lift(&self.board, &mut self.seat, page))

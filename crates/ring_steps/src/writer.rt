@@ -20,7 +20,7 @@ ghost use Rattle.ring_steps.specs.Notes.{part_after, part_after_wish};
 use crate::ends::WriterSeat;
 use crate::ghost_part::{ghost_part_known, ghost_part_of};
 use crate::links::{header_word, link_in, normal_word, update_word};
-use crate::plays::{StepReport, exchange, load, store};
+use crate::plays::{StepReport, compare_exchange, load, store};
 use crate::rule::{DONE, LINKS, OPENED, WISH};
 use link_marks::Link;
 use page_image::{Body, Page};
@@ -55,7 +55,7 @@ impl WriterSeat {
             (J.reports self.old.seat.me) }
         ensures { HasStepped self.old self.new (J.reports self.old.seat.me result) }
     {
-        let found = exchange::<J, _>(&self.board, self.shape, &mut self.seat, word, from, to, &());
+        let found = compare_exchange::<J, _>(&self.board, self.shape, &mut self.seat, word, from, to, &());
         self.ghost_part = ghost_part_known(&self.seat);
         found
     }

@@ -3,7 +3,7 @@ use prog.Atomic.{either}
 use Rattle.atomic_table.specs.Table.{Allows}
 use Rattle.ring_steps.specs.declared.rule.Shape.{Shape}
 use Rattle.ring_steps.specs.Shown.{Shows}
-use Rattle.ring_steps.proofs.plays.exchange.Goals as goal
+use Rattle.ring_steps.proofs.plays.compare_exchange.Goals as goal
 
 pub compare_exchange-requires : goal.compare_exchange-requires
 compare_exchange-requires g c = (
