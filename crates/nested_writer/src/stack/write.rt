@@ -29,7 +29,7 @@ impl WriterStack {
 
     /// Writes a record whose moment is raised to `raised`.
     #[inline(always)]
-    fn put_record(&mut self, moment: u64, raised: u64, payload: &[u8])
+    fn write_raised(&mut self, moment: u64, raised: u64, payload: &[u8])
         requires stack { IsReachedStack self.old }
         requires fits { FitsAtOnce self.old moment (length payload.now) }
         requires raised { raised ≡ max moment self.old.last_moment }
@@ -66,7 +66,7 @@ impl WriterStack {
         if self.size < end + size_of(len, raised - self.last_moment, end == 0) {
             return Wrote::Nothing;
         }
-        self.put_record(moment, raised, payload);
+        self.write_raised(moment, raised, payload);
         Wrote::Record
     }
 
@@ -83,7 +83,7 @@ impl WriterStack {
         if self.size < self.tail.end() + size {
             return Wrote::Nothing;
         }
-        self.put_record(moment, moment, payload);
+        self.write_raised(moment, moment, payload);
         Wrote::Record
     }
 

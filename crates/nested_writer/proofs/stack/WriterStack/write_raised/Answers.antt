@@ -9,7 +9,7 @@ use Rattle.nested_writer.specs.Inside.{stack_of}
 use Rattle.nested_writer.specs.IsStack.{IsStack, IsReachedStack}
 use Rattle.nested_writer.proofs.Bounds.{stands_ends_at}
 use Rattle.nested_writer.proofs.AtOnce.{IsPutLast, written_at_once, fits_page}
-use Rattle.nested_writer.proofs.stack.WriterStack.put_record.Goals as goal
+use Rattle.nested_writer.proofs.stack.WriterStack.write_raised.Goals as goal
 
 pub put_payload-requires : goal.put_payload-requires
 unfolding IsReachedStack
