@@ -42,9 +42,9 @@ fn record_and_take<R: Threads + Sync>(
 ) -> Result<(Reader, Collector), Fault>
     requires writer { IsWriter writer }
     requires reader { IsReader reader }
-    requires size { reader.shape.size ≡ 64 }
+    requires size { reader.shape.size ≡ SIZE }
     ensures reader { IfOk result (λ taken. IsReader taken.0) }
-    ensures size { IfOk result (λ taken. taken.0.shape.size ≡ 64) }
+    ensures size { IfOk result (λ taken. taken.0.shape.size ≡ SIZE) }
 {
     let (recorded, taken) = thread::join(
         rt,
@@ -64,8 +64,8 @@ fn collect<R: Threads + AllocGlobal + Sync>(rt: &R) -> Result<Collector, Fault> 
         rt,
         move || record(irqs, b"irq "),
         move || -> Result<(Reader, Collector), Fault>
-            requires { IsWriter calls × IsReader kept_calls × (kept_calls.shape.size ≡ 64) }
-            ensures { IfOk result (λ taken. IsReader taken.0 × (taken.0.shape.size ≡ 64)) }
+            requires { IsWriter calls × IsReader kept_calls × (kept_calls.shape.size ≡ SIZE) }
+            ensures { IfOk result (λ taken. IsReader taken.0 × (taken.0.shape.size ≡ SIZE)) }
         { record_and_take(rt, alloc, calls, kept_calls) },
     );
     recorded?;

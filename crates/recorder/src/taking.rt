@@ -23,9 +23,9 @@ pub fn take_pages(
     collector: &mut Collector,
 ) -> Result<(), Fault>
     requires reader { IsReader reader.old }
-    requires size { reader.old.shape.size ≡ 64 }
+    requires size { reader.old.shape.size ≡ SIZE }
     ensures reader { IsReader reader.new }
-    ensures size { reader.new.shape.size ≡ 64 }
+    ensures size { reader.new.shape.size ≡ SIZE }
 {
     let mut body = Body::new(alloc, SIZE)?;
     for _ in 0..TAKES {
@@ -44,9 +44,9 @@ pub fn take_pages(
 /// Takes pages beside their writer for a while, into a new collector.
 pub fn take_beside(alloc: Global, cpu: CpuId, reader: Reader) -> Result<(Reader, Collector), Fault>
     requires reader { IsReader reader }
-    requires size { reader.shape.size ≡ 64 }
+    requires size { reader.shape.size ≡ SIZE }
     ensures reader { IfOk result (λ ends. IsReader ends.0) }
-    ensures size { IfOk result (λ ends. ends.0.shape.size ≡ 64) }
+    ensures size { IfOk result (λ ends. ends.0.shape.size ≡ SIZE) }
 {
     let mut reader = reader;
     let mut collector = Collector::new(alloc);

@@ -1,6 +1,7 @@
 use Rattle.std.specs.Prelude.{◌≡◌}
 use Rattle.ring_shared.specs.Takes.{IsReader}
+use Rattle.recorder.specs.declared.TheConstants.{SIZE}
 use Rattle.recorder.proofs.taking.take_beside.Given as goal
 
 abbrev pub invariant-loop : goal.invariant-loop
-invariant-loop l = IsReader l.reader × (l.reader.shape.size ≡ 64)
+invariant-loop l = IsReader l.reader × (l.reader.shape.size ≡ SIZE)
