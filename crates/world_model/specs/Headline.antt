@@ -33,7 +33,8 @@ pub record IsWholeFill (history : List HistoryEvent) (start : ℕ) (parcel : Par
   pub first_is : parcel.first ≡ (fill_of history start parcel.fill).first
   pub records_are : parcel.records ≡ map as_record (fill_of history start parcel.fill).records
 
--- the record of this number is in this fill of the history; no number is in the tail
+-- The record of this number is in this fill of the history. This holds of no record of the tail, since the fill after
+-- it isn't begun: the first number of that is 0.
 abbrev pub StandsIn : (history : List HistoryEvent) (start fill number : ℕ) → Type 0
 StandsIn history start fill number =
     (first_of_fill history start fill ≤ number) × (number < first_of_fill history start (suc fill))
