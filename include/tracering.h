@@ -112,7 +112,7 @@ enum {
     TRACERING_NO_FRAME = 6,      // nothing is begun
     TRACERING_NOT_RESERVED = 7,  // the frame on top has no record: not yet, not any more, or it is a close
     TRACERING_ABSENT = 8,        // the handle has nothing
-    TRACERING_IN_USE = 9,        // a handle that something new is to go to isn't all zeros
+    TRACERING_IN_USE = 9,        // the handle that something new is to go to has something already
     TRACERING_BUSY = 10,         // the handle is in another call
     TRACERING_NULL = 11,         // a pointer is null
     TRACERING_NO_MEMORY = 12,    // there is no memory
