@@ -1,6 +1,6 @@
 //! What comes before the data of an image, and the count after it.
 ghost use Rattle.std.specs.Prelude.{◌≡◌, ◌≢◌, ℕ, ◌+◌, ◌≤◌, ◌<◌, List, length, drop, IfOk, IfErr};
-ghost use Rattle.trace_model.specs.Image.{from_le64, commit_word, commit_of as commit_written, ReportsMissed};
+ghost use Rattle.trace_model.specs.Image.{from_le64, commit_word, commit_of, ReportsMissed};
 ghost use Rattle.trace_model.specs.declared.limits.TheConstants.{MAX_SIZE};
 ghost use Rattle.page_image.specs.Images.{missed_of, commit_with, IsCommitWord, HasPartsOf, LacksCount, IsImageFault};
 
@@ -49,7 +49,7 @@ fn number_at(bytes: &[u8], at: usize) -> u64
 }
 
 /// What a commit word says.
-fn commit_of(word: u64) -> Commit
+fn commit_in(word: u64) -> Commit
     ensures { IsCommitWord word result }
 {
     Commit {
@@ -66,7 +66,7 @@ impl Commit {
         requires limit { size ≤ MAX_SIZE }
         requires end { end ≤ size }
         ensures commit { (contents : List ℕ) → length contents ≡ end
-            → commit_with result 0 ≡ commit_written contents missed size }
+            → commit_with result 0 ≡ commit_of contents missed size }
         ensures size { result.size ≡ end }
     {
         Commit {
@@ -105,7 +105,7 @@ pub(crate) fn read_header(bytes: &[u8]) -> Result<Header, ImageFault>
         return Err(ImageFault::TooShort);
     }
     let time = number_at(bytes, 0);
-    let commit = commit_of(number_at(bytes, NUMBER));
+    let commit = commit_in(number_at(bytes, NUMBER));
     if bytes.len() > MAX_IMAGE || bytes.len() - HEADER < commit.size {
         return Err(ImageFault::BadSize);
     }

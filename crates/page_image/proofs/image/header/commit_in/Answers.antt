@@ -1,6 +1,6 @@
 use Rattle.std.proofs.Common.{◌/◌, ◌^◌, arith}
 use Rattle.trace_model.proofs.images.ImageParts.{commit_word-commit_from}
-use Rattle.page_image.proofs.image.header.commit_of.Goals as goal
+use Rattle.page_image.proofs.image.header.commit_in.Goals as goal
 
 pub returns : goal.returns
 returns c = record {
