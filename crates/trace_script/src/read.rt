@@ -112,9 +112,9 @@ fn read_commands(
     Ok(Commands::of(kept, payloads))
 }
 
-/// The script that a text spells, as the plain reader of the definitions reads it.
+/// The script that a text spells, by `script_from` of the definitions over the text's lines.
 #[tactic(auto, unfolding(text_model::specs::ScriptReading::script_from))]
-fn script_in(alloc: Global, text: &[u8]) -> Result<Script, ScriptFault>
+fn script_from(alloc: Global, text: &[u8]) -> Result<Script, ScriptFault>
     ensures gives { GivesAt (λ script. script) result
         (script_from (end_line_after 0 text.now) (significant_lines_after 0 text.now)) }
     ensures memory { result ≡ Err ScriptFault.NoMemory → BeginsAsScript text.now }
@@ -136,5 +136,5 @@ pub fn read_script(alloc: Global, text: &[u8]) -> Result<Script, ScriptFault>
     // one command's, and none of these lines has a fault.
     ensures fault { IfErr result (λ fault. ReportsFirstFault text.now fault) }
 {
-    script_in(alloc, text)
+    script_from(alloc, text)
 }

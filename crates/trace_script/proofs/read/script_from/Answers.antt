@@ -1,7 +1,7 @@
 use Rattle.std.proofs.lemmas.Result.{err_from_is_err_and}
 use Rattle.trace_script.specs.declared.fault.ScriptFault.TheVariants.{NoMemory}
 use Rattle.trace_script.proofs.ScriptLemmas.{same_fault, begins_there, read_within}
-use Rattle.trace_script.proofs.read.script_in.Goals as goal
+use Rattle.trace_script.proofs.read.script_from.Goals as goal
 
 pub returns-in_err-commands-clause-memory : goal.returns-in_err-commands-clause-memory
 returns-in_err-commands-clause-memory c = λ refused.
