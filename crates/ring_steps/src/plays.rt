@@ -78,16 +78,15 @@ pub(crate) fn store<J: StepReport, G>(
     board.shared.store::<Reporting<J>>(seat, word, new);
 }
 
-/// Makes a word `to` if it is `from`, and answers what it was. `given` is as for `load`.
+/// Makes a word `to` if it is `from`, and answers what it was.
 #[inline(always)]
-pub(crate) fn compare_exchange<J: StepReport, G>(
+pub(crate) fn compare_exchange<J: StepReport>(
     board: &Board,
     shape: Shape,
     seat: &mut TableSeat,
     word: usize,
     from: u64,
     to: u64,
-    given: &G,
 ) -> u64
     requires at { SitsAt shape board.now.shared.key board.now.shared.table_id seat.old.table_id }
     requires word { word < board.now.shared.table_id.words }
@@ -98,7 +97,6 @@ pub(crate) fn compare_exchange<J: StepReport, G>(
     ensures reported { J.reports seat.old.me result seat.new.me }
 {
     let _shape = shape;
-    let _given = given;
     board
         .shared
         .compare_exchange::<Reporting<J>>(seat, word, from, to)

@@ -50,15 +50,8 @@ impl ReaderSeat {
         let word = front as usize + LINKS;
         let from = header_word(page, fill);
         let to = normal_word(spare, FillNo(fill.0 + self.shape.pages as u64));
-        if compare_exchange::<Brand, _>(
-            &self.board,
-            self.shape,
-            &mut self.seat,
-            word,
-            from,
-            to,
-            &(),
-        ) == from
+        if compare_exchange::<Brand>(&self.board, self.shape, &mut self.seat, word, from, to)
+            == from
         {
             Ok(lift(&self.board, &mut self.seat, page))
         } else {

@@ -55,15 +55,7 @@ impl WriterSeat {
             (J.reports self.old.seat.me) }
         ensures { HasStepped self.old self.new (J.reports self.old.seat.me result) }
     {
-        let found = compare_exchange::<J, _>(
-            &self.board,
-            self.shape,
-            &mut self.seat,
-            word,
-            from,
-            to,
-            &(),
-        );
+        let found = compare_exchange::<J>(&self.board, self.shape, &mut self.seat, word, from, to);
         self.ghost_part = ghost_part_known(&self.seat);
         found
     }
