@@ -1,5 +1,4 @@
 //! Why parcels can't be put together.
-use std::alloc::AllocError;
 use trace_model::{CpuId, NoMemory, RecordNo};
 
 /// Why a parcel isn't added, or a collector not merged. Nothing has changed.

@@ -18,7 +18,7 @@ ghost use Rattle.ring_steps.specs.Moving.{IsWriterMove, HasStepped};
 ghost use Rattle.ring_steps.specs.Notes.{part_after, part_after_wish};
 
 use crate::ends::WriterSeat;
-use crate::ghost_part::{ghost_part_known, ghost_part_of};
+use crate::ghost_part::ghost_part_known;
 use crate::links::{header_word, link_in, normal_word, update_word};
 use crate::plays::{StepReport, compare_exchange, load, store};
 use crate::rule::{DONE, LINKS, OPENED, WISH};

@@ -12,7 +12,7 @@ use crate::fields::{Fields, fields_of, is_letter, is_well_spaced, is_whole};
 use crate::order::Order;
 use crate::payload::put_payload;
 use crate::values::{count_of, cpu_of, number_below, number_of};
-use trace_model::{CpuId, FillNo, Moment};
+use trace_model::{FillNo, Moment};
 
 /// `d K cX F`
 #[tactic(auto, unfolding(text_model::specs::CommandReading::deliver_in))]
