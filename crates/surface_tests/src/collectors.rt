@@ -1,7 +1,6 @@
 //! Collectors and listings.
 use crate::parcels::parcel_of;
 use collector::{AddFault, Added, Collector};
-use std::process::Abort;
 use std::test::Fail;
 use time_merge::listing;
 use trace_model::{CpuId, Moment, RecordNo};

@@ -4,8 +4,6 @@ use command_io::{DONE, REFUSED, Std};
 use image_dump::dump_to;
 use replay_command::replay_to;
 use std::alloc::Global;
-use std::process::Abort;
-use std::test::Fail;
 
 /// A page with one record of moment 100.
 const IMAGE: &[u8] = b"\x64\0\0\0\0\0\0\0\x08\0\0\0\0\0\0\0\x01\0\0\0abcd";

@@ -4,7 +4,6 @@ use page_borrow::{Entry, records, slot_mut};
 use page_image::{Body, Image, ImageFault, Missed, Page, read_image};
 use record_words::{Place, Word, WordFault, next_word, put_record, size_of};
 use std::alloc::Global;
-use std::process::Abort;
 use std::test::Fail;
 use trace_model::{FillNo, Moment, RecordNo};
 

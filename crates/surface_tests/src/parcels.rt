@@ -3,7 +3,6 @@ use page_borrow::slot_mut;
 use page_image::{Body, ImageFault, Page};
 use page_numbers::{Parcel, ParcelFault};
 use std::alloc::Global;
-use std::process::Abort;
 use std::test::Fail;
 use trace_model::{CpuId, FillNo, RecordNo};
 

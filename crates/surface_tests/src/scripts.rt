@@ -1,6 +1,5 @@
 //! A script, replayed and run.
 use collector::Collector;
-use std::process::Abort;
 use std::test::Fail;
 use trace_model::{CpuId, FillNo};
 use trace_run::{AuditFault, Audited, OpenGate, Ran, World, audit, replay, run};
