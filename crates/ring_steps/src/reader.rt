@@ -1,4 +1,4 @@
-//! The reader's steps.
+//! The reader's steps but the swap, which is in `swapping.rt`.
 ghost use Rattle.std.specs.Prelude.{◌≡◌, ◌≢◌, ◌+◌, ◌-◌, ◌<◌, ◌≤◌, ⊤, true, false};
 ghost use Rattle.trace_model.specs.Links.{FitsWord, header_link};
 ghost use Rattle.trace_model.specs.Ring.{loading_head, loading_done, storing_spare_link, page_at};
