@@ -2,6 +2,10 @@
 // records its own between them. Nobody reads meanwhile: each ring keeps the newest events. When the program is hit by
 // a fault, the handler of that dumps what the rings have to standard output, as parcels of TRACERING_HEADER + SIZE
 // bytes each.
+//
+// `./tracering-lib` prints how to compile and link it. `recorder >DUMP` hits itself by such a fault when all is
+// recorded, so that it ends with status 139 (SIGSEGV); `list DUMP` and `collect <DUMP` then print what the files
+// `listed` and `collected` have.
 #define _POSIX_C_SOURCE 200809L
 #include "tracering.h"
 
