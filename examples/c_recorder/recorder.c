@@ -60,6 +60,7 @@ static void on_fault(int signal)
         for (;;)
             pause();
     record(0, "fault");
+    // In a full ring the close of the last page overwrites the oldest one.
     if (tracering_begin_close(&writers[cpu]) == TRACERING_DONE)
         (void)tracering_finish(&writers[cpu]);
     for (int each = 0; each < CPUS; each++)
