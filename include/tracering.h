@@ -252,8 +252,8 @@ static inline int32_t tracering_begin(struct tracering_writer *w, uint64_t momen
     return tracering_leave(&w->in_call, tracering_raw_begin(&w->held, moment, len));
 }
 
-// begin_close: a close of the page that is written, so that it can be taken; `finish` carries it out. In a full ring that
-// overwrites the oldest page, so take the full pages first. TOO_DEEP.
+// begin_close: a close of the page that is written, so that it can be taken; `finish` carries it out. In a full ring
+// that overwrites the oldest page, so take the full pages first. TOO_DEEP.
 static inline int32_t tracering_begin_close(struct tracering_writer *w)
 {
     if (!w)

@@ -1,5 +1,6 @@
--- What the headline of a replay (`IsHeadline` of script_replay, specs/Replay.antt) says of the pages: of each CPU, the committed records of whole fills, under their own numbers,
--- with exactly those numbers missing before them that were overwritten unread.
+-- What the headline of a replay (`IsHeadline` of script_replay, specs/Replay.antt) says of the pages: of each CPU, the
+-- committed records of whole fills, under their own numbers, with exactly those numbers missing before them that were
+-- overwritten unread.
 use Rattle.std.specs.Prelude.{◌≡◌, ℕ, suc, ◌<◌, ◌≤◌, ◌==◌, ◌↔◌, List, length, map, filter, Contains, Some}
 use Rattle.std.specs.List.{slice_get}
 use Rattle.trace_model.specs.Record.{Record}
