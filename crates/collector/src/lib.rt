@@ -1,7 +1,7 @@
 //! Collectors: what several parcels have and miss together.
 //!
 //! A collector keeps the parcels that add something, and shares their pages. Which numbers of a CPU they have and miss
-//! is kept beside them as disjoint ranges, so that a parcel is added in logarithmic time.
+//! is kept beside them as disjoint ranges, so that what is known of a number is found in logarithmic time.
 #![tactic(auto)]
 
 mod add;

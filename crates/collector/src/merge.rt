@@ -16,8 +16,8 @@ impl Collector {
 
     /// Adds the other's records and missing numbers to those here: the result is the least collector above both. The
     /// other's parcels are shared; those that add something are kept, in their order. If the two are at odds, the fault
-    /// is that of the least number, and nothing has changed. `NoMemory` is answered only if the other has or misses
-    /// something that isn't here.
+    /// is that of the least CPU and number, and nothing has changed. `NoMemory` is answered only if the other has or
+    /// misses something that isn't here.
     pub fn merge(&mut self, other: &Collector) -> Result<(), AddFault>
         ensures join { OnOk result (IsLeastUpperBound self.old other.now self.new) }
         ensures kept { OnOk result (IsMerged self.old other.now self.new) }

@@ -27,7 +27,7 @@ use Rattle.link_marks.proofs.partition.RingsKept.{reached_kept}
 use Rattle.world_model.specs.Lanes.{Lane, IsNewLane, HasPayloads}
 use Rattle.world_model.specs.RunEvents.{AreEventsOf, AreEventsOfSteps}
 use Rattle.world_model.specs.World.{World, parcel_of, RunsLine, DeliversFill, delivers, lacks, Obeys, ObeysAll, WorldOf}
-use Rattle.world_model.specs.Headline.{parcels_from}
+use Rattle.world_model.specs.GenuineWorlds.{parcels_from}
 use Rattle.world_model.proofs.Lookups.{get_set_here, get_set_other}
 use Rattle.world_model.proofs.FramesMove.{Moves, stays, changes, pops}
 use Rattle.world_model.proofs.LanePayloads.{new_fits, line_fits}

@@ -13,7 +13,7 @@ use Rattle.trace_model.specs.Listing.{Line, IsTimeOrdered}
 use Rattle.link_marks.specs.RunsAsEvents.{fills_taken}
 use Rattle.text_model.specs.Log.{LogLine}
 use Rattle.text_model.specs.Script.{Command, begin_frame, step_frame, finish_frame, write, close, step_reader, take_page, wish, deliver, Script}
-use Rattle.world_model.specs.Headline.{StandsIn, IsOverwrittenBefore}
+use Rattle.world_model.specs.GenuineWorlds.{StandsIn, IsOverwrittenBefore}
 use Rattle.world_model.specs.Printing.{Shown, printed_world}
 
 -- ---- what lines write
@@ -102,8 +102,8 @@ abbrev pub HasNoPage : ℕ → Window → Type 0
 HasNoPage n w = (w.opened ≡ w.done + n) ⊎ (LINK_FILLS ≤ w.opened + n)
 
 -- After a history the frame on top needs a page: a record frame whose record doesn't fit in the tail page; a close
--- frame, if the tail page has a record; or, if all frames have left, the reader, whose wish was found since the last
--- fill was begun.
+-- frame, if the tail page has a record; or, if all frames have left and the tail page has a record, the reader, whose
+-- wish was found since the last fill was begun.
 abbrev pub NeedsPageAfter : ℕ → List HistoryEvent → List PushedFrame → Type 0
 NeedsPageAfter size h [] = IsTrue (is_wished h) × (tail_of h ≢ [])
 NeedsPageAfter size h (record_frame moment len None ∷ below) =

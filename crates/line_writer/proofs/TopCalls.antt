@@ -29,7 +29,7 @@ use Rattle.nested_writer.specs.Lending.{with_slot}
 use Rattle.ring_frames.specs.declared.phase.Phase.{Phase}
 use Rattle.ring_frames.specs.declared.answer.Answer.{Answer}
 use Rattle.ring_frames.specs.Answers.{top_bytes}
-use Rattle.ring_frames.specs.AreFrames.{ring_frames}
+use Rattle.ring_frames.specs.AreFrames.{frames_in_phases}
 use Rattle.ring_frames.proofs.Lent.{slot_keeps}
 use Rattle.ring_steps.specs.declared.rule.Shape.{Shape}
 use Rattle.ring_steps.specs.Views.{Writing}
@@ -137,7 +137,7 @@ steps_in (Left noted) payloads none = refl
 
 steps_on_top : (frames : List stack.Frame) (phase : Phase) (below : List Phase) (payloads : List (List ℕ))
     → ((slot : Slot) → IsTopSlot frames slot → ⊥)
-    → event_on_top (ring_frames frames (phase ∷ below)) payloads ≡ steps
+    → event_on_top (frames_in_phases frames (phase ∷ below)) payloads ≡ steps
 steps_on_top [] phase below payloads none = refl
 steps_on_top (top ∷ frames) phase below payloads none = steps_in top.progress payloads none
 
@@ -156,7 +156,7 @@ state_first (first ∷ others) = first.state
 unnumbered_on_top : (frames : List stack.Frame) (phase : Phase) (below : List Phase) (frame : Frame)
     (under : List Frame)
     → ((slot : Slot) → IsTopSlot frames slot → ⊥)
-    → ring_frames frames (phase ∷ below) ≡ frame ∷ under
+    → frames_in_phases frames (phase ∷ below) ≡ frame ∷ under
     → number_of frame.state ≡ None
 unnumbered_on_top [] phase below frame under none is =
     absurd (let long = ap (λ (l : List Frame). length l) is in omega arith)
@@ -228,7 +228,7 @@ pub step_called : (old : LineWriter) (v : WriterValue) (result : Answer)
 unfolding IsWriter
 step_called old v result is some none makes near =
     let w : WriterValue = old.writer in
-    let shown : w.part.frames ≡ ring_frames w.frames.stack.frames (w.frames.phase ∷ w.frames.below) =
+    let shown : w.part.frames ≡ frames_in_phases w.frames.stack.frames (w.frames.phase ∷ w.frames.below) =
     frames_of w is.writer in
     let (frame, below, top) = some_top w.part.frames some in
     let free : number_of frame.state ≡ None =

@@ -20,8 +20,8 @@ writer_in w = record { frames = w.frames; history = w.history; done = w.done; op
 abbrev pub payloads_of : LineWriter → List (List ℕ)
 payloads_of w = reverse (map (λ payload. payload.now) (take (length w.writer.part.frames) w.payloads))
 
--- The writer is that of a ring, and there is room for a payload of each frame. Each frame has the payload that it was
--- pushed for.
+-- The writer is that of a ring, and there is room for a payload of each frame. Each frame has a payload of the length
+-- that it was pushed for.
 pub record IsLineWriter (w : LineWriter) : Type 0 where
   pub writer : IsWriter w.writer
   pub room : length w.payloads ≡ MAX_FRAMES

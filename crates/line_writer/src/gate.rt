@@ -20,8 +20,8 @@ pub trait Gate: Sync {
     ghost answers: { Self → WhoSeen → (cpu fill : ℕ) → Bool → Type 0 };
 
     /// Whether this end of the CPU's ring may go on. On false it stops; the other threads of the run go on to their
-    /// ends, and then the run answers `GateShut`. A writer's `fill` is one more than the number of the fill that it has
-    /// closed; a reader's is that of the page.
+    /// ends, and then the run answers `GateShut`, or another fault that it met. A writer's `fill` is one more than the
+    /// number of the fill that it has closed; a reader's is that of the page.
     fn pass(&self, who: Who, cpu: CpuId, fill: FillNo) -> bool
         ensures { answers self.now who cpu.0 fill.0 result };
 }

@@ -1,4 +1,4 @@
--- the stack of frames, their answers and their ends
+-- the stack of frames, what becomes of them, and their answers
 pub mod StackSteps
 pub mod TopSteps
 pub mod FrameOutcomes

@@ -1,4 +1,4 @@
--- the history of the frames
+-- the history of the frames, and the window
 pub mod Histories
 pub mod HistorySteps
 pub mod WindowEvents

@@ -1,4 +1,4 @@
--- the writer's seat and the reader's
+-- the writer's seat and the reader's; how far a frame and a take are from their ends
 pub mod SeatSteps
 pub mod PrivateSteps
 pub mod PrivateAlike

@@ -1,5 +1,5 @@
--- Worked examples of a ring: what is asked of a new one, event by event, and what it answers. docs/MODEL.md
--- shows them as tables.
+-- Worked examples of a ring: what is asked of a new one, event by event, and what it answers. docs/MODEL.md has a
+-- table of them.
 use Rattle.std.specs.Prelude.{◌≡◌, ℕ, List, [], ◌∷◌, ◌++◌, length, map, replicate, Some}
 use Rattle.trace_model.specs.Record.{Record}
 use Rattle.trace_model.specs.History.{Reservation, committed_records}

@@ -1,5 +1,6 @@
--- the crate's links as the model's
+-- the crate's links as the model's, and those of a new ring
 pub mod ModelLinks
+pub mod FirstLinks
 -- the invariant that every step of a ring keeps: of links, the stack, progress, history, pages, packing and
 -- partition, and all of it
 pub mod KeptLinks
@@ -10,7 +11,7 @@ pub mod KeptContents
 pub mod KeptPacking
 pub mod KeptPartition
 pub mod RingKept
--- the states that steps reach, a run described as events of the window, and the writer's private steps
+-- the states that steps reach, a run as a list of the ring's events, and the writer's private steps
 pub mod Reached
 pub mod RunsAsEvents
 pub mod Seats
@@ -25,11 +26,10 @@ pub mod PayloadLaws
 pub mod AnswerLaws
 pub mod SeatLaws
 pub mod WishLaws
+pub mod FrameOutcomes
+pub mod SeenLinks
 pub mod Ranks
+pub mod WriterRanks
 -- worked examples, and wrong steps
 pub mod Examples
 pub mod WrongSteps
-pub mod FirstLinks
-pub mod WriterRanks
-pub mod SeenLinks
-pub mod FrameOutcomes

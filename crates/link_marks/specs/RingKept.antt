@@ -1,5 +1,6 @@
--- The ring's invariant: what holds of every state that a ring's steps reach, and what each step keeps; from it all
--- laws of a ring follow, and that each event has its step.
+-- The ring's invariant: what holds of every state that a ring's steps reach, and what each step keeps; from it nearly
+-- all laws of a ring follow, and that each event has its step. What a frame has seen of a link (`SeenLinks`), and runs
+-- as events (`RunsMoveWindow`), rest on the states that steps reach (`IsReached`).
 use Rattle.std.specs.Prelude.{ℕ}
 use Rattle.trace_model.specs.Ring.{Core}
 use Rattle.link_marks.specs.KeptLinks.{LinksKept}

@@ -33,8 +33,8 @@ abbrev pub WindowStays : Core → Core → Type 0
 WindowStays c after = (window_of after ≡ window_of c) × (after.reader.taken ≡ c.reader.taken)
 
 -- every step leaves the window and what was taken as they were, or is one step of the window: a fill is begun
--- only if a position is free; or the oldest begun one is closed, and each push has its leave; or the head is
--- taken, closed; or the head is lost, closed and in a full ring
+-- only if a position is free; or the oldest one that isn't closed is closed, and each push has its leave; or the head
+-- is taken, closed; or the head is lost, closed and in a full ring
 abbrev pub StepsMoveWindow : Type 0
 StepsMoveWindow = (n size start : ℕ) (c : Core) (event : Event) (answer : Answer) (after : Core)
     → IsRingKept n size start c

@@ -5,7 +5,7 @@
 pub enum WriteFault {
     /// As many frames are on the writer's stack as can be: `MAX_FRAMES`.
     TooDeep,
-    /// The payload doesn't fit a page.
+    /// The record has no room on an empty page.
     TooLong,
     /// The moment is not below `MOMENT_LIMIT`.
     LateMoment,

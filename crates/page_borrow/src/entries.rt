@@ -12,7 +12,7 @@ pub struct Entry<'a> {
     pub number: RecordNo,
     /// When it was made.
     pub moment: Moment,
-    /// Its slot: the payload, and what fills it up to a multiple of 4 bytes: zeros, if this project wrote the page.
+    /// Its slot: the payload, and what fills it up to whole words (zeros, unless its writer put others there).
     pub bytes: &'a [u8],
 }
 

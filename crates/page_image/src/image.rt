@@ -35,8 +35,8 @@ pub enum Missed {
 pub struct Image {
     /// The time of the page.
     pub time: u64,
-    /// How many bytes of data the records take, as commit states it. (The page's own size is that of all bytes after
-    /// the header.)
+    /// How many bytes of data there are, as commit states it. (The page's own size is that of all bytes after the
+    /// header.)
     pub size: usize,
     /// The records that were missed before the page.
     pub missed: Missed,
@@ -51,9 +51,9 @@ pub enum ImageFault {
     TooShort,
     /// The size that is stated is above the number of bytes after the header, or the image is too long.
     BadSize,
-    /// A count of missed records is stated, and there are no eight bytes for it after the records.
+    /// A count of missed records is stated, and there are no eight bytes for it after the data.
     BadCount,
-    /// The first fault of the records. Its offset counts from the end of the header.
+    /// The first fault of the data. Its offset counts from the end of the header.
     Word(WordFault),
     /// Memory was refused. The image has a reading.
     NoMemory,
@@ -80,7 +80,7 @@ impl From<NoMemory> for ImageFault {
 pub struct Outline {
     /// The time of the page.
     pub time: u64,
-    /// How many bytes of data the records take, as commit states it.
+    /// How many bytes of data there are, as commit states it.
     pub size: usize,
     /// The records that were missed before the page.
     pub missed: Missed,
@@ -145,8 +145,8 @@ fn read(alloc: Global, bytes: &[u8]) -> Result<Image, ImageFault>
 /// Reads a page image of at most `MAX_IMAGE` bytes. The faults are looked for in the order of
 /// [`ImageFault`], and memory is asked for once, if the image has a reading.
 ///
-/// The page has as its size the number of bytes after the header. Bytes after the records and the count of
-/// missed records are kept in its body and mean nothing.
+/// The page has as its size the number of bytes after the header. Bytes after the data and the count of missed records
+/// are kept in its body and mean nothing.
 pub fn read_image(alloc: Global, bytes: &[u8]) -> Result<Image, ImageFault>
     ensures reads { IfOk result (λ image. DecodesImage bytes.now image.time image.size
         (missed_of image.missed) (records_of_page image.page)) }

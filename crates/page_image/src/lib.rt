@@ -4,21 +4,22 @@
 //!
 //! Code without loops names no fact of a page: `Page::fresh` gives what `Page::put` asks for, and `put` and a payload
 //! that is written give it again. A loop names what it keeps: that the page reads, the moment of its last record, and
-//! that its data ends in a record. So of a function that puts a record (`library_tests` has its body) and of a loop of
-//! such calls:
+//! that its data ends in a record. So of a function that puts a record, and of a loop of such calls, as in
+//! `library_tests/src/pages.rt` (`add`, which asserts that the record may be put, where a program would refuse it; its
+//! answers are in `proofs/pages/add` there):
 //!
 //! ```text
-//! fn add(page: &mut Page, prev: u64, moment: u64, payload: &[u8])
+//! fn add(rt: &impl Abort, page: &mut Page, prev: u64, given: Given)
 //!     requires page { IsPage page.old }
 //!     requires last { IfSome (moment_of_last (records_of_page page.old)) (λ last. last ≡ prev) }
 //!     requires open { EndsInRecord page.old.bytes }
 //!     ensures page { IsPage page.new }
-//!     ensures last { IfSome (moment_of_last (records_of_page page.new)) (λ last. last ≡ moment) }
+//!     ensures last { IfSome (moment_of_last (records_of_page page.new)) (λ last. last ≡ given.0) }
 //!     ensures open { EndsInRecord page.new.bytes }
 //!
 //! let mut prev = 0;
 //! for given in records {
-//!     add(&mut page, prev, given.0, given.1);
+//!     add(rt, &mut page, prev, *given);
 //!     prev = given.0;
 //! }
 //! ```
@@ -27,7 +28,7 @@
 //!
 //! ```text
 //! abbrev pub invariant-loop-given : goal.invariant-loop-given
-//! invariant-loop-given l = record {
+//! invariant-loop-given g l = record {
 //!   page : IsPage l.page;
 //!   last : IfSome (moment_of_last (records_of_page l.page)) (λ last. last ≡ l.prev);
 //!   open_end : EndsInRecord l.page.bytes;

@@ -55,8 +55,8 @@ fn later_moment(moment: u64, delta: u64, at: usize) -> Result<u64, WordFault>
     moment.checked_add(delta).ok_or(WordFault::TimeOverflow(at))
 }
 
-/// Steps over one word more of the data of a page. `None` if that is an ending padding, whatever follows it; if no word
-/// can be read, its fault is reported.
+/// Steps over one word more of the data of a page. `None` if that is an ending padding, whatever follows it; if the
+/// word or the time after it has a fault, that is reported.
 #[inline(always)]
 pub fn step_over_word(data: &[u8], reached: Reached) -> Result<Option<Passed>, WordFault>
     requires inside { reached.at < length «data».now }

@@ -21,7 +21,7 @@ use Rattle.command_io.specs.declared.status.TheConstants.{DONE, REFUSED}
 use Rattle.collector.specs.Runs.{AreRuns}
 use Rattle.collector_text.specs.Prints.{IsPrintOf}
 use Rattle.world_model.specs.World.{World, WorldOf, IsFill}
-use Rattle.world_model.specs.Headline.{StandsIn, IsOverwrittenBefore, parcels_from, IsOneOf, IsExact, IsGenuineWorld}
+use Rattle.world_model.specs.GenuineWorlds.{StandsIn, IsOverwrittenBefore, parcels_from, IsOneOf, IsExact, IsGenuineWorld}
 use Rattle.world_model.specs.Printing.{Shown}
 use Rattle.world_model.proofs.Lookups.{element_at, contains_at, get_map, get_from_map, kept_by}
 use Rattle.world_model.proofs.KeptElements.{kept_from}

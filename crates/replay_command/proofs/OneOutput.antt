@@ -11,7 +11,7 @@ use Rattle.text_model.proofs.ParsedLimits.{ParsesScript-within}
 use Rattle.text_model.proofs.ScriptReads.{script_reads}
 use Rattle.text_model.specs.ScriptReading.{script_in}
 use Rattle.world_model.specs.World.{World, WorldOf}
-use Rattle.world_model.specs.Headline.{IsGenuineWorld}
+use Rattle.world_model.specs.GenuineWorlds.{IsGenuineWorld}
 use Rattle.world_model.proofs.GenuineWorlds.{world_genuine}
 use Rattle.world_model.specs.Printing.{printed_world}
 use Rattle.world_model.proofs.OneWorld.{one_world}

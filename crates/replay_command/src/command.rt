@@ -111,7 +111,7 @@ pub fn replay_to<R: Source, W: Sink>(alloc: Global, reader: &mut R, writer: &mut
     requires sound_writer { W.failed writer.old ≡ false }
     ensures account { result ≡ DONE → WritesOutput (AccountGives log)
         (R.remaining reader.old) (R.remaining reader.new) (W.contents writer.old) (W.contents writer.new) result }
-    ensures exact { IsCommandRun (ReplayGives log)
+    ensures output { IsCommandRun (ReplayGives log)
         (source_run R.remaining R.count R.failed reader.old reader.new)
         (sink_run W.contents W.failed writer.old writer.new) result }
 {

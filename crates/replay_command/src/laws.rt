@@ -2,7 +2,7 @@
 //! function with an empty body.
 ghost use Rattle.std.specs.Prelude.{◌≡◌, ◌↔◌, ◌⊎◌, ℕ, Bool, List};
 ghost use Rattle.world_model.specs.World.{WorldOf};
-ghost use Rattle.world_model.specs.Headline.{IsGenuineWorld};
+ghost use Rattle.world_model.specs.GenuineWorlds.{IsGenuineWorld};
 ghost use Rattle.replay_command.specs.Commands.{PrintsFault, PrintsReplay, ReplayGives};
 
 /// What `replay` gives for a text is the printing of its script's world, with the status 0, or the line of its first

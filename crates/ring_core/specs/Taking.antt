@@ -10,8 +10,8 @@ use Rattle.ring_core.specs.Value.{CoreValue}
 abbrev pub with_spare_home : CoreValue → ℕ → List (Option Contents)
 with_spare_home v size = slice_set v.homes v.spare (Some (blank_page size 0 0))
 
--- The head is this fill, on this page. The reader's page is put at its position and leads on, and the head's page is
--- the reader's, who expects this number next.
+-- The head is this fill, on this page. The spare is put at its position and leads on, and the head's page is the new
+-- spare of the reader, who expects this number next.
 abbrev pub with_head_taken : CoreValue → (page fill expected : ℕ) → CoreValue
 with_head_taken v page fill expected = record v {
   links = links_with (length v.links) v.links (fill + 1) v.spare_link;

@@ -8,8 +8,8 @@ use Rattle.ring_frames.specs.Value.{FramesValue}
 use Rattle.ring_frames.specs.declared.reader.Reader.{Reader}
 
 -- The writers' stack; how far its frames have come with the ring, the top one and those below it; the link into each
--- position, and that of the reader's page; the page at each position, and the reader's; the pages at home, by their
--- numbers; the reader's wish, and the reader.
+-- position, and that of the spare; the page at each position, and the spare; the pages at home, by their numbers; the
+-- reader's wish, and the reader.
 pub record CoreValue : Type 0 where
   pub stack : Stack
   pub phase : Phase

@@ -35,11 +35,11 @@ pub struct Core {
     frames: Frames,
     /// The link into each position.
     links: Vec<Link>,
-    /// The link of the reader's page.
+    /// The link of the spare.
     spare_link: Link,
     /// The page at each position.
     order: Vec<u16>,
-    /// The reader's page.
+    /// The reader's page, outside the ring.
     spare: u16,
     /// The pages at home, by their numbers.
     homes: Vec<Option<Page>>,

@@ -17,7 +17,7 @@ use Rattle.ring_frames.specs.declared.phase.Phase.{Phase}
 use Rattle.ring_frames.specs.declared.phase.Phase.TheVariants.{Idle}
 use Rattle.ring_frames.specs.Phases.{closing_phase}
 use Rattle.ring_frames.specs.Value.{FramesValue, phase_of}
-use Rattle.ring_frames.specs.AreFrames.{ring_frames, NotedAlike, AreNotedAlike, AreFrames}
+use Rattle.ring_frames.specs.AreFrames.{frames_in_phases, NotedAlike, AreNotedAlike, AreFrames}
 use Rattle.ring_frames.specs.Answers.{IsAnswerOf}
 use Rattle.ring_frames.specs.Steps.{LeavesWithout, BeginsAgain}
 use Rattle.ring_frames.proofs.Reshown.{reshown}
@@ -36,7 +36,7 @@ rephased n size start v c top frames frame below phase in_model k stack_is model
       done_is = refl;
       opened_is = refl;
       stack_is = k.stack_is;
-      frames_are = (λ i. record (frame_is i) { phase = sym phase_is i } ∷ below_is i) ∙ ap (λ (fs : List Frame). ring_frames fs (phase ∷ v.below)) (sym stack_is);
+      frames_are = (λ i. record (frame_is i) { phase = sym phase_is i } ∷ below_is i) ∙ ap (λ (fs : List Frame). frames_in_phases fs (phase ∷ v.below)) (sym stack_is);
       below_are = k.below_are;
       noted = subst (λ (fs : List Frame). AreNotedAlike fs (phase ∷ v.below)) (sym stack_is) (alike, (subst (λ (fs : List Frame). AreNotedAlike fs (v.phase ∷ v.below)) stack_is k.noted).1);
     }

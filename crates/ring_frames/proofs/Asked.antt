@@ -12,7 +12,7 @@ use Rattle.nested_writer.specs.declared.frame.Progress.TheVariants.{Waiting, Thr
 use Rattle.nested_writer.specs.declared.frame.Frame.{Frame}
 use Rattle.nested_writer.specs.Stack.{opened, state_of}
 use Rattle.ring_frames.specs.Value.{FramesValue, phase_of}
-use Rattle.ring_frames.specs.AreFrames.{ring_frames, AreFrames}
+use Rattle.ring_frames.specs.AreFrames.{frames_in_phases, AreFrames}
 use Rattle.ring_frames.specs.Answers.{top_bytes}
 use Rattle.ring_frames.proofs.Left.{tops_are}
 use Rattle.ring_frames.proofs.Ended.{stands, fills_slot}
@@ -34,7 +34,7 @@ may_end n size start v c k frame below number moment len model_is at kind = by_f
 
     by_frames : (frames : List Frame) → v.stack.frames ≡ frames → slot_len (length (top_bytes v.stack v.stack.frames)) ≡ slot_len len
     by_frames [] none =
-        let e = sym model_is ∙ k.frames_are ∙ ap (λ (fs : List Frame). ring_frames fs (v.phase ∷ v.below)) none in
+        let e = sym model_is ∙ k.frames_are ∙ ap (λ (fs : List Frame). frames_in_phases fs (v.phase ∷ v.below)) none in
         let z = ap (λ (fs : List ModelFrame). length fs) e in absurd (omega arith)
     by_frames (top ∷ rest) is =
         let (frame_is, below_is, same) = tops_are v c n size start top rest frame below k is model_is in
@@ -44,6 +44,6 @@ may_end n size start v c k frame below number moment len model_is at kind = by_f
 pub steps_are_private : (n size start : ℕ) (v : FramesValue) (c : Core) → AreFrames n size start v c → PhaseIsPrivate (phase_of v.phase) (opened v.stack) → IsPrivate c model.steps
 steps_are_private n size start v c k own = subst (λ (fs : List ModelFrame). TopIsPrivate fs c.opened) (sym k.frames_are) (by_frames v.stack.frames)
   where
-    by_frames : (frames : List Frame) → TopIsPrivate (ring_frames frames (v.phase ∷ v.below)) c.opened
+    by_frames : (frames : List Frame) → TopIsPrivate (frames_in_phases frames (v.phase ∷ v.below)) c.opened
     by_frames [] = tt
     by_frames (top ∷ rest) = subst (PhaseIsPrivate (phase_of v.phase)) (sym k.opened_is) own

@@ -27,7 +27,7 @@ use Rattle.ring_frames.specs.declared.phase.Phase.{Phase}
 use Rattle.ring_frames.specs.declared.phase.Phase.TheVariants.{Releasing, Wishing}
 use Rattle.ring_frames.specs.Phases.{closing_phase}
 use Rattle.ring_frames.specs.Value.{FramesValue}
-use Rattle.ring_frames.specs.AreFrames.{ring_frames, AreBelow, AreNotedAlike, AreFrames}
+use Rattle.ring_frames.specs.AreFrames.{frames_in_phases, AreBelow, AreNotedAlike, AreFrames}
 use Rattle.ring_frames.specs.Steps.{IsFrames}
 use Rattle.ring_frames.specs.AtOnce.{with_left_frame, IsWriteAtOnce, WritesAtOnce, IsWrittenAlone}
 use Rattle.ring_frames.proofs.Privately.{kept_of, top_is_private}
@@ -74,7 +74,7 @@ module _ (n size start : ℕ) (v : FramesValue) (c : Core) (k : AreFrames n size
       step_by (cases.push_step moment len refl (has_room n size start v c k few) (subst (λ (s : ℕ). model.IsTooLong s len → ⊥) k.size_is fits.1) fits.2 refl refl)
 
   pushed_frames : pushed.frames ≡ waits ∷ []
-  pushed_frames = ap (λ (fs : List ModelFrame). waits ∷ fs) (k.frames_are ∙ ap (λ (fs : List Frame). ring_frames fs (v.phase ∷ v.below)) none)
+  pushed_frames = ap (λ (fs : List ModelFrame). waits ∷ fs) (k.frames_are ∙ ap (λ (fs : List Frame). frames_in_phases fs (v.phase ∷ v.below)) none)
 
   abbrev pushed_stack : Stack
   pushed_stack = with_frame v.stack (new_frame (Record moment len))
@@ -123,7 +123,7 @@ module _ (n size start : ℕ) (v : FramesValue) (c : Core) (k : AreFrames n size
         done_is = ap (λ (s : Stack). s.done) is;
         opened_is = ap opened is;
         stack_is = kept has_events;
-        frames_are = (λ i. let f : ModelFrame = record { kind = for_record moment len; state = left; phase = sym (closing_is stack c done begun) i } in f ∷ []) ∙ ap (λ (fs : List Frame). ring_frames fs (closing_phase stack ∷ v.below)) (sym frames_is);
+        frames_are = (λ i. let f : ModelFrame = record { kind = for_record moment len; state = left; phase = sym (closing_is stack c done begun) i } in f ∷ []) ∙ ap (λ (fs : List Frame). frames_in_phases fs (closing_phase stack ∷ v.below)) (sym frames_is);
         below_are = subst (λ (fs : List Frame). AreBelow fs v.below) (sym frames_is) (ap length none_below);
         noted = subst (λ (fs : List Frame). AreNotedAlike fs (closing_phase stack ∷ v.below)) (sym frames_is) (left_notes stack (Record moment len) None, tt);
       }
@@ -158,7 +158,7 @@ writes_at_once v stack moment payload fits is has_events = λ n size start c rea
 pub closed_at_rest : (v : FramesValue) → IsFrames v → v.stack.frames ≡ [] → closing_phase v.stack ≡ Wishing
 closed_at_rest v (n, size, start, c, core) none =
     let k = core.are in
-    let bare : c.frames ≡ [] = k.frames_are ∙ ap (λ (fs : List Frame). ring_frames fs (v.phase ∷ v.below)) none in
+    let bare : c.frames ≡ [] = k.frames_are ∙ ap (λ (fs : List Frame). frames_in_phases fs (v.phase ∷ v.below)) none in
     let rest = (kept_of n size start v c core).stack.at_rest bare in
     let done = k.done_is in let begun = k.opened_is in
     let last : v.stack.done + 1 ≡ opened v.stack = omega arith in

@@ -14,7 +14,7 @@ use Rattle.nested_writer.specs.Allotted.{HasEvents}
 use Rattle.ring_frames.specs.declared.phase.Phase.{Phase}
 use Rattle.ring_frames.specs.declared.phase.Phase.TheVariants.{Opening}
 use Rattle.ring_frames.specs.Value.{FramesValue, phase_of}
-use Rattle.ring_frames.specs.AreFrames.{ring_frames, AreBelow, AreNotedAlike, AreFrames, HasFrames}
+use Rattle.ring_frames.specs.AreFrames.{frames_in_phases, AreBelow, AreNotedAlike, AreFrames, HasFrames}
 use Rattle.ring_frames.specs.Steps.{IsFrames}
 use Rattle.ring_frames.proofs.Privately.{kept_of}
 use Rattle.ring_frames.proofs.Tops.{topped}
@@ -51,7 +51,7 @@ begun n size start v c page later first s added has_events =
       stack_is = has_events start c.history s.stack_is;
       done_is = omega arith;
       opened_is = omega arith;
-      frames_are = s.frames_are ∙ ap (λ (fs : List stack.Frame). ring_frames fs (v.phase ∷ v.below)) (sym same_frames);
+      frames_are = s.frames_are ∙ ap (λ (fs : List stack.Frame). frames_in_phases fs (v.phase ∷ v.below)) (sym same_frames);
       below_are = subst (λ (fs : List stack.Frame). AreBelow fs v.below) (sym same_frames) s.below_are;
       noted = subst (λ (fs : List stack.Frame). AreNotedAlike fs (v.phase ∷ v.below)) (sym same_frames) s.noted;
     }

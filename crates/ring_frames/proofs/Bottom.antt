@@ -11,7 +11,7 @@ use Rattle.nested_writer.specs.declared.frame.Frame as stack
 use Rattle.nested_writer.specs.Stack.{kind_of, state_of}
 use Rattle.ring_frames.specs.declared.phase.Phase.{Phase}
 use Rattle.ring_frames.specs.Value.{FramesValue, phase_of}
-use Rattle.ring_frames.specs.AreFrames.{ring_frames, AreBelow, AreFrames}
+use Rattle.ring_frames.specs.AreFrames.{frames_in_phases, AreBelow, AreFrames}
 
 -- only this frame, which has left, is on the stack
 pub record IsAlone (v : FramesValue) (c : Core) : Type 0 where
@@ -33,7 +33,7 @@ left_is (Through noted) is = absurd (waiting_ne_left is)
 left_is (Reserved slot) is = absurd (reserved_ne_left slot.number is)
 left_is (Left noted) is = (noted, refl)
 
-none_below : (frames : List stack.Frame) (phases : List Phase) → length phases ≡ length frames → ring_frames frames phases ≡ [] → (frames ≡ []) × (phases ≡ [])
+none_below : (frames : List stack.Frame) (phases : List Phase) → length phases ≡ length frames → frames_in_phases frames phases ≡ [] → (frames ≡ []) × (phases ≡ [])
 none_below [] [] many none = (refl, refl)
 none_below [] (phase ∷ phases) many none = absurd (omega arith)
 none_below (f ∷ frames) [] many none = absurd (omega arith)
@@ -43,7 +43,7 @@ none_below (f ∷ frames) (phase ∷ phases) many none = let z = ap length none 
 abbrev pub OnlyOfLeft : Phase → Type 0
 OnlyOfLeft phase = (kind : Kind) (state : FrameState) → MayBeIn kind state (phase_of phase) → state ≡ left
 
-alone_in : (frames : List stack.Frame) (phase : Phase) (below : List Phase) → frames ≢ [] → AreBelow frames below → FramesAgree (ring_frames frames (phase ∷ below)) → OnlyOfLeft phase
+alone_in : (frames : List stack.Frame) (phase : Phase) (below : List Phase) → frames ≢ [] → AreBelow frames below → FramesAgree (frames_in_phases frames (phase ∷ below)) → OnlyOfLeft phase
     → (purpose : Purpose) × (noted : Option ℕ) × (frames ≡ record { purpose = purpose; progress = Left noted } ∷ []) × (below ≡ [])
 alone_in [] phase below some many agree only = absurd (some refl)
 alone_in (f ∷ frames) phase below some many agree only =
@@ -59,5 +59,5 @@ alone n size start v c s k some only =
       noted = noted;
       frames_are = frames_are;
       below_is = below_is;
-      model = s.frames_are ∙ (λ i. ring_frames (frames_are i) (v.phase ∷ below_is i));
+      model = s.frames_are ∙ (λ i. frames_in_phases (frames_are i) (v.phase ∷ below_is i));
     }

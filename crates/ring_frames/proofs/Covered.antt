@@ -14,7 +14,7 @@ use Rattle.ring_frames.specs.declared.phase.Phase.{Phase}
 use Rattle.ring_frames.specs.Value.{FramesValue}
 use Rattle.nested_writer.specs.Next.{below_top}
 use Rattle.ring_frames.specs.Answers.{HoldSlot}
-use Rattle.ring_frames.specs.AreFrames.{ring_frames, AreBelow, AreFrames}
+use Rattle.ring_frames.specs.AreFrames.{frames_in_phases, AreBelow, AreFrames}
 
 -- ---- numbers of frames
 
@@ -23,13 +23,13 @@ abbrev HasNumber : List ModelFrame → ℕ → Type 0
 HasNumber [] number = ⊥
 HasNumber (f ∷ frames) number = (f.state ≡ reserved number) ⊎ HasNumber frames number
 
-held_number : (frames : List Frame) (phases : List Phase) (slot : Slot) → length frames ≤ length phases → HoldSlot frames slot → HasNumber (ring_frames frames phases) slot.number
+held_number : (frames : List Frame) (phases : List Phase) (slot : Slot) → length frames ≤ length phases → HoldSlot frames slot → HasNumber (frames_in_phases frames phases) slot.number
 held_number [] phases slot long none = absurd none
 held_number (f ∷ frames) [] slot long held = absurd (omega (arith, long))
 held_number (f ∷ frames) (phase ∷ phases) slot long (inl is) = inl (ap state_of is)
 held_number (f ∷ frames) (phase ∷ phases) slot long (inr there) = inr (held_number frames phases slot (omega (arith, long)) there)
 
-number_low : (number other : ℕ) (frames : List Frame) (phases : List Phase) → AreBefore number frames → HasNumber (ring_frames frames phases) other → other < number
+number_low : (number other : ℕ) (frames : List Frame) (phases : List Phase) → AreBefore number frames → HasNumber (frames_in_phases frames phases) other → other < number
 number_low number other [] phases before none = absurd none
 number_low number other (f ∷ frames) [] before none = absurd none
 number_low number other (f ∷ frames) (phase ∷ phases) before (inl is) = subst (λ (s : FrameState). IfSome (number_of s) (λ n. n < number)) is before.0
@@ -55,10 +55,10 @@ covered_slot n size start v w c d next slot are then above had = by_frames w.sta
     s : Stack
     s = w.stack
 
-    by_frames : (frames : List Frame) → FramesStand s.size s.done s.older s.tail (opens_of d.history) (reserved_records d.history) (is_wished d.history) frames → next ∷ c.frames ≡ ring_frames frames (w.phase ∷ w.below) → HoldSlot frames slot → HoldSlot (below_top frames) slot
+    by_frames : (frames : List Frame) → FramesStand s.size s.done s.older s.tail (opens_of d.history) (reserved_records d.history) (is_wished d.history) frames → next ∷ c.frames ≡ frames_in_phases frames (w.phase ∷ w.below) → HoldSlot frames slot → HoldSlot (below_top frames) slot
     by_frames [] stand same none = none
     by_frames (top ∷ rest) stand same (inr there) = there
     by_frames (top ∷ rest) stand same (inl is) =
         let before = subst (λ (p : Progress). IfSome (number_of (state_of p)) (λ number. AreBefore number rest)) is stand.2 in
-        let there = subst (λ (fs : List ModelFrame). HasNumber fs slot.number) (same_rest _ _ c.frames (ring_frames rest w.below) same) has in
+        let there = subst (λ (fs : List ModelFrame). HasNumber fs slot.number) (same_rest _ _ c.frames (frames_in_phases rest w.below) same) has in
         let less : slot.number < slot.number = number_low slot.number slot.number rest w.below before there in absurd (omega (arith, less))

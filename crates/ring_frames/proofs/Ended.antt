@@ -31,7 +31,7 @@ use Rattle.nested_writer.specs.IsStack.{IsOpenPage, is_tail, is_older, IsUnwritt
 use Rattle.ring_frames.specs.declared.answer.Answer.TheVariants.{Refused, Ended as HasEndedSo}
 use Rattle.ring_frames.specs.declared.phase.Phase.{Phase}
 use Rattle.ring_frames.specs.Value.{FramesValue}
-use Rattle.ring_frames.specs.AreFrames.{ring_frames, NotedAlike, AreNotedAlike, AreFrames}
+use Rattle.ring_frames.specs.AreFrames.{frames_in_phases, NotedAlike, AreNotedAlike, AreFrames}
 use Rattle.ring_frames.specs.Answers.{open_page, bytes_of_progress, top_bytes, refusal_of, IsAnswerOf}
 use Rattle.ring_frames.specs.Steps.{IsPrivateStep}
 use Rattle.ring_frames.proofs.Privately.{privately}
@@ -89,7 +89,7 @@ module _ (n size start : ℕ) (v : FramesValue) (c : Core) (k : AreFrames n size
       subst (λ (s : Stack). AreFrames n size start (left_value v s) (model.after_leave c frame below (Some bytes))) (sym is)
       (left_shown n size start v c top frames frame below (Some bytes) k stack_is model_is (subst (IsStack start (c.history ++ leave (Some bytes) ∷ [])) is kept))
 
-  answered : (ended : Ended) (frames : List Frame) (phases : List Phase) → length phases ≡ length frames → (1 < suc (length frames) → ended ≡ Pending) → (suc (length frames) ≤ 1 → ended ≡ Full) → IsAnswerOf size (HasEndedSo ended) (model.end_answer (ring_frames frames phases))
+  answered : (ended : Ended) (frames : List Frame) (phases : List Phase) → length phases ≡ length frames → (1 < suc (length frames) → ended ≡ Pending) → (suc (length frames) ≤ 1 → ended ≡ Full) → IsAnswerOf size (HasEndedSo ended) (model.end_answer (frames_in_phases frames phases))
   answered ended [] phases same pending full = subst (λ (e : Ended). IsAnswerOf size (HasEndedSo e) model.full) (sym (full (omega arith))) refl
   answered ended (g ∷ frames) [] same pending full = absurd (omega (arith, same))
   answered ended (g ∷ frames) (p ∷ phases) same pending full = subst (λ (e : Ended). IsAnswerOf size (HasEndedSo e) model.pending) (sym (pending (omega arith))) refl
@@ -104,8 +104,8 @@ module _ (n size start : ℕ) (v : FramesValue) (c : Core) (k : AreFrames n size
       (shown stack is has_events)
 
 -- the frames of the model, if one is on the stack
-model_top : (frames : List Frame) (phase : Phase) (phases : List Phase) (top : Frame) (rest : List Frame) → frames ≡ top ∷ rest → (frame : ModelFrame) × (below : List ModelFrame) × (ring_frames frames (phase ∷ phases) ≡ frame ∷ below)
-model_top frames phase phases top rest is = (_, _, ap (λ (fs : List Frame). ring_frames fs (phase ∷ phases)) is)
+model_top : (frames : List Frame) (phase : Phase) (phases : List Phase) (top : Frame) (rest : List Frame) → frames ≡ top ∷ rest → (frame : ModelFrame) × (below : List ModelFrame) × (frames_in_phases frames (phase ∷ phases) ≡ frame ∷ below)
+model_top frames phase phases top rest is = (_, _, ap (λ (fs : List Frame). frames_in_phases fs (phase ∷ phases)) is)
 
 pub frame_ended : (n size start : ℕ) (v : FramesValue) (c : Core) (ended : Ended) (stack : Stack) → AreFrames n size start v c
     → (MayEndTop v.stack.frames → 1 < length v.stack.frames → ended ≡ Pending)
@@ -151,7 +151,7 @@ end_refused n size start v c fault k none early may = by_frames v.stack.frames r
     without (Left noted) may = refl
 
     by_frames : (frames : List Frame) → v.stack.frames ≡ frames → IsPrivateStep n size start c event (Refused fault) v
-    by_frames [] is = refused_for NoFrame (none is) (step_by (cases.end_lacks (top_bytes v.stack v.stack.frames) refl (k.frames_are ∙ ap (λ (fs : List Frame). ring_frames fs (v.phase ∷ v.below)) is) refl refl))
+    by_frames [] is = refused_for NoFrame (none is) (step_by (cases.end_lacks (top_bytes v.stack v.stack.frames) refl (k.frames_are ∙ ap (λ (fs : List Frame). frames_in_phases fs (v.phase ∷ v.below)) is) refl refl))
     by_frames (top ∷ rest) is =
         let not_yet : MayEnd top.progress → ⊥ = λ can. may (subst MayEndTop (sym is) can) in
         let (frame, below, model_is) = model_top v.stack.frames v.phase v.below top rest is in

@@ -1,4 +1,5 @@
--- The payloads of the frames on the stack, which are kept with the top one's last and shown with it first.
+-- A list that is kept with the top frame's value last and shown with it first, as `script_replay` and `line_writer`
+-- keep the payloads of frames.
 use Rattle.std.proofs.Common.{◌≡◌, ℕ, ◌-◌, List, ◌++◌, length, take, drop, reverse, map, sym, ap, ◌∙◌, arith}
 use Rattle.std.proofs.lemmas.List.{reverse-append, length-reverse, length-drop, take-append-drop, take-map, drop_at}
 

@@ -16,7 +16,7 @@ use Rattle.ring_frames.specs.declared.phase.Phase.{Phase}
 use Rattle.ring_frames.specs.declared.phase.Phase.TheVariants.{Releasing, Wishing}
 use Rattle.ring_frames.specs.Phases.{closing_phase, phase_after_leave, below_after_leave, left_answer, with_left_phase}
 use Rattle.ring_frames.specs.Value.{FramesValue, phase_of}
-use Rattle.ring_frames.specs.AreFrames.{ring_frames, AreBelow, NotedAlike, AreNotedAlike, AreFrames}
+use Rattle.ring_frames.specs.AreFrames.{frames_in_phases, AreBelow, NotedAlike, AreNotedAlike, AreFrames}
 use Rattle.ring_frames.specs.Answers.{IsAnswerOf}
 use Rattle.ring_frames.proofs.Reshown.{reshown}
 
@@ -48,12 +48,12 @@ pub top_is : (a b : ModelFrame) (xs ys : List ModelFrame) → a ∷ xs ≡ b ∷
 top_is a b xs ys e = (cc, cc)
 
 -- the frame on top of the model's is that of the stack's
-pub tops_are : (v : FramesValue) (c : Core) (n size start : ℕ) (top : Frame) (frames : List Frame) (frame : ModelFrame) (below : List ModelFrame) → AreFrames n size start v c → v.stack.frames ≡ top ∷ frames → c.frames ≡ frame ∷ below → (frame ≡ record { kind = kind_of top.purpose; state = state_of top.progress; phase = phase_of v.phase }) × (below ≡ ring_frames frames v.below) × (length v.below ≡ length frames)
+pub tops_are : (v : FramesValue) (c : Core) (n size start : ℕ) (top : Frame) (frames : List Frame) (frame : ModelFrame) (below : List ModelFrame) → AreFrames n size start v c → v.stack.frames ≡ top ∷ frames → c.frames ≡ frame ∷ below → (frame ≡ record { kind = kind_of top.purpose; state = state_of top.progress; phase = phase_of v.phase }) × (below ≡ frames_in_phases frames v.below) × (length v.below ≡ length frames)
 tops_are v c n size start top frames frame below k stack_is model_is =
-    let both = top_is frame record { kind = kind_of top.purpose; state = state_of top.progress; phase = phase_of v.phase } below (ring_frames frames v.below) (sym model_is ∙ k.frames_are ∙ ap (λ (fs : List Frame). ring_frames fs (v.phase ∷ v.below)) stack_is) in
+    let both = top_is frame record { kind = kind_of top.purpose; state = state_of top.progress; phase = phase_of v.phase } below (frames_in_phases frames v.below) (sym model_is ∙ k.frames_are ∙ ap (λ (fs : List Frame). frames_in_phases fs (v.phase ∷ v.below)) stack_is) in
     (both.0, both.1, subst (λ (fs : List Frame). AreBelow fs v.below) stack_is k.below_are)
 
-left_frames : (c : Core) (s : Stack) (frame : ModelFrame) (top : Frame) (frames : List Frame) (phases : List Phase) → frame.kind ≡ kind_of top.purpose → phase_of (closing_phase s) ≡ model.closing_phase c → length phases ≡ length frames → model.frames_after_leave c frame (ring_frames frames phases) ≡ ring_frames (frames_after_leave top frames) (phase_after_leave s phases ∷ below_after_leave phases)
+left_frames : (c : Core) (s : Stack) (frame : ModelFrame) (top : Frame) (frames : List Frame) (phases : List Phase) → frame.kind ≡ kind_of top.purpose → phase_of (closing_phase s) ≡ model.closing_phase c → length phases ≡ length frames → model.frames_after_leave c frame (frames_in_phases frames phases) ≡ frames_in_phases (frames_after_leave top frames) (phase_after_leave s phases ∷ below_after_leave phases)
 left_frames c s frame top [] [] kind closing same = (λ i. let f : ModelFrame = record { kind = kind i; state = left; phase = sym closing i } in f ∷ [])
 left_frames c s frame top [] (p ∷ phases) kind closing same = absurd (omega (arith, same))
 left_frames c s frame top (g ∷ frames) [] kind closing same = absurd (omega (arith, same))
@@ -71,14 +71,14 @@ left_noted s phase top [] (p ∷ phases) same noted = absurd (omega (arith, same
 left_noted s phase top (g ∷ frames) [] same noted = absurd (omega (arith, same))
 left_noted s phase top (g ∷ frames) (p ∷ phases) same noted = noted.1
 
-answer_for : (size : ℕ) (frames : List Frame) (phases : List Phase) → length phases ≡ length frames → IsAnswerOf size (left_answer phases) (model.leave_answer (ring_frames frames phases))
+answer_for : (size : ℕ) (frames : List Frame) (phases : List Phase) → length phases ≡ length frames → IsAnswerOf size (left_answer phases) (model.leave_answer (frames_in_phases frames phases))
 answer_for size [] [] same = refl
 answer_for size [] (p ∷ phases) same = absurd (omega (arith, same))
 answer_for size (g ∷ frames) [] same = absurd (omega (arith, same))
 answer_for size (g ∷ frames) (p ∷ phases) same = refl
 
 -- what a leave answers
-pub leave_reported : (size : ℕ) (frames : List Frame) (phases : List Phase) (below : List ModelFrame) → below ≡ ring_frames frames phases → length phases ≡ length frames → IsAnswerOf size (left_answer phases) (model.leave_answer below)
+pub leave_reported : (size : ℕ) (frames : List Frame) (phases : List Phase) (below : List ModelFrame) → below ≡ frames_in_phases frames phases → length phases ≡ length frames → IsAnswerOf size (left_answer phases) (model.leave_answer below)
 leave_reported size frames phases below is same = subst (λ (fs : List ModelFrame). IsAnswerOf size (left_answer phases) (model.leave_answer fs)) (sym is) (answer_for size frames phases same)
 
 -- ---- the ring

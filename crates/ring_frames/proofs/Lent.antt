@@ -28,7 +28,7 @@ use Rattle.nested_writer.proofs.Ending.{open_page_is}
 use Rattle.nested_writer.proofs.Lending.{lent_len}
 use Rattle.nested_writer.proofs.Lent.{overwritten_there}
 use Rattle.ring_frames.specs.Value.{FramesValue}
-use Rattle.ring_frames.specs.AreFrames.{ring_frames, AreBelow, AreNotedAlike, AreFrames}
+use Rattle.ring_frames.specs.AreFrames.{frames_in_phases, AreBelow, AreNotedAlike, AreFrames}
 use Rattle.ring_frames.specs.Answers.{open_page, bytes_of_progress, top_bytes}
 use Rattle.ring_frames.specs.Lens.{pushed_lens, FitsTop}
 use Rattle.ring_frames.specs.Lending.{with_slot_payload}
@@ -98,8 +98,8 @@ module _ (n size start : ℕ) (v : FramesValue) (c : Core) (k : AreFrames n size
   t : IsOnTop v.stack slot
   t = on_top v.stack slot is
 
-  model_is : c.frames ≡ ring_frames (t.top ∷ t.rest) (v.phase ∷ v.below)
-  model_is = k.frames_are ∙ ap (λ (fs : List Frame). ring_frames fs (v.phase ∷ v.below)) t.stack_is
+  model_is : c.frames ≡ frames_in_phases (t.top ∷ t.rest) (v.phase ∷ v.below)
+  model_is = k.frames_are ∙ ap (λ (fs : List Frame). frames_in_phases fs (v.phase ∷ v.below)) t.stack_is
 
   -- what is lent are the bytes in the slot
   pub bytes_lent : (now : List ℕ) → ((page : Contents) → IsOpenPage v.stack.done v.stack.older v.stack.tail slot.fill page → now ≡ slice_range page.bytes slot.place.start (slot.place.start + slot.place.len)) → now ≡ top_bytes v.stack v.stack.frames
@@ -129,7 +129,7 @@ module _ (n size start : ℕ) (v : FramesValue) (c : Core) (k : AreFrames n size
         done_is = keeps.done_is;
         opened_is = keeps.opened_is;
         stack_is = written c.history k.stack_is fills;
-        frames_are = k.frames_are ∙ ap (λ (fs : List Frame). ring_frames fs (v.phase ∷ v.below)) (sym keeps.frames_is);
+        frames_are = k.frames_are ∙ ap (λ (fs : List Frame). frames_in_phases fs (v.phase ∷ v.below)) (sym keeps.frames_is);
         below_are = subst (λ (fs : List Frame). AreBelow fs v.below) (sym keeps.frames_is) k.below_are;
         noted = subst (λ (fs : List Frame). AreNotedAlike fs (v.phase ∷ v.below)) (sym keeps.frames_is) k.noted;
       }

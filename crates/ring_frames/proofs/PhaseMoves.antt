@@ -10,14 +10,14 @@ use Rattle.nested_writer.specs.declared.frame.Progress.TheVariants.{Waiting, Thr
 use Rattle.nested_writer.specs.declared.frame.Frame as stack
 use Rattle.ring_frames.specs.declared.phase.Phase.{Phase}
 use Rattle.ring_frames.specs.Value.{FramesValue, phase_of}
-use Rattle.ring_frames.specs.AreFrames.{ring_frames, NotedAlike, AreNotedAlike}
+use Rattle.ring_frames.specs.AreFrames.{frames_in_phases, NotedAlike, AreNotedAlike}
 use Rattle.ring_frames.specs.Steps.{GoesOnIn, IsNotedIn}
 
 abbrev in_place : model.Phase → List Frame → List Frame
 in_place phase [] = []
 in_place phase (frame ∷ below) = record frame { phase = phase } ∷ below
 
-rephased : (frames : List stack.Frame) (from to : Phase) (below : List Phase) → in_place (phase_of to) (ring_frames frames (from ∷ below)) ≡ ring_frames frames (to ∷ below)
+rephased : (frames : List stack.Frame) (from to : Phase) (below : List Phase) → in_place (phase_of to) (frames_in_phases frames (from ∷ below)) ≡ frames_in_phases frames (to ∷ below)
 rephased [] from to below = refl
 rephased (f ∷ frames) from to below = refl
 

@@ -19,15 +19,15 @@ use Rattle.ring_frames.specs.declared.phase.Phase.{Phase}
 use Rattle.ring_frames.specs.declared.phase.Phase.TheVariants.{Idle}
 use Rattle.ring_frames.specs.Phases.{below_after_push, with_pushed_phase}
 use Rattle.ring_frames.specs.Value.{FramesValue}
-use Rattle.ring_frames.specs.AreFrames.{ring_frames, AreBelow, NotedAlike, AreNotedAlike, AreFrames}
+use Rattle.ring_frames.specs.AreFrames.{frames_in_phases, AreBelow, NotedAlike, AreNotedAlike, AreFrames}
 use Rattle.ring_frames.proofs.Reshown.{reshown}
 
 -- as many frames as the stack has
-pub as_many : (frames : List Frame) (phase : Phase) (below : List Phase) → AreBelow frames below → length (ring_frames frames (phase ∷ below)) ≡ length frames
+pub as_many : (frames : List Frame) (phase : Phase) (below : List Phase) → AreBelow frames below → length (frames_in_phases frames (phase ∷ below)) ≡ length frames
 as_many [] phase below are = refl
 as_many (f ∷ frames) phase below are = ap suc (more frames below are)
   where
-    more : (frames : List Frame) (phases : List Phase) → length phases ≡ length frames → length (ring_frames frames phases) ≡ length frames
+    more : (frames : List Frame) (phases : List Phase) → length phases ≡ length frames → length (frames_in_phases frames phases) ≡ length frames
     more [] phases same = refl
     more (f ∷ frames) [] same = absurd (omega (arith, same))
     more (f ∷ frames) (p ∷ phases) same = ap suc (more frames phases (omega (arith, same)))
@@ -37,9 +37,9 @@ kept_below : (n : ℕ) (phase : Phase) (below : List Phase) → below_after_push
 kept_below n phase below = cond-true _ _ _ (lt-ltb 1 (suc (suc n)) (omega arith))
 
 -- the phases below the new frame are those of the frames below it
-frames_below : (frames : List Frame) (phase : Phase) (below : List Phase) → ring_frames frames (phase ∷ below) ≡ ring_frames frames (below_after_push (suc (length frames)) phase below)
+frames_below : (frames : List Frame) (phase : Phase) (below : List Phase) → frames_in_phases frames (phase ∷ below) ≡ frames_in_phases frames (below_after_push (suc (length frames)) phase below)
 frames_below [] phase below = refl
-frames_below (f ∷ frames) phase below = ap (ring_frames (f ∷ frames)) (sym (kept_below (length frames) phase below))
+frames_below (f ∷ frames) phase below = ap (frames_in_phases (f ∷ frames)) (sym (kept_below (length frames) phase below))
 
 phases_below : (frames : List Frame) (phase : Phase) (below : List Phase) → AreBelow frames below → length (below_after_push (suc (length frames)) phase below) ≡ length frames
 phases_below [] phase below are = ap length are

@@ -17,7 +17,7 @@ use Rattle.ring_frames.specs.declared.phase.Phase as code
 use Rattle.ring_frames.specs.declared.answer.Answer.{Answer}
 use Rattle.ring_frames.specs.declared.answer.Answer.TheVariants.{Pushed, Going, Reserved, Ended, Gone, Refused}
 use Rattle.ring_frames.specs.Value.{FramesValue}
-use Rattle.ring_frames.specs.AreFrames.{ring_frames, AreFrames}
+use Rattle.ring_frames.specs.AreFrames.{frames_in_phases, AreFrames}
 use Rattle.ring_frames.specs.Answers.{refusal_of, IsAnswerOf}
 use Rattle.ring_frames.specs.Lens.{pushed_lens, lens, IsOneMore, AreOthersLeft, others_left, KeepsLens}
 use Rattle.ring_frames.proofs.Refused.{IsPushOrEnd, same_refused}
@@ -239,7 +239,7 @@ len_is : (purpose : Purpose) → len_of purpose ≡ kind_len (kind_of purpose)
 len_is (Record moment len) = refl
 len_is Close = refl
 
-shown_lens : (frames : List stack.Frame) (phases : List code.Phase) → length frames ≤ length phases → pushed_lens frames ≡ map_kinds kind_len (kinds_of (ring_frames frames phases))
+shown_lens : (frames : List stack.Frame) (phases : List code.Phase) → length frames ≤ length phases → pushed_lens frames ≡ map_kinds kind_len (kinds_of (frames_in_phases frames phases))
 shown_lens [] phases long = refl
 shown_lens (top ∷ frames) [] long = absurd (omega (arith, long))
 shown_lens (top ∷ frames) (phase ∷ phases) long =

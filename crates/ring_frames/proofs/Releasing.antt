@@ -23,7 +23,7 @@ use Rattle.ring_frames.specs.declared.phase.Phase.{Phase}
 use Rattle.ring_frames.specs.declared.phase.Phase.TheVariants.{Releasing, Wishing}
 use Rattle.ring_frames.specs.Phases.{closing_phase}
 use Rattle.ring_frames.specs.Value.{FramesValue, phase_of}
-use Rattle.ring_frames.specs.AreFrames.{ring_frames, AreBelow, AreNotedAlike, AreFrames, HasFrames}
+use Rattle.ring_frames.specs.AreFrames.{frames_in_phases, AreBelow, AreNotedAlike, AreFrames, HasFrames}
 use Rattle.ring_frames.specs.Steps.{IsFrames}
 use Rattle.ring_frames.specs.Fills.{released_in, IsRelease}
 use Rattle.ring_frames.proofs.Privately.{kept_of}
@@ -78,7 +78,7 @@ module _ (n size start : ℕ) (v : FramesValue) (c : Core) (core : HasFrames n s
           stack_is = subst (λ (h : List HistoryEvent). IsStack start h later) (append-nil c.history) (gone.has_events start c.history s.stack_is);
           done_is = omega arith;
           opened_is = omega arith;
-          frames_are = sym (λ i. ring_frames (frames_same i) (phase ∷ one.below_is i));
+          frames_are = sym (λ i. frames_in_phases (frames_same i) (phase ∷ one.below_is i));
           below_are = subst (λ (fs : List stack.Frame). AreBelow fs v.below) (sym (ap (λ (x : Stack). x.frames) gone.released)) s.below_are;
           noted = subst (λ (fs : List stack.Frame). AreNotedAlike fs (phase ∷ v.below)) (sym frames_same) ((λ o e. absurd (none_some (sym none_noted ∙ e))), tt);
         }

@@ -32,7 +32,7 @@ use Rattle.ring_frames.specs.declared.phase.Phase.{Phase}
 use Rattle.ring_frames.specs.declared.phase.Phase.TheVariants.{Idle, Looking}
 use Rattle.ring_frames.specs.Phases.{left_answer}
 use Rattle.ring_frames.specs.Value.{FramesValue, phase_of}
-use Rattle.ring_frames.specs.AreFrames.{ring_frames, NotedAlike, AreNotedAlike, AreFrames, HasFrames}
+use Rattle.ring_frames.specs.AreFrames.{frames_in_phases, NotedAlike, AreNotedAlike, AreFrames, HasFrames}
 use Rattle.ring_frames.specs.Answers.{refusal_of}
 use Rattle.ring_frames.specs.Steps.{IsPrivateStep}
 use Rattle.ring_frames.proofs.Privately.{kept_of, privately, top_is_private}
@@ -61,10 +61,10 @@ module _ (n size start : ℕ) (v : FramesValue) (c : Core) (core : HasFrames n s
   frame = record { kind = kind_of top.purpose; state = state_of top.progress; phase = idle }
 
   abbrev below : List ModelFrame
-  below = ring_frames rest v.below
+  below = frames_in_phases rest v.below
 
   model_is : c.frames ≡ frame ∷ below
-  model_is = k.frames_are ∙ ap (λ (fs : List Frame). ring_frames fs (v.phase ∷ v.below)) stack_is ∙ ap (λ (p : Phase). ring_frames (top ∷ rest) (p ∷ v.below)) resting
+  model_is = k.frames_are ∙ ap (λ (fs : List Frame). frames_in_phases fs (v.phase ∷ v.below)) stack_is ∙ ap (λ (p : Phase). frames_in_phases (top ∷ rest) (p ∷ v.below)) resting
 
   alike : NotedAlike top.purpose top.progress Idle
   alike = subst (NotedAlike top.purpose top.progress) resting (subst (λ (fs : List Frame). AreNotedAlike fs (v.phase ∷ v.below)) stack_is k.noted).0
@@ -143,7 +143,7 @@ module _ (n size start : ℕ) (v : FramesValue) (c : Core) (core : HasFrames n s
         done_is = ap (λ (s : Stack). s.done) is;
         opened_is = ap opened is;
         stack_is = has_no_events start c.history v.stack stack has_events k.stack_is;
-        frames_are = (λ i. let f : ModelFrame = record { kind = kind_of top.purpose; state = waits i; phase = looking ((k.opened_is ∙ sym noted_is) i) } in f ∷ below) ∙ ap (λ (fs : List Frame). ring_frames fs (Looking noted ∷ v.below)) (sym frames_is);
+        frames_are = (λ i. let f : ModelFrame = record { kind = kind_of top.purpose; state = waits i; phase = looking ((k.opened_is ∙ sym noted_is) i) } in f ∷ below) ∙ ap (λ (fs : List Frame). frames_in_phases fs (Looking noted ∷ v.below)) (sym frames_is);
         below_are = subst (λ (fs : List Frame). Rattle.ring_frames.specs.AreFrames.AreBelow fs v.below) (sym frames_is) same;
         noted = subst (λ (fs : List Frame). AreNotedAlike fs (Looking noted ∷ v.below)) (sym frames_is) (subst (λ (o : ℕ). NotedAlike top.purpose (Waiting (Some (opened v.stack))) (Looking o)) (sym noted_is) (notes_alike top.purpose), noted_below);
       })
@@ -222,7 +222,7 @@ module _ (n size start : ℕ) (v : FramesValue) (c : Core) (core : HasFrames n s
         done_is = ap (λ (s : Stack). s.done) is.others;
         opened_is = ap opened is.others;
         stack_is = has_events start c.history k.stack_is;
-        frames_are = (λ i. let f : ModelFrame = record { kind = kind_of top.purpose; state = reserved (sym numbered i); phase = phase_of (sym resting i) } in f ∷ below) ∙ ap (λ (fs : List Frame). ring_frames fs (v.phase ∷ v.below)) (sym frames_is);
+        frames_are = (λ i. let f : ModelFrame = record { kind = kind_of top.purpose; state = reserved (sym numbered i); phase = phase_of (sym resting i) } in f ∷ below) ∙ ap (λ (fs : List Frame). frames_in_phases fs (v.phase ∷ v.below)) (sym frames_is);
         below_are = subst (λ (fs : List Frame). Rattle.ring_frames.specs.AreFrames.AreBelow fs v.below) (sym frames_is) same;
         noted = subst (λ (fs : List Frame). AreNotedAlike fs (v.phase ∷ v.below)) (sym frames_is) (reserved_alike top.purpose own, noted_below);
       })

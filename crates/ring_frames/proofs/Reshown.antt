@@ -7,7 +7,7 @@ use Rattle.nested_writer.specs.Stack.{Stack, opened}
 use Rattle.nested_writer.specs.IsStack.{IsStack}
 use Rattle.ring_frames.specs.declared.phase.Phase.{Phase}
 use Rattle.ring_frames.specs.Value.{FramesValue}
-use Rattle.ring_frames.specs.AreFrames.{ring_frames, AreBelow, AreNotedAlike, AreFrames}
+use Rattle.ring_frames.specs.AreFrames.{frames_in_phases, AreBelow, AreNotedAlike, AreFrames}
 
 -- the frames with this stack, in these phases
 abbrev pub restacked : Stack → Phase → List Phase → FramesValue
@@ -24,7 +24,7 @@ pub record Restacks (start : ℕ) (v : FramesValue) (stack : Stack) (phase : Pha
   pub done_is : stack.done ≡ v.stack.done
   pub opened_is : opened stack ≡ opened v.stack
   pub stack_is : IsStack start history stack
-  pub frames_are : frames ≡ ring_frames stack.frames (phase ∷ below)
+  pub frames_are : frames ≡ frames_in_phases stack.frames (phase ∷ below)
   pub below_are : AreBelow stack.frames below
   pub noted : AreNotedAlike stack.frames (phase ∷ below)
 

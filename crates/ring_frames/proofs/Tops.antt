@@ -5,7 +5,7 @@ use Rattle.trace_model.specs.Ring.{Core}
 use Rattle.nested_writer.specs.declared.frame.Frame as stack
 use Rattle.ring_frames.specs.declared.phase.Phase.{Phase}
 use Rattle.ring_frames.specs.Value.{FramesValue, phase_of}
-use Rattle.ring_frames.specs.AreFrames.{ring_frames, AreFrames}
+use Rattle.ring_frames.specs.AreFrames.{frames_in_phases, AreFrames}
 
 -- the frame on top and those below it
 pub record IsTopped (v : FramesValue) (c : Core) : Type 0 where
@@ -15,7 +15,7 @@ pub record IsTopped (v : FramesValue) (c : Core) : Type 0 where
   pub phase_is : frame.phase ≡ phase_of v.phase
 
 top_in : (frames : List stack.Frame) (phase : Phase) (below : List Phase) → frames ≢ []
-    → (frame : Frame) × (rest : List Frame) × (ring_frames frames (phase ∷ below) ≡ frame ∷ rest) × (frame.phase ≡ phase_of phase)
+    → (frame : Frame) × (rest : List Frame) × (frames_in_phases frames (phase ∷ below) ≡ frame ∷ rest) × (frame.phase ≡ phase_of phase)
 top_in [] phase below some = absurd (some refl)
 top_in (f ∷ frames) phase below some = (_, _, refl, refl)
 

@@ -22,7 +22,7 @@ use Rattle.ring_frames.specs.declared.phase.Phase.TheVariants.{Looking, Releasin
 use Rattle.ring_frames.specs.declared.answer.Answer.{Answer}
 use Rattle.ring_frames.specs.declared.answer.Answer.TheVariants.{Going, Gone}
 use Rattle.ring_frames.specs.Value.{FramesValue, phase_of}
-use Rattle.ring_frames.specs.AreFrames.{ring_frames, AreBelow, AreNotedAlike, AreFrames, HasFrames}
+use Rattle.ring_frames.specs.AreFrames.{frames_in_phases, AreBelow, AreNotedAlike, AreFrames, HasFrames}
 use Rattle.ring_frames.specs.Answers.{IsAnswerOf}
 use Rattle.ring_frames.specs.Fills.{with_frames_and_history, IsLookForWish, GrantsNone}
 use Rattle.ring_frames.proofs.Privately.{kept_of}
@@ -77,7 +77,7 @@ module _ (n size start : ℕ) (v : FramesValue) (c : Core) (core : HasFrames n s
         done_is = ap (λ (x : Stack). x.done) asked;
         opened_is = ap opened asked;
         stack_is = has_events start c.history s.stack_is;
-        frames_are = ap (λ (o : ℕ). frame_in (Looking o) ∷ []) s.opened_is ∙ sym (λ i. ring_frames (same_frames i) (Looking (opened v.stack) ∷ one.below_is i));
+        frames_are = ap (λ (o : ℕ). frame_in (Looking o) ∷ []) s.opened_is ∙ sym (λ i. frames_in_phases (same_frames i) (Looking (opened v.stack) ∷ one.below_is i));
         below_are = subst (λ (fs : List stack.Frame). AreBelow fs v.below) (sym same_frames) (subst (λ (fs : List stack.Frame). AreBelow fs v.below) one.frames_are s.below_are);
         noted = subst (λ (fs : List stack.Frame). AreNotedAlike fs (Looking (opened v.stack) ∷ v.below)) (sym same_frames) ((λ o e. e), tt);
       })
@@ -93,7 +93,7 @@ module _ (n size start : ℕ) (v : FramesValue) (c : Core) (core : HasFrames n s
         done_is = refl;
         opened_is = refl;
         stack_is = s.stack_is;
-        frames_are = sym (λ i. ring_frames (one.frames_are i) (Releasing ∷ one.below_is i));
+        frames_are = sym (λ i. frames_in_phases (one.frames_are i) (Releasing ∷ one.below_is i));
         below_are = s.below_are;
         noted = subst (λ (fs : List stack.Frame). AreNotedAlike fs (Releasing ∷ v.below)) (sym one.frames_are) ((λ o e. absurd (none_some e)), tt);
       })
@@ -109,7 +109,7 @@ module _ (n size start : ℕ) (v : FramesValue) (c : Core) (core : HasFrames n s
         done_is = ap (λ (x : Stack). x.done) popped;
         opened_is = ap opened popped;
         stack_is = subst (λ (h : List HistoryEvent). IsStack start h later) (append-nil c.history) (has_events start c.history s.stack_is);
-        frames_are = ap (λ (fs : List stack.Frame). ring_frames fs (phase ∷ v.below)) (sym no_frames);
+        frames_are = ap (λ (fs : List stack.Frame). frames_in_phases fs (phase ∷ v.below)) (sym no_frames);
         below_are = subst (λ (fs : List stack.Frame). AreBelow fs v.below) (sym no_frames) one.below_is;
         noted = subst (λ (fs : List stack.Frame). AreNotedAlike fs (phase ∷ v.below)) (sym no_frames) tt;
       })

@@ -15,12 +15,12 @@ use Rattle.ring_frames.specs.declared.phase.Phase.TheVariants.{Idle}
 use Rattle.ring_frames.specs.Value.{FramesValue, phase_of}
 
 -- the frames of the model: those of the stack, each in its phase
-abbrev pub ring_frames : List stack.Frame → List Phase → List Frame
-ring_frames [] phases = []
-ring_frames (f ∷ frames) [] = []
-ring_frames (f ∷ frames) (phase ∷ phases) =
+abbrev pub frames_in_phases : List stack.Frame → List Phase → List Frame
+frames_in_phases [] phases = []
+frames_in_phases (f ∷ frames) [] = []
+frames_in_phases (f ∷ frames) (phase ∷ phases) =
     record { kind = kind_of f.purpose; state = state_of f.progress; phase = phase_of phase }
-    ∷ ring_frames frames phases
+    ∷ frames_in_phases frames phases
 
 -- a phase is kept for each frame below the one on top
 abbrev pub AreBelow : List stack.Frame → List Phase → Type 0
@@ -50,7 +50,7 @@ pub record AreFrames (n size start : ℕ) (v : FramesValue) (c : Core) : Type 0 
   pub stack_is : IsStack start c.history v.stack
   pub done_is : c.done ≡ v.stack.done
   pub opened_is : c.opened ≡ opened v.stack
-  pub frames_are : c.frames ≡ ring_frames v.stack.frames (v.phase ∷ v.below)
+  pub frames_are : c.frames ≡ frames_in_phases v.stack.frames (v.phase ∷ v.below)
   pub below_are : AreBelow v.stack.frames v.below
   pub noted : AreNotedAlike v.stack.frames (v.phase ∷ v.below)
 

@@ -21,7 +21,7 @@ use Rattle.ring_frames.specs.declared.answer.Answer.TheVariants.{Pushed, Going, 
 use Rattle.ring_frames.specs.declared.phase.Phase.{Phase}
 use Rattle.ring_frames.specs.declared.phase.Phase.TheVariants.{Wishing}
 use Rattle.ring_frames.specs.Value.{FramesValue}
-use Rattle.ring_frames.specs.AreFrames.{ring_frames}
+use Rattle.ring_frames.specs.AreFrames.{frames_in_phases}
 use Rattle.ring_frames.specs.Steps.{IsFrames}
 use Rattle.ring_frames.specs.Fills.{LooksForWish}
 use Rattle.ring_frames.specs.AtOnce.{with_left_frame, IsWriteAtOnce, WritesAtOnce, IsWrittenAlone}
@@ -159,8 +159,8 @@ module _ (v : WriterValue) (w : AreWriterFields v) (moment : ℕ) (payload : Lis
 
   bottom_is : now.frames ≡ bottom ∷ []
   bottom_is = frames_of mid writer_mid
-      ∙ (ap (λ (p : Phase). ring_frames frames.stack.frames (p ∷ gone.below)) wishes_next
-      ∙ ap (λ (ps : List Phase). ring_frames frames.stack.frames (Wishing ∷ ps)) alone.below)
+      ∙ (ap (λ (p : Phase). frames_in_phases frames.stack.frames (p ∷ gone.below)) wishes_next
+      ∙ ap (λ (ps : List Phase). frames_in_phases frames.stack.frames (Wishing ∷ ps)) alone.below)
 
   some_mid : frames.stack.frames ≢ []
   some_mid none = let zero = ap (length {A = stack.Frame}) none in absurd (omega arith)
@@ -194,7 +194,7 @@ module _ (v : WriterValue) (w : AreWriterFields v) (moment : ℕ) (payload : Lis
       (reserving_first v.shape begun.frame v.part.frames pushed_as begun.top begun.reserves) reserve_call (λ e. cc))
 
   none_stood : v.part.frames ≡ []
-  none_stood = frames_of v w ∙ ap (λ (fs : List stack.Frame). ring_frames fs (v.frames.phase ∷ v.frames.below)) alone.none
+  none_stood = frames_of v w ∙ ap (λ (fs : List stack.Frame). frames_in_phases fs (v.frames.phase ∷ v.frames.below)) alone.none
 
   written_then : (last : Answer) (after : Writing) → Leaves v.shape [] now last after → IsWritten v.shape v.part moment payload after
   written_then last after leaves = record {

@@ -14,7 +14,7 @@ use Rattle.ring_frames.specs.declared.answer.Answer.TheVariants.{Going, Reserved
 use Rattle.ring_frames.specs.declared.phase.Phase.{Phase}
 use Rattle.ring_frames.specs.declared.phase.StepAnswer.{StepAnswer}
 use Rattle.ring_frames.specs.declared.phase.StepAnswer.TheVariants as step_answer
-use Rattle.ring_frames.specs.AreFrames.{ring_frames}
+use Rattle.ring_frames.specs.AreFrames.{frames_in_phases}
 use Rattle.ring_frames.specs.Phases.{as_answer}
 use Rattle.ring_steps.specs.declared.rule.Shape.{Shape}
 use Rattle.ring_steps.specs.Views.{Writing}
@@ -55,10 +55,10 @@ abbrev state_first : List Frame → FrameState
 state_first [] = waiting
 state_first (first ∷ others) = first.state
 
-slot_number : (frames : List stack.Frame) (phase : Phase) (phases : List Phase) (shown : List Frame) (next : Frame) (below : List Frame) (number : ℕ) (slot : Slot) → shown ≡ ring_frames frames (phase ∷ phases) → shown ≡ next ∷ below → next.state ≡ reserved number → IsTopSlot frames slot → slot.number ≡ number
+slot_number : (frames : List stack.Frame) (phase : Phase) (phases : List Phase) (shown : List Frame) (next : Frame) (below : List Frame) (number : ℕ) (slot : Slot) → shown ≡ frames_in_phases frames (phase ∷ phases) → shown ≡ next ∷ below → next.state ≡ reserved number → IsTopSlot frames slot → slot.number ≡ number
 slot_number [] phase phases shown next below number slot same top at is = absurd is
 slot_number (f ∷ frames) phase phases shown next below number slot same top at is =
-    let heads : ring_frames (f ∷ frames) (phase ∷ phases) ≡ next ∷ below = sym same ∙ top in
+    let heads : frames_in_phases (f ∷ frames) (phase ∷ phases) ≡ next ∷ below = sym same ∙ top in
     let states : reserved slot.number ≡ reserved number = sym (ap state_of is) ∙ (ap (λ (fs : List Frame). state_first fs) heads ∙ at) in
     cc
 

@@ -10,7 +10,7 @@ use Rattle.nested_writer.specs.declared.frame.Progress.TheVariants.{Waiting, Thr
 use Rattle.nested_writer.specs.Calls.{top_of, HasNoSlot, LacksSlot}
 use Rattle.ring_frames.specs.declared.answer.Answer.{Answer}
 use Rattle.ring_frames.specs.declared.phase.Phase.{Phase}
-use Rattle.ring_frames.specs.AreFrames.{ring_frames}
+use Rattle.ring_frames.specs.AreFrames.{frames_in_phases}
 use Rattle.ring_steps.specs.declared.rule.Shape.{Shape}
 use Rattle.ring_steps.specs.Views.{Writing}
 use Rattle.ring_shared.specs.declared.writer.finish.Target.{Target}
@@ -26,10 +26,10 @@ pub record IsOnTop (frames : List Frame) (state : Kind → FrameState → Type 0
   pub top : frames ≡ frame ∷ below
   pub is : state frame.kind frame.state
 
-pub frames_of : (v : WriterValue) → AreWriterFields v → v.part.frames ≡ ring_frames v.frames.stack.frames (v.frames.phase ∷ v.frames.below)
+pub frames_of : (v : WriterValue) → AreWriterFields v → v.part.frames ≡ frames_in_phases v.frames.stack.frames (v.frames.phase ∷ v.frames.below)
 frames_of v w = ap (λ (p : Writing). p.frames) (sym w.part_is) ∙ w.frames_are.frames_are
 
-on_top : (frames : List stack.Frame) (phase : Phase) (below : List Phase) (shown : List Frame) (to : Target) (state : Kind → FrameState → Type 0) → shown ≡ ring_frames frames (phase ∷ below) → IsTarget (top_of frames) to → (to ≡ target.Step → ⊥) → ((f : stack.Frame) → IsTarget (Rattle.std.specs.Prelude.Some f) to → state (kind_of f.purpose) (state_of f.progress)) → IsOnTop shown state
+on_top : (frames : List stack.Frame) (phase : Phase) (below : List Phase) (shown : List Frame) (to : Target) (state : Kind → FrameState → Type 0) → shown ≡ frames_in_phases frames (phase ∷ below) → IsTarget (top_of frames) to → (to ≡ target.Step → ⊥) → ((f : stack.Frame) → IsTarget (Rattle.std.specs.Prelude.Some f) to → state (kind_of f.purpose) (state_of f.progress)) → IsOnTop shown state
 on_top [] phase below shown to state same is other says = absurd (other is)
 on_top (f ∷ frames) phase below shown to state same is other says = record { frame = _; below = _; top = same; is = says f is }
 
@@ -71,7 +71,7 @@ module _ (shape : Shape) (before : Writing) (result : Answer) (after : Writing) 
   pub finishes_leaving : IsOnTop before.frames IsLeaving → ((frame : Frame) (below : List Frame) → before.frames ≡ frame ∷ below → Leaves shape below before result after) → Finishes shape before result after
   finishes_leaving t l = subst (λ (frames : List Frame). FinishesTop shape frames before result after) (sym t.top) (leaving_frame t.frame.kind t.frame.state t.below t.is (l t.frame t.below t.top))
 
-  finishes_in : (frames : List stack.Frame) (phase : Phase) (below : List Phase) → before.frames ≡ ring_frames frames (phase ∷ below) → IsTarget (top_of frames) target.Step → IsCall shape before model.steps result after → Finishes shape before result after
+  finishes_in : (frames : List stack.Frame) (phase : Phase) (below : List Phase) → before.frames ≡ frames_in_phases frames (phase ∷ below) → IsTarget (top_of frames) target.Step → IsCall shape before model.steps result after → Finishes shape before result after
   finishes_in [] phase below same is call = subst (λ (fs : List Frame). FinishesTop shape fs before result after) (sym same) call
   finishes_in (f ∷ frames) phase below same (number, is) call = subst (λ (fs : List Frame). FinishesTop shape fs before result after) (sym same) (reserved_frame (kind_of f.purpose) (state_of f.progress) number _ is call)
 
@@ -98,10 +98,10 @@ progress_lacks (Left noted) kind is = tt
 state_lacks : (f : stack.Frame) (kind : Kind) → IsReserving kind (state_of f.progress) → HasNoSlot f.progress
 state_lacks f kind is = progress_lacks f.progress kind is
 
-lacks_in : (frames : List stack.Frame) (phase : Phase) (phases : List Phase) (shown : List Frame) (frame : Frame) (below : List Frame) → shown ≡ ring_frames frames (phase ∷ phases) → shown ≡ frame ∷ below → IsReserving frame.kind frame.state → LacksSlot frames
+lacks_in : (frames : List stack.Frame) (phase : Phase) (phases : List Phase) (shown : List Frame) (frame : Frame) (below : List Frame) → shown ≡ frames_in_phases frames (phase ∷ phases) → shown ≡ frame ∷ below → IsReserving frame.kind frame.state → LacksSlot frames
 lacks_in [] phase phases shown frame below same top is = let both : [] ≡ frame ∷ below = sym same ∙ top in absurd (cc)
 lacks_in (f ∷ frames) phase phases shown frame below same top is =
-    let both : frame ∷ below ≡ ring_frames (f ∷ frames) (phase ∷ phases) = sym top ∙ same in
+    let both : frame ∷ below ≡ frames_in_phases (f ∷ frames) (phase ∷ phases) = sym top ∙ same in
     state_lacks f _ (subst (λ (x : Frame). IsReserving x.kind x.state) (ap (first_of frame) both) is)
 
 pub lacks_slot : (v : WriterValue) → AreWriterFields v → (frame : Frame) (below : List Frame) → v.part.frames ≡ frame ∷ below → IsReserving frame.kind frame.state → LacksSlot v.frames.stack.frames

@@ -18,7 +18,7 @@ use Rattle.ring_frames.specs.declared.answer.Answer.{Answer}
 use Rattle.ring_frames.specs.declared.answer.Answer.TheVariants.{Going}
 use Rattle.ring_frames.specs.declared.phase.Phase.{Phase}
 use Rattle.ring_frames.specs.declared.phase.Phase.TheVariants.{Wishing}
-use Rattle.ring_frames.specs.AreFrames.{ring_frames}
+use Rattle.ring_frames.specs.AreFrames.{frames_in_phases}
 use Rattle.ring_frames.specs.Value.{phase_of}
 use Rattle.ring_steps.specs.declared.rule.Shape.{Shape}
 use Rattle.ring_steps.specs.Views.{Writing}
@@ -101,7 +101,7 @@ module _ (shape : Shape) (before : Writing) (result : Answer) (after : Writing) 
       (no_top_step (ap (λ (p : Writing). p.frames) call.before_is ∙ none) call.step).0
 
 -- one that makes a single step answers its record's number, or is refused
-step_in : (shape : Shape) (before : Writing) (result : Answer) (after : Writing) (frames : List stack.Frame) (phase : Phase) (below : List Phase) → before.frames ≡ ring_frames frames (phase ∷ below) → IsTarget (top_of frames) target.Step → IsCall shape before model.steps result after → ReportsTop result after.frames
+step_in : (shape : Shape) (before : Writing) (result : Answer) (after : Writing) (frames : List stack.Frame) (phase : Phase) (below : List Phase) → before.frames ≡ frames_in_phases frames (phase ∷ below) → IsTarget (top_of frames) target.Step → IsCall shape before model.steps result after → ReportsTop result after.frames
 step_in shape before result after [] phase below same is call = inr (none_refused shape before result after call same)
 step_in shape before result after (f ∷ frames) phase below same (number, is) call = inl (_, reserved_answers shape before result after call _ _ number same is)
 

@@ -19,7 +19,7 @@ use Rattle.ring_frames.specs.declared.answer.Answer.{Answer}
 use Rattle.ring_frames.specs.declared.answer.Answer.TheVariants.{Pushed, Going, Reserved, Ended, Gone, Refused, Looking, Empty, Moving, Taken, Wished}
 use Rattle.ring_frames.specs.declared.phase.Phase.{Phase}
 use Rattle.ring_frames.specs.Answers.{top_bytes}
-use Rattle.ring_frames.specs.AreFrames.{ring_frames}
+use Rattle.ring_frames.specs.AreFrames.{frames_in_phases}
 use Rattle.ring_frames.proofs.Lent.{slot_keeps}
 use Rattle.ring_steps.specs.declared.rule.Shape.{Shape}
 use Rattle.ring_steps.specs.Views.{Writing}
@@ -201,10 +201,10 @@ slot_of (Through noted) number e = absurd (cc)
 slot_of (HasReserved slot) number e = (slot, refl)
 slot_of (Left noted) number e = absurd (cc)
 
-slot_in : (frames : List stack.Frame) (phase : Phase) (phases : List Phase) (shown : List Frame) (next : Frame) (below : List Frame) (number : ℕ) → shown ≡ ring_frames frames (phase ∷ phases) → shown ≡ next ∷ below → next.state ≡ reserved number → (slot : Slot) × IsTopSlot frames slot
+slot_in : (frames : List stack.Frame) (phase : Phase) (phases : List Phase) (shown : List Frame) (next : Frame) (below : List Frame) (number : ℕ) → shown ≡ frames_in_phases frames (phase ∷ phases) → shown ≡ next ∷ below → next.state ≡ reserved number → (slot : Slot) × IsTopSlot frames slot
 slot_in [] phase phases shown next below number same top at = let z = ap (length {A = Frame}) (sym same ∙ top) in absurd (omega arith)
 slot_in (f ∷ frames) phase phases shown next below number same top at =
-    let heads : ring_frames (f ∷ frames) (phase ∷ phases) ≡ next ∷ below = sym same ∙ top in
+    let heads : frames_in_phases (f ∷ frames) (phase ∷ phases) ≡ next ∷ below = sym same ∙ top in
     slot_of f.progress number (ap (λ (fs : List Frame). state_first fs) heads ∙ at)
   where
     state_first : List Frame → FrameState
@@ -222,7 +222,7 @@ pub record HasReservedTop (frames : List Frame) : Type 0 where
   pub top : frames ≡ frame ∷ below
   pub state_is : frame.state ≡ reserved number
 
-reserved_in : (frames : List stack.Frame) (phase : Phase) (phases : List Phase) (shown : List Frame) (slot : Slot) → shown ≡ ring_frames frames (phase ∷ phases) → IsTopSlot frames slot → HasReservedTop shown
+reserved_in : (frames : List stack.Frame) (phase : Phase) (phases : List Phase) (shown : List Frame) (slot : Slot) → shown ≡ frames_in_phases frames (phase ∷ phases) → IsTopSlot frames slot → HasReservedTop shown
 reserved_in [] phase phases shown slot same is = absurd is
 reserved_in (f ∷ frames) phase phases shown slot same is = record { frame = _; below = _; number = slot.number; top = same; state_is = ap state_of is }
 

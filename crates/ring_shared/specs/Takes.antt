@@ -32,7 +32,7 @@ pub record IsReaderPart (shape : Shape) (part : Reading) : Type 0 where
   pub reached : IsReached shape.pages shape.size shape.start core
   pub is : IsReading core part
 
--- the slot of the reader's page is out with it while it is about to swap, and may be until its next load of a link
+-- the slot of the spare is out with the reader while it is about to swap, and may be until its next load of a link
 abbrev pub KeepsSpare : ReaderPhase → Bool → Type 0
 KeepsSpare LoadingHead keeps = Unit {0}
 KeepsSpare (LoadingDone page fill) keeps = keeps ≡ false

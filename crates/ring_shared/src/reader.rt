@@ -14,7 +14,7 @@ pub struct Reader {
     pub(crate) seat: ReaderSeat,
     /// The page at each position. It has room for the ring's pages, and never takes more.
     pub(crate) order: Vec<u16>,
-    /// The reader's page.
+    /// The reader's page, outside the ring.
     pub(crate) spare: u16,
     /// How far its take has come.
     pub(crate) at: TakeState,

@@ -15,8 +15,8 @@ use Rattle.ring_steps.specs.Taking.{ReadReported}
 
 -- The swap was done: this page as this fill was the head, and what was in its slot is the fill with all that it holds,
 -- as the model's answer states. The records that the reader observed are more by exactly those that were lost before
--- the page, and the page's; and the head's page is its own. Each record takes 8 bytes of a page, so the numbers fit a
--- word.
+-- the page, and the page's; and the head's page is its own. Each record takes 8 bytes of a page or more, so the
+-- numbers fit a word.
 pub record HeadTaken (shape : Shape) (before : Reading) (page fill : ℕ) (taken : Contents) (after : Reading)
     : Type 0 where
   pub reported : TakenFill

@@ -82,7 +82,7 @@ impl WriterSeat {
     }
 
     /// A load of the next link, which is in the word of this page: that into the position of the fill after the
-    /// lost one.
+    /// lost one. The code needs only the page; the contract says by this fill which link it is.
     pub fn load_next(&mut self, page: u16, after_lost: FillNo) -> Link
         requires phase { LooksNext self.old.shape.pages (writing_in self.old) page after_lost.0 }
         ensures same { SameSeat self.old self.new }

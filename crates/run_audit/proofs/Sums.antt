@@ -9,7 +9,7 @@ use Rattle.trace_model.proofs.collections.Collections.{below_more, below_below, 
 use Rattle.trace_model.proofs.collections.Joined.{below_agrees}
 use Rattle.link_marks.specs.Reached.{IsReached}
 use Rattle.world_model.specs.World.{parcel_of}
-use Rattle.world_model.specs.Headline.{IsExact}
+use Rattle.world_model.specs.GenuineWorlds.{IsExact}
 use Rattle.world_model.proofs.Lookups.{element_at, contains_at, get_from_map}
 use Rattle.world_model.proofs.Cuts.{is_cut, is_exact, page_of_one}
 use Rattle.run_audit.specs.declared.ledger.Ledger.{Ledger}

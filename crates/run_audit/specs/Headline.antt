@@ -7,7 +7,7 @@ use Rattle.trace_model.specs.Collection.{Has, Misses}
 use Rattle.trace_model.specs.Ring.{Core}
 use Rattle.link_marks.specs.Reached.{IsReached}
 use Rattle.world_model.specs.World.{parcel_of}
-use Rattle.world_model.specs.Headline.{IsCut, IsExact}
+use Rattle.world_model.specs.GenuineWorlds.{IsCut, IsExact}
 use Rattle.run_audit.specs.declared.ledger.Ledger.{Ledger}
 use Rattle.run_audit.specs.Audit.{taken_of}
 

@@ -65,8 +65,8 @@ fn least_lacking(collector: &Collector, ledgers: &[Ledger]) -> Option<ParcelKey>
 /// Whether the collector is the one of the run that left these ledgers: whether each parcel that it keeps equals one
 /// that was taken, in CPU, fill, first number, missed count and records, and whether it has all records and misses all
 /// numbers of each parcel that was taken. No memory is asked for. It takes time in proportion to the pages' data, and
-/// to n log n for n parcels; longer if a ledger has parcels of another CPU, or their fills don't rise, which no run
-/// leaves.
+/// to n log n for n parcels; longer if a ledger has parcels of another CPU, or their fills don't rise, or their numbers
+/// overlap, which no run leaves.
 pub fn audit(collector: &Collector, ledgers: &[Ledger]) -> Result<Audited, AuditFault>
     ensures audited { IsOk result ↔ IsAudited collector.now (taken_in ledgers.now) }
     ensures stray { (cpu : CpuSeen) (fill : FillSeen) → (result ≡ Err (Stray cpu fill))

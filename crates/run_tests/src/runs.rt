@@ -103,8 +103,7 @@ fn end_of(ledger: &Ledger) -> Option<u64> {
     parcel.first().0.checked_add(parcel.count())
 }
 
-/// Refuses a `run` that always answers `NoThread` (`always_no_thread`), and one that sends its collectors nothing
-/// (`collectors_get_nothing`).
+/// Refuses a `run` that always answers `NoThread`, and one that sends its collectors nothing.
 #[test]
 fn each_collector_has_what_was_written(rt: HostRuntime) -> Result<(), Fail> {
     for row in ROWS {
@@ -118,8 +117,8 @@ fn each_collector_has_what_was_written(rt: HostRuntime) -> Result<(), Fail> {
     Ok(())
 }
 
-/// Refuses a `run` that obeys a writer's lines before its reader begins, or after it has ended
-/// (`writer_first_reader_after`): the one that is held would wait for the other in vain.
+/// Refuses a `run` that obeys a writer's lines before its reader begins, or after it has ended: the one that is held
+/// would wait for the other in vain.
 #[test]
 fn writer_and_reader_work_at_once(rt: HostRuntime) -> Result<(), Fail> {
     for (held, at, until) in [(Who::Writer, 1, 0), (Who::Reader, 0, 8)] {

@@ -10,7 +10,7 @@ use Rattle.trace_model.proofs.collections.Joined.{joined_least}
 use Rattle.text_model.specs.Script.{Script}
 use Rattle.text_model.specs.ScriptLimits.{IsWithinLimits}
 use Rattle.world_model.specs.World.{World}
-use Rattle.world_model.specs.Headline.{IsGenuineWorld}
+use Rattle.world_model.specs.GenuineWorlds.{IsGenuineWorld}
 use Rattle.world_model.proofs.GenuineWorlds.{world_genuine, taken_agree}
 use Rattle.replay_log.specs.declared.line.LogLine.{LogLine}
 use Rattle.script_replay.specs.declared.replaying.ReplayState.{ReplayState}

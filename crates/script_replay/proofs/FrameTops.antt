@@ -21,7 +21,7 @@ use Rattle.nested_writer.specs.Lending.{with_slot}
 use Rattle.ring_frames.specs.declared.phase.Phase.{Phase}
 use Rattle.ring_frames.specs.declared.answer.Answer.{Answer}
 use Rattle.ring_core.specs.Value.{CoreValue}
-use Rattle.ring_frames.specs.AreFrames.{ring_frames}
+use Rattle.ring_frames.specs.AreFrames.{frames_in_phases}
 use Rattle.ring_frames.proofs.Lent.{slot_keeps}
 use Rattle.ring_core.specs.IsCore.{HasStateOf, IsCore}
 use Rattle.ring_frames.specs.Answers.{top_bytes}
@@ -43,7 +43,7 @@ steps_in (Left noted) payloads none = refl
 
 steps_on_top : (frames : List stack.Frame) (phase : Phase) (below : List Phase) (payloads : List (List ℕ))
     → ((slot : Slot) → IsTopSlot frames slot → ⊥)
-    → event_on_top (ring_frames frames (phase ∷ below)) payloads ≡ steps
+    → event_on_top (frames_in_phases frames (phase ∷ below)) payloads ≡ steps
 steps_on_top [] phase below payloads none = refl
 steps_on_top (top ∷ frames) phase below payloads none = steps_in top.progress payloads none
 
@@ -74,7 +74,7 @@ for_record_is for_close of = absurd of
 
 shown_top : (frames : List stack.Frame) (phase : Phase) (below : List Phase) (slot : Slot)
     → IsTopSlot frames slot
-    → (frame : Frame) × (under : List Frame) × (ring_frames frames (phase ∷ below) ≡ frame ∷ under)
+    → (frame : Frame) × (under : List Frame) × (frames_in_phases frames (phase ∷ below) ≡ frame ∷ under)
     × (frame.state ≡ reserved slot.number)
 shown_top [] phase below slot top = absurd top
 shown_top (f ∷ frames) phase below slot top = (_, _, refl, ap state_of top)

@@ -16,7 +16,7 @@ use Rattle.page_numbers.specs.Parcels.{as_parcels}
 use Rattle.nested_writer.specs.declared.frame.Frame as stack
 use Rattle.ring_frames.specs.declared.phase.Phase.{Phase}
 use Rattle.ring_core.specs.Value.{CoreValue}
-use Rattle.ring_frames.specs.AreFrames.{ring_frames, AreBelow}
+use Rattle.ring_frames.specs.AreFrames.{frames_in_phases, AreBelow}
 use Rattle.ring_core.specs.IsCore.{HasStateOf, IsCore}
 use Rattle.script_replay.specs.declared.lane.Lane.TheInside.{Inside}
 use Rattle.script_replay.specs.Value.{LaneValue, lane_of}
@@ -25,14 +25,14 @@ use Rattle.script_replay.specs.Lanes.{IsLane}
 -- a ring's value has as many frames as the state that it shows
 shown_frames : (frames : List stack.Frame) (phases : List Phase)
     → length phases ≡ length frames
-    → length (ring_frames frames phases) ≡ length frames
+    → length (frames_in_phases frames phases) ≡ length frames
 shown_frames [] phases same = refl
 shown_frames (f ∷ frames) [] same = absurd (omega (arith, same))
 shown_frames (f ∷ frames) (phase ∷ phases) same = ap suc (shown_frames frames phases (omega (arith, same)))
 
 as_many_shown : (frames : List stack.Frame) (phase : Phase) (below : List Phase)
     → AreBelow frames below
-    → length (ring_frames frames (phase ∷ below)) ≡ length frames
+    → length (frames_in_phases frames (phase ∷ below)) ≡ length frames
 as_many_shown [] phase below are = refl
 as_many_shown (f ∷ frames) phase below are = ap suc (shown_frames frames below are)
 

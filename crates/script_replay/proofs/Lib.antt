@@ -9,10 +9,11 @@ pub mod LaneValues
 pub mod FrameRuns
 pub mod FrameTops
 pub mod PushedLanes
--- takes
+-- what is logged
 pub mod Logs
 pub mod Reports
+-- a new lane, and takes
+pub mod NewLanes
 pub mod TakesNumbers
-pub mod TakesNew
 pub mod TakesLanes
 pub mod TakesRuns

@@ -15,7 +15,7 @@ use Rattle.link_marks.proofs.partition.OneNewRing.{new_ring_is_one}
 use Rattle.link_marks.proofs.partition.RingsKept.{reached_kept}
 use Rattle.world_model.specs.Lanes.{Lane, IsNewLane}
 use Rattle.world_model.specs.World.{World, IsNewWorld, parcel_of, IsFill, RunsLine, Obeys}
-use Rattle.world_model.specs.Headline.{parcels_from}
+use Rattle.world_model.specs.GenuineWorlds.{parcels_from}
 use Rattle.world_model.proofs.Lookups.{element_at, contains_at, kept_by, get_from_map}
 use Rattle.world_model.proofs.WorldsKept.{IsWorldKept}
 use Rattle.page_numbers.specs.Parcels.{as_parcels}

@@ -7,7 +7,7 @@ use Rattle.text_model.specs.Script.{Command, Script}
 use Rattle.text_model.specs.ScriptLimits.{IsWithinLimits, IsCommandWithin}
 use Rattle.world_model.specs.Lanes.{Lane}
 use Rattle.world_model.specs.World.{World, WorldBehind, WorldOf}
-use Rattle.world_model.specs.Headline.{IsExact, IsGenuineWorld}
+use Rattle.world_model.specs.GenuineWorlds.{IsExact, IsGenuineWorld}
 use Rattle.replay_log.specs.declared.line.LogLine.{LogLine}
 use Rattle.script_replay.specs.declared.replaying.ReplayState.{ReplayState}
 use Rattle.replay_log.specs.LogTypes.{shown_log}
@@ -49,9 +49,10 @@ Join collectors = (one other : ℕ) (kept others : List Parcel)
     → IsLeastUpperBound kept others (kept ++ others)
 
 -- The headline. What is answered is the script's world. In it each CPU's parcels part its committed records, under
--- their own numbers, with exactly the numbers missing that were overwritten unread; each collector has exactly the
--- records of the pages that were delivered to it, and misses exactly the numbers that were overwritten unread before
--- those; collectors to which the same pages were delivered are the same; and any two have a least one above both.
+-- their own numbers, with exactly the numbers missing between them that were overwritten unread; each collector has
+-- exactly the records of the pages that were delivered to it, and misses exactly the numbers that were overwritten
+-- unread directly before those; collectors to which the same pages were delivered are the same; and any two have a
+-- least one above both.
 pub record IsHeadline (script : Script) (collectors : List (List Parcel)) (log : List LogLine) : Type 0 where
   pub world : World
   pub replay : IsReplay script collectors log world

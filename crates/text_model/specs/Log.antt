@@ -4,9 +4,9 @@ use Rattle.trace_model.specs.Frames.{Refusal}
 
 -- A line of the log. line: the number of the script's line. refused: a push, a step, or a line without a frame. taken:
 -- a page of that fill, its first record's number, how many records it has, and how many records were missed before
--- them. empty: no page could be taken. moving: a writer moves the head, and all fills below this one are taken or lost.
--- asks: the reader asks for the page after this many closed ones. The last three are of a delivery: of a page that the
--- collector hasn't yet, of one that it has, and of none, since that fill wasn't taken.
+-- them. empty: no closed page was unread. moving: a writer moves the head, and all fills below this one are taken or
+-- lost. asks: the reader asks for the page after this many closed ones. The last three are of a delivery: of a page
+-- that the collector hasn't yet, of one that it has, and of none, since that fill wasn't taken.
 pub data LogLine : Type 0 where
   refused : (line cpu : ℕ) (why : Refusal) → LogLine
   taken : (line cpu fill first count missed : ℕ) → LogLine

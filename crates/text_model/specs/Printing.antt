@@ -65,7 +65,7 @@ missed_text (counted number) = decimal number
 abbrev pub printed_image_record : Record → List ℕ
 printed_image_record r = decimal r.moment ++ 32 ∷ hex_text r.bytes ++ 10 ∷ []
 
--- an image: its time, how many bytes its records take, its missed records, then a line for each record
+-- an image: its time, how many bytes of data it states, its missed records, then a line for each record
 abbrev pub printed_image : ℕ → ℕ → Missed → List Record → List ℕ
 printed_image time size missed records =
     codes "page " ++ decimal time ++ codes " size " ++ decimal size ++ codes " missed " ++ missed_text missed

@@ -114,8 +114,8 @@ fn run_with<'s, E, R: Threads + Wait + Sync, G: Gate>(
 ///
 /// A writer's thread asks the gate after each fill that it closes, a reader's after each page that it takes and shares.
 /// If the gate doesn't let one pass, that thread ends, and the answer is `GateShut`; if a thread can't be started, it
-/// is `NoThread`. In each case the other threads run to their ends, and all are joined. The call waits for its threads:
-/// what it promises holds if it returns.
+/// is `NoThread`; of several faults it is one. In each case the other threads run to their ends, and all are joined.
+/// The call waits for its threads: what it promises holds if it returns.
 pub fn run<R: Threads + Wait + Sync, G: Gate>(
     rt: &R,
     alloc: Global,

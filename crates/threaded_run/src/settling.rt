@@ -27,7 +27,7 @@ fn share_last<R: Wait>(
     share(rt, parcel, collectors)
 }
 
-/// Takes and shares what is left, and settles the ends.
+/// Takes and shares each page that is still closed and unread, and settles the ends.
 pub(crate) fn settle_ends<R: Wait>(
     rt: &R,
     alloc: Global,

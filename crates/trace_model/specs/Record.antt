@@ -1,8 +1,8 @@
 -- A record of the trace: when it was made, and its bytes.
 use Rattle.std.specs.Prelude.{◌≡◌, ℕ, ◌%◌, List, length}
 
--- The bytes are as they are in a page, with those after them that fill whole words, of four bytes each: zeros, in a
--- record that this project wrote (docs/FORMATS.md, "Record words").
+-- The bytes are as they are in a page, with those after them that fill whole words, of four bytes each: zeros, unless
+-- its writer put others there (docs/FORMATS.md, "Record words").
 pub record Record : Type 0 where
   pub moment : ℕ
   pub bytes : List ℕ

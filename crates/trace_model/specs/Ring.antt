@@ -66,7 +66,7 @@ pub record Reader : Type 0 where
   pub expected : ℕ
   pub taken : List TakenFill
 
--- Words of the ring: links, the link into each position; spare_link, that of the reader's page; done, opened and
+-- Words of the ring: links, the link into each position; spare_link, that of the spare; done, opened and
 -- wish, of which the writer alone stores the first two, and the reader alone the last, as the number of closed
 -- fills that it knew, and one. head: the least fill that is neither taken nor lost. held: what each page holds, by
 -- its number.

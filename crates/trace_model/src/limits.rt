@@ -6,10 +6,11 @@ pub const MIN_PAGES: usize = 2;
 /// The most pages of a ring.
 pub const MAX_PAGES: usize = 1024;
 
-/// The smallest data size of a page, in bytes.
+/// The smallest data size of a ring's page, in bytes.
 pub const MIN_SIZE: usize = 32;
 
-/// The largest data size of a page, in bytes. 4 divides a data size.
+/// The largest data size of a page, in bytes. 4 divides the data size of a ring's page; a page that is read from an
+/// image may have any size up to this one.
 pub const MAX_SIZE: usize = 65_520;
 
 /// The longest page image that is read, in bytes.

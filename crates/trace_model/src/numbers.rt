@@ -13,7 +13,8 @@ pub struct CpuId(pub u32);
 #[derive(Clone, Copy, Debug, PartialEq, Eq, PartialOrd, Ord, Hash)]
 pub struct RecordNo(pub u64);
 
-/// A fill: a page from when it is begun until it is emptied, by its number among its CPU's, from 0.
+/// A fill: one use of a page, from when it is begun until it is taken or lost, by its number among its CPU's, from the
+/// first one of the ring on (0 if no other is given).
 #[derive(Clone, Copy, Debug, PartialEq, Eq, PartialOrd, Ord, Hash)]
 pub struct FillNo(pub u64);
 
@@ -21,7 +22,7 @@ pub struct FillNo(pub u64);
 #[derive(Clone, Copy, Debug, PartialEq, Eq, PartialOrd, Ord, Hash)]
 pub struct Moment(pub u64);
 
-/// Memory was refused, and nothing has changed.
+/// Memory was refused. What is left then, the contract of the call says.
 #[derive(Clone, Copy, Debug, PartialEq, Eq)]
 pub struct NoMemory;
 

@@ -98,7 +98,7 @@ not_empty : (text : List ℕ) → (length text == 0) ≡ false → 0 < length te
 not_empty [] some = cc
 not_empty (b ∷ text) some = omega arith
 
--- what cut_at states of the next line and of the rest after it
+-- what line_cut states of the next line and of the rest after it
 pub next_line : (text line : List ℕ) (o : Option (Bor (List ℕ))) (r none : Bor (List ℕ)) → r ≡ unwrap_or o none → none.now ≡ [] → (length text == 0) ≡ false
     → MatchOption o (slice_split (λ b. b == 10) text ≡ line ∷ []) (λ rest. slice_split (λ b. b == 10) text ≡ line ∷ slice_split (λ b. b == 10) rest.now)
     → MatchOption o (line ≡ text) (λ rest. ⊤)

@@ -64,7 +64,7 @@ pub record BeginsAsScript (text : List ℕ) : Type 0 where
   pub spelled : SpellScript front script
   pub some : 0 < length script.commands
 
--- this is the first fault of the text; or memory ran out, at a line up to which the text has none
+-- this is the first fault of the text; or memory ran out, and its header and the first command's line have none
 abbrev pub ReportsFirstFault : List ℕ → ScriptFault → Type 0
 ReportsFirstFault text (script.BadLine number) = FirstScriptFault text number bad_line
 ReportsFirstFault text (script.BadNumber number) = FirstScriptFault text number bad_number

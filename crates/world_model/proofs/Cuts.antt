@@ -29,7 +29,7 @@ use Rattle.link_marks.proofs.contents.PackedRuns.{runs_packed}
 use Rattle.link_marks.proofs.contents.TakenHoldRecords.{taken_hold}
 use Rattle.link_marks.proofs.histories.WindowRuns.{passed_by, lost_closed}
 use Rattle.world_model.specs.World.{parcel_of}
-use Rattle.world_model.specs.Headline.{pieces_in, IsWholeFill, StandsIn, IsOverwrittenBefore, IsCut, IsOneOf, IsExact}
+use Rattle.world_model.specs.GenuineWorlds.{pieces_in, IsWholeFill, StandsIn, IsOverwrittenBefore, IsCut, IsOneOf, IsExact}
 use Rattle.world_model.specs.RunEvents.{AreEventsOfSteps}
 use Rattle.world_model.proofs.RunEvents.{run_events, run_reports}
 use Rattle.world_model.proofs.Lookups.{element_at, contains_at, get_map, get_from_map}

@@ -16,7 +16,7 @@ use Rattle.text_model.specs.ScriptLimits.{IsWithinLimits}
 use Rattle.link_marks.specs.KeptPartition.{pieces_of}
 use Rattle.link_marks.proofs.partition.RingsKept.{reached_kept}
 use Rattle.world_model.specs.World.{World, WorldBehind}
-use Rattle.world_model.specs.Headline.{parcels_from, piece_in, pieces_in, IsGenuineWorld}
+use Rattle.world_model.specs.GenuineWorlds.{parcels_from, piece_in, pieces_in, IsGenuineWorld}
 use Rattle.world_model.proofs.Lookups.{contains_at, get_map}
 use Rattle.world_model.proofs.WorldsKept.{IsWorldKept, world_kept}
 use Rattle.world_model.proofs.OneWorld.{taken_by_reader, lane_of}

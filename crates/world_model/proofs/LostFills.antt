@@ -6,7 +6,7 @@ use Rattle.trace_model.specs.Window.{RingEvent, first_window}
 use Rattle.trace_model.specs.Ring.{Core, window_of}
 use Rattle.link_marks.specs.RunsAsEvents.{fills_taken, fills_lost, AreEventsOfRun}
 use Rattle.link_marks.proofs.histories.WindowRuns.{not_both, passed_by, lost_closed}
-use Rattle.world_model.specs.Headline.{IsOverwrittenBefore}
+use Rattle.world_model.specs.GenuineWorlds.{IsOverwrittenBefore}
 
 module _ (n start : ℕ) (c : Core) (events others : List RingEvent) (reported : AreEventsOfRun n start c events) (other : AreEventsOfRun n start c others) where
   taken_same : (f : ℕ) → Contains (fills_taken start others) f → Contains (fills_taken start events) f

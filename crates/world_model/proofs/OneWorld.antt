@@ -19,7 +19,7 @@ use Rattle.link_marks.proofs.partition.RingsKept.{reached_kept}
 use Rattle.world_model.specs.Lanes.{Lane, IsNewLane, LineRun}
 use Rattle.world_model.specs.Log.{log_of}
 use Rattle.world_model.specs.World.{World, IsNewWorld, parcel_of, parcels_of, RunsLine, IsFill, Brings, DeliversTaken, DeliversNothing, DeliversFill, delivers, lacks, Obeys, ObeysAll, WorldBehind}
-use Rattle.world_model.specs.Headline.{parcels_from}
+use Rattle.world_model.specs.GenuineWorlds.{parcels_from}
 use Rattle.world_model.proofs.Lookups.{element_at, kept_by, get_from_map}
 use Rattle.world_model.proofs.LineIsOne.{line_one}
 use Rattle.world_model.proofs.WorldsKept.{IsWorldKept, new_kept, obeys_kept}

@@ -14,7 +14,7 @@ use Rattle.link_marks.proofs.steps.CountMoves.{losses_need_a_full_ring}
 use Rattle.link_marks.proofs.histories.HistorySteps.{step_owed}
 use Rattle.link_marks.proofs.partition.RingsKept.{ring_step}
 use Rattle.world_model.specs.World.{parcel_of, parcels_in, parcels_of}
-use Rattle.world_model.specs.Headline.{parcels_from}
+use Rattle.world_model.specs.GenuineWorlds.{parcels_from}
 
 -- the fill that an answer brings, if it is a take's
 abbrev pub taken_in : Answer → List TakenFill

@@ -18,7 +18,7 @@ use Rattle.link_marks.specs.Reached.{IsReached}
 use Rattle.link_marks.proofs.partition.RingsKept.{reached_kept}
 use Rattle.world_model.specs.Lanes.{Lane, IsNewLane}
 use Rattle.world_model.specs.World.{World, IsNewWorld, parcel_of, parcels_of, RunsLine, DeliversTaken, DeliversNothing, DeliversFill, delivers, lacks, Obeys, ObeysAll, WorldBehind}
-use Rattle.world_model.specs.Headline.{parcels_from}
+use Rattle.world_model.specs.GenuineWorlds.{parcels_from}
 use Rattle.world_model.proofs.Lookups.{get_set_here, get_set_other}
 use Rattle.world_model.proofs.LineRuns.{line_run}
 use Rattle.world_model.proofs.TakenPages.{taken_by, run_takes, parcels_of_is, all_of_cpu, none_of_cpu}

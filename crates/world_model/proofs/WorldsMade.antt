@@ -8,7 +8,7 @@ use Rattle.text_model.specs.Log.{LogLine, new_delivery, known_delivery, Delivery
 use Rattle.text_model.specs.Script.{Command, begin_frame, step_frame, finish_frame, write, close, step_reader, take_page, wish, deliver, Script}
 use Rattle.world_model.specs.Log.{logged}
 use Rattle.world_model.specs.World.{World, parcels_in, RunsLine, IsFill, Brings, DeliversTaken, DeliversFill, delivers, lacks, Obeys, ObeysAll, WorldOf}
-use Rattle.world_model.specs.WorldMade.{ChangesRing, Delivers, hands_over, finds_none, Changes, ChangeAll, IsWorldOf}
+use Rattle.world_model.specs.WorldMade.{ChangesRing, Delivers, hands_over, finds_none, Changes, ChangeAll, MadeWorldOf}
 use Rattle.world_model.proofs.LinesMade.{answers_of, cpu_of_line, makes_of, line_of}
 
 -- what is made of answers is made of exchanges
@@ -121,8 +121,8 @@ obey_all : (script : Script) (lines : List (ℕ × Command)) (before after : Wor
 obey_all script [] before after all = all
 obey_all script (line ∷ lines) before after (between, one, all) = (between, obeys_of script line.0 line.1 before between one, obey_all script lines between after all)
 
-pub world_made : (script : Script) (w : World) → WorldOf script w → IsWorldOf script w
+pub world_made : (script : Script) (w : World) → WorldOf script w → MadeWorldOf script w
 world_made script w of = (of.new, of.is_new, change_all script script.commands of.new w of.obeyed)
 
-pub world_of_made : (script : Script) (w : World) → IsWorldOf script w → WorldOf script w
+pub world_of_made : (script : Script) (w : World) → MadeWorldOf script w → WorldOf script w
 world_of_made script w (new, is_new, all) = record { new = new; is_new = is_new; obeyed = obey_all script script.commands new w all }

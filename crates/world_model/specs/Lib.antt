@@ -4,6 +4,6 @@ pub mod Log
 pub mod World
 pub mod WorldMade
 pub mod RunEvents
-pub mod Headline
+pub mod GenuineWorlds
 pub mod LineEnds
 pub mod Printing

@@ -1,4 +1,4 @@
--- The world of a script: what its lines make of the rings and of the collectors, one after the other.
+-- The world of a script: where its lines lead, one after the other, by their exchanges with the rings.
 -- docs/FORMATS.md, "Script" and "Log".
 use Rattle.std.specs.Prelude.{◌≡◌, ℕ, List, [], ◌∷◌, ◌++◌, length, map, flat_map, All, Contains, slice_set, Some}
 use Rattle.std.specs.List.{slice_get}
@@ -122,6 +122,7 @@ pub record WorldBehind (script : Script) (lines : List (ℕ × Command)) (w : Wo
   pub is_new : IsNewWorld script new
   pub obeyed : ObeysAll script lines new w
 
--- The world of a script: that after all of its lines.
+-- The world of a script: that after all of its lines. By the law `worlds_are_made` it is that of `MadeWorldOf`, in
+-- WorldMade.antt.
 abbrev pub WorldOf : Script → World → Type 0
 WorldOf script w = WorldBehind script script.commands w

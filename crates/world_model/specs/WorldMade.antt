@@ -1,4 +1,4 @@
--- The world of a script, by what each line makes of it. docs/FORMATS.md, "Script" and "Log".
+-- The world of a script, by what each line makes of the one before it. docs/FORMATS.md, "Script" and "Log".
 use Rattle.std.specs.Prelude.{◌≡◌, ℕ, ◌⊎◌, List, [], ◌∷◌, ◌++◌, flat_map, All, Contains, slice_set, Some}
 use Rattle.std.specs.List.{slice_get}
 use Rattle.trace_model.specs.Steps.{Answer}
@@ -55,6 +55,7 @@ ChangeAll script [] before after = before ≡ after
 ChangeAll script (line ∷ lines) before after =
     (between : World) × Changes script line.0 line.1 before between × ChangeAll script lines between after
 
--- The world of a script: what all of its lines make of a new one.
-abbrev pub IsWorldOf : Script → World → Type 0
-IsWorldOf script w = (new : World) × IsNewWorld script new × ChangeAll script script.commands new w
+-- The world of a script: what all of its lines make of a new one. By the law `worlds_are_made` it is that of `WorldOf`,
+-- in World.antt.
+abbrev pub MadeWorldOf : Script → World → Type 0
+MadeWorldOf script w = (new : World) × IsNewWorld script new × ChangeAll script script.commands new w

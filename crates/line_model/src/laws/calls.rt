@@ -53,7 +53,7 @@ pub fn line_calls_make_parts()
     ensures rest { RestCallsMake }
 {}
 
-/// A writer that makes the calls of its lines on a new ring, and then finishes the frames which are left, makes the
+/// A writer that makes the calls of its lines on a new ring, and then finishes the frames which are left, makes a
 /// history of these lines.
 pub fn writers_make_lines()
     ensures whole { WriterMakesLines }

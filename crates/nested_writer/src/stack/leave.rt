@@ -8,7 +8,7 @@ use crate::stack::WriterStack;
 pub enum Ended {
     /// There is a frame below it: its record is committed once that one, and all below, have left too.
     Pending,
-    /// It is the bottom frame, which stays until all fills but the tail are closed.
+    /// It is the bottom frame, which stays to close all fills but the tail, and then to look for the reader's wish.
     Full,
 }
 

@@ -23,9 +23,9 @@ const MISSED: u64 = 1 << 31;
 /// A commit word. Its bits 32 to 63 mean nothing.
 #[derive(Clone, Copy)]
 pub(crate) struct Commit {
-    /// How many bytes the records take.
+    /// How many bytes of data there are.
     pub(crate) size: usize,
-    /// A count of missed records is stored after the records, if any were missed.
+    /// A count of missed records is stored after the data, if any were missed.
     is_stored: bool,
     /// Records were missed before the page.
     is_missed: bool,
@@ -76,7 +76,7 @@ impl Commit {
         }
     }
 
-    /// A count of missed records is stored after the records.
+    /// A count of missed records is stored after the data.
     pub(crate) fn stores_count(self) -> bool
         ensures { result ≡ self.is_stored }
     {
@@ -94,7 +94,8 @@ impl Commit {
     }
 }
 
-/// Reads the header of an image. It is a fault if the image is too long, or has fewer bytes of data than it states.
+/// Reads the header of an image. It is a fault if the image has no header, is too long, or has fewer bytes of data than
+/// it states.
 pub(crate) fn read_header(bytes: &[u8]) -> Result<Header, ImageFault>
     ensures ok { IfOk result (λ header. HasPartsOf bytes.now header) }
     ensures there { IfOk result (λ header. HEADER + header.commit.size ≤ length bytes.now) }
@@ -112,7 +113,7 @@ pub(crate) fn read_header(bytes: &[u8]) -> Result<Header, ImageFault>
     Ok(Header { time, commit })
 }
 
-/// What is stated of missed records, if these bytes are those after the records.
+/// What is stated of missed records, if these bytes are those after the data.
 pub(crate) fn read_missed(commit: Commit, behind: &[u8]) -> Result<Missed, ImageFault>
     ensures reported { IfOk result (λ missed. (ignored : ℕ)
         → ReportsMissed (commit_with commit ignored) behind.now (missed_of missed)) }

@@ -14,7 +14,7 @@ impl Page {
         self.time
     }
 
-    /// How many bytes of the body the records take.
+    /// How many bytes of the body are data.
     #[inline(always)]
     pub fn end(&self) -> usize
         ensures { result ≡ length self.now.bytes }
@@ -55,7 +55,7 @@ impl Page {
         self.body.len()
     }
 
-    /// The bytes of data, up to the end of the last word that was put or read.
+    /// The bytes of data: the words that were put, or as much as an image states.
     pub fn data(&self) -> &[u8]
         ensures { result.now ≡ self.now.bytes }
     {

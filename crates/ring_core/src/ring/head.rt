@@ -76,7 +76,7 @@ impl Core {
             → (self.new ≡ self.old) × ((lost : ℕ) → HasHeaderMark self.old noted page lost → ⊥) }
     {
         match noted.checked_sub(self.positions()) {
-            Some(lost) => self.exchange(noted, header(page, lost), update(page, lost)),
+            Some(lost) => self.compare_exchange(noted, header(page, lost), update(page, lost)),
             None => false,
         }
     }
@@ -121,7 +121,7 @@ impl Core {
             return self.begin_again();
         }
         let after_lost = noted - self.positions() + 1;
-        self.exchange(
+        self.compare_exchange(
             after_lost,
             normal(next, after_lost),
             header(next, after_lost),

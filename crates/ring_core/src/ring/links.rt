@@ -50,7 +50,7 @@ impl Core {
     }
 
     /// Sets the link into the position of a fill, if it is this one: a compare and exchange.
-    pub(crate) fn exchange(&mut self, fill: u64, from: Link, to: Link) -> bool
+    pub(crate) fn compare_exchange(&mut self, fill: u64, from: Link, to: Link) -> bool
         ensures met { IsTrue result ↔ link_into (length self.old.links) self.old.links fill ≡ link_of from }
         ensures exchanged { result ≡ true → self.new ≡ record self.old {
           links = links_with (length self.old.links) self.old.links fill (link_of to);

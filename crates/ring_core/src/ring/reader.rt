@@ -85,7 +85,7 @@ impl Core {
         Answer::Looking(body)
     }
 
-    /// A store of the link of the reader's page: it will lead to the fill after the one that is taken.
+    /// A store of the spare's link: it will lead to the fill after the one that is taken.
     fn store_spare_link(&mut self, page: u16, fill: u64, body: Body) -> Answer
         requires ring { IsReachedCore self.old }
         requires phase { self.old.reader.phase ≡ StoringSpareLink page fill }
@@ -104,7 +104,7 @@ impl Core {
         ensures { MakesRead self.old body result self.new }
     {
         let behind = normal(self.spare, fill + self.positions());
-        if !self.exchange(fill, header(page, fill), behind) {
+        if !self.compare_exchange(fill, header(page, fill), behind) {
             self.reader_at(ReaderPhase::LoadingHead, fill + 1);
             return Answer::Looking(body);
         }
@@ -114,7 +114,7 @@ impl Core {
         }
     }
 
-    /// The reader's page is at home with this body, and the head's page is let go.
+    /// The spare is at home with this body, and the head's page is let go.
     fn bring_home(&mut self, page: u16, body: Body) -> Option<Page>
         requires spare { self.old.spare < length self.old.homes }
         requires page { page < length self.old.homes }

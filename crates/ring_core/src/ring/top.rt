@@ -13,10 +13,10 @@ impl Core {
     ghost use Rattle.ring_core.specs.Lending.{FitsFrame, LendsTop, StaysRing, with_lent};
     ghost use Rattle.ring_core.specs.Steps.{IsReachedCore};
 
-    /// The payload in the slot of the frame on top, to be written: it acts as the slice of its bytes, as long as the
-    /// frame was pushed for. All else stays as it is, so the payloads of the other frames; and the ring is in the same
-    /// state whatever is written. Refused with `NoFrame` if there is no frame, and with `NotReserved` if the one on top
-    /// has no record.
+    /// The payload in the slot of the frame on top, to be written: it acts as the slice of its slot's bytes: the length
+    /// that the frame was pushed for, rounded up to whole words, one at least. All else stays as it is, so the payloads
+    /// of the other frames; and the ring is in the same state whatever is written. Refused with `NoFrame` if there is
+    /// no frame, and with `NotReserved` if the one on top has no record.
     #[inline(always)]
     pub fn top_mut(&mut self) -> Result<&mut Payload, WriteFault>
         requires ring { IsReachedCore self.old }

@@ -25,9 +25,9 @@ impl Frames {
         self.stack.top_slot()
     }
 
-    /// The payload in the slot of the frame on top, to be written: it acts as the slice of its bytes, as long as the
-    /// frame was pushed for. All else stays as it is, so the payloads of the other frames; and the frames are those of
-    /// the same states whatever is written. Refused as `top_slot` is.
+    /// The payload in the slot of the frame on top, to be written: it acts as the slice of its slot's bytes: the length
+    /// that the frame was pushed for, rounded up to whole words, one at least. All else stays as it is, so the payloads
+    /// of the other frames; and the frames are those of the same states whatever is written. Refused as `top_slot` is.
     #[inline(always)]
     pub fn top_mut(&mut self) -> Result<&mut Payload, WriteFault>
         requires shown { AreSomeFrames self.old }

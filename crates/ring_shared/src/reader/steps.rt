@@ -87,7 +87,7 @@ impl Reader {
         TakeStep::Looking(body)
     }
 
-    /// A store of the link of the reader's page: it will lead to the fill after the one that is taken.
+    /// A store of the spare's link: it will lead to the fill after the one that is taken.
     fn store_spare_link(&mut self, page: u16, fill: u64, body: Body) -> TakeStep
         requires taking { KeepsNoEmpty self.old }
         requires phase { self.old.at.phase ≡ StoringSpareLink page fill }

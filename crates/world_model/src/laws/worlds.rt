@@ -10,9 +10,9 @@ ghost use Rattle.link_marks.specs.RunsAsEvents.{AreEventsOfRun};
 ghost use Rattle.text_model.specs.Script.{Script, Command, deliver};
 ghost use Rattle.text_model.specs.ScriptLimits.{IsWithinLimits};
 ghost use Rattle.world_model.specs.World.{World, Obeys, WorldBehind, WorldOf};
-ghost use Rattle.world_model.specs.WorldMade.{IsWorldOf};
+ghost use Rattle.world_model.specs.WorldMade.{MadeWorldOf};
 ghost use Rattle.world_model.specs.RunEvents.{AreEventsOf, AreEventsOfSteps};
-ghost use Rattle.world_model.specs.Headline.{IsGenuineWorld};
+ghost use Rattle.world_model.specs.GenuineWorlds.{IsGenuineWorld};
 
 /// A script has one world at most, after any of its lines and after all of them; and a line that is obeyed leads
 /// from the world before it to one after it.
@@ -29,7 +29,7 @@ pub fn one_world()
 /// What the lines of a script make of a new world, each as a function of its ring, is the world that they lead to by
 /// their exchanges with the rings.
 pub fn worlds_are_made()
-    ensures { (script : Script) (w : World) → (IsWorldOf script w ↔ WorldOf script w) }
+    ensures { (script : Script) (w : World) → (MadeWorldOf script w ↔ WorldOf script w) }
 {}
 
 /// The events of a run of a new ring, step by step, determine the state that it leads to: its history, window and

@@ -35,12 +35,12 @@ returns-clause-makes c = λ n size start s old.
     let after_lost : ℕ = lost + 1 in
     let is : after_lost ≡ suc lost = omega arith in
     let with_link : ℕ → Link → CoreValue = λ (f : ℕ) (l : Link). record v { links = links_with (length v.links) v.links f l } in
-    let met : IsTrue c.exchange.result ↔ (link_into (length v.links) v.links after_lost ≡ normal_link c.args.next after_lost) =
-    ((λ yes. c.exchange.ensures.met.0 yes ∙ c.normal.ensures), (λ e. c.exchange.ensures.met.1 (e ∙ sym c.normal.ensures))) in
-    let exchanged : c.exchange.result ≡ true → c.exchange.new.self ≡ with_link after_lost (header_link c.args.next after_lost) = λ yes. c.exchange.ensures.exchanged yes ∙ ap (with_link after_lost) c.header.ensures in
-    gone_on n size start s c.exchange.new.self c.go_on.new.self c.after_next.result c.go_on.result c.go_on.ensures.answer c.go_on.ensures.phase
-    (mark_exchanged n size start v s old c.requires.top c.args.role c.args.noted c.args.page c.args.next lost c.after_next.result c.exchange.result c.exchange.new.self c.requires.phase
+    let met : IsTrue c.compare_exchange.result ↔ (link_into (length v.links) v.links after_lost ≡ normal_link c.args.next after_lost) =
+    ((λ yes. c.compare_exchange.ensures.met.0 yes ∙ c.normal.ensures), (λ e. c.compare_exchange.ensures.met.1 (e ∙ sym c.normal.ensures))) in
+    let exchanged : c.compare_exchange.result ≡ true → c.compare_exchange.new.self ≡ with_link after_lost (header_link c.args.next after_lost) = λ yes. c.compare_exchange.ensures.exchanged yes ∙ ap (with_link after_lost) c.header.ensures in
+    gone_on n size start s c.compare_exchange.new.self c.go_on.new.self c.after_next.result c.go_on.result c.go_on.ensures.answer c.go_on.ensures.phase
+    (mark_exchanged n size start v s old c.requires.top c.args.role c.args.noted c.args.page c.args.next lost c.after_next.result c.compare_exchange.result c.compare_exchange.new.self c.requires.phase
     (subst (MayContinue (role_of c.args.role) c.args.noted) (ap (λ (x : CoreValue). opened x.stack) c.self.view_is) (c.stops.ensures.goes_on c.if-stops.false)) sum c.after_next.ensures
-    (subst (λ (f : ℕ). IsTrue c.exchange.result ↔ (link_into (length v.links) v.links f ≡ normal_link c.args.next f)) is met)
-    (subst (λ (f : ℕ). c.exchange.result ≡ true → c.exchange.new.self ≡ with_link f (header_link c.args.next f)) is exchanged)
-    c.exchange.ensures.kept)
+    (subst (λ (f : ℕ). IsTrue c.compare_exchange.result ↔ (link_into (length v.links) v.links f ≡ normal_link c.args.next f)) is met)
+    (subst (λ (f : ℕ). c.compare_exchange.result ≡ true → c.compare_exchange.new.self ≡ with_link f (header_link c.args.next f)) is exchanged)
+    c.compare_exchange.ensures.kept)

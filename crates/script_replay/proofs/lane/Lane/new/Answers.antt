@@ -1,5 +1,5 @@
 use Rattle.std.proofs.Common.{ℕ, List, map, reverse, refl, ap, Bor}
-use Rattle.script_replay.proofs.TakesNew.{new_lane}
+use Rattle.script_replay.proofs.NewLanes.{new_lane}
 use Rattle.script_replay.proofs.lane.Lane.new.Goals as goal
 
 pub returns : goal.returns

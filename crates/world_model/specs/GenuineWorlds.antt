@@ -77,9 +77,9 @@ pub record IsCut (n size start : ℕ) (c : Core) (parcels : List Parcel) : Type 
 abbrev pub IsOneOf : List Parcel → (cpu : ℕ) → Parcel → Type 0
 IsOneOf parcels cpu parcel = Contains parcels parcel × (parcel.cpu ≡ cpu)
 
--- What is kept of the parcels that were delivered to a collector makes of a CPU's history: it has exactly the committed
--- records that are in the fill of one of these, under their own numbers, and misses exactly the numbers that were
--- overwritten unread before one of these.
+-- What a collector keeps of the parcels that were delivered to it, beside the history of a CPU: it has exactly the
+-- committed records that are in the fill of one of these, under their own numbers, and misses exactly the numbers that
+-- were overwritten unread before one of these.
 pub record IsExact (history : List HistoryEvent) (start : ℕ) (events : List RingEvent) (cpu : ℕ)
     (kept delivered : List Parcel)
     : Type 0 where
