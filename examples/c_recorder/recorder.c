@@ -37,7 +37,14 @@ static void on_signal(int signal)
     record(0, "signal");
 }
 
-// Dumps the pages of a ring. `take` allocates nothing and waits for nothing, so a handler may make it.
+// Closes the page that this thread writes, so that it can be taken. In a full ring this overwrites the oldest page.
+static void close_page(void)
+{
+    if (tracering_begin_close(&writers[cpu]) == TRACERING_DONE)
+        (void)tracering_finish(&writers[cpu]);
+}
+
+// Dumps the closed pages of a ring. `take` allocates nothing and waits for nothing, so a handler may make it.
 static void dump(struct tracering_reader *reader)
 {
     uint8_t parcel[TRACERING_HEADER + SIZE];
@@ -51,8 +58,8 @@ static void dump(struct tracering_reader *reader)
     }
 }
 
-// The thread's own page that is written is closed first, unless the fault is amid a call on its ring. Of two threads
-// that are hit, one dumps; no signal interrupts it.
+// All closed pages are dumped, then the page that this thread was writing, unless the fault is amid a call on its ring.
+// Of two threads that are hit, one dumps; no signal interrupts it.
 static void on_fault(int signal)
 {
     static atomic_flag dumped = ATOMIC_FLAG_INIT;
@@ -60,11 +67,10 @@ static void on_fault(int signal)
         for (;;)
             pause();
     record(0, "fault");
-    // In a full ring the close of the last page overwrites the oldest one.
-    if (tracering_begin_close(&writers[cpu]) == TRACERING_DONE)
-        (void)tracering_finish(&writers[cpu]);
     for (int each = 0; each < CPUS; each++)
         dump(&readers[each]);
+    close_page();
+    dump(&readers[cpu]);
     _exit(128 + signal);
 }
 
@@ -73,8 +79,9 @@ static void *work(void *given)
     cpu = 1;
     for (uint64_t event = 0; event < EVENTS; event++)
         record(10 * event + 5, "work");
-    if (tracering_begin_close(&writers[cpu]) == TRACERING_DONE)
-        (void)tracering_finish(&writers[cpu]);
+    // `on_fault` closes only the page of the thread that it interrupts. This thread's last page has its newest events,
+    // so it is closed before the thread goes; the oldest page is given up for it.
+    close_page();
     return given;
 }
 

@@ -40,13 +40,19 @@ impl From<WriteFault> for Fault {
 
 impl From<ParcelFault> for Fault {
     fn from(fault: ParcelFault) -> Fault {
-        Fault::Parcel(fault)
+        match fault {
+            ParcelFault::NoMemory => Fault::NoMemory,
+            _ => Fault::Parcel(fault),
+        }
     }
 }
 
 impl From<AddFault> for Fault {
     fn from(fault: AddFault) -> Fault {
-        Fault::Add(fault)
+        match fault {
+            AddFault::NoMemory => Fault::NoMemory,
+            _ => Fault::Add(fault),
+        }
     }
 }
 

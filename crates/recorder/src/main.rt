@@ -1,7 +1,8 @@
 //! A flight recorder over the libraries, to be copied: two threads record events, each in a ring of its own, and a
 //! third one takes pages from the larger ring meanwhile. The smaller ring is a flight recorder: it keeps the newest
-//! events until somebody asks. After the threads, all that both rings have is taken too. The program prints the records
-//! by time, and which numbers are missing, as their pages were overwritten before anybody took them.
+//! events until somebody asks. After the threads, all that both rings have is taken: the closed pages, then the last one.
+//! The program prints the records by time, and which numbers are missing, as their pages were overwritten before
+//! anybody took them.
 #![tactic(auto)]
 
 ghost use Rattle.std.specs.Prelude.{◌≡◌, IfOk};
@@ -14,7 +15,7 @@ mod taking;
 
 use crate::fault::Fault;
 use crate::recording::record;
-use crate::taking::{take_beside, take_pages};
+use crate::taking::{take_beside, take_rest};
 use collector::Collector;
 use ring_shared::{Reader, Writer, ring};
 use std::alloc::Global;
@@ -39,39 +40,39 @@ fn record_and_take<R: Threads + Sync>(
     alloc: Global,
     writer: Writer,
     reader: Reader,
-) -> Result<(Reader, Collector), Fault>
+) -> Result<(Writer, Reader, Collector), Fault>
     requires writer { IsWriter writer }
     requires reader { IsReader reader }
     requires size { reader.shape.size ≡ SIZE }
-    ensures reader { IfOk result (λ taken. IsReader taken.0) }
-    ensures size { IfOk result (λ taken. taken.0.shape.size ≡ SIZE) }
+    ensures writer { IfOk result (λ ends. IsWriter ends.0) }
+    ensures reader { IfOk result (λ ends. IsReader ends.1) }
+    ensures size { IfOk result (λ ends. ends.1.shape.size ≡ SIZE) }
 {
     let (recorded, taken) = thread::join(
         rt,
         move || record(writer, b"call"),
         move || take_beside(alloc, LARGE, reader),
     );
-    recorded?;
-    taken
+    let (reader, collector) = taken?;
+    Ok((recorded?, reader, collector))
 }
 
 /// Records the events of both CPUs, and collects what their rings keep of them.
 fn collect<R: Threads + AllocGlobal + Sync>(rt: &R) -> Result<Collector, Fault> {
     let alloc = rt.alloc();
-    let (irqs, mut kept_irqs) = ring(alloc, 3, SIZE)?;
+    let (irqs, kept_irqs) = ring(alloc, 3, SIZE)?;
     let (calls, kept_calls) = ring(alloc, 16, SIZE)?;
     let (recorded, taken) = thread::join(
         rt,
         move || record(irqs, b"irq "),
-        move || -> Result<(Reader, Collector), Fault>
+        move || -> Result<(Writer, Reader, Collector), Fault>
             requires { IsWriter calls × IsReader kept_calls × (kept_calls.shape.size ≡ SIZE) }
-            ensures { IfOk result (λ taken. IsReader taken.0 × (taken.0.shape.size ≡ SIZE)) }
+            ensures { IfOk result (λ ends. IsWriter ends.0 × IsReader ends.1 × (ends.1.shape.size ≡ SIZE)) }
         { record_and_take(rt, alloc, calls, kept_calls) },
     );
-    recorded?;
-    let (mut kept_calls, mut collector) = taken?;
-    take_pages(alloc, SMALL, &mut kept_irqs, &mut collector)?;
-    take_pages(alloc, LARGE, &mut kept_calls, &mut collector)?;
+    let (calls, kept_calls, mut collector) = taken?;
+    take_rest(alloc, SMALL, recorded?, kept_irqs, &mut collector)?;
+    take_rest(alloc, LARGE, calls, kept_calls, &mut collector)?;
     Ok(collector)
 }
 

@@ -1,13 +1,15 @@
-//! A thread that takes pages.
+//! Pages are taken: beside the thread that records, and after it.
 ghost use Rattle.std.specs.Prelude.{◌≡◌, ◌<◌, IfOk};
+ghost use Rattle.ring_shared.specs.Calls.{IsWriter};
 ghost use Rattle.ring_shared.specs.Takes.{IsReader};
 
 use crate::SIZE;
 use crate::fault::Fault;
+use crate::recording::close;
 use collector::Collector;
 use page_image::Body;
 use page_numbers::Parcel;
-use ring_shared::{Reader, Take};
+use ring_shared::{Reader, Take, Writer};
 use std::alloc::Global;
 use std::thread;
 use trace_model::CpuId;
@@ -55,4 +57,22 @@ pub fn take_beside(alloc: Global, cpu: CpuId, reader: Reader) -> Result<(Reader,
         thread::yield_now();
     }
     Ok((reader, collector))
+}
+
+/// Takes all that a ring has: its closed pages first, then the page that was written last, which is closed for it.
+pub fn take_rest(
+    alloc: Global,
+    cpu: CpuId,
+    writer: Writer,
+    reader: Reader,
+    collector: &mut Collector,
+) -> Result<(), Fault>
+    requires writer { IsWriter writer }
+    requires reader { IsReader reader }
+    requires size { reader.shape.size ≡ SIZE }
+{
+    let mut reader = reader;
+    take_pages(alloc, cpu, &mut reader, collector)?;
+    close(writer);
+    take_pages(alloc, cpu, &mut reader, collector)
 }
