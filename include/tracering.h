@@ -92,7 +92,7 @@ struct tracering_line {
     uint64_t moment; // when the record was made, in its writer's units
     uint64_t number; // the record's number among those of its CPU
     uint32_t cpu;    // the CPU that made it
-    size_t len;      // how many bytes it has: its payload, and zeros up to a multiple of 4
+    size_t len;      // how many bytes it has: its payload, rounded up to a multiple of 4 (by zeros, if written here)
 };
 
 // The bytes of a parcel before its page's data.
@@ -105,7 +105,7 @@ enum {
     TRACERING_RESERVED = -1,     // finish: the record of the frame on top is reserved
     TRACERING_DONE = 0,          // the call did what it says
     TRACERING_TOO_DEEP = 1,      // four frames are begun and not completed
-    TRACERING_TOO_LONG = 2,      // the payload doesn't fit a page; put: the bytes don't fit the slot
+    TRACERING_TOO_LONG = 2,      // the record has no room on an empty page; put: the bytes don't fit the slot
     TRACERING_LATE_MOMENT = 3,   // the moment is 2^59 or later
     TRACERING_CROWDED = 4,       // a page is needed, and all are begun and not closed
     TRACERING_WORN = 5,          // a page is needed, and no number is left for its use: there are 2^48 - `pages`
@@ -323,8 +323,8 @@ static inline int32_t tracering_take(struct tracering_reader *r, void *out, size
 }
 
 // Wishes for the page that is written to be closed, after a `take` that answered EMPTY: the writer closes it when the
-// outermost frame is completed next, if the page has a record, and none was closed since that `take`. Otherwise nothing
-// is closed: take until EMPTY, and wish again.
+// outermost frame is completed next, if the page has a record and may be followed by another page (WORN), and none was
+// closed since that `take`. Otherwise nothing is closed: take until EMPTY, and wish again.
 static inline int32_t tracering_wish(struct tracering_reader *r)
 {
     if (!r)

@@ -1,8 +1,8 @@
-// Checks of the library for C: which misuse is refused; and a writer's thread, a reader's thread, and a signal's
-// handler that writes between the writer's calls, in the middle of them, and nested in records. The reader looks at
-// each record's number, moment and payload. The pages that are taken are added to a collector, which has to miss what
-// the reader missed, and to list the others by moment. Prints the same whatever the schedule, and ends with 0 if all is
-// well.
+// Checks of the library for C: which misuse is refused; a signal's handler that calls one end of a ring amid calls on
+// the other end; and a writer's thread, a reader's thread, and a handler that writes between the writer's calls, in the
+// middle of them, and nested in records. The reader looks at each page's numbers and at each payload. The pages that
+// are taken are added to a collector, which has to miss what the reader missed, and to list the others by moments that
+// don't fall and numbers that rise. Prints the same whatever the schedule, and ends with 0 if all is well.
 // `checks RECORDS` says how many records the writer makes.
 #define _DEFAULT_SOURCE
 #include "tracering.h"
@@ -141,6 +141,21 @@ static void look_at(struct seen *seen, const uint8_t *parcel, const struct trace
     seen->faults += count != taken->count;
 }
 
+// Takes a page into this parcel, if there is one, and looks at it.
+static int32_t take_page(struct seen *seen, uint8_t parcel[TRACERING_HEADER + SIZE], struct tracering_taken *taken)
+{
+    int32_t code = tracering_take(&seen->reader, parcel, TRACERING_HEADER + SIZE, taken);
+    if (code != TRACERING_DONE)
+        return code;
+    seen->faults += taken->first != seen->next + taken->missed || taken->len != TRACERING_HEADER + SIZE;
+    seen->next = taken->first + taken->count;
+    seen->pages++;
+    seen->records += taken->count;
+    seen->missed += taken->missed;
+    look_at(seen, parcel, taken);
+    return code;
+}
+
 static void *read_pages(void *given)
 {
     static uint8_t out[TRACERING_HEADER + SIZE];
@@ -148,14 +163,8 @@ static void *read_pages(void *given)
     for (;;) {
         int last = atomic_load(&done);
         struct tracering_taken taken;
-        int32_t code = tracering_take(&seen->reader, out, sizeof out, &taken);
+        int32_t code = take_page(seen, out, &taken);
         if (code == TRACERING_DONE) {
-            seen->faults += taken.first != seen->next + taken.missed || taken.len != sizeof out;
-            seen->next = taken.first + taken.count;
-            seen->pages++;
-            seen->records += taken.count;
-            seen->missed += taken.missed;
-            look_at(seen, out, &taken);
             struct tracering_fault_at at;
             seen->faults += tracering_collector_add(&seen->collector, out, taken.len, &at) != TRACERING_DONE;
         } else if (code == TRACERING_EMPTY && last) {
@@ -164,6 +173,60 @@ static void *read_pages(void *given)
             sched_yield();
         }
     }
+}
+
+// The reader of the ring both ends of which belong to one thread; and how often the handler that calls one end
+// interrupted a call on the other one.
+static struct seen own;
+static _Atomic uint64_t amid_writes, amid_takes;
+
+static void on_alarm_take(int signal)
+{
+    (void)signal;
+    static uint8_t out[TRACERING_HEADER + SIZE];
+    struct tracering_taken taken;
+    amid_writes += writer.in_call != 0;
+    int32_t code = take_page(&own, out, &taken);
+    faults += code != TRACERING_DONE && code != TRACERING_EMPTY && code != TRACERING_MOVING;
+}
+
+static void on_alarm_write(int signal)
+{
+    amid_takes += own.reader.in_call != 0;
+    on_signal(signal);
+}
+
+// An alarm every 50 microseconds, and none.
+static const struct itimerval often = {.it_interval = {.tv_usec = 50}, .it_value = {.tv_usec = 50}}, never;
+
+static int alarms(void (*handler)(int), const struct itimerval *when)
+{
+    struct sigaction action = {.sa_handler = handler};
+    return sigaction(SIGALRM, &action, NULL) || setitimer(ITIMER_REAL, when, NULL);
+}
+
+// The thread writes while the handler takes, and then takes while the handler writes. Each record is on a page that is
+// taken, or counted as missed before one.
+static int crossed(uint64_t count)
+{
+    static uint8_t out[TRACERING_HEADER + SIZE];
+    struct tracering_taken taken;
+    int bad = tracering_new(&writer, &own.reader, 3, PAGES, SIZE) != TRACERING_DONE;
+    bad += alarms(on_alarm_take, &often);
+    uint64_t written = write_records(count);
+    bad += alarms(on_alarm_write, &often);
+    for (uint64_t i = 0; i < count; i++)
+        (void)take_page(&own, out, &taken);
+    // An alarm that is still to come does nothing.
+    bad += alarms(SIG_IGN, &never);
+    bad += tracering_begin_close(&writer) != TRACERING_DONE || tracering_finish(&writer) != TRACERING_DONE;
+    while (take_page(&own, out, &taken) == TRACERING_DONE)
+        ;
+    bad += written != count || own.faults || own.records + own.missed != written + from_handler;
+    bad += count >= 200000 && (!amid_writes || !amid_takes);
+    bad += tracering_writer_free(&writer) != TRACERING_DONE || tracering_reader_free(&own.reader) != TRACERING_DONE;
+    from_handler = amid_calls = 0;
+    return bad;
 }
 
 // Amid a call on their handle all calls are refused, and two handles are marked together or not at all.
@@ -486,21 +549,28 @@ int main(int argc, char **argv)
 
     static struct seen seen;
     struct sigaction action = {.sa_handler = on_signal};
-    struct itimerval often = {.it_interval = {.tv_usec = 50}, .it_value = {.tv_usec = 50}}, never = {0};
-    sigset_t alarms;
+    sigset_t alarm;
     pthread_t reader;
-    sigemptyset(&alarms);
-    sigaddset(&alarms, SIGALRM);
+    sigemptyset(&alarm);
+    sigaddset(&alarm, SIGALRM);
+    if (sigaction(SIGUSR1, &action, NULL))
+        return 1;
+    wrong = crossed(count) + faults;
+    printf("handlers that call the other end: %s\n", wrong ? "wrong" : "as they are to be");
+    if (wrong || argc > 2)
+        fprintf(stderr, "amid writes %llu, amid takes %llu, records %llu, missed %llu\n",
+            (unsigned long long)amid_writes, (unsigned long long)amid_takes, (unsigned long long)own.records,
+            (unsigned long long)own.missed);
+    bad += wrong;
     // The alarms are for this thread alone: the reader's is made while they are blocked.
     if (tracering_new(&writer, &seen.reader, 3, PAGES, SIZE) != TRACERING_DONE
-        || tracering_collector_new(&seen.collector) != TRACERING_DONE || sigaction(SIGUSR1, &action, NULL)
-        || sigaction(SIGALRM, &action, NULL) || pthread_sigmask(SIG_BLOCK, &alarms, NULL)
-        || pthread_create(&reader, NULL, read_pages, &seen) || pthread_sigmask(SIG_UNBLOCK, &alarms, NULL)
-        || setitimer(ITIMER_REAL, &often, NULL))
+        || tracering_collector_new(&seen.collector) != TRACERING_DONE || pthread_sigmask(SIG_BLOCK, &alarm, NULL)
+        || pthread_create(&reader, NULL, read_pages, &seen) || alarms(on_signal, &often)
+        || pthread_sigmask(SIG_UNBLOCK, &alarm, NULL))
         return 1;
     uint64_t written = write_records(count);
     // An alarm that is still to come would write after the close.
-    if (setitimer(ITIMER_REAL, &never, NULL) || pthread_sigmask(SIG_BLOCK, &alarms, NULL))
+    if (setitimer(ITIMER_REAL, &never, NULL) || pthread_sigmask(SIG_BLOCK, &alarm, NULL))
         return 1;
     if (tracering_begin_close(&writer) != TRACERING_DONE || tracering_finish(&writer) != TRACERING_DONE)
         bad++;

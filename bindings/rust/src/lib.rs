@@ -1,6 +1,9 @@
 //! A trace ring with a writer's end and a reader's end, each of which may go to a thread of its own; and collectors of
 //! the parcels that are taken.
 //!
+//! `./tracering-lib`, in the folder above `bindings`, builds the static library that this crate links; `tests/` shows
+//! the calls in use.
+//!
 //! `include/tracering.h` says what each call does. What is a condition there is kept here by types: an end is in one
 //! call at a time, since calls borrow it, and it is freed when it is dropped.
 use std::os::raw::c_void;
