@@ -24,7 +24,7 @@ def made_word(rng):
 
 
 def made_image(rng):
-    """An image of up to a few hundred words; two thirds are cut, or have a few bytes changed."""
+    """An image of up to a few hundred words; six of ten are cut, or have a few bytes changed."""
     data = b"".join(made_word(rng) for _ in range(rng.choice([0, 1, 2, 5, 20, 200])))
     if rng.random() < 0.1:
         data += word(29, 0) + rng.randbytes(rng.choice([0, 1, 4, 40]))
