@@ -1,4 +1,4 @@
--- The machine values of a `Loose` and of a `OnceBox`. Assumes `Logic`.
+-- The machine values of a `Loose`. Assumes `Logic`.
 use Rattle.std.proofs.Common.{◌≡◌, ℕ, List, [], ◌∷◌, ◌++◌, refl, subst}
 use mathlib.Core.Bool.{true, ◌&&◌}
 use lib.Dec.{T}
