@@ -136,7 +136,7 @@ abbrev pub FitsRing : ℕ → Link → Type 0
 FitsRing n l = (l.page < n + 1) × (l.fill < LINK_FILLS)
 
 -- What every step keeps of links, counts, frames and the reader, who has seen no more fills closed than are, and
--- wishes for none but the one after those.
+-- whose wish is at most one more than that number.
 pub record LinksKept (n : ℕ) (c : Core) : Type 0 where
   pub some_pages : MIN_PAGES ≤ n
   pub positions : length c.links ≡ n

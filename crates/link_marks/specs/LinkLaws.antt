@@ -35,7 +35,7 @@ LinksStandOnce = (n size start : ℕ) (c between after : Core) (exchanges more :
     → link_into n between.links f ≢ link_into n c.links f
     → link_into n after.links f ≢ link_into n c.links f
 
--- a HEADER states the head, and exactly one position has it
+-- a HEADER states the head, and at most one position has it
 abbrev pub OneHeader : Type 0
 OneHeader = (n size start : ℕ) (c : Core) (f g page other_page fill other_fill : ℕ)
     → IsRingKept n size start c
