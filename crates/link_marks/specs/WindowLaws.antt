@@ -124,7 +124,7 @@ TakenAreClosed = (n start : ℕ) (c : Core) (events : List RingEvent) (f : ℕ)
     → Contains (fills_taken start events) f
     → (start ≤ f) × (f < c.head) × (f < c.done)
 
--- so had one that was lost; and a whole round of fills is begun after it
+-- so had one that was lost; and a whole round of fills is begun from it on
 abbrev pub LostAreClosed : Type 0
 LostAreClosed = (n start : ℕ) (c : Core) (events : List RingEvent) (f : ℕ)
     → AreEventsOfRun n start c events
