@@ -322,9 +322,9 @@ static inline int32_t tracering_take(struct tracering_reader *r, void *out, size
     return tracering_leave(&r->in_call, tracering_raw_take(&r->held, (uint8_t *)out, room, taken));
 }
 
-// Wishes for the page that is written to be closed, after a `take` that answered EMPTY: the writer closes it when the
-// outermost frame is completed next, if the page has a record and may be followed by another page (WORN), and none was
-// closed since that `take`. Otherwise nothing is closed: take until EMPTY, and wish again.
+// Wishes for the page that is written to be closed, after a `take` that answered EMPTY: the writer closes it when an
+// outermost frame is completed next that finds a record on it, if it may be followed by another page (WORN), and none
+// was closed since that `take`. If one was, the wish closes nothing: take until EMPTY, and wish again.
 static inline int32_t tracering_wish(struct tracering_reader *r)
 {
     if (!r)
