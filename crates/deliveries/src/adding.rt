@@ -19,7 +19,7 @@ fn refused(fault: AddFault) -> NoMemory
     }
 }
 
-/// Adds a parcel that is at odds with none. If memory is refused, the collector stays as it was, as by `add`.
+/// Adds a parcel that is at odds with none. If memory is refused, the collector stays as it was (read off the code).
 pub fn collect(collector: &mut Collector, parcel: &Parcel) -> Result<Added, NoMemory>
     requires { Agree (collector.old ++ as_parcel parcel.now ∷ []) }
     ensures { IfOk result (λ added. Adds added collector.old (as_parcel parcel.now) collector.new) }

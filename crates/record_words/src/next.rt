@@ -35,7 +35,7 @@ pub enum Word {
     },
 }
 
-/// Why a word can't be read, or the time after it doesn't fit. The argument is the offset of the word at fault, in bytes.
+/// Why a word can't be read, or the time after it doesn't fit. The argument is the offset of that word, in bytes.
 #[derive(Clone, Copy, Debug, PartialEq, Eq)]
 pub enum WordFault {
     /// The data ends within the word.

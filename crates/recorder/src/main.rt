@@ -1,6 +1,6 @@
 //! A flight recorder over the libraries, to be copied: two threads record events, each in a ring of its own, and a
 //! third one takes pages from the larger ring meanwhile. The smaller ring is a flight recorder: it keeps the newest
-//! events until somebody asks. After the threads, all that both rings have is taken: the closed pages, then the last one.
+//! events until somebody asks. After the threads, all that both rings have is taken: closed pages, then the last one.
 //! The program prints the records by time, and which numbers are missing, as their pages were overwritten before
 //! anybody took them.
 #![tactic(auto)]
