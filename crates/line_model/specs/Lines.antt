@@ -257,7 +257,7 @@ writer_lines cpu (line ∷ lines) =
     if writer_line cpu line then line ∷ writer_lines cpu lines else writer_lines cpu lines
 
 -- The lines of one CPU's writer have made this history so far, in a ring of n pages of this size whose first fill has
--- the number start: among some events of the window it is one part for each line. Frames may still be open.
+-- the number start: among some events of the ring it is one part for each line. Frames may still be open.
 pub record IsBegunByLines (n size start : ℕ) (lines : List Command) (history : List HistoryEvent) : Type 0 where
   pub events : List RingEvent
   pub after : LineState

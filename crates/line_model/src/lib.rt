@@ -1,4 +1,4 @@
-//! What the lines of a CPU's writer make of its history, by events of the window alone; accounts: what is printed of a
+//! What the lines of a CPU's writer make of its history, by events of the ring alone; accounts: what is printed of a
 //! script, by histories alone; and the laws over both: what the calls of a writer make is such a history, which records
 //! it commits, and the world of a script has an account.
 //!
