@@ -45,7 +45,7 @@ with_left s moment len = record s {
 abbrev pub with_record : Stack → (moment : ℕ) → List ℕ → Stack
 with_record s moment payload = with_left (with_written s moment payload) moment (length payload)
 
--- The stack is empty, and the record comes in the short form after another one, at no earlier moment.
+-- The stack is empty, and the record is short: docs/GLOSSARY.md.
 pub record IsShortAlone (s : Stack) (moment len : ℕ) : Type 0 where
   pub none : s.frames ≡ []
   pub some : 1 ≤ len

@@ -25,7 +25,7 @@ stack_of w = record {
 
 -- There is room for all pages and frames, and no other room is taken; if the stack is empty, all fills but the tail
 -- are released; the next fill has a number; a payload of the plain length has room on an empty page; and up to the
--- plain end the tail has room for any record in the short form.
+-- plain end the tail has room for any short record (docs/GLOSSARY.md).
 pub record IsWriterStack (w : Inside) : Type 0 where
   pub some_pages : MIN_PAGES ≤ w.pages
   pub most_pages : w.pages ≤ MAX_PAGES

@@ -8,8 +8,8 @@ use Rattle.nested_writer.specs.declared.frame.Frame.{Frame}
 use Rattle.nested_writer.specs.declared.frame.Pushed.{Pushed}
 use Rattle.nested_writer.specs.Stack.{Stack}
 
--- A record of this moment, for a payload of len bytes, comes in the short form after another one, at no earlier
--- moment, and the tail has room for any such record.
+-- A record of this moment, for a payload of len bytes, comes as a short one does (docs/GLOSSARY.md), and the tail has
+-- room for any such record. That the moment is in range is known of a frame on the stack.
 pub record FitsPlainly (s : Stack) (moment len : ℕ) : Type 0 where
   pub some : 1 ≤ len
   pub short : len ≤ SHORT_LIMIT

@@ -4,9 +4,10 @@
 //! reserved, its payload written in place, and ended; what was reserved is stated by the history of the frames, and the
 //! open pages hold its last fills (`docs/MODEL.md`).
 //!
-//! Code without loops names no fact of the stack: `new` gives what the calls ask for, and each call gives it again. A
-//! loop names what it keeps, `IsReachedStack`, and what its calls ask for beside it. So of records that are reserved,
-//! each in the middle of the one before:
+//! Within a function, code without loops names no fact of the stack: `new` ensures what the calls require, and each
+//! call ensures it again. A function that is given a stack requires `IsReachedStack`. A loop names what it keeps, which
+//! is the same, and what its calls require beside it. So of records that are reserved, each in the middle of the one
+//! before:
 //!
 //! ```text
 //! ghost use Rattle.nested_writer.specs.IsStack.{IsReachedStack};

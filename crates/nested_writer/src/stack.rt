@@ -39,7 +39,7 @@ pub struct WriterStack {
     /// A payload of up to this many bytes, at most `SHORT_LIMIT`, has a record with room on an empty page; a longer one
     /// may have one, too.
     plain_len: usize,
-    /// How far the tail may be filled for any record in the short form to have room after it; 0 if none has.
+    /// How far the tail may be filled for any short record (`docs/GLOSSARY.md`) to have room after it; 0 if none has.
     plain_end: usize,
 }
 

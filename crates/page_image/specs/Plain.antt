@@ -2,8 +2,8 @@
 use Rattle.std.specs.Prelude.{◌≡◌, ℕ, ◌+◌, ◌≤◌, ◌<◌, Bool, false}
 use Rattle.record_words.specs.declared.format.TheConstants.{EXTEND_FROM, SHORT_LIMIT}
 
--- It comes in the short form after another one, and any such record would have room after this many bytes of a body of
--- this size.
+-- It comes as a short one does (docs/GLOSSARY.md), and any such record would have room after this many bytes of a body
+-- of this size.
 pub record IsPlainIn (size end delta : ℕ) (first : Bool) (len : ℕ) : Type 0 where
   pub behind : first ≡ false
   pub some : 1 ≤ len

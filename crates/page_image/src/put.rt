@@ -53,8 +53,7 @@ pub(crate) fn put_behind(body: &mut [u8], end: usize, delta: u64, first: bool, l
 pub(crate) enum PutKind {
     /// Any that have room.
     Any,
-    /// Those that are as nearly all are: in the short form, after another one, and far enough from the page's end for
-    /// any such record.
+    /// Plain ones (`docs/GLOSSARY.md`): short, and far enough from the page's end for any short record.
     Plain,
 }
 

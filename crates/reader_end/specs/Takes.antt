@@ -16,7 +16,7 @@ pub record IsPageFound (before after : ReaderEndValue) : Type 0 where
   pub fitted : after.taken ≡ before.taken ++ fitted_parcel before.cpu page missed ∷ []
   pub one_more : as_parcels after.taken ≡ as_parcels before.taken ++ parcel_of before.cpu is.taken ∷ []
 
--- all closed fills are taken or lost, and the reader knows how many they are
+-- all closed fills are taken or lost, and the reader knows the oldest one that isn't closed
 pub record IsNoneFound (before after : ReaderEndValue) : Type 0 where
   pub done : ℕ
   pub is : IsEmptyFound before.reader.shape before.reader.part done after.reader.part

@@ -1,4 +1,4 @@
-//! Why nothing was recorded.
+//! Why nothing was recorded, or what was recorded isn't printed.
 use collector::AddFault;
 use nested_writer::WriteFault;
 use page_numbers::ParcelFault;

@@ -1,5 +1,5 @@
 //! Pages are taken: beside the thread that records, and after it.
-ghost use Rattle.std.specs.Prelude.{◌≡◌, ◌<◌, IfOk};
+ghost use Rattle.std.specs.Prelude.{◌≡◌, IfOk};
 ghost use Rattle.ring_shared.specs.Calls.{IsWriter};
 ghost use Rattle.ring_shared.specs.Takes.{IsReader};
 

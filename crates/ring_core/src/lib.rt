@@ -4,9 +4,10 @@
 //! in the frame on top or in the reader (`docs/FORMATS.md`, "The ring"). So any interleaving of nested writers and of
 //! the reader is a list of events.
 //!
-//! Code without loops names no fact of the ring: `new` gives what `step` asks for, and `step` gives it again. A loop
-//! names what it keeps, which is `IsReachedCore`, and the size of a page's data if it passes the bodies of pages. So of
-//! the steps of the frame on top until one of them answers:
+//! Within a function, code without loops names no fact of the ring: `new` ensures what `step` requires, and `step`
+//! ensures it again. A function that is given a ring requires `IsReachedCore`. A loop names what it keeps, which is the
+//! same, and the size of a page's data if it passes the bodies of pages. So of at most 30 steps of the frame on top,
+//! until one of them answers:
 //!
 //! ```text
 //! ghost use Rattle.std.specs.Prelude.{◌≡◌};

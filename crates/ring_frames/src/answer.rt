@@ -16,7 +16,8 @@ pub enum Answer {
     Ended(Ended),
     /// It has left the stack, other than by its end or a refusal.
     Gone,
-    /// The event is refused. `Crowded` and `Worn` end their frame without a record; any other refusal changes nothing.
+    /// The event is refused. By `Crowded` and `Worn` the frame leaves without a record, and a bottom one still has to
+    /// be finished; any other refusal changes nothing.
     Refused(WriteFault),
     /// The take continues: `reading` in the model. (`Phase::Looking` is a writer's.)
     Looking(Body),

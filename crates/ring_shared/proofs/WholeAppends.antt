@@ -24,7 +24,7 @@ use Rattle.ring_shared.specs.Calls.{IsWriter, IsCall}
 use Rattle.ring_shared.specs.Laws.{events_of_refusal}
 use Rattle.ring_shared.specs.Finishing.{MakesSteps, at_once, one_more, Reserves, Leaves, is_gone, was_refused}
 use Rattle.ring_shared.specs.WholeWrites.{GoesAway, IsRefusedPartWay}
-use Rattle.ring_shared.specs.WholeLaws.{AreFills, AreForReader, FinishesReserve, FinishesRefused, FinishesClose, FinishesLeft, WritesAppend, RefusedWritesAppend, written_record, WritesReserve, RefusedWritesReserveNone, RefusedWritesLeaveNoFrame, PaddedTwice, WritersHaveHistories}
+use Rattle.ring_shared.specs.WholeLaws.{AreFills, AreForReader, FinishesReserve, FinishesRefused, FinishesClose, FinishesLeft, WritesAppend, RefusedWritesAppend, written_record, WritesReserve, RefusedWritesReserveNone, RefusedWritesKeepFrames, PaddedTwice, WritersHaveHistories}
 use Rattle.ring_shared.proofs.CallsAppend.{pushes_append, ends_append, reservations_append, refusals_append}
 use Rattle.ring_shared.proofs.Depths.{depth_is}
 use Rattle.ring_shared.proofs.Finishes.{IsStillReserving, reserving_first, reserving_on}
@@ -297,9 +297,9 @@ refused_push shape before moment len fault after call = by (push_answers shape.p
     by (inl p) = absurd (let both : model.refused (refusal_of fault) ≡ model.pushed = sym call.reports ∙ p.answer_is in cc)
     by (inr (why, denied, same)) = sym call.after_is ∙ ap writing_of same ∙ call.before_is
 
-pub refused_writes_leave_no_frame : RefusedWritesLeaveNoFrame
-refused_writes_leave_no_frame shape before moment len fault after (inl turned) = ap (λ (w : Writing). w.frames) (refused_push shape before moment len fault after turned)
-refused_writes_leave_no_frame shape before moment len fault after (inr r) = r.frames
+pub refused_writes_keep_frames : RefusedWritesKeepFrames
+refused_writes_keep_frames shape before moment len fault after (inl turned) = ap (λ (w : Writing). w.frames) (refused_push shape before moment len fault after turned)
+refused_writes_keep_frames shape before moment len fault after (inr r) = r.frames
 
 -- ---- the reserved records
 

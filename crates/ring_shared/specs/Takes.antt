@@ -107,8 +107,8 @@ pub record IsPageTaken (shape : Shape) (before : Reading) (page : Contents) (mis
   pub observed_is : after.observed ≡ before.observed ++ lost ++ records_of_page page
   pub partition : IsPartition after.observed (pieces_of after.reader.taken) []
 
--- All closed fills, `done` of them, are taken or lost, and the reader knows exactly that; they are no fewer than it had
--- seen.
+-- All closed fills, which are those below `done`, are taken or lost, and the reader knows exactly that; they are no
+-- fewer than it had seen.
 pub record IsEmptyFound (shape : Shape) (before : Reading) (done : ℕ) (after : Reading) : Type 0 where
   pub nothing : TakesNothing before after
   pub seen_le : before.reader.seen ≤ done

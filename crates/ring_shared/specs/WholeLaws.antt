@@ -126,9 +126,9 @@ RefusedWritesReserveNone = (shape : Shape) (before : Writing) (moment len : ℕ)
     → IsRefusedWrite shape before moment len fault after
     → reserved_records after.history ≡ reserved_records before.history
 
--- It leaves the frames that there were before it, and no other.
-abbrev pub RefusedWritesLeaveNoFrame : Type 0
-RefusedWritesLeaveNoFrame = (shape : Shape) (before : Writing) (moment len : ℕ) (fault : WriteFault) (after : Writing)
+-- The frames are those that there were before it.
+abbrev pub RefusedWritesKeepFrames : Type 0
+RefusedWritesKeepFrames = (shape : Shape) (before : Writing) (moment len : ℕ) (fault : WriteFault) (after : Writing)
     → IsRefusedWrite shape before moment len fault after
     → after.frames ≡ before.frames
 
@@ -139,8 +139,8 @@ PaddedTwice = (payload : List ℕ) → padded (padded payload) ≡ padded payloa
 -- ---- the writer's end
 
 -- The history of a writer's part keeps the discipline of the stack, and is packed in pages of the ring's size. The
--- writer reports how many of its fills are closed, and how many frames it has. If it has none, all fills that are begun
--- are closed but the tail.
+-- writer reports the number of its oldest fill that isn't closed, and how many frames it has. If it has none, all fills
+-- that are begun are closed but the tail.
 pub record HasHistory (v : WriterValue) : Type 0 where
   pub allowed : IsHistory v.part.history
   pub packed : IsPacked v.part.history v.shape.size

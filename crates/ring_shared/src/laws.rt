@@ -1,6 +1,6 @@
 //! What holds of any call of a running ring's writer.
 ghost use Rattle.ring_shared.specs.Laws.{CallsAppend, ClosesAppend, EndsAppend, NumbersAreReportedAgain, PushesAppend, RefusalsAppend, ReservationsAppend};
-ghost use Rattle.ring_shared.specs.WholeLaws.{FinishesClose, FinishesLeft, FinishesRefused, FinishesReserve, PaddedTwice, RefusedWritesAppend, RefusedWritesLeaveNoFrame, RefusedWritesReserveNone, WritersHaveHistories, WritesAppend, WritesReserve};
+ghost use Rattle.ring_shared.specs.WholeLaws.{FinishesClose, FinishesLeft, FinishesRefused, FinishesReserve, PaddedTwice, RefusedWritesAppend, RefusedWritesKeepFrames, RefusedWritesReserveNone, WritersHaveHistories, WritesAppend, WritesReserve};
 
 /// A call appends to the history of its writer's frames what its answer states, and nothing else.
 pub fn calls_append()
@@ -23,12 +23,12 @@ pub fn whole_calls_append()
     ensures refused_writes { RefusedWritesAppend }
 {}
 
-/// A write adds exactly its record to the reserved ones; one that is refused adds none, and leaves no frame. A payload
-/// that was padded stays as it is.
+/// A write adds exactly its record to the reserved ones; one that is refused adds none, and keeps the frames that there
+/// were. A payload that was padded stays as it is.
 pub fn writes_reserve_their_record()
     ensures writes { WritesReserve }
     ensures refused { RefusedWritesReserveNone }
-    ensures frames { RefusedWritesLeaveNoFrame }
+    ensures frames { RefusedWritesKeepFrames }
     ensures padded { PaddedTwice }
 {}
 

@@ -4,9 +4,10 @@
 //! the ring, nested ones too, and moves the head on if the ring is full; the reader takes the oldest page that is
 //! closed and unread, and knows how many records were lost before it.
 //!
-//! Code without loops states nothing of the ends: `ring` ensures what their calls require, and each call ensures it
-//! again. A loop states what it keeps: `IsWriter` of a writer, `IsReader` of a reader, and that it is the same end as
-//! before (`SameWriter`, `SameRing`). These are the steps of the frame on top until one of them answers:
+//! Within a function, code without loops states nothing of the ends: `ring` ensures what their calls require, and each
+//! call ensures it again. A function or closure that is given an end requires `IsWriter` of a writer, `IsReader` of a
+//! reader. A loop states what it keeps: the same, and that it is the same end as before (`SameWriter`, `SameRing`).
+//! These are at most 64 steps of the frame on top, until one of them answers (`finish_top` makes all):
 //!
 //! ```text
 //! ghost use Rattle.ring_shared.specs.Value.{SameWriter};

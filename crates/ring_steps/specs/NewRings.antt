@@ -49,7 +49,8 @@ abbrev pub IsFirstLinkWord : Shape → (page word : ℕ) → Type 0
 IsFirstLinkWord shape page word =
     (link : Link) × (word ≡ word_of link) × IsFirstLink shape.pages shape.start ((page + 1) % shape.pages) link
 
--- A word of a new ring: its counts, for each page of it the link into the next position, and 0 for the spare.
+-- A word of a new ring: its counts and the wish, for each page of it the link into the next position, and 0 for the
+-- spare.
 pub record IsFirstWord (shape : Shape) (i word : ℕ) : Type 0 where
   pub opened : i ≡ 0 → word ≡ shape.start + 1
   pub done : i ≡ 1 → word ≡ shape.start

@@ -18,7 +18,7 @@ Sat = Me (Option Contents) SeatView
 
 -- ---- the table
 
--- a ring of this shape has such a table: three counts and a link for each page, and a slot for each page
+-- a ring of this shape has such a table: two counts, the wish, a link for each page, and a slot for each page
 pub record IsTableOf (shape : Shape) (table : TableId) : Type 0 where
   pub pages_fit : shape.pages ≤ MAX_PAGES
   pub words : table.words ≡ shape.pages + 4

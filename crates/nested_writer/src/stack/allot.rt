@@ -147,9 +147,9 @@ impl WriterStack {
         place
     }
 
-    /// What the frame on top was pushed with, if it is a record frame that tried nothing yet, and its record is one
-    /// as nearly all are: in the short form, after another one, and far enough from the page's end for any such
-    /// record. `None` says nothing of the frame.
+    /// What the frame on top was pushed with, if it is a record frame that tried nothing yet, and its record is plain
+    /// (`docs/GLOSSARY.md`): short, and far enough from the page's end for any short record. `None` says nothing of the
+    /// frame.
     #[inline(always)]
     pub fn plain_top(&self) -> Option<Pushed>
         requires stack { IsReachedStack self.now }

@@ -23,9 +23,9 @@ impl Frames {
     ghost use Rattle.ring_frames.specs.Phases.{with_left_phase, left_answer, as_answer};
     ghost use Rattle.ring_frames.specs.Steps.{MakesPrivate, IsFrames, AreSomeFrames, GoesOnIn, IsNotedIn, BeginsAgain, LeavesWithout, IsCloseTop};
 
-    /// What the frame on top was pushed with, if it is a record frame that tried nothing yet, and its record is one as
-    /// nearly all are: in the short form, after another one, and far enough from the page's end for any such record.
-    /// `None` says nothing of the frame.
+    /// What the frame on top was pushed with, if it is a record frame that tried nothing yet, and its record is plain
+    /// (`docs/GLOSSARY.md`): short, and far enough from the page's end for any short record. `None` says nothing of the
+    /// frame.
     #[inline(always)]
     pub fn plain_top(&self) -> Option<Pushed>
         requires shown { AreSomeFrames self.now }
