@@ -92,7 +92,8 @@ struct tracering_line {
     uint64_t moment; // when the record was made, in its writer's units
     uint64_t number; // the record's number among those of its CPU
     uint32_t cpu;    // the CPU that made it
-    size_t len;      // how many bytes it has: its payload, rounded up to a multiple of 4 (by zeros, if written here)
+    size_t len;      // how many bytes it has: its payload, rounded up to a multiple of 4 (if written here, by zeros or
+                     // what its writer put into the rest of the slot)
 };
 
 // The bytes of a parcel before its page's data.
@@ -322,9 +323,9 @@ static inline int32_t tracering_take(struct tracering_reader *r, void *out, size
     return tracering_leave(&r->in_call, tracering_raw_take(&r->held, (uint8_t *)out, room, taken));
 }
 
-// Wishes for the page that is written to be closed, after a `take` that answered EMPTY: the writer closes it when an
-// outermost frame is completed next that finds a record on it, if it may be followed by another page (WORN), and none
-// was closed since that `take`. If one was, the wish closes nothing: take until EMPTY, and wish again.
+// Wishes for the page that is written to be closed, after a `take` that answered EMPTY. The writer closes it when the
+// next outermost frame that finds a record on it is completed, unless no other page may follow it (WORN), or a page
+// was closed since that `take`: then the wish closes nothing; take until EMPTY, and wish again.
 static inline int32_t tracering_wish(struct tracering_reader *r)
 {
     if (!r)
@@ -388,9 +389,9 @@ static inline int32_t tracering_collector_new(struct tracering_collector *c)
 // BAD_LENGTH, TIME_OVERFLOW, NUMBER_OVERFLOW, MISSED_TOO_MANY, MISSED_DIFFERS: the bytes are no parcel; the first of
 // these that holds, in this order (of BAD_IMAGE_SIZE to TIME_OVERFLOW the page's first fault). CLASH,
 // TAKEN_AND_MISSING: the parcel is at odds with the others, under the CPU and number of `at`, of such numbers the
-// least, by CPU and then by number. NO_MEMORY: nothing is wrong with the parcel. `at` is changed by CLASH and
-// TAKEN_AND_MISSING, and its number alone by CUT, BAD_LENGTH and TIME_OVERFLOW. If it answers a positive number, the
-// collector is as it was.
+// least, by CPU and then by number. NO_MEMORY: the bytes are a parcel; it may still be at odds with the others. `at` is
+// changed by CLASH and TAKEN_AND_MISSING, and its number alone by CUT, BAD_LENGTH and TIME_OVERFLOW. If it answers a
+// positive number, the collector is as it was.
 static inline int32_t tracering_collector_add(struct tracering_collector *c, const void *bytes, size_t len,
     struct tracering_fault_at *at)
 {

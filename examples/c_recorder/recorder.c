@@ -3,9 +3,9 @@
 // a fault, the handler of that dumps what the rings have to standard output, as parcels of TRACERING_HEADER + SIZE
 // bytes each.
 //
-// `./tracering-lib` prints how to compile and link it. `recorder >DUMP` hits itself by such a fault when all is
-// recorded, so that it ends with status 139 (SIGSEGV); `list DUMP` and `collect <DUMP` then print what the files
-// `listed` and `collected` have. `list` calls `./tracering dump`, whose first call proves the whole program; if
+// `./tracering-lib` prints how to compile and link it; add `-lpthread`. `recorder >DUMP` hits itself by such a fault
+// when all is recorded, so that it ends with status 139 (SIGSEGV); `list DUMP` and `collect <DUMP` then print what the
+// files `listed` and `collected` have. `list` calls `./tracering dump`, whose first call proves the whole program; if
 // TRACERING is set, the program that it names.
 #define _POSIX_C_SOURCE 200809L
 #include "tracering.h"

@@ -41,7 +41,7 @@ struct Row {
 }
 
 /// A collector is a run's if it keeps what was taken, whatever the padding of its pages and the order of the ledgers;
-/// else the audit names the least parcel at fault.
+/// else the audit names the least stray parcel, or, if there is none, the least that is lacking.
 const ROWS: &[Row] = &[
     Row {
         delivered: &[],
