@@ -23,7 +23,7 @@ use Rattle.ring_shared.specs.Finishing.{MakesSteps, at_once, one_more, Leaves, i
 use Rattle.ring_shared.specs.WholeWrites.{GoesAway, IsWritten, IsRefusedPartWay, IsRefusedWrite}
 use Rattle.ring_shared.proofs.Finishes.{IsStillReserving, reserving_first, reserving_on, IsStillLeaving, leaving_first, leaving_going}
 use Rattle.ring_shared.proofs.WholeWrites.{HasBegun, has_begun, HasTopRecord, reserved_so, left_full, leaves_below}
-use Rattle.ring_shared.proofs.WholeAppends.{refused_writes_leave_no_frame}
+use Rattle.ring_shared.proofs.WholeAppends.{refused_writes_keep_frames}
 use Rattle.line_writer.specs.declared.writer.LineWriter.{LineWriter}
 use Rattle.line_writer.specs.LineWriters.{writer_in, payloads_of, IsLineWriter, WritesWhole}
 use Rattle.line_writer.proofs.PushedFrames.{call_of, record_answered, refused_push}
@@ -288,7 +288,7 @@ module _ (old : LineWriter) (is : IsLineWriter old) (v : WriterValue) (moment : 
       (record_answered s before (Refused fault) v.part moment payload push) (λ e. cc)) refl
   refused fault (inr r) =
       made r.pushed r.push
-      (refused_writes_leave_no_frame s before moment (length payload) fault v.part (inr r))
+      (refused_writes_keep_frames s before moment (length payload) fault v.part (inr r))
       (refused_calls s before moment payload v.part (payloads_of old) many fault r)
 
   pub written_whole : (result : Result Unit WriteFault)
