@@ -8,7 +8,8 @@ use ring_shared::Writer;
 /// How often each thread records its event.
 const TIMES: u64 = 30;
 
-/// Records this event again and again, a moment after the other. No call waits for a reader, or takes memory.
+/// Records this event again and again, a moment after the other. No call waits for a reader, or takes memory. A record
+/// has whole words of 4 bytes: after an event of another length it has zeros.
 pub fn record(writer: Writer, event: &[u8]) -> Result<Writer, WriteFault>
     requires { IsWriter writer }
     ensures { IfOk result (λ writer. IsWriter writer) }
