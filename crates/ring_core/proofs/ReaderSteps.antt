@@ -14,7 +14,7 @@ use Rattle.link_marks.proofs.links.LinkFills.{fill_at, normal_reports}
 use Rattle.link_marks.proofs.links.Positions.{at_position}
 use Rattle.ring_frames.specs.declared.answer.Answer.{Answer}
 use Rattle.ring_frames.specs.declared.answer.Answer.TheVariants.{Looking, Empty, Moving, Wished}
-use Rattle.ring_frames.specs.declared.reader.Reader.{Reader}
+use Rattle.ring_frames.specs.declared.reader.TakeState.{TakeState}
 use Rattle.ring_frames.specs.declared.reader.ReaderPhase.TheVariants.{LoadingHead, LoadingDone, StoringSpareLink, Swapping}
 use Rattle.ring_frames.proofs.Same.{same_frames}
 use Rattle.ring_frames.specs.ReaderPhases.{reader_phase_of}
@@ -26,7 +26,7 @@ use Rattle.ring_core.specs.Steps.{IsStep, MakesStep, MakesRead, IsSomeCore, IsRe
 use Rattle.ring_core.proofs.Stepped.{kept_of, stepped}
 
 -- the reader goes on, and sets its page's link or its wish
-reader_shown : (n size start : ℕ) (v : CoreValue) (c : ring.Core) (spare_link of_link : Link) (wish of_wish : ℕ) (reader : Reader) (of : ring.Reader) → HasStateOf n size start v c
+reader_shown : (n size start : ℕ) (v : CoreValue) (c : ring.Core) (spare_link of_link : Link) (wish of_wish : ℕ) (reader : TakeState) (of : ring.Reader) → HasStateOf n size start v c
     → of_link ≡ spare_link → of_wish ≡ wish → of.phase ≡ reader_phase_of reader.phase → of.hint ≡ reader.hint → of.seen ≡ reader.seen → of.expected ≡ reader.expected
     → HasStateOf n size start (record v { spare_link = spare_link; wish = wish; reader = reader }) (record c { spare_link = of_link; wish = of_wish; reader = of })
 reader_shown n size start v c spare_link of_link wish of_wish reader of s link_is wish_is phase hint seen expected =
@@ -65,7 +65,7 @@ module _ (n size start : ℕ) (v : CoreValue) (c : ring.Core) (core : IsCore n s
       s.spare_link_is (ap (λ (k : ℕ). k + 1) s.seen_is) s.reader_phase_is s.hint_is s.seen_is s.expected_is)
 
   -- a step of the reader that changes only the reader and its page's link
-  pub reads : (phase : ring.ReaderPhase) (answer : model.Answer) (result : Answer) (spare_link of_link : Link) (reader : Reader) (of : ring.Reader) → reader_phase_of v.reader.phase ≡ phase
+  pub reads : (phase : ring.ReaderPhase) (answer : model.Answer) (result : Answer) (spare_link of_link : Link) (reader : TakeState) (of : ring.Reader) → reader_phase_of v.reader.phase ≡ phase
       → cases.ReadStep n c phase answer (record c { spare_link = of_link; reader = of }) → IsAnswerOf size result answer
       → of_link ≡ spare_link → of.phase ≡ reader_phase_of reader.phase → of.hint ≡ reader.hint → of.seen ≡ reader.seen → of.expected ≡ reader.expected
       → IsStep n size start c model.reads result (record v { spare_link = spare_link; reader = reader })

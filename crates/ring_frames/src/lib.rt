@@ -19,4 +19,4 @@ pub use frames::Frames;
 pub use frames::write::WriteKind;
 pub use payload::write_padded;
 pub use phase::{Phase, Role, StepAnswer};
-pub use reader::{Reader, ReaderPhase};
+pub use reader::{ReaderPhase, TakeState};

@@ -2,7 +2,7 @@
 use crate::ring::Core;
 use link_marks::{Link, first_link, normal};
 use page_image::{Body, Page};
-use ring_frames::{Frames, Reader, ReaderPhase};
+use ring_frames::{Frames, ReaderPhase, TakeState};
 use std::alloc::Global;
 use trace_model::{FillNo, NoMemory, RecordNo, START_FILL};
 
@@ -32,7 +32,7 @@ impl Core {
             spare: pages as u16,
             homes,
             wish: 0,
-            reader: Reader {
+            reader: TakeState {
                 phase: ReaderPhase::LoadingHead,
                 hint: start,
                 seen: start,

@@ -3,7 +3,7 @@ use crate::event::Answer;
 use crate::ring::Core;
 use link_marks::{Mark, header, normal};
 use page_image::{Body, Page};
-use ring_frames::{Reader, ReaderPhase};
+use ring_frames::{ReaderPhase, TakeState};
 use trace_model::{FillNo, RecordNo};
 
 impl Core {
@@ -34,7 +34,7 @@ impl Core {
     fn reader_at(&mut self, phase: ReaderPhase, hint: u64)
         ensures { self.new ≡ record self.old { reader = record self.old.reader { phase = phase; hint = hint } } }
     {
-        self.reader = Reader {
+        self.reader = TakeState {
             phase,
             hint,
             ..self.reader
@@ -144,7 +144,7 @@ impl Core {
         self.spare = page;
         let first = taken.first().0;
         let missed = first - self.reader.expected;
-        self.reader = Reader {
+        self.reader = TakeState {
             phase: ReaderPhase::LoadingHead,
             hint: fill + 1,
             seen: self.reader.seen,

@@ -1,6 +1,6 @@
 //! A new reader's end.
 use crate::reader::Reader;
-use ring_frames::{Reader as TakeState, ReaderPhase};
+use ring_frames::{ReaderPhase, TakeState};
 use ring_steps::ReaderSeat;
 use std::alloc::Global;
 use trace_model::NoMemory;
