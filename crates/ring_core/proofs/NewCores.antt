@@ -12,13 +12,14 @@ use Rattle.link_marks.specs.ModelLinks.{link_of}
 use Rattle.link_marks.proofs.links.Positions.{apart}
 use Rattle.ring_frames.specs.declared.reader.TakeState.{TakeState}
 use Rattle.ring_frames.specs.declared.reader.ReaderPhase.TheVariants.{LoadingHead}
+use Rattle.ring_frames.specs.FirstPages.{AreFirstPages}
 use Rattle.ring_frames.specs.Steps.{AreNew}
 use Rattle.ring_frames.specs.ReaderPhases.{reader_phase_of}
 use Rattle.ring_core.specs.Value.{CoreValue, frames_of}
 use Rattle.ring_core.specs.IsCore.{HasBody, HasStateOf}
 use Rattle.ring_core.specs.Steps.{IsNewRing}
 use Rattle.link_marks.specs.FirstLinks.{IsFirstLink}
-use Rattle.ring_core.specs.NewRing.{AreFirstLinks, AreFirstPages, AreFirstHomes}
+use Rattle.ring_core.specs.NewRing.{AreFirstLinks, AreFirstHomes}
 
 -- the parts of a new ring
 pub record HasFirstParts (n size start : ℕ) (laid : List code.Link) (v : CoreValue) : Type 0 where

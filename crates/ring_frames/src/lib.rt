@@ -6,6 +6,7 @@
 #![tactic(auto)]
 
 pub mod answer;
+mod first_pages;
 #[tactic(auto, unfolding(nested_writer::specs::IsStack::IsReachedStack))]
 pub mod frames;
 pub mod laws;
@@ -15,6 +16,7 @@ pub mod phase;
 pub mod reader;
 
 pub use answer::Answer;
+pub use first_pages::first_order;
 pub use frames::Frames;
 pub use frames::write::WriteKind;
 pub use payload::write_padded;
