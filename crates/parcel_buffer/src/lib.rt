@@ -15,7 +15,7 @@ use page_image::Page;
 use trace_model::CpuId;
 
 /// How many bytes of a parcel are before its page's data: four numbers, the page's time, and its commit word.
-pub const HEADER: usize = 48;
+pub const PARCEL_HEADER: usize = 48;
 
 /// How many bytes the count of missed records takes.
 const NUMBER: usize = 8;
@@ -27,14 +27,15 @@ const STORED: u64 = 1 << 30;
 const MISSED: u64 = 1 << 31;
 
 /// Puts the page to the front of `out` as a parcel of this CPU, with `missed` numbers missing before its records: the
-/// bytes that `Parcel::to_bytes` makes. The answer is how many they are: `HEADER`, and as many as the page's size.
+/// bytes that `Parcel::to_bytes` makes. The answer is how many they are: `PARCEL_HEADER`, and as many as the page's
+/// size.
 pub fn put_parcel(out: &mut [u8], cpu: CpuId, page: &Page, missed: u64) -> usize
-    requires there { HEADER + page.now.size ≤ length out.old }
+    requires there { PARCEL_HEADER + page.now.size ≤ length out.old }
     requires fits { length page.now.bytes ≤ page.now.size }
     requires limit { page.now.size ≤ MAX_SIZE }
     ensures bytes { HasAtFront out.old (bytes_of_page cpu.0 page.now missed) out.new }
     ensures len { length (bytes_of_page cpu.0 page.now missed) ≡ result }
-    ensures size { result ≡ HEADER + page.now.size }
+    ensures size { result ≡ PARCEL_HEADER + page.now.size }
     ensures reads { IsPage page.now → IsParcel (parcel_of cpu.0 page.now missed)
         → DecodesParcel (bytes_of_page cpu.0 page.now missed) (parcel_of cpu.0 page.now missed) }
 {
@@ -46,11 +47,11 @@ pub fn put_parcel(out: &mut [u8], cpu: CpuId, page: &Page, missed: u64) -> usize
     put_number(out, 24, missed);
     put_number(out, 32, page.time());
     put_number(out, 40, commit_number(page.end(), missed, stored));
-    put(out, HEADER, page.data());
-    let end = HEADER + page.end();
+    put(out, PARCEL_HEADER, page.data());
+    let end = PARCEL_HEADER + page.end();
     let behind = put_count(out, end, missed, stored);
-    put_zeros(out, behind, HEADER + size);
-    HEADER + size
+    put_zeros(out, behind, PARCEL_HEADER + size);
+    PARCEL_HEADER + size
 }
 
 /// How many bytes of the page its records leave.
