@@ -14,6 +14,7 @@ mod header;
 use crate::count::count_records;
 use crate::page::Page;
 pub(crate) use header::{Commit, HEADER};
+pub use header::{commit_number, number_at, stores_count};
 use header::{read_header, read_missed};
 use record_words::WordFault;
 use std::alloc::Global;

@@ -46,7 +46,10 @@ mod put;
 mod walk;
 
 pub use body::Body;
-pub use image::{Image, ImageFault, Missed, Outline, read_image, read_outline};
+pub use image::{
+    Image, ImageFault, Missed, Outline, commit_number, number_at, read_image, read_outline,
+    stores_count,
+};
 pub use page::Page;
 pub use record_words::Place;
 pub use walk::{Passed, Reached, step_over_word};

@@ -1,6 +1,6 @@
 //! The numbers before the image of a parcel.
 ghost use Rattle.std.specs.Prelude.{◌≡◌, ◌+◌, ◌≤◌, ◌<◌, ◌^◌, length, drop, IfOk, IfErr, IsTrue, OnOk, OnErr, ◌↔◌};
-ghost use Rattle.trace_model.specs.Image.{from_le64, Missed as MissedReported};
+ghost use Rattle.trace_model.specs.Image.{Missed as MissedReported};
 ghost use Rattle.trace_model.specs.Parcel.{Parcel as ParcelSeen};
 ghost use Rattle.trace_model.specs.ParcelBytes.{HasNumbers, AgreesWith};
 ghost use Rattle.trace_model.specs.declared.limits.TheConstants.{MAX_CPUS};
@@ -8,8 +8,7 @@ ghost use Rattle.page_image.specs.Images.{missed_of};
 ghost use Rattle.page_numbers.specs.Faults.{IsRefused, IsRefusedAs};
 
 use crate::fault::ParcelFault;
-use byteorder::{ByteOrder, LittleEndian};
-use page_image::{ImageFault, Missed};
+use page_image::{ImageFault, Missed, number_at};
 use trace_model::{CpuId, MAX_CPUS, RecordNo};
 
 /// How many bytes the four numbers take.
@@ -25,15 +24,6 @@ pub(crate) struct Numbers {
     pub(crate) fill: u64,
     pub(crate) first: u64,
     pub(crate) missed: u64,
-}
-
-/// The number in the eight bytes at `at`.
-#[tactic(auto, unfolding(trace_model::specs::Image::from_le64))]
-fn number_at(bytes: &[u8], at: usize) -> u64
-    requires { at + 8 ≤ length bytes.now }
-    ensures { result ≡ from_le64 (drop at bytes.now) }
-{
-    LittleEndian::read_u64(&bytes[at..])
 }
 
 /// Looks whether `count` records have numbers from the first one on, and whether there are `missed` numbers before it.

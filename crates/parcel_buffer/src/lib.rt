@@ -4,37 +4,32 @@
 ghost use Rattle.std.specs.Prelude.{◌≡◌, ◌+◌, ◌-◌, ◌≤◌, ◌++◌, ℕ, List, take, drop, length, replicate, true};
 ghost use Rattle.std.specs.Int.{to_le_bytes, w64};
 ghost use Rattle.trace_model.specs.declared.limits.TheConstants.{MAX_SIZE};
-ghost use Rattle.trace_model.specs.Image.{commit_word, commit_of, stores_count as is_count_stored, stored_count};
+ghost use Rattle.trace_model.specs.Image.{stores_count as is_count_stored, stored_count};
 ghost use Rattle.trace_model.specs.ParcelBytes.{IsParcel, DecodesParcel};
 ghost use Rattle.page_image.specs.Contents.{IsPage};
 ghost use Rattle.page_numbers.specs.Parcels.{parcel_of};
 ghost use Rattle.page_numbers.specs.Written.{bytes_of_page};
 ghost use Rattle.parcel_buffer.specs.Fronts.{HasAtFront};
 
-use page_image::Page;
+use page_image::{Page, commit_number, stores_count};
 use trace_model::CpuId;
 
 /// How many bytes of a parcel are before its page's data: four numbers, the page's time, and its commit word.
-pub const HEADER: usize = 48;
+pub const PARCEL_HEADER: usize = 48;
 
-/// How many bytes the count of missed records takes.
+/// How many bytes a number takes, and the count of missed records.
 const NUMBER: usize = 8;
 
-/// Bit 30 of a commit word: a count of missed records is stored after the data.
-const STORED: u64 = 1 << 30;
-
-/// Bit 31 of a commit word: records were missed.
-const MISSED: u64 = 1 << 31;
-
 /// Puts the page to the front of `out` as a parcel of this CPU, with `missed` numbers missing before its records: the
-/// bytes that `Parcel::to_bytes` makes. The answer is how many they are: `HEADER`, and as many as the page's size.
+/// bytes that `Parcel::to_bytes` makes. The answer is how many they are: `PARCEL_HEADER`, and as many as the page's
+/// size.
 pub fn put_parcel(out: &mut [u8], cpu: CpuId, page: &Page, missed: u64) -> usize
-    requires there { HEADER + page.now.size ≤ length out.old }
+    requires there { PARCEL_HEADER + page.now.size ≤ length out.old }
     requires fits { length page.now.bytes ≤ page.now.size }
     requires limit { page.now.size ≤ MAX_SIZE }
     ensures bytes { HasAtFront out.old (bytes_of_page cpu.0 page.now missed) out.new }
     ensures len { length (bytes_of_page cpu.0 page.now missed) ≡ result }
-    ensures size { result ≡ HEADER + page.now.size }
+    ensures size { result ≡ PARCEL_HEADER + page.now.size }
     ensures reads { IsPage page.now → IsParcel (parcel_of cpu.0 page.now missed)
         → DecodesParcel (bytes_of_page cpu.0 page.now missed) (parcel_of cpu.0 page.now missed) }
 {
@@ -45,12 +40,12 @@ pub fn put_parcel(out: &mut [u8], cpu: CpuId, page: &Page, missed: u64) -> usize
     put_number(out, 16, page.first().0);
     put_number(out, 24, missed);
     put_number(out, 32, page.time());
-    put_number(out, 40, commit_number(page.end(), missed, stored));
-    put(out, HEADER, page.data());
-    let end = HEADER + page.end();
+    put_number(out, 40, commit_number(page.end(), missed, size));
+    put(out, PARCEL_HEADER, page.data());
+    let end = PARCEL_HEADER + page.end();
     let behind = put_count(out, end, missed, stored);
-    put_zeros(out, behind, HEADER + size);
-    HEADER + size
+    put_zeros(out, behind, PARCEL_HEADER + size);
+    PARCEL_HEADER + size
 }
 
 /// How many bytes of the page its records leave.
@@ -61,28 +56,6 @@ fn room(page: &Page) -> usize
     ensures limit { page.now.size ≤ MAX_SIZE }
 {
     page.size() - page.end()
-}
-
-/// Whether a count of missed records is stored after `end` bytes of data, on a page of this size.
-fn stores_count(end: usize, missed: u64, size: usize) -> bool
-    requires end { end ≤ size }
-    requires limit { size ≤ MAX_SIZE }
-    ensures { (contents : List ℕ) → length contents ≡ end → result ≡ is_count_stored contents missed size }
-{
-    missed > 0 && end + NUMBER <= size
-}
-
-/// The commit word of an image with `end` bytes of data.
-fn commit_number(end: usize, missed: u64, stored: bool) -> u64
-    requires limit { end ≤ MAX_SIZE }
-    ensures { (contents : List ℕ) (size : ℕ)
-        → length contents ≡ end
-        → stored ≡ is_count_stored contents missed size
-        → result ≡ commit_word (commit_of contents missed size) }
-{
-    let count = if stored { STORED } else { 0 };
-    let events = if missed > 0 { MISSED } else { 0 };
-    end as u64 + count + events
 }
 
 /// Puts the count of missed records to `at`, if it is stored: the answer is where the bytes after it begin.

@@ -10,15 +10,16 @@ use Rattle.link_marks.specs.declared.link.Link as code
 use Rattle.link_marks.specs.declared.link.Mark.TheVariants.{Normal}
 use Rattle.link_marks.specs.ModelLinks.{link_of}
 use Rattle.link_marks.proofs.links.Positions.{apart}
-use Rattle.ring_frames.specs.declared.reader.Reader.{Reader}
+use Rattle.ring_frames.specs.declared.reader.TakeState.{TakeState}
 use Rattle.ring_frames.specs.declared.reader.ReaderPhase.TheVariants.{LoadingHead}
+use Rattle.ring_frames.specs.FirstPages.{AreFirstPages}
 use Rattle.ring_frames.specs.Steps.{AreNew}
 use Rattle.ring_frames.specs.ReaderPhases.{reader_phase_of}
 use Rattle.ring_core.specs.Value.{CoreValue, frames_of}
 use Rattle.ring_core.specs.IsCore.{HasBody, HasStateOf}
 use Rattle.ring_core.specs.Steps.{IsNewRing}
 use Rattle.link_marks.specs.FirstLinks.{IsFirstLink}
-use Rattle.ring_core.specs.NewRing.{AreFirstLinks, AreFirstPages, AreFirstHomes}
+use Rattle.ring_core.specs.NewRing.{AreFirstLinks, AreFirstHomes}
 
 -- the parts of a new ring
 pub record HasFirstParts (n size start : ℕ) (laid : List code.Link) (v : CoreValue) : Type 0 where
@@ -102,10 +103,10 @@ module _ (n size start : ℕ) (laid : List code.Link) (v : CoreValue) (some : MI
     order_is = refl;
     spare_is = refl;
     wish_is = sym p.wish;
-    reader_phase_is = ap (λ (r : Reader). reader_phase_of r.phase) (sym p.reader);
-    hint_is = ap (λ (r : Reader). r.hint) (sym p.reader);
-    seen_is = ap (λ (r : Reader). r.seen) (sym p.reader);
-    expected_is = ap (λ (r : Reader). r.expected) (sym p.reader);
+    reader_phase_is = ap (λ (r : TakeState). reader_phase_of r.phase) (sym p.reader);
+    hint_is = ap (λ (r : TakeState). r.hint) (sym p.reader);
+    seen_is = ap (λ (r : TakeState). r.seen) (sym p.reader);
+    expected_is = ap (λ (r : TakeState). r.expected) (sym p.reader);
     closed = λ f low high. absurd (omega arith);
     free = free;
   }

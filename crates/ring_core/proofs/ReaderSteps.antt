@@ -1,5 +1,7 @@
 -- The steps of the reader but the swap: what the value after each of them shows.
-use Rattle.std.proofs.Common.{◌≡◌, ◌≢◌, ℕ, suc, ◌+◌, ◌-◌, ◌%◌, ◌<◌, ◌≤◌, List, length, get_or, refl, sym, ap, ◌∙◌, subst, mod-lt, mod-eq_of_lt, arith, Fits, w64}
+use Rattle.std.proofs.Common.{◌≡◌, ◌≢◌, ℕ, suc, ◌+◌, ◌-◌, ◌%◌, ◌<◌, ◌≤◌, List, length, get_or, refl, sym, ap, ◌∙◌, subst, mod-lt, mod-eq_of_lt, arith}
+use Rattle.std.specs.Prelude.{Bool, true, false, ◌==◌}
+use Rattle.std.proofs.lemmas.Bool.{eqb-true, eq-eqb}
 use Rattle.trace_model.specs.declared.limits.TheConstants.{LINK_FILLS}
 use Rattle.trace_model.specs.Links.{Link, header_link, normal_link, update_link}
 use Rattle.trace_model.specs.Ring as ring
@@ -8,13 +10,16 @@ use Rattle.trace_model.proofs.steps.StepCases as cases
 use Rattle.trace_model.proofs.steps.StepIs.{step_by}
 use Rattle.link_marks.specs.declared.link.Link.{Link as FoundLink}
 use Rattle.link_marks.specs.declared.link.Mark.{Mark}
+use Rattle.link_marks.specs.declared.link.Mark.TheVariants.{Normal, Header, Update}
 use Rattle.link_marks.specs.ModelLinks.{link_of}
 use Rattle.link_marks.specs.KeptLinks.{ReaderKept, LinkKept, is_normal, is_header, is_update, LinksKept}
 use Rattle.link_marks.proofs.links.LinkFills.{fill_at, normal_reports}
 use Rattle.link_marks.proofs.links.Positions.{at_position}
 use Rattle.ring_frames.specs.declared.answer.Answer.{Answer}
 use Rattle.ring_frames.specs.declared.answer.Answer.TheVariants.{Looking, Empty, Moving, Wished}
-use Rattle.ring_frames.specs.declared.reader.Reader.{Reader}
+use Rattle.ring_frames.specs.declared.head.HeadSeen.{HeadSeen}
+use Rattle.ring_frames.specs.declared.head.HeadSeen.TheVariants.{Head, Moved, Passed}
+use Rattle.ring_frames.specs.declared.reader.TakeState.{TakeState}
 use Rattle.ring_frames.specs.declared.reader.ReaderPhase.TheVariants.{LoadingHead, LoadingDone, StoringSpareLink, Swapping}
 use Rattle.ring_frames.proofs.Same.{same_frames}
 use Rattle.ring_frames.specs.ReaderPhases.{reader_phase_of}
@@ -26,7 +31,7 @@ use Rattle.ring_core.specs.Steps.{IsStep, MakesStep, MakesRead, IsSomeCore, IsRe
 use Rattle.ring_core.proofs.Stepped.{kept_of, stepped}
 
 -- the reader goes on, and sets its page's link or its wish
-reader_shown : (n size start : ℕ) (v : CoreValue) (c : ring.Core) (spare_link of_link : Link) (wish of_wish : ℕ) (reader : Reader) (of : ring.Reader) → HasStateOf n size start v c
+reader_shown : (n size start : ℕ) (v : CoreValue) (c : ring.Core) (spare_link of_link : Link) (wish of_wish : ℕ) (reader : TakeState) (of : ring.Reader) → HasStateOf n size start v c
     → of_link ≡ spare_link → of_wish ≡ wish → of.phase ≡ reader_phase_of reader.phase → of.hint ≡ reader.hint → of.seen ≡ reader.seen → of.expected ≡ reader.expected
     → HasStateOf n size start (record v { spare_link = spare_link; wish = wish; reader = reader }) (record c { spare_link = of_link; wish = of_wish; reader = of })
 reader_shown n size start v c spare_link of_link wish of_wish reader of s link_is wish_is phase hint seen expected =
@@ -65,7 +70,7 @@ module _ (n size start : ℕ) (v : CoreValue) (c : ring.Core) (core : IsCore n s
       s.spare_link_is (ap (λ (k : ℕ). k + 1) s.seen_is) s.reader_phase_is s.hint_is s.seen_is s.expected_is)
 
   -- a step of the reader that changes only the reader and its page's link
-  pub reads : (phase : ring.ReaderPhase) (answer : model.Answer) (result : Answer) (spare_link of_link : Link) (reader : Reader) (of : ring.Reader) → reader_phase_of v.reader.phase ≡ phase
+  pub reads : (phase : ring.ReaderPhase) (answer : model.Answer) (result : Answer) (spare_link of_link : Link) (reader : TakeState) (of : ring.Reader) → reader_phase_of v.reader.phase ≡ phase
       → cases.ReadStep n c phase answer (record c { spare_link = of_link; reader = of }) → IsAnswerOf size result answer
       → of_link ≡ spare_link → of.phase ≡ reader_phase_of reader.phase → of.hint ≡ reader.hint → of.seen ≡ reader.seen → of.expected ≡ reader.expected
       → IsStep n size start c model.reads result (record v { spare_link = spare_link; reader = reader })
@@ -91,11 +96,11 @@ module _ (n size start : ℕ) (v : CoreValue) (c : ring.Core) (core : IsCore n s
       (ap reader_phase_of at) (cases.loads_update page lost (link_at (update_link page lost) link) refl refl) (ap model.moving next) s.spare_link_is refl next s.seen_is s.expected_is
 
   pub sees_owed : (page : ℕ) (body : List ℕ) → v.reader.phase ≡ LoadingHead → ring.link_into (length v.links) v.links v.reader.hint ≡ normal_link page v.reader.hint
-      → IsStep n size start c model.reads (Moving record { 0 = v.reader.hint } body) v
+      → IsStep n size start c model.reads (Moving record { 0 = v.reader.hint } body) (record v { reader = record v.reader { phase = LoadingHead; hint = v.reader.hint } })
   sees_owed page body at link = let s = core.shows in
-      reads ring.loading_head (model.moving c.reader.hint) (Moving record { 0 = v.reader.hint } body) v.spare_link c.spare_link v.reader (record c.reader { phase = ring.loading_head; hint = c.reader.hint })
+      reads ring.loading_head (model.moving c.reader.hint) (Moving record { 0 = v.reader.hint } body) v.spare_link c.spare_link (record v.reader { phase = LoadingHead; hint = v.reader.hint }) (record c.reader { phase = ring.loading_head; hint = c.reader.hint })
       (ap reader_phase_of at) (cases.loads_owed page (link_at (normal_link page v.reader.hint) link ∙ ap (normal_link page) (sym s.hint_is)) refl refl) (ap model.moving s.hint_is)
-      s.spare_link_is (sym (ap reader_phase_of at)) s.hint_is s.seen_is s.expected_is
+      s.spare_link_is refl s.hint_is s.seen_is s.expected_is
 
   pub sees_passed : (page fill least : ℕ) (body : List ℕ) → v.reader.phase ≡ LoadingHead → ring.link_into (length v.links) v.links v.reader.hint ≡ normal_link page fill → fill ≢ v.reader.hint → least ≡ fill + 1 - length v.links
       → IsStep n size start c model.reads (Looking body) (record v { reader = record v.reader { phase = LoadingHead; hint = least } })
@@ -146,15 +151,49 @@ module _ (v : CoreValue) (r : IsSomeCore v) where
 
 -- ---- the link that was loaded
 
--- the fill after the one that it states has a number
-pub next_fits : (v : CoreValue) (r : IsReachedCore v) (hint : ℕ) (link : Link) → link ≡ ring.link_into (length v.links) v.links hint → Fits w64 (link.fill + 1)
+-- the fill that it states has a number
+pub fill_fits : (v : CoreValue) (r : IsReachedCore v) (hint : ℕ) (link : Link) → link ≡ ring.link_into (length v.links) v.links hint → link.fill < LINK_FILLS
 unfolding IsReachedCore
-next_fits v r hint link is = let below = reported_fits v r hint in let same = ap (λ (l : Link). l.fill) is in omega arith
+fill_fits v r hint link is = let below = reported_fits v r hint in let same = ap (λ (l : Link). l.fill) is in omega arith
 
 -- it is that of the hint, and has this mark
 pub link_loaded : (v : CoreValue) (hint : ℕ) (link : FoundLink) (mark : Mark) → hint ≡ v.reader.hint → link_of link ≡ ring.link_into (length v.links) v.links hint → link.mark ≡ mark
     → ring.link_into (length v.links) v.links v.reader.hint ≡ link_of record { mark = mark; page = link.page; fill = link.fill }
 link_loaded v hint link mark same is marked = ap (ring.link_into (length v.links) v.links) (sym same) ∙ sym is ∙ ap (λ (m : Mark). link_of record { mark = m; page = link.page; fill = link.fill }) marked
+
+-- by what was seen: what the reader answers, and how it goes on
+abbrev pub SeesBy : (n size start : ℕ) (v : CoreValue) (c : ring.Core) (body : List ℕ) → HeadSeen → Type 0
+SeesBy n size start v c body (Head page fill) = IsStep n size start c model.reads (Looking body) (record v { reader = record v.reader { phase = LoadingDone page fill; hint = fill } })
+SeesBy n size start v c body (Moved fill) = IsStep n size start c model.reads (Moving record { 0 = fill } body) (record v { reader = record v.reader { phase = LoadingHead; hint = fill } })
+SeesBy n size start v c body (Passed fill) = IsStep n size start c model.reads (Looking body) (record v { reader = record v.reader { phase = LoadingHead; hint = fill } })
+
+module _ (n size start : ℕ) (v : CoreValue) (c : ring.Core) (core : IsCore n size start v c) (body : List ℕ) (hint positions : ℕ) (link : FoundLink) (seen : HeadSeen)
+    (at : v.reader.phase ≡ LoadingHead) (hint_is : hint ≡ v.reader.hint) (positions_are : positions ≡ length v.links) (loaded : link_of link ≡ ring.link_into (length v.links) v.links hint)
+    (header : link.mark ≡ Header → seen ≡ Head link.page link.fill)
+    (update : link.mark ≡ Update → seen ≡ Moved (link.fill + 1))
+    (owed : link.mark ≡ Normal → link.fill ≡ hint → seen ≡ Moved hint)
+    (passed : link.mark ≡ Normal → link.fill ≢ hint → seen ≡ Passed (link.fill + 1 - positions)) where
+  seen_as : (mark : Mark) → link.mark ≡ mark → ring.link_into (length v.links) v.links v.reader.hint ≡ link_of record { mark = mark; page = link.page; fill = link.fill }
+  seen_as mark is = link_loaded v hint link mark hint_is loaded is
+
+  normal : link.mark ≡ Normal → (test : Bool) → (link.fill == hint) ≡ test → SeesBy n size start v c body seen
+  normal is true test =
+      let here : link.fill ≡ hint = eqb-true link.fill hint test in
+      subst (SeesBy n size start v c body) (sym (owed is here))
+      (subst (λ (k : ℕ). SeesBy n size start v c body (Moved k)) (sym hint_is)
+      (sees_owed n size start v c core link.page body at (seen_as Normal is ∙ ap (normal_link link.page) (here ∙ hint_is))))
+  normal is false test =
+      let other : link.fill ≢ hint = λ e. let holds = eq-eqb link.fill hint e in absurd (let both = sym holds ∙ test in cc) in
+      subst (SeesBy n size start v c body) (sym (passed is other))
+      (sees_passed n size start v c core link.page link.fill (link.fill + 1 - positions) body at (seen_as Normal is) (λ e. other (e ∙ sym hint_is)) (ap (λ (k : ℕ). link.fill + 1 - k) positions_are))
+
+  marked : (mark : Mark) → link.mark ≡ mark → SeesBy n size start v c body seen
+  marked Header is = subst (SeesBy n size start v c body) (sym (header is)) (sees_header n size start v c core link.page link.fill body at (seen_as Header is))
+  marked Update is = subst (SeesBy n size start v c body) (sym (update is)) (sees_update n size start v c core link.page link.fill body at (seen_as Update is))
+  marked Normal is = normal is (link.fill == hint) refl
+
+  pub sees : SeesBy n size start v c body seen
+  sees = marked link.mark refl
 
 pub makes_read : (v : CoreValue) (body : List ℕ) (result : Answer) (new : CoreValue) → MakesStep v model.reads result new → GivesBack body result → new.stack ≡ v.stack → MakesRead v body result new
 makes_read v body result new step given_back stack = record { step = step; given_back = given_back; stack = stack }

@@ -8,10 +8,6 @@ use Rattle.page_image.specs.Contents.{Contents}
 abbrev pub AreFirstLinks : (n start : ℕ) → List code.Link → Type 0
 AreFirstLinks n start links = EachAt (λ position link. IsFirstLink n start position (link_of link)) links
 
--- each position has the page of its number
-abbrev pub AreFirstPages : List ℕ → Type 0
-AreFirstPages order = EachAt (λ position page. page ≡ position) order
-
 -- a page of this size is at home
 abbrev pub IsFirstHome : ℕ → Option Contents → Type 0
 IsFirstHome size home = (body : Contents) × (home ≡ Some body) × (body.size ≡ size)

@@ -5,7 +5,7 @@ use Rattle.page_image.specs.Contents.{Contents}
 use Rattle.nested_writer.specs.Stack.{Stack}
 use Rattle.ring_frames.specs.declared.phase.Phase.{Phase}
 use Rattle.ring_frames.specs.Value.{FramesValue}
-use Rattle.ring_frames.specs.declared.reader.Reader.{Reader}
+use Rattle.ring_frames.specs.declared.reader.TakeState.{TakeState}
 
 -- The writers' stack; how far its frames have come with the ring, the top one and those below it; the link into each
 -- position, and that of the spare; the page at each position, and the spare; the pages at home, by their numbers; the
@@ -20,7 +20,7 @@ pub record CoreValue : Type 0 where
   pub spare : ℕ
   pub homes : List (Option Contents)
   pub wish : ℕ
-  pub reader : Reader
+  pub reader : TakeState
 
 -- the writers' frames
 abbrev pub frames_of : CoreValue → FramesValue

@@ -10,7 +10,7 @@ mod top;
 
 use link_marks::Link;
 use page_image::Page;
-use ring_frames::{Frames, Reader};
+use ring_frames::{Frames, TakeState};
 use std::fmt;
 use std::marker::Model;
 
@@ -45,7 +45,7 @@ pub struct Core {
     homes: Vec<Option<Page>>,
     /// One more than the number of closed fills that the reader knew when it wished last.
     wish: u64,
-    reader: Reader,
+    reader: TakeState,
 }
 
 impl Model for Core {

@@ -10,4 +10,5 @@ pub mod Steps
 pub mod AtOnce
 pub mod Fills
 pub mod Lending
+pub mod FirstPages
 pub mod Laws

@@ -2,12 +2,15 @@
 //!
 //! What a frame does in private (to be pushed, to reserve, to end, or to begin again after another one has begun a
 //! fill) touches no word of the ring. So it is the same over a ring as a value and over words that threads share. The
-//! types that say how far the reader has got are here for the same reason.
+//! types that say how far the reader has got, what it finds where it looks for the head, and the order of a new ring's
+//! pages are here for the same reason.
 #![tactic(auto)]
 
 pub mod answer;
+mod first_pages;
 #[tactic(auto, unfolding(nested_writer::specs::IsStack::IsReachedStack))]
 pub mod frames;
+mod head;
 pub mod laws;
 mod packed_phase;
 mod payload;
@@ -15,8 +18,10 @@ pub mod phase;
 pub mod reader;
 
 pub use answer::Answer;
+pub use first_pages::first_order;
 pub use frames::Frames;
 pub use frames::write::WriteKind;
+pub use head::{HeadSeen, head_seen};
 pub use payload::write_padded;
 pub use phase::{Phase, Role, StepAnswer};
-pub use reader::{Reader, ReaderPhase};
+pub use reader::{ReaderPhase, TakeState};

@@ -13,9 +13,9 @@ pub enum ReaderPhase {
     Swapping { page: u16, fill: u64 },
 }
 
-/// The reader of a ring.
+/// What the reader of a ring keeps of its takes.
 #[derive(Clone, Copy, Debug)]
-pub struct Reader {
+pub struct TakeState {
     /// How far its take has come.
     pub phase: ReaderPhase,
     /// The least fill that it doesn't know to be taken or lost.

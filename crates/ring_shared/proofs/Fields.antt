@@ -4,7 +4,7 @@ use Rattle.atomic_table.specs.Seated.{TableId}
 use Rattle.trace_model.specs.Ring as ring
 use Rattle.link_marks.proofs.partition.RingsKept.{reached_kept}
 use Rattle.ring_frames.specs.ReaderPhases.{reader_phase_of}
-use Rattle.ring_frames.specs.declared.reader.Reader.{Reader}
+use Rattle.ring_frames.specs.declared.reader.TakeState.{TakeState}
 use Rattle.ring_steps.specs.declared.rule.Shape.{Shape}
 use Rattle.ring_steps.specs.Views.{Reading}
 use Rattle.ring_shared.specs.Value.{ReaderValue}
@@ -12,7 +12,7 @@ use Rattle.ring_shared.specs.Takes.{IsReaderPart, KeepsSpare, SawPage, KnowsNone
 use Rattle.ring_shared.proofs.TakeSteps.{Stays}
 
 -- the reader as the model has it
-abbrev pub AreFields : ring.Reader → Reader → Type 0
+abbrev pub AreFields : ring.Reader → TakeState → Type 0
 AreFields reader at = (reader.phase ≡ reader_phase_of at.phase) × (reader.hint ≡ at.hint) × (reader.seen ≡ at.seen) × (reader.expected ≡ at.expected)
 
 module _ (w v : ReaderValue) (same : w ≡ v) (is : IsReader v) where
@@ -20,7 +20,7 @@ module _ (w v : ReaderValue) (same : w ≡ v) (is : IsReader v) where
   fields = subst (λ (x : ReaderValue). AreFields v.part.reader x.at) (sym same) (is.phase_is, is.hint_is, is.seen_is, is.expected_is)
 
   -- the fields are the reader's part again, after a step that takes nothing or a wish
-  pub shown_as : (shape : Shape) (table : TableId) (after : Reading) (reader : ring.Reader) (at : Reader) (wish : ℕ) → shape ≡ w.shape → Stays v.shape (record v.part { wish = wish }) after reader
+  pub shown_as : (shape : Shape) (table : TableId) (after : Reading) (reader : ring.Reader) (at : TakeState) (wish : ℕ) → shape ≡ w.shape → Stays v.shape (record v.part { wish = wish }) after reader
       → AreFields reader at → KeepsSpare at.phase after.keeps_spare → SawPage at.phase
       → ((done : ℕ) → w.empty_at ≡ Some done → KnowsNoneUnread (record w { shape = shape; table = table; part = after; at = at }) done)
       → IsReader (record w { shape = shape; table = table; part = after; at = at })
@@ -41,7 +41,7 @@ module _ (w v : ReaderValue) (same : w ≡ v) (is : IsReader v) where
   pub not_empty : v.empty_at ≡ None → (done : ℕ) → w.empty_at ≡ Some done → ⊥
   not_empty again done e = let none : w.empty_at ≡ None = ap (λ (x : ReaderValue). x.empty_at) same ∙ again in let both = sym none ∙ e in absurd (cc)
 
-  pub shown : (shape : Shape) (table : TableId) (after : Reading) (reader : ring.Reader) (at : Reader) → v.empty_at ≡ None → shape ≡ w.shape → Stays v.shape v.part after reader
+  pub shown : (shape : Shape) (table : TableId) (after : Reading) (reader : ring.Reader) (at : TakeState) → v.empty_at ≡ None → shape ≡ w.shape → Stays v.shape v.part after reader
       → AreFields reader at → KeepsSpare at.phase after.keeps_spare → SawPage at.phase
       → IsReader (record w { shape = shape; table = table; part = after; at = at })
   shown shape table after reader at again shape_is s fields keeps saw = shown_as shape table after reader at v.part.wish shape_is s fields keeps saw (λ done e. absurd (not_empty again done e))

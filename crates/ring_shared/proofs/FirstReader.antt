@@ -1,19 +1,22 @@
 -- The reader's part of a new ring.
-use Rattle.std.proofs.Common.{◌≡◌, ℕ, zero, suc, ◌+◌, List, [], ◌∷◌, ◌++◌, take, map, refl, sym, ap, ◌∙◌, subst, arith}
+use Rattle.std.proofs.Common.{◌≡◌, ℕ, ◌+◌, List, [], length, get_or, take, map, refl, sym, ap, ◌∙◌, subst, arith}
 use Rattle.std.proofs.lemmas.List.{ext_get_or}
+use Rattle.std.proofs.lemmas.Option.{slice_get-get_or}
 use Rattle.trace_model.specs.History.{as_record, reserved_records}
 use Rattle.trace_model.specs.Ring.{Reader}
 use Rattle.link_marks.proofs.partition.OneNewRing.{new_ring_is_one}
+use Rattle.ring_frames.specs.FirstPages.{AreFirstPages}
 use Rattle.ring_steps.specs.declared.rule.Shape.{Shape}
 use Rattle.ring_steps.specs.Views.{Reading}
 use Rattle.ring_steps.specs.NewRings.{IsShape, counted, first_reading}
 use Rattle.ring_steps.proofs.Starts.{counted_length, counted_at}
 use Rattle.ring_shared.specs.Takes.{IsReaderPart}
 
--- one number more
-pub counted_more : (from count : ℕ) → counted from (suc count) ≡ counted from count ++ (from + count) ∷ []
-counted_more from zero = ap (λ (k : ℕ). k ∷ []) (let e : from ≡ from + zero = omega arith in e)
-counted_more from (suc count) = ap (λ (l : List ℕ). from ∷ l) (counted_more (suc from) count ∙ ap (λ (k : ℕ). counted (suc from) count ++ k ∷ []) (let e : suc from + count ≡ from + suc count = omega arith in e))
+-- the pages of a new ring, by their numbers
+pub counted_pages : (n : ℕ) (order : List ℕ) → length order ≡ n → AreFirstPages order → counted 0 n ≡ order
+counted_pages n order pages each = ext_get_or 0 (counted 0 n) order (counted_length 0 n ∙ sym pages) (λ i low.
+    let count = counted_length 0 n in
+    counted_at 0 n i (omega arith) ∙ (let e : 0 + i ≡ i = omega arith in e) ∙ sym (each i (get_or order i 0) (slice_get-get_or order i 0 (omega arith))))
 
 -- it is that of a state that steps reach
 pub first_part : (shape : Shape) (part : Reading) → IsShape shape → part ≡ first_reading shape → IsReaderPart shape part

@@ -1,7 +1,7 @@
 -- What contracts see of the two ends of a running ring.
 use Rattle.std.specs.Prelude.{◌≡◌, ℕ, List, Option}
 use Rattle.atomic_table.specs.Seated.{TableId}
-use Rattle.ring_frames.specs.declared.reader.Reader.{Reader}
+use Rattle.ring_frames.specs.declared.reader.TakeState.{TakeState}
 use Rattle.ring_steps.specs.declared.rule.Shape.{Shape}
 use Rattle.ring_frames.specs.Value.{FramesValue}
 use Rattle.ring_steps.specs.Views.{Writing, Reading}
@@ -15,7 +15,7 @@ pub record ReaderValue : Type 0 where
   pub part : Reading
   pub order : List ℕ
   pub spare : ℕ
-  pub at : Reader
+  pub at : TakeState
   pub empty_at : Option ℕ
 
 -- The writer's end: the ring's shape and its table; the writer's part of the ring, and a fill below which it knows all

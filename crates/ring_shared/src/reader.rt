@@ -3,7 +3,7 @@ mod new;
 mod steps;
 mod taking;
 
-use ring_frames::Reader as TakeState;
+use ring_frames::TakeState;
 use ring_steps::ReaderSeat;
 use std::fmt;
 use std::marker::Model;

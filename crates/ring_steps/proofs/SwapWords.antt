@@ -19,7 +19,7 @@ use Rattle.page_image.specs.Contents.{Contents}
 use Rattle.ring_steps.specs.Views.{Reading}
 use Rattle.ring_steps.specs.Shown.{page_word, page_before, AreWords, Homes, IsHome, HasBody, AreHomes}
 use Rattle.ring_steps.proofs.LinkWords.{one_before, one_behind, befores_differ, before_below}
-use Rattle.ring_steps.proofs.Taking.{part_of}
+use Rattle.ring_steps.proofs.Taking.{reading_of}
 
 module _ (n size start : ℕ) (c : Core) (k : IsRingKept n size start c) (page fill : ℕ)
     (facts : ReaderKept n c.links c.order c.spare_link c.head c.done c.reader.hint (swapping page fill))
@@ -184,7 +184,7 @@ module _ (n size start : ℕ) (c : Core) (k : IsRingKept n size start c) (page f
         let (body, at, of_size) = h.free f low high in
         subst (HasBody homes_behind size) (sym here) (body, elsewhere p ne_spare ne_page ∙ at, of_size))
 
-    pub swapped_homes : AreHomes n size (after_swap n c page fill) (part_of (after_swap n c page fill) true) (set (set homes c.spare (some (Some blank))) page none)
+    pub swapped_homes : AreHomes n size (after_swap n c page fill) (reading_of (after_swap n c page fill) true) (set (set homes c.spare (some (Some blank))) page none)
     swapped_homes = record {
       count = length-set (set homes c.spare (some (Some blank))) page none ∙ (length-set homes c.spare (some (Some blank)) ∙ h.count);
       closed = closed_behind;

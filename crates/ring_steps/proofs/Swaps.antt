@@ -35,7 +35,7 @@ use Rattle.ring_steps.proofs.Observed.{first_records}
 use Rattle.ring_steps.proofs.ObservedMore.{observed_with}
 use Rattle.ring_steps.proofs.Paging.{body_of, same_body}
 use Rattle.ring_steps.proofs.SwapWords as behind
-use Rattle.ring_steps.proofs.Taking.{part_of, gone_on, words_on, homes_on, link_fits, kept, phase_in, step_in, word_into, reads_on}
+use Rattle.ring_steps.proofs.Taking.{reading_of, gone_on, words_on, homes_on, link_fits, kept, phase_in, step_in, word_into, reads_on}
 
 -- ---- one swap
 
@@ -64,7 +64,7 @@ module _ (shape : Shape) (me : Sat) (c : Core) (ws : List ℕ) (homes : Homes) (
   spare_here : (reading me.0).spare ≡ c.spare
   spare_here = s.is_reading.spare_is
 
-  seen_by : (sees : Core → Type 0) (answer : model.Answer) (next : Core) → sees c → model.Step shape.pages shape.size c model.reads answer next → IsReaderStep shape (reading me.0) sees model.reads answer (part_of next true)
+  seen_by : (sees : Core → Type 0) (answer : model.Answer) (next : Core) → sees c → model.Step shape.pages shape.size c model.reads answer next → IsReaderStep shape (reading me.0) sees model.reads answer (reading_of next true)
   seen_by sees answer next seen step = record {
     core = c;
     next = next;
@@ -165,7 +165,7 @@ module _ (shape : Shape) (me : Sat) (c : Core) (ws : List ℕ) (homes : Homes) (
     unfolding next
     step = step_in shape me c ws homes s (swapping page fill) (model.page_taken (model.taken_fill c page fill)) next at (cases.swaps reported refl refl)
 
-    taken : HeadTaken shape (reading me.0) page fill home.0 (part_of next true)
+    taken : HeadTaken shape (reading me.0) page fill home.0 (reading_of next true)
     unfolding next
     taken = let on : suc fill ≡ fill + 1 = omega arith in let first = written.first_is in let held = ap (λ (h : PageRecords). h.first) holds in let low = expected_low in let same_number = expected_is in record {
       reported = model.taken_fill c page fill;
@@ -204,7 +204,7 @@ module _ (shape : Shape) (me : Sat) (c : Core) (ws : List ℕ) (homes : Homes) (
         (subst (λ (f : ℕ). AreWords shape.pages next (slice_set ws (f + 3) (word_of (normal_link c.spare (fill + shape.pages))))) (sym front_here)
         (behind.swapped_words shape.pages shape.size shape.start c ring page fill facts reported ws s.are_words)))
         (λ other. absurd (other same)))
-        (subst (λ (l : List (ℕ × Option Contents)). AreHomes shape.pages shape.size next (part_of next true) (homes_after homes l act)) (sym hand_here)
+        (subst (λ (l : List (ℕ × Option Contents)). AreHomes shape.pages shape.size next (reading_of next true) (homes_after homes l act)) (sym hand_here)
         (behind.swapped_homes shape.pages shape.size shape.start c ring page fill facts reported (reading me.0) homes blank sized s.are_homes))
         (λ read. record {
           read = read;

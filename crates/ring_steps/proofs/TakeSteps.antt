@@ -126,27 +126,27 @@ module _ (shape : Shape) (before after : Reading) (sees : Core → Type 0) (answ
 -- ---- a load of a link
 
 -- the link that is loaded is that into the position of the hint
-abbrev SeesLink : Shape → Reading → Link → Core → Type 0
-SeesLink shape before link core = link_into shape.pages core.links before.reader.hint ≡ link
+abbrev SeesLinkAtHint : Shape → Reading → Link → Core → Type 0
+SeesLinkAtHint shape before link core = link_into shape.pages core.links before.reader.hint ≡ link
 
-module _ (shape : Shape) (before after : Reading) (link : Link) (answer : model.Answer) (r : IsReaderStep shape before (SeesLink shape before link) model.reads answer after)
+module _ (shape : Shape) (before after : Reading) (link : Link) (answer : model.Answer) (r : IsReaderStep shape before (SeesLinkAtHint shape before link) model.reads answer after)
     (at : before.reader.phase ≡ loading_head) (slot : after.keeps_spare ≡ false) where
   -- the reader goes on in this phase, with this hint
   loads : (reported : model.Answer) (phase : ReaderPhase) (hint : ℕ) → cases.LoadHeadStep shape.pages r.core reported (model.reader_at r.core phase hint) → before.reader.hint ≤ hint
       → LinkLoaded shape before link reported phase hint after
   loads reported phase hint step low =
-      let (reported_is, next_is) = is_step shape before after (SeesLink shape before link) answer r loading_head reported (model.reader_at r.core phase hint) at step in record {
-        step = so shape before after (SeesLink shape before link) answer r reported reported_is;
+      let (reported_is, next_is) = is_step shape before after (SeesLinkAtHint shape before link) answer r loading_head reported (model.reader_at r.core phase hint) at step in record {
+        step = so shape before after (SeesLinkAtHint shape before link) answer r reported reported_is;
         hint_le = low;
-        after_is = subst (λ (x : Reader). after ≡ record before { reader = record x { phase = phase; hint = hint }; keeps_spare = false }) (sym (reader_is shape before after (SeesLink shape before link) answer r))
-            (part_like shape before after (SeesLink shape before link) answer r (record r.core.reader { phase = phase; hint = hint }) false next_is refl slot);
+        after_is = subst (λ (x : Reader). after ≡ record before { reader = record x { phase = phase; hint = hint }; keeps_spare = false }) (sym (reader_is shape before after (SeesLinkAtHint shape before link) answer r))
+            (part_like shape before after (SeesLinkAtHint shape before link) answer r (record r.core.reader { phase = phase; hint = hint }) false next_is refl slot);
       }
 
   k : IsRingKept shape.pages shape.size shape.start r.core
-  k = kept shape before after (SeesLink shape before link) answer r
+  k = kept shape before after (SeesLinkAtHint shape before link) answer r
 
   same_hint : before.reader.hint ≡ r.core.reader.hint
-  same_hint = hint_is shape before after (SeesLink shape before link) answer r
+  same_hint = hint_is shape before after (SeesLinkAtHint shape before link) answer r
 
   here : (l : Link) → link ≡ l → link_into shape.pages r.core.links r.core.reader.hint ≡ l
   here l is = ap (link_into shape.pages r.core.links) (sym same_hint) ∙ (r.seen ∙ is)
@@ -162,7 +162,7 @@ module _ (shape : Shape) (before after : Reading) (link : Link) (answer : model.
   sees_update page lost is =
       let step : cases.LoadHeadStep shape.pages r.core (model.moving (suc lost)) (model.reader_at r.core loading_head (suc lost)) = cases.loads_update page lost (here (update_link page lost) is) refl refl in
       let next : suc lost ≡ lost + 1 = omega arith in
-      let reported = is_step shape before after (SeesLink shape before link) answer r loading_head (model.moving (suc lost)) (model.reader_at r.core loading_head (suc lost)) at step in
+      let reported = is_step shape before after (SeesLinkAtHint shape before link) answer r loading_head (model.moving (suc lost)) (model.reader_at r.core loading_head (suc lost)) at step in
       let way = (moving_right shape.pages shape.size shape.start r.core model.reads (suc lost) r.next k (subst (λ (a : model.Answer). model.Step shape.pages shape.size r.core model.reads a r.next) reported.0 r.step)).0 in
       let low = way.hint_le in let same = same_hint in
       subst (λ (hint : ℕ). LinkLoaded shape before link (model.moving hint) loading_head hint after) next (loads (model.moving (suc lost)) loading_head (suc lost) step (omega arith))
@@ -196,9 +196,9 @@ module _ (shape : Shape) (before after : Reading) (link : Link) (answer : model.
 -- the same by the mark of a link whose word was found
 module _ (shape : Shape) (before after : Reading) (found : ℕ) (read : IsReadStep shape before (IsWordInto shape before.reader.hint found) after)
     (at : before.reader.phase ≡ loading_head) (slot : after.keeps_spare ≡ false) (l : code.Link) (fits : FitsWord (link_of l)) (word : word_of (link_of l) ≡ found) where
-  seen : IsReaderStep shape before (SeesLink shape before (link_of l)) model.reads read.0 after
+  seen : IsReaderStep shape before (SeesLinkAtHint shape before (link_of l)) model.reads read.0 after
   seen = let r = read.1 in
-      seen_as shape before (IsWordInto shape before.reader.hint found) (SeesLink shape before (link_of l)) model.reads read.0 read.0 after r
+      seen_as shape before (IsWordInto shape before.reader.hint found) (SeesLinkAtHint shape before (link_of l)) model.reads read.0 read.0 after r
       (word_reports (link_into shape.pages r.core.links before.reader.hint) (link_of l) r.seen.fits fits (r.seen.word_is ∙ sym word)) refl
 
   is_marked : (mark : Mark) → l.mark ≡ mark → link_of l ≡ link_of record { mark = mark; page = l.page; fill = l.fill }

@@ -36,8 +36,8 @@ use Rattle.ring_steps.proofs.Allowing.{IsShownBy, ReaderMoves}
 use Rattle.ring_steps.proofs.ReaderSteps.{reader_within}
 
 -- the reader's part of a state
-abbrev pub part_of : Core → Bool → Reading
-part_of c keeps_spare = record {
+abbrev pub reading_of : Core → Bool → Reading
+reading_of c keeps_spare = record {
   order = c.order;
   spare = c.spare;
   spare_link = c.spare_link;
@@ -65,13 +65,13 @@ words_on n c words reader a = record {
 
 -- the same pages at home, in which the spare's slot is empty unless the reader keeps it
 pub homes_on : (n size : ℕ) (c : Core) (r : Reading) (homes : Homes) (reader : Reader) (link : Link) (b : Bool) → AreHomes n size c r homes → (b ≡ false → get_elem? homes c.spare ≡ some (some None))
-    → AreHomes n size (gone_on c reader link) (part_of (gone_on c reader link) b) homes
+    → AreHomes n size (gone_on c reader link) (reading_of (gone_on c reader link) b) homes
 homes_on n size c r homes reader link b h spare = record { count = h.count; closed = h.closed; free = h.free; spare = spare }
 
 -- the spare's slot is put home, or taken from there
 pub homes_set : (n size : ℕ) (c : Core) (r : Reading) (homes : Homes) (reader : Reader) (link : Link) (b : Bool) (x : maybe.Option (Option Contents)) → 1 ≤ n → AreApart n c.order c.spare → AreHomes n size c r homes
     → (b ≡ false → x ≡ some None)
-    → AreHomes n size (gone_on c reader link) (part_of (gone_on c reader link) b) (slice_set homes c.spare x)
+    → AreHomes n size (gone_on c reader link) (reading_of (gone_on c reader link) b) (slice_set homes c.spare x)
 homes_set n size c r homes reader link b x some_pages a h is =
     let below = a.spare_below in let count = h.count in record {
       count = length-set homes c.spare x ∙ h.count;
@@ -83,7 +83,7 @@ homes_set n size c r homes reader link b x some_pages a h is =
 -- if the reader keeps the spare's slot, it is put home
 homes_given : (n size : ℕ) (c : Core) (r : Reading) (homes : Homes) (reader : Reader) (link : Link) (b : Bool) → 1 ≤ n → AreApart n c.order c.spare → AreHomes n size c r homes
     → (b ≡ false → get_elem? homes c.spare ≡ some (some None))
-    → AreHomes n size (gone_on c reader link) (part_of (gone_on c reader link) false) (put_back homes (kept_slots b c.spare))
+    → AreHomes n size (gone_on c reader link) (reading_of (gone_on c reader link) false) (put_back homes (kept_slots b c.spare))
 homes_given n size c r homes reader link true some_pages a h empty = homes_set n size c r homes reader link false (some None) some_pages a h (λ e. refl)
 homes_given n size c r homes reader link false some_pages a h empty = homes_on n size c r homes reader link false h empty
 
@@ -157,15 +157,15 @@ module _ (shape : Shape) (me : Sat) (c : Core) (ws : List ℕ) (homes : Homes) (
       → sees c
       → Valid homes me.1 act
       → AreWords shape.pages next (slice_set ws i (f (slice_index ws i)))
-      → AreHomes shape.pages shape.size next (part_of next b) (homes_after homes me.1 act)
-      → (ReadReported shape sees b me (reads (part_of next b), carried_after me.1 act) → reports (slice_index ws i) (reads (part_of next b), carried_after me.1 act))
+      → AreHomes shape.pages shape.size next (reading_of next b) (homes_after homes me.1 act)
+      → (ReadReported shape sees b me (reads (reading_of next b), carried_after me.1 act) → reports (slice_index ws i) (reads (reading_of next b), carried_after me.1 act))
       → ReaderMoves shape c me ws homes i f reports
   reads_on i f reports sees b answer next act step head_le seen valid words at_home report =
       let reached = reached_further shape.pages shape.size shape.start c model.reads answer next s.reached step in
       let stays = reader_leaves_writer shape.pages shape.size c model.reads answer next tt (cases_of step) in
-      let is_reading : IsReading next (part_of next b) = record { order_is = refl; spare_is = refl; spare_link_is = refl; reader_is = refl; wish_is = refl; observed_is = refl } in record {
+      let is_reading : IsReading next (reading_of next b) = record { order_is = refl; spare_is = refl; spare_link_is = refl; reader_is = refl; wish_is = refl; observed_is = refl } in record {
         next = next;
-        after = part_of next b;
+        after = reading_of next b;
         act = act;
         valid = valid;
         shown = record { pages_fit = s.pages_fit; reached = reached; are_words = words; are_homes = at_home; is_reading = is_reading };
@@ -173,7 +173,7 @@ module _ (shape : Shape) (me : Sat) (c : Core) (ws : List ℕ) (homes : Homes) (
         head_le = head_le;
         reported = report record {
           view = refl;
-          within = reader_within shape next (part_of next b) (reached_kept shape.pages shape.size shape.start next reached) is_reading;
+          within = reader_within shape next (reading_of next b) (reached_kept shape.pages shape.size shape.start next reached) is_reading;
           keeps_is = refl;
           step = (answer, record { core = c; next = next; reached = s.reached; before_is = s.is_reading; seen = seen; of_reader = tt; step = step; after_is = is_reading });
         };
@@ -220,7 +220,7 @@ module _ (shape : Shape) (me : Sat) (is : IsSeatOfReader me) (c : Core) (ws : Li
       record { word_is = sym (word_into shape me c ws homes s page hint page_is); fits = link_fits shape.pages shape.size shape.start c hint s.pages_fit k }
       tt
       (subst (AreWords shape.pages next) (sym (set-get_or ws (page + 3) 0)) (words_on shape.pages c ws reader s.are_words))
-      (subst (λ (l : List (ℕ × Option Contents)). AreHomes shape.pages shape.size next (part_of next false) (put_back homes l)) (sym hand)
+      (subst (λ (l : List (ℕ × Option Contents)). AreHomes shape.pages shape.size next (reading_of next false) (put_back homes l)) (sym hand)
       (homes_given shape.pages shape.size c (reading me.0) homes reader c.spare_link b some_pages k.links.apart s.are_homes s.are_homes.spare))
       (λ reported. (record { view = refl; hand = ap rest hand ∙ nothing_left b c.spare }, reported))
 

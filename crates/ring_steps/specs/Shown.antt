@@ -13,23 +13,14 @@ use Rattle.trace_model.specs.Steps.{contents_of}
 use Rattle.link_marks.specs.Reached.{IsReached}
 use Rattle.page_image.specs.Contents.{Contents}
 use Rattle.nested_writer.specs.Released.{IsWrittenPage}
+use Rattle.ring_steps.specs.declared.rule.TheConstants.{OPENED_WORD, DONE_WORD, WISH_WORD, LINKS_WORD}
 use Rattle.ring_steps.specs.Views.{Writing, writing_of, Reading, SeatView, laid, AreSeated}
 
 -- ---- words
 
--- the words of the counts, before those of the pages' links
-abbrev pub OPENED_WORD : ℕ
-OPENED_WORD = 0
-
-abbrev pub DONE_WORD : ℕ
-DONE_WORD = 1
-
-abbrev pub WISH_WORD : ℕ
-WISH_WORD = 2
-
 -- the word of a page's link
 abbrev pub page_word : ℕ → ℕ
-page_word page = page + 3
+page_word page = page + LINKS_WORD
 
 -- the page whose link leads into the position of a fill: it is at the position before
 abbrev pub page_before : ℕ → List ℕ → ℕ → ℕ

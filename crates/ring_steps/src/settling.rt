@@ -6,7 +6,7 @@ ghost use Rattle.ring_steps.specs.Ends.{writing_in, reading_in, writer_table, re
 
 use crate::ends::{ReaderSeat, WriterSeat};
 use crate::plays::{TableSeat, load};
-use crate::rule::{Board, DONE, Shape};
+use crate::rule::{Board, DONE_WORD, Shape};
 use crate::views::View;
 use atomic_table::Join;
 use std::marker::Brand;
@@ -30,7 +30,7 @@ fn load_done_joined(board: &Board, shape: Shape, seat: &mut TableSeat)
     requires seat { seat.old.me.0 ≡ joined (writing seat.old.me.0) (reading seat.old.me.0) }
     ensures { AreParts shape (writing seat.old.me.0) (reading seat.old.me.0) }
 {
-    load::<Brand, _>(board, shape, seat, DONE, &());
+    load::<Brand, _>(board, shape, seat, DONE_WORD, &());
 }
 
 /// Joins the two seats of a ring, and loads once how many fills are closed. So what both know are the parts of one

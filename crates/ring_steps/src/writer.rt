@@ -21,7 +21,7 @@ use crate::ends::WriterSeat;
 use crate::ghost_part::ghost_part_known;
 use crate::links::{header_word, link_in, normal_word, update_word};
 use crate::plays::{StepReport, compare_exchange, load, store};
-use crate::rule::{DONE, LINKS, OPENED, WISH};
+use crate::rule::{DONE_WORD, LINKS_WORD, OPENED_WORD, WISH_WORD};
 use link_marks::Link;
 use page_image::{Body, Page};
 use std::marker::Brand;
@@ -77,7 +77,7 @@ impl WriterSeat {
             (found_at (mark_of result.mark) (writing_in self.old).opened result.page) }
     {
         self.recall();
-        let found = self.load_step::<Brand>(tail as usize + LINKS);
+        let found = self.load_step::<Brand>(tail as usize + LINKS_WORD);
         link_in(found)
     }
 
@@ -96,7 +96,7 @@ impl WriterSeat {
     {
         let _after_lost = after_lost;
         self.recall();
-        let found = self.load_step::<Brand>(page as usize + LINKS);
+        let found = self.load_step::<Brand>(page as usize + LINKS_WORD);
         link_in(found)
     }
 
@@ -110,7 +110,7 @@ impl WriterSeat {
         ensures part { writing_in self.new ≡ part_after_wish self.old.shape (writing_in self.old) result }
     {
         self.recall();
-        self.load_step::<Brand>(WISH)
+        self.load_step::<Brand>(WISH_WORD)
     }
 
     /// A compare and exchange of the link in the tail page's word from HEADER to UPDATE, by which the head, this page
@@ -130,7 +130,7 @@ impl WriterSeat {
             (claimed_at result (writing_in self.old).opened page) }
     {
         self.recall();
-        let word = tail as usize + LINKS;
+        let word = tail as usize + LINKS_WORD;
         let from = header_word(page, lost);
         let to = update_word(page, lost);
         let found = self.compare_exchange_step::<Brand>(word, from, to);
@@ -150,7 +150,7 @@ impl WriterSeat {
             (after_next (role_on_top (writing_in self.old).frames) (noted_on_top (writing_in self.old).frames) page) }
     {
         self.recall();
-        let word = page as usize + LINKS;
+        let word = page as usize + LINKS_WORD;
         let from = normal_word(next, after_lost);
         let to = header_word(next, after_lost);
         let found = self.compare_exchange_step::<Brand>(word, from, to);
@@ -171,7 +171,7 @@ impl WriterSeat {
         ensures part { writing_in self.new ≡ part_in (writing_in self.old) (opening noted.0 page) }
     {
         self.recall();
-        let word = front as usize + LINKS;
+        let word = front as usize + LINKS_WORD;
         let from = update_word(page, FillNo(noted.0 - self.shape.pages as u64));
         let to = normal_word(page, noted);
         let found = self.compare_exchange_step::<Brand>(word, from, to);
@@ -194,7 +194,7 @@ impl WriterSeat {
             &self.board,
             self.shape,
             &mut self.seat,
-            OPENED,
+            OPENED_WORD,
             fill.0 + 1,
             &self.ghost_part,
         );
@@ -228,7 +228,7 @@ impl WriterSeat {
             &self.board,
             self.shape,
             &mut self.seat,
-            DONE,
+            DONE_WORD,
             done,
             &self.ghost_part,
         );

@@ -14,7 +14,7 @@ use trace_model::{MAX_FRAMES, NoMemory};
 
 /// The ring of a CPU. What a call leaves if memory is refused is not used.
 #[derive(Drop)]
-pub struct Lane<'a> {
+pub(crate) struct Lane<'a> {
     core: Core,
     /// The payload of each frame on the stack, the top one's last.
     payloads: Vec<&'a [u8]>,

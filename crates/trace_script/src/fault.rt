@@ -40,7 +40,7 @@ impl<T: Drop> From<AllocFailed<T>> for ScriptFault {
 
 /// What is wrong with a line, wherever it is.
 #[derive(Clone, Copy, Debug, PartialEq, Eq)]
-pub enum LineFault {
+pub(crate) enum LineFault {
     /// The line has another form.
     BadLine,
     /// A field is no decimal number of 64 bits.
@@ -63,7 +63,7 @@ impl From<NoMemory> for LineFault {
 
 impl LineFault {
     /// The fault of the line of this number.
-    pub fn at(self, line: u64) -> ScriptFault
+    pub(crate) fn at(self, line: u64) -> ScriptFault
         ensures { result ≡ fault_at line self }
     {
         match self {
@@ -77,7 +77,7 @@ impl LineFault {
 }
 
 /// What was read of the line of this number.
-pub fn reading_at<T>(line: u64, read: Result<T, LineFault>) -> Result<T, ScriptFault>
+pub(crate) fn reading_at<T>(line: u64, read: Result<T, LineFault>) -> Result<T, ScriptFault>
     ensures { result ≡ reading_at line read }
 {
     match read {

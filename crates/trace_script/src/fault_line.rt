@@ -5,7 +5,7 @@ ghost use Rattle.trace_model.specs.Sublist.{IsPrefix};
 ghost use Rattle.trace_script.specs.ScriptFaults.{script_fault_text};
 
 use crate::fault::ScriptFault;
-use itoa::Buffer;
+use text_values::{drop_if_refused, put_number};
 use trace_model::NoMemory;
 
 /// Puts the number of a line and the name of its fault. On an error a part of that may be put.
@@ -14,9 +14,8 @@ fn put_line_fault(out: &mut Vec<u8>, line: u64, name: &[u8]) -> Result<(), NoMem
         (out.new.items ≡ out.old.items ++ (codes "line " ++ decimal line ++ codes ": " ++ name.now)) }
     ensures behind { IsPrefix out.old.items out.new.items }
 {
-    let mut buffer = Buffer::new();
     out.extend_from_slice(b"line ")?;
-    out.extend_from_slice(buffer.format(line).as_bytes())?;
+    put_number(out, line)?;
     out.extend_from_slice(b": ")?;
     out.extend_from_slice(name)?;
     Ok(())
@@ -46,8 +45,5 @@ pub fn put_fault(out: &mut Vec<u8>, fault: ScriptFault) -> Result<(), NoMemory>
 {
     let start = out.len();
     let put = put_line(out, fault);
-    if put.is_err() {
-        out.truncate(start);
-    }
-    put
+    drop_if_refused(out, start, put)
 }

@@ -7,7 +7,7 @@ use crate::lines::field_cut;
 
 /// The fields of a line, as many as some line of a script has.
 #[derive(Clone, Copy)]
-pub enum Fields<'a> {
+pub(crate) enum Fields<'a> {
     One,
     Two(&'a [u8], &'a [u8]),
     Three(&'a [u8], &'a [u8], &'a [u8]),
@@ -16,7 +16,7 @@ pub enum Fields<'a> {
 }
 
 /// The fields of a line, as its spaces cut it.
-pub fn fields_of(line: &[u8]) -> Fields<'_>
+pub(crate) fn fields_of(line: &[u8]) -> Fields<'_>
     ensures { AreFields result (fields_of line.now) }
 {
     let (first, rest) = field_cut(line);
@@ -35,7 +35,7 @@ pub fn fields_of(line: &[u8]) -> Fields<'_>
 }
 
 /// Whether exactly one space separates any two fields of a line, and none is at either end.
-pub fn is_well_spaced(line: &[u8]) -> bool
+pub(crate) fn is_well_spaced(line: &[u8]) -> bool
     ensures { result ≡ is_well_spaced (fields_of line.now) }
 {
     let mut left = line;
@@ -52,7 +52,7 @@ pub fn is_well_spaced(line: &[u8]) -> bool
 }
 
 /// Whether what follows the third field is one field.
-pub fn is_whole(fields: Fields) -> bool
+pub(crate) fn is_whole(fields: Fields) -> bool
     ensures { IsTrue result ↔ HasNoFifth fields.entry }
 {
     match fields {
@@ -64,7 +64,7 @@ pub fn is_whole(fields: Fields) -> bool
 }
 
 /// Whether a field is this one letter.
-pub fn is_letter(field: &[u8], letter: u8) -> bool
+pub(crate) fn is_letter(field: &[u8], letter: u8) -> bool
     ensures { result ≡ bytes_eq field.now (letter ∷ []) }
 {
     match field {

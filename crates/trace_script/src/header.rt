@@ -18,20 +18,20 @@ use trace_model::{LINK_FILLS, MAX_PAGES, MAX_SIZE, MIN_PAGES, MIN_SIZE, START_FI
 
 /// The values of a script's header.
 #[derive(Clone, Copy, Debug)]
-pub struct Header {
+pub(crate) struct Header {
     /// The pages of a ring, without its spare.
-    pub pages: usize,
+    pub(crate) pages: usize,
     /// The data size of a page, in bytes.
-    pub size: usize,
+    pub(crate) size: usize,
     /// How many CPUs there are.
-    pub cpus: u32,
+    pub(crate) cpus: u32,
     /// How many collectors there are, at most 16.
-    pub collectors: u16,
+    pub(crate) collectors: u16,
 }
 
 /// A line of the header, or the start line after it.
 #[derive(Clone, Copy)]
-pub enum Setting {
+pub(crate) enum Setting {
     Pages,
     Size,
     Cpus,
@@ -42,13 +42,13 @@ pub enum Setting {
 
 /// The values that a line of the header may have: multiples of a step.
 #[derive(Clone, Copy)]
-pub struct Limits {
+pub(crate) struct Limits {
     /// The least value.
-    pub min: u64,
+    pub(crate) min: u64,
     /// The greatest value.
-    pub max: u64,
+    pub(crate) max: u64,
     /// What each value is a multiple of.
-    pub step: u64,
+    pub(crate) step: u64,
 }
 
 impl Setting {
@@ -166,7 +166,7 @@ fn read_setting(lines: &mut Lines, setting: Setting) -> Result<u64, ScriptFault>
 
 /// The header, from the next significant lines.
 #[tactic(auto, unfolding(text_model::specs::HeaderReading::settings_from))]
-pub fn read_header(lines: &mut Lines) -> Result<Header, ScriptFault>
+pub(crate) fn read_header(lines: &mut Lines) -> Result<Header, ScriptFault>
     ensures gives { GivesAt
         (λ header. (values_of header, significant_lines_after lines.new.passed lines.new.rest.now)) result
         (settings_from (end_line_after lines.old.passed lines.old.rest.now) header_settings
@@ -200,7 +200,7 @@ fn is_start_line(line: &[u8]) -> bool
 }
 
 /// The number of each ring's first fill, from the next significant line if it is a start line. Another line stays.
-pub fn read_start(lines: &mut Lines, pages: usize) -> Result<u64, ScriptFault>
+pub(crate) fn read_start(lines: &mut Lines, pages: usize) -> Result<u64, ScriptFault>
     ensures gives { GivesAt
         (λ start. (start, significant_lines_after lines.new.passed lines.new.rest.now)) result
         (start_from pages (significant_lines_after lines.old.passed lines.old.rest.now)) }

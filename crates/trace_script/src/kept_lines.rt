@@ -12,7 +12,7 @@ use trace_model::{CpuId, FillNo, Moment, NoMemory};
 /// A command as it is kept, while its numbers are small: 16 bytes, its payload aside. Each has its CPU; by how much the
 /// number of its line is above its index among the commands; and where its payload ends among the bytes of them all.
 #[derive(Clone, Copy)]
-pub enum ShortLine {
+pub(crate) enum ShortLine {
     Begin {
         cpu: u8,
         above: u16,
@@ -275,7 +275,7 @@ fn shortened(index: usize, line: KeptLine) -> Option<ShortLine>
 /// The commands of a script, in the order of their lines. All are short ones in a text of less than 2^32 bytes that has
 /// fewer than 65,530 lines without a command, and whose deliveries are of fills below 2^32.
 #[derive(Drop)]
-pub struct KeptLines {
+pub(crate) struct KeptLines {
     short: Vec<ShortLine>,
     /// The first command whose numbers don't fit a short one, and all after it.
     long: Vec<KeptLine>,
@@ -296,7 +296,7 @@ impl KeptLines {
     ghost use Rattle.trace_script.specs.Kept.{start_of};
 
     /// No command.
-    pub fn new(alloc: Global) -> KeptLines
+    pub(crate) fn new(alloc: Global) -> KeptLines
         ensures { result ≡ [] }
     {
         KeptLines {
@@ -307,7 +307,7 @@ impl KeptLines {
 
     /// Appends a command.
     #[inline(always)]
-    pub fn push(&mut self, line: KeptLine) -> Result<(), NoMemory>
+    pub(crate) fn push(&mut self, line: KeptLine) -> Result<(), NoMemory>
         ensures pushed { OnOk result (self.new ≡ self.old ++ line ∷ []) }
         ensures refused { OnErr result (self.new ≡ self.old) }
     {
@@ -322,14 +322,14 @@ impl KeptLines {
     }
 
     /// How many there are.
-    pub fn len(&self) -> usize
+    pub(crate) fn len(&self) -> usize
         ensures { result ≡ length self.now }
     {
         self.short.len() + self.long.len()
     }
 
     /// The command at this index.
-    pub fn line(&self, index: usize) -> KeptLine
+    pub(crate) fn line(&self, index: usize) -> KeptLine
         requires { index < length self.now }
         ensures { slice_get self.now index ≡ Some result }
     {
@@ -340,7 +340,7 @@ impl KeptLines {
     }
 
     /// The start of the payload of the command at this index: the end of that of the command before it.
-    pub fn start(&self, index: usize) -> usize
+    pub(crate) fn start(&self, index: usize) -> usize
         requires { index < length self.now }
         ensures { result ≡ start_of 0 self.now index }
     {

@@ -36,7 +36,7 @@ fn space_at(line: &[u8]) -> Option<usize>
 }
 
 /// The text before the first space, and the text after it, if there is one.
-pub fn field_cut(line: &[u8]) -> (&[u8], Option<&[u8]>)
+pub(crate) fn field_cut(line: &[u8]) -> (&[u8], Option<&[u8]>)
     ensures parts { MatchOption result.1
         (slice_split (λ b. b == 32) line.now ≡ result.0.now ∷ [])
         (λ rest. slice_split (λ b. b == 32) line.now ≡ result.0.now ∷ slice_split (λ b. b == 32) rest.now) }
@@ -50,20 +50,20 @@ pub fn field_cut(line: &[u8]) -> (&[u8], Option<&[u8]>)
 
 /// A line of a text, without its line feed.
 #[derive(Clone, Copy)]
-pub struct NumberedLine<'a> {
+pub(crate) struct NumberedLine<'a> {
     /// Its number among all lines of the text, from 1.
-    pub number: u64,
+    pub(crate) number: u64,
     /// Its bytes.
-    pub text: &'a [u8],
+    pub(crate) text: &'a [u8],
 }
 
 /// The lines of a text that are still to be read.
 #[derive(Clone, Copy)]
-pub struct Lines<'a> {
+pub(crate) struct Lines<'a> {
     /// The text from the next line on.
-    pub rest: &'a [u8],
+    pub(crate) rest: &'a [u8],
     /// How many lines were passed before it.
-    pub passed: u64,
+    pub(crate) passed: u64,
     ghost bounded: { passed + length rest.now < 2 ^ 63 },
 }
 
@@ -79,7 +79,7 @@ fn is_significant(line: &[u8]) -> bool
 
 impl<'a> Lines<'a> {
     /// All lines of a text.
-    pub fn of(text: &'a [u8]) -> Lines<'a>
+    pub(crate) fn of(text: &'a [u8]) -> Lines<'a>
         ensures rest { result.rest.now ≡ text.now }
         ensures passed { result.passed ≡ 0 }
     {
@@ -113,7 +113,7 @@ impl<'a> Lines<'a> {
 
     /// Passes the next line: this is the text after it.
     #[inline(always)]
-    pub fn pass_to(&mut self, rest: &'a [u8])
+    pub(crate) fn pass_to(&mut self, rest: &'a [u8])
         requires { length rest.now < length self.old.rest.now }
         ensures rest { self.new.rest.now ≡ rest.now }
         ensures passed { self.new.passed ≡ self.old.passed + 1 }
@@ -123,7 +123,7 @@ impl<'a> Lines<'a> {
     }
 
     /// The next significant line.
-    pub fn next_significant(&mut self) -> Option<NumberedLine<'a>>
+    pub(crate) fn next_significant(&mut self) -> Option<NumberedLine<'a>>
         ensures left { MatchOption result
             (significant_lines_after self.old.passed self.old.rest.now ≡ [])
             (λ line. significant_lines_after self.old.passed self.old.rest.now

@@ -5,7 +5,7 @@ use trace_model::{CpuId, FillNo, Moment};
 
 /// What a line of a script asks for, without the payload.
 #[derive(Clone, Copy)]
-pub enum Order {
+pub(crate) enum Order {
     Begin {
         cpu: CpuId,
         moment: Moment,
@@ -48,7 +48,7 @@ impl Order {
     ghost use Rattle.trace_script.specs.ScriptTypes.{shown_command};
 
     /// The command, with this payload if it has one.
-    pub fn with_payload(self, payload: &[u8]) -> Command<'_>
+    pub(crate) fn with_payload(self, payload: &[u8]) -> Command<'_>
         ensures { shown_command result ≡ shown_order payload.now self }
     {
         match self {

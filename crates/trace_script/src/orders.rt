@@ -180,7 +180,7 @@ fn fault_of(line: &[u8], fields: Fields, fault: LineFault) -> LineFault
 /// there.
 ///
 /// A line whose fields spell a command is of the right form, so that the form is looked at only if they don't.
-pub fn order_in(
+pub(crate) fn order_in(
     cpus: u32,
     collectors: u16,
     line: &[u8],

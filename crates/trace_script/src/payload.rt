@@ -183,7 +183,7 @@ fn put_pairs<'a>(payloads: &mut Vec<u8>, text: &'a [u8]) -> Result<&'a [u8], NoM
 /// The payload at a text's beginning, up to the line feed that ends it: its bytes are appended, and the text after the
 /// line feed is returned. None, and nothing appended, if there is no payload of this form, or no memory.
 #[inline(always)]
-pub fn payload_cut<'a>(payloads: &mut Vec<u8>, text: &'a [u8]) -> Option<&'a [u8]>
+pub(crate) fn payload_cut<'a>(payloads: &mut Vec<u8>, text: &'a [u8]) -> Option<&'a [u8]>
     ensures { MatchOption result (payloads.new.items ≡ payloads.old.items) (λ rest.
         IsPayloadCut text.now rest.now payloads.old.items payloads.new.items) }
 {
@@ -214,7 +214,7 @@ fn are_hex_digits(bytes: &[u8]) -> bool
 }
 
 /// Appends the bytes that a field spells. Memory is refused only to a field that spells some.
-pub fn put_payload(payloads: &mut Vec<u8>, field: &[u8]) -> Result<(), LineFault>
+pub(crate) fn put_payload(payloads: &mut Vec<u8>, field: &[u8]) -> Result<(), LineFault>
     ensures { PutsPayload result payloads.old.items payloads.new.items (payload_in field.now) }
 {
     if is_letter(field, b'-') {

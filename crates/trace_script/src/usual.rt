@@ -14,11 +14,11 @@ use trace_model::{CpuId, FillNo, Moment};
 
 /// What a line asks for, without its payload, and the text after the line.
 #[derive(Clone, Copy)]
-pub struct UsualLine<'a> {
+pub(crate) struct UsualLine<'a> {
     /// What it asks for.
-    pub order: Order,
+    pub(crate) order: Order,
     /// The text after its line feed.
-    pub rest: &'a [u8],
+    pub(crate) rest: &'a [u8],
 }
 
 /// The order of a word alone with a CPU.
@@ -151,7 +151,7 @@ fn delivery_line(cpus: u32, collectors: u16, text: &[u8]) -> Option<UsualLine<'_
 /// The first line of a text, if it is a usual one: its payload is appended to those that are there. If the answer is
 /// none, nothing is appended, and nothing is said of the text.
 #[inline(always)]
-pub fn usual_line<'a>(
+pub(crate) fn usual_line<'a>(
     cpus: u32,
     collectors: u16,
     text: &'a [u8],

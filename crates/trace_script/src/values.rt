@@ -25,7 +25,7 @@ fn with_digit(front: u64, digit: u8) -> Option<u64>
 }
 
 /// The number that a field spells.
-pub fn number_of(field: &[u8]) -> Result<u64, LineFault>
+pub(crate) fn number_of(field: &[u8]) -> Result<u64, LineFault>
     ensures gives { Gives (λ n. n) result (decimal_in field.now) }
     ensures never_out_of_memory { result ≢ Err LineFault.NoMemory }
 {
@@ -47,16 +47,16 @@ const SHORT_DIGITS: usize = 19;
 
 /// A number at a text's beginning, and the text after the byte that ends it.
 #[derive(Clone, Copy)]
-pub struct NumberCut<'a> {
+pub(crate) struct NumberCut<'a> {
     /// The number.
-    pub number: u64,
+    pub(crate) number: u64,
     /// The text after that byte.
-    pub rest: &'a [u8],
+    pub(crate) rest: &'a [u8],
 }
 
 /// The number at the text's beginning, if it is a short one and this byte ends it. None says nothing of the text.
 #[inline(always)]
-pub fn number_cut(text: &[u8], end: u8) -> Option<NumberCut<'_>>
+pub(crate) fn number_cut(text: &[u8], end: u8) -> Option<NumberCut<'_>>
     ensures { IfSome result (λ cut. IsNumberCut text.now end cut) }
 {
     let mut number = 0;
@@ -107,7 +107,7 @@ fn cpu_number_cut(text: &[u8]) -> Option<NumberCut<'_>>
 
 /// The CPU, below this number, that a text begins with, if a space ends its name. None says nothing of the text.
 #[inline(always)]
-pub fn cpu_cut(cpus: u32, text: &[u8]) -> Option<NumberCut<'_>>
+pub(crate) fn cpu_cut(cpus: u32, text: &[u8]) -> Option<NumberCut<'_>>
     ensures { IfSome result (λ cut. IsCpuCut cpus text.now cut) }
 {
     let [letter, named @ ..] = text else {
@@ -125,7 +125,7 @@ pub fn cpu_cut(cpus: u32, text: &[u8]) -> Option<NumberCut<'_>>
 
 /// The number that a field spells, which is to be below the limit.
 #[tactic(auto, unfolding(text_model::specs::ScriptLines::number_below))]
-pub fn number_below(limit: u64, field: &[u8]) -> Result<u64, LineFault>
+pub(crate) fn number_below(limit: u64, field: &[u8]) -> Result<u64, LineFault>
     ensures gives { Gives (λ n. n) result (number_below limit field.now) }
     ensures never_out_of_memory { result ≢ Err LineFault.NoMemory }
     ensures small { IfOk result (λ n. n < limit) }
@@ -160,7 +160,7 @@ fn cpu_digits(field: &[u8]) -> Option<&[u8]>
 
 /// The CPU, one of `cpus`, that a field names.
 #[tactic(auto, unfolding(text_model::specs::ScriptLines::cpu_in))]
-pub fn cpu_of(cpus: u32, field: &[u8]) -> Result<CpuId, LineFault>
+pub(crate) fn cpu_of(cpus: u32, field: &[u8]) -> Result<CpuId, LineFault>
     ensures gives { Gives (λ cpu. cpu.0) result (cpu_in cpus field.now) }
     ensures never_out_of_memory { result ≢ Err LineFault.NoMemory }
 {
@@ -173,7 +173,7 @@ pub fn cpu_of(cpus: u32, field: &[u8]) -> Result<CpuId, LineFault>
 
 /// The number of steps that a field spells.
 #[tactic(auto, unfolding(text_model::specs::Script::count_in))]
-pub fn count_of(field: &[u8]) -> Result<u64, LineFault>
+pub(crate) fn count_of(field: &[u8]) -> Result<u64, LineFault>
     ensures gives { Gives (λ n. n) result (count_in field.now) }
     ensures never_out_of_memory { result ≢ Err LineFault.NoMemory }
 {

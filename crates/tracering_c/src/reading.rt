@@ -10,7 +10,7 @@ use crate::codes::{ABSENT, DONE, EMPTY, MOVING, NO_ROOM};
 use crate::ends::HeldReader;
 use crate::handle::ReaderHandle;
 use crate::taken::Taken;
-use parcel_buffer::{HEADER, put_parcel};
+use parcel_buffer::{PARCEL_HEADER, put_parcel};
 use ring_shared::Take;
 
 /// Takes the oldest page that is closed and unread, and puts its parcel to the front of `out`.
@@ -39,7 +39,7 @@ fn take_into(end: &mut HeldReader, out: &mut [u8], taken: &mut Taken) -> i32
     let Some(body) = end.body.take() else {
         unreachable!()
     };
-    if out.len() < HEADER + body.size() {
+    if out.len() < PARCEL_HEADER + body.size() {
         end.body = Some(body);
         return NO_ROOM;
     }

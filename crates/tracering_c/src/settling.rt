@@ -12,7 +12,7 @@ use crate::codes::{ABSENT, DONE, NO_ROOM, NOT_AT_REST, UNREAD};
 use crate::ends::{HeldReader, HeldWriter};
 use crate::handle::{ReaderHandle, WriterHandle};
 use crate::taken::Taken;
-use parcel_buffer::{HEADER, put_parcel};
+use parcel_buffer::{PARCEL_HEADER, put_parcel};
 use ring_shared::{SettleFault, settle};
 use std::alloc::Global;
 
@@ -78,7 +78,7 @@ fn why_not(left: &HeldWriter, right: &HeldReader, room: usize) -> i32
     if right.reader.empty_at() != Some(left.writer.done()) {
         return UNREAD;
     }
-    if room < HEADER + right.size() {
+    if room < PARCEL_HEADER + right.size() {
         return NO_ROOM;
     }
     DONE

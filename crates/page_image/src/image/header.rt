@@ -1,6 +1,6 @@
 //! What comes before the data of an image, and the count after it.
 ghost use Rattle.std.specs.Prelude.{◌≡◌, ◌≢◌, ℕ, ◌+◌, ◌≤◌, ◌<◌, List, length, drop, IfOk, IfErr};
-ghost use Rattle.trace_model.specs.Image.{from_le64, commit_word, commit_of, ReportsMissed};
+ghost use Rattle.trace_model.specs.Image.{from_le64, commit_word, commit_of, stores_count as is_count_stored, ReportsMissed};
 ghost use Rattle.trace_model.specs.declared.limits.TheConstants.{MAX_SIZE};
 ghost use Rattle.page_image.specs.Images.{missed_of, commit_with, IsCommitWord, HasPartsOf, LacksCount, IsImageFault};
 
@@ -39,10 +39,10 @@ pub(crate) struct Header {
     pub(crate) commit: Commit,
 }
 
-/// The number in the eight bytes at `at`.
+/// The number in the eight bytes at `at`, its lowest byte first.
 #[tactic(auto, unfolding(trace_model::specs::Image::from_le64))]
-fn number_at(bytes: &[u8], at: usize) -> u64
-    requires { at + NUMBER ≤ length bytes.now }
+pub fn number_at(bytes: &[u8], at: usize) -> u64
+    requires { at + 8 ≤ length bytes.now }
     ensures { result ≡ from_le64 (drop at bytes.now) }
 {
     LittleEndian::read_u64(&bytes[at..])
@@ -59,6 +59,28 @@ fn commit_in(word: u64) -> Commit
     }
 }
 
+/// Whether a count of missed records is stored in the image of a page of this size with `end` bytes of records: if any
+/// were missed, and eight bytes are left for their count.
+#[inline(always)]
+pub fn stores_count(end: usize, missed: u64, size: usize) -> bool
+    requires limit { size ≤ MAX_SIZE }
+    requires end { end ≤ size }
+    ensures { (contents : List ℕ) → length contents ≡ end → result ≡ is_count_stored contents missed size }
+{
+    missed > 0 && end + NUMBER <= size
+}
+
+/// The commit word, as a number, of the image of a page of this size with `end` bytes of records, before which `missed`
+/// records were missed.
+#[inline(always)]
+pub fn commit_number(end: usize, missed: u64, size: usize) -> u64
+    requires limit { size ≤ MAX_SIZE }
+    requires end { end ≤ size }
+    ensures { (contents : List ℕ) → length contents ≡ end → result ≡ commit_word (commit_of contents missed size) }
+{
+    Commit::written(end, missed, size).word()
+}
+
 impl Commit {
     /// The commit word of an image that is written: for a page with this size and `end` bytes of records, before
     /// which `missed` records were missed. Their count is stored if there is room for it.
@@ -71,7 +93,7 @@ impl Commit {
     {
         Commit {
             size: end,
-            is_stored: missed > 0 && end + NUMBER <= size,
+            is_stored: stores_count(end, missed, size),
             is_missed: missed > 0,
         }
     }

@@ -2,7 +2,7 @@
 use crate::ring::Core;
 use link_marks::{Link, first_link, normal};
 use page_image::{Body, Page};
-use ring_frames::{Frames, Reader, ReaderPhase};
+use ring_frames::{Frames, ReaderPhase, TakeState, first_order};
 use std::alloc::Global;
 use trace_model::{FillNo, NoMemory, RecordNo, START_FILL};
 
@@ -32,7 +32,7 @@ impl Core {
             spare: pages as u16,
             homes,
             wish: 0,
-            reader: Reader {
+            reader: TakeState {
                 phase: ReaderPhase::LoadingHead,
                 hint: start,
                 seen: start,
@@ -64,20 +64,6 @@ fn first_links(alloc: Global, pages: usize, start: u64) -> Result<Vec<Link>, NoM
         links.push_reserved(first_link(position, pages as u64, start));
     }
     Ok(links)
-}
-
-/// The pages of a new ring: each position has the page of its number.
-fn first_order(alloc: Global, pages: usize) -> Result<Vec<u16>, NoMemory>
-    requires { pages ≤ MAX_PAGES }
-    ensures pages { IfOk result (λ order. length order.items ≡ pages) }
-    ensures order { IfOk result (λ order. AreFirstPages order.items) }
-    ensures room { IfOk result (λ order. vec_capacity order ≡ pages) }
-{
-    let mut order = Vec::with_capacity(alloc, pages)?;
-    for page in 0..pages as u16 {
-        order.push_reserved(page);
-    }
-    Ok(order)
 }
 
 /// The pages at home in a new ring: all but that of the first fill, which the writer has, and the reader's.
@@ -124,4 +110,4 @@ fn first_home(
 
 ghost use Rattle.std.specs.Prelude.{◌≡◌, ◌≢◌, ◌+◌, ◌%◌, ◌≤◌, ◌<◌, length, vec_capacity, IfOk};
 ghost use Rattle.trace_model.specs.declared.limits.TheConstants.{MAX_PAGES, MIN_SIZE, MAX_SIZE, LINK_FILLS};
-ghost use Rattle.ring_core.specs.NewRing.{AreFirstLinks, AreFirstPages, IsFirstHome, AreFirstHomes};
+ghost use Rattle.ring_core.specs.NewRing.{AreFirstLinks, IsFirstHome, AreFirstHomes};

@@ -1,9 +1,9 @@
 //! The steps of the reader.
 use crate::event::Answer;
 use crate::ring::Core;
-use link_marks::{Mark, header, normal};
+use link_marks::{header, normal};
 use page_image::{Body, Page};
-use ring_frames::{Reader, ReaderPhase};
+use ring_frames::{HeadSeen, ReaderPhase, TakeState, head_seen};
 use trace_model::{FillNo, RecordNo};
 
 impl Core {
@@ -34,7 +34,7 @@ impl Core {
     fn reader_at(&mut self, phase: ReaderPhase, hint: u64)
         ensures { self.new ≡ record self.old { reader = record self.old.reader { phase = phase; hint = hint } } }
     {
-        self.reader = Reader {
+        self.reader = TakeState {
             phase,
             hint,
             ..self.reader
@@ -49,21 +49,17 @@ impl Core {
     {
         let hint = self.reader.hint;
         let link = self.link_into(hint);
-        let (page, fill) = (link.page, link.fill);
-        match link.mark {
-            Mark::Header => {
+        match head_seen(link, hint, self.positions()) {
+            HeadSeen::Head { page, fill } => {
                 self.reader_at(ReaderPhase::LoadingDone { page, fill }, fill);
                 Answer::Looking(body)
             }
-            Mark::Update => {
-                self.reader_at(ReaderPhase::LoadingHead, fill + 1);
-                Answer::Moving(FillNo(fill + 1), body)
+            HeadSeen::Moved { fill } => {
+                self.reader_at(ReaderPhase::LoadingHead, fill);
+                Answer::Moving(FillNo(fill), body)
             }
-            Mark::Normal => {
-                if fill == hint {
-                    return Answer::Moving(FillNo(hint), body);
-                }
-                self.reader_at(ReaderPhase::LoadingHead, fill + 1 - self.positions());
+            HeadSeen::Passed { fill } => {
+                self.reader_at(ReaderPhase::LoadingHead, fill);
                 Answer::Looking(body)
             }
         }
@@ -144,7 +140,7 @@ impl Core {
         self.spare = page;
         let first = taken.first().0;
         let missed = first - self.reader.expected;
-        self.reader = Reader {
+        self.reader = TakeState {
             phase: ReaderPhase::LoadingHead,
             hint: fill + 1,
             seen: self.reader.seen,

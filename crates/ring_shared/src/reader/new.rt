@@ -1,6 +1,6 @@
 //! A new reader's end.
 use crate::reader::Reader;
-use ring_frames::{Reader as TakeState, ReaderPhase};
+use ring_frames::{ReaderPhase, TakeState, first_order};
 use ring_steps::ReaderSeat;
 use std::alloc::Global;
 use trace_model::NoMemory;
@@ -32,21 +32,4 @@ impl Reader {
             empty_at: None,
         })
     }
-}
-
-ghost use Rattle.std.specs.Prelude.{◌≡◌, ◌≤◌, vec_capacity, IfOk};
-ghost use Rattle.trace_model.specs.declared.limits.TheConstants.{MAX_PAGES};
-ghost use Rattle.ring_steps.specs.NewRings.{counted};
-
-/// The pages of a new ring: each position has the page of its number.
-fn first_order(alloc: Global, pages: usize) -> Result<Vec<u16>, NoMemory>
-    requires { pages ≤ MAX_PAGES }
-    ensures pages { IfOk result (λ order. order.items ≡ counted 0 pages) }
-    ensures room { IfOk result (λ order. vec_capacity order ≡ pages) }
-{
-    let mut order = Vec::with_capacity(alloc, pages)?;
-    for page in 0..pages as u16 {
-        order.push_reserved(page);
-    }
-    Ok(order)
 }

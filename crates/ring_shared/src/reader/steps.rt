@@ -1,20 +1,10 @@
 //! The steps of a take, each on one word.
 use crate::reader::Reader;
 use crate::take::{Take, TakeStep};
-use link_marks::{Link, Mark, header};
+use link_marks::header;
 use page_image::Body;
-use ring_frames::ReaderPhase;
+use ring_frames::{HeadSeen, ReaderPhase, head_seen};
 use trace_model::FillNo;
-
-/// What a link means to a take that looks for the head.
-enum HeadSeen {
-    /// This page is the head, as this fill.
-    Head { page: u16, fill: u64 },
-    /// The head is moved on, and each fill below this one is passed: the take answers so.
-    Moved { fill: u64 },
-    /// The fills below this one are passed, and the take looks there.
-    Passed { fill: u64 },
-}
 
 impl Reader {
     ghost use Rattle.std.specs.Prelude.{◌≡◌, length};
@@ -54,7 +44,7 @@ impl Reader {
         let pages = self.order.len() as u64;
         let front = self.page_at(hint + pages - 1);
         let link = self.seat.load_head(front);
-        match seen_at(link, hint, pages) {
+        match head_seen(link, hint, pages) {
             HeadSeen::Head { page, fill } => {
                 self.at.phase = ReaderPhase::LoadingDone { page, fill };
                 self.at.hint = fill;
@@ -126,27 +116,3 @@ impl Reader {
         }
     }
 }
-
-/// What the link into the position of the hint means, in a ring of this number of pages.
-fn seen_at(link: Link, hint: u64, pages: u64) -> HeadSeen
-    requires fits { link.fill < LINK_FILLS }
-    requires passed { link.mark ≡ Normal → link.fill ≢ hint → pages ≤ link.fill + 1 }
-    ensures header { link.mark ≡ Header → result ≡ HeadSeen.Head link.page link.fill }
-    ensures update { link.mark ≡ Update → result ≡ HeadSeen.Moved (link.fill + 1) }
-    ensures owed { link.mark ≡ Normal → link.fill ≡ hint → result ≡ HeadSeen.Moved hint }
-    ensures passed { link.mark ≡ Normal → link.fill ≢ hint → result ≡ HeadSeen.Passed (link.fill + 1 - pages) }
-{
-    let Link { mark, page, fill } = link;
-    match mark {
-        Mark::Header => HeadSeen::Head { page, fill },
-        Mark::Update => HeadSeen::Moved { fill: fill + 1 },
-        Mark::Normal if fill == hint => HeadSeen::Moved { fill: hint },
-        Mark::Normal => HeadSeen::Passed {
-            fill: fill + 1 - pages,
-        },
-    }
-}
-
-ghost use Rattle.std.specs.Prelude.{◌≡◌, ◌≢◌, ◌+◌, ◌-◌, ◌<◌, ◌≤◌};
-ghost use Rattle.trace_model.specs.declared.limits.TheConstants.{LINK_FILLS};
-ghost use Rattle.link_marks.specs.declared.link.Mark.TheVariants.{Normal, Header, Update};

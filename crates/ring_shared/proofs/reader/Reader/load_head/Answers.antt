@@ -10,6 +10,8 @@ use Rattle.link_marks.specs.declared.link.Link.{Link}
 use Rattle.link_marks.specs.declared.link.Mark.{Mark}
 use Rattle.link_marks.specs.declared.link.Mark.TheVariants.{Normal, Header, Update}
 use Rattle.ring_frames.specs.ReaderPhases.{reader_phase_of}
+use Rattle.ring_frames.specs.declared.head.HeadSeen.{HeadSeen}
+use Rattle.ring_frames.specs.declared.head.HeadSeen.TheVariants.{Head, Moved, Passed}
 use Rattle.ring_frames.specs.declared.reader.ReaderPhase.{ReaderPhase}
 use Rattle.ring_frames.specs.declared.reader.ReaderPhase.TheVariants.{LoadingHead}
 use Rattle.ring_steps.specs.declared.rule.Shape.{Shape}
@@ -17,8 +19,6 @@ use Rattle.ring_steps.specs.Views.{Reading}
 use Rattle.ring_steps.specs.Ends.{reading_in, reader_table}
 use Rattle.ring_steps.specs.Taking.{LinkLoaded}
 use Rattle.ring_shared.specs.Value.{ReaderValue}
-use Rattle.ring_shared.specs.declared.reader.steps.HeadSeen.{HeadSeen}
-use Rattle.ring_shared.specs.declared.reader.steps.HeadSeen.TheVariants.{Head, Moved, Passed}
 use Rattle.ring_shared.specs.Takes.{KeepsSpare, SawPage, TakesNothing, IsReader}
 use Rattle.ring_shared.proofs.TakeSteps.{nothing, passed_below_hint, so, loaded}
 use Rattle.ring_shared.proofs.Fields.{fields, positions, shown}
@@ -82,8 +82,8 @@ none_taken : (v : ReaderValue) (link : Link) (after : Reading) (answer : model.A
 none_taken v link after answer phase fill h =
     nothing v.shape v.part after (record v.part.reader { phase = phase; hint = fill }) (loaded v.shape v.part (link_of link) answer phase fill after h) refl refl h.hint_le (omega arith)
 
-pub seen_at-requires-clause-passed : goal.seen_at-requires-clause-passed
-seen_at-requires-clause-passed c is other =
+pub head_seen-requires-clause-passed : goal.head_seen-requires-clause-passed
+head_seen-requires-clause-passed c is other =
     let pages = c.len-pages.ensures ∙ (c.self.inside.order.ok.0 ∙ pages_seen c.self.view_is c.requires.taking.reader) in
     let low = c.load_head-link.ensures.behind is (λ e. other (e ∙ hint_seen c.self.view_is c.requires.taking.reader)) in
     omega arith
@@ -92,9 +92,9 @@ pub returns-in-Head : goal.returns-in-Head
 returns-in-Head c =
     let v : ReaderValue = c.args.self.now in
     let new = c.load_head-link.new.self in let after : Reading = reading_in new in
-    let seen = c.seen_at.ensures in let reported = c.load_head-link.ensures in
+    let seen = c.head_seen.ensures in let reported = c.load_head-link.ensures in
     let (page, h) = subst (GoesBy v c.load_head-link.result after) c.in-Head.is
-    (goes c.self.view_is c.requires.taking.reader c.load_head-link.result after c.len-pages.result c.seen_at.result (c.len-pages.ensures ∙ c.self.inside.order.ok.0)
+    (goes c.self.view_is c.requires.taking.reader c.load_head-link.result after c.len-pages.result c.head_seen.result (c.len-pages.ensures ∙ c.self.inside.order.ok.0)
     seen.header seen.update seen.owed seen.passed reported.header reported.update reported.owed reported.passed) in
     let reader : ring.Reader = record v.part.reader { phase = ring.loading_done c.in-Head.page c.in-Head.fill; hint = c.in-Head.fill } in
     let old = fields _ v c.self.view_is c.requires.taking.reader in
@@ -112,9 +112,9 @@ pub returns-in-Moved : goal.returns-in-Moved
 returns-in-Moved c =
     let v : ReaderValue = c.args.self.now in
     let new = c.load_head-link.new.self in let after : Reading = reading_in new in
-    let seen = c.seen_at.ensures in let reported = c.load_head-link.ensures in
+    let seen = c.head_seen.ensures in let reported = c.load_head-link.ensures in
     let h = subst (GoesBy v c.load_head-link.result after) c.in-Moved.is
-    (goes c.self.view_is c.requires.taking.reader c.load_head-link.result after c.len-pages.result c.seen_at.result (c.len-pages.ensures ∙ c.self.inside.order.ok.0)
+    (goes c.self.view_is c.requires.taking.reader c.load_head-link.result after c.len-pages.result c.head_seen.result (c.len-pages.ensures ∙ c.self.inside.order.ok.0)
     seen.header seen.update seen.owed seen.passed reported.header reported.update reported.owed reported.passed) in
     let hint = ap (λ (x : ring.Reader). x.hint) (loaded v.shape v.part (link_of c.load_head-link.result) (model.moving c.in-Moved.fill) ring.loading_head c.in-Moved.fill after h).reader_is in
     record {
@@ -138,9 +138,9 @@ pub returns-in-Passed : goal.returns-in-Passed
 returns-in-Passed c =
     let v : ReaderValue = c.args.self.now in
     let new = c.load_head-link.new.self in let after : Reading = reading_in new in
-    let seen = c.seen_at.ensures in let reported = c.load_head-link.ensures in
+    let seen = c.head_seen.ensures in let reported = c.load_head-link.ensures in
     let h = subst (GoesBy v c.load_head-link.result after) c.in-Passed.is
-    (goes c.self.view_is c.requires.taking.reader c.load_head-link.result after c.len-pages.result c.seen_at.result (c.len-pages.ensures ∙ c.self.inside.order.ok.0)
+    (goes c.self.view_is c.requires.taking.reader c.load_head-link.result after c.len-pages.result c.head_seen.result (c.len-pages.ensures ∙ c.self.inside.order.ok.0)
     seen.header seen.update seen.owed seen.passed reported.header reported.update reported.owed reported.passed) in
     record {
       take_step = (refl, none_taken v c.load_head-link.result after model.reading ring.loading_head c.in-Passed.fill h);

@@ -1,6 +1,6 @@
 use Rattle.std.proofs.Common.{refl, sym, ap, ◌∙◌}
 use Rattle.ring_steps.specs.Views.{Reading}
-use Rattle.ring_shared.proofs.FirstReader.{first_part}
+use Rattle.ring_shared.proofs.FirstReader.{counted_pages, first_part}
 use Rattle.ring_shared.proofs.reader.Reader.new.Goals as goal
 
 pub returns : goal.returns
@@ -11,7 +11,7 @@ returns c = let first = c.requires.again in record {
   empty_at = refl;
   is = record {
     part = first_part c.args.seat.shape _ c.requires.shape first;
-    order_is = ap (λ (r : Reading). r.order) first ∙ sym c.in_ok-order.ensures.pages;
+    order_is = ap (λ (r : Reading). r.order) first ∙ counted_pages c.args.seat.shape.pages _ c.in_ok-order.ensures.pages c.in_ok-order.ensures.order;
     spare_is = ap (λ (r : Reading). r.spare) first;
     phase_is = ap (λ (r : Reading). r.reader.phase) first;
     hint_is = ap (λ (r : Reading). r.reader.hint) first;
