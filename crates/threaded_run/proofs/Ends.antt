@@ -97,7 +97,8 @@ history_obeyed script cpu before after shape is obeyed =
       allowed = known.allowed;
       packed = subst (λ (n : ℕ). IsPacked after.part.history n) size known.packed;
       last = writer_in after.part;
-      calls = subst (λ (s : Shape). IsReachedByLines s.pages s.size s.start (lines_of script cpu) (writer_in after.part))
+      calls =
+          subst (λ (s : Shape). IsReachedByLines s.pages s.size s.start (lines_of script cpu) (writer_in after.part))
           shape obeyed.calls;
       at_rest = obeyed.at_rest;
       history_is = refl;
