@@ -75,7 +75,7 @@ module _ (n size start : ℕ) where
 
   steps_least : (count : ℕ) (s : LineWriting) (payloads : List (List ℕ)) (t : LineWriting) (lefts : List (List ℕ)) → StepsCalls n size start count s payloads t lefts → length s.frames ≤ suc (length t.frames)
   steps_least count s payloads t lefts (none_to_step none same all) = let e = ap (λ (v : LineWriting). length v.frames) same in omega (arith, e)
-  steps_least count s payloads t lefts (steps_top depth x calls deep run few) =
+  steps_least count s payloads t lefts (steps_top depth x calls deep run few stop) =
       let low = calls_least depth s payloads (x ∷ calls) t lefts (omega (arith, deep)) run in omega (arith, deep, low)
 
   finish_least : (s : LineWriting) (payloads : List (List ℕ)) (t : LineWriting) (lefts : List (List ℕ)) → FinishCalls n size start s payloads t lefts → length s.frames ≤ suc (length t.frames)

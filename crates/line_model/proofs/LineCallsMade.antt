@@ -123,7 +123,7 @@ module _ (n size start : ℕ) (s : LineWriting) (payloads : List (List ℕ)) (t 
     record { top = none_part n size p payloads s between.agrees none; few = omega arith },
     between_same same all,
   )
-  by_steps count cpu (steps_top depth x calls some called few) =
+  by_steps count cpu (steps_top depth x calls some called few stop) =
       let (events, q, part, agrees) =
       calls_step n size start depth count s payloads x calls t lefts p between.agrees between.for_records some
       called few in (
@@ -324,19 +324,20 @@ rest_calls_make n size start (suc count) s payloads t lefts p between (u, middle
     (front ++ behind, r, (front, behind, q, refl, part, parts), there)
 
 pub writer_makes_lines : WriterMakesLines
-writer_makes_lines n size start count lines s payloads t lefts some calls rest none =
+writer_makes_lines n size start lines t some r none =
     let (by_lines, behind, parts, here) =
-    lines_calls_make n size start lines (first_writer start) [] s payloads (first_state start)
-    (start_between n start some) calls in
-    let (by_rest, last, finishes, there) = rest_calls_make n size start count s payloads t lefts behind here rest in
+    lines_calls_make n size start lines (first_writer start) [] r.behind r.payloads (first_state start)
+    (start_between n start some) r.calls in
+    let (by_rest, last, finishes, there) =
+    rest_calls_make n size start r.count r.behind r.payloads t r.lefts behind here r.rest in
     record {
       by_lines = by_lines;
       behind = behind;
       parts = parts;
-      count = count;
+      count = r.count;
       by_rest = by_rest;
       last = last;
       rest = finishes;
-      none_left = none_counted n size last lefts t there.agrees none;
+      none_left = none_counted n size last r.lefts t there.agrees none;
       history_is = sym there.agrees.history;
     }

@@ -70,8 +70,11 @@ module _ (n size start : ℕ) where
     steps_calls count [] one (steps_on some same (few, inl all)) = absurd (let none : 0 ≡ count = all in omega arith)
     steps_calls count [] one (steps_on some same (few, inr gone)) =
         absurd (let z = ap (λ (l : Lane). length l.core.frames) same in omega arith)
-    steps_calls count (x ∷ xs) one (steps_on some run (few, stop)) =
+    steps_calls count (x ∷ xs) one (steps_on some run (few, inl all)) =
+        steps_top (length before.core.frames - 1) x xs (deep some) (top_calls (x ∷ xs) some run) few (inl all)
+    steps_calls count (x ∷ xs) one (steps_on some run (few, inr gone)) =
         steps_top (length before.core.frames - 1) x xs (deep some) (top_calls (x ∷ xs) some run) few
+        (inr (let d = deep some in omega arith))
 
     finish_calls : (xs : List Exchange)
         → FinishesFrame n size before xs after

@@ -72,7 +72,7 @@ module _ (n size start : ℕ) where
   module _ (s : LineWriting) (payloads : List (List ℕ)) (t : LineWriting) (lefts : List (List ℕ)) where
     steps_formed : (count : ℕ) → StepsCalls n size start count s payloads t lefts → Formed s → Formed t
     steps_formed count (none_to_step none same all) formed = same_formed s t same formed
-    steps_formed count (steps_top depth x calls some called few) formed =
+    steps_formed count (steps_top depth x calls some called few stop) formed =
         top_formed depth s payloads (x ∷ calls) t lefts called formed
 
     line_formed : (line : Command) → LineCalls n size start line s payloads t lefts → Formed s → Formed t

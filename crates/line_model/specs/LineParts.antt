@@ -7,7 +7,7 @@ use Rattle.trace_model.specs.Steps.{Answer, pushes, pushes_close, pushed, refuse
 use Rattle.text_model.specs.Script.{Command, begin_frame, write, close}
 use Rattle.world_model.specs.Lanes.{event_on_top, payloads_left}
 use Rattle.line_model.specs.Lines.{LineState, first_state, FinishPart, LinePart, LineParts, FinishParts, IsMadeByLines}
-use Rattle.line_model.specs.WriterCalls.{LineWriting, first_writer, IsWriterCall, TopCalls, FinishCalls, LineCalls, LinesCalls, RestCalls}
+use Rattle.line_model.specs.WriterCalls.{LineWriting, first_writer, IsWriterCall, TopCalls, FinishCalls, LineCalls, LinesCalls, RestCalls, IsReachedByLines}
 use Rattle.line_model.specs.CallEvents.{Agrees}
 
 -- ---- single calls
@@ -146,10 +146,8 @@ RestCallsGoOn = (n size start count : ℕ) (s : LineWriting) (payloads : List (L
 -- From a new ring, the calls of lines, and then calls that finish the frames which are left until the stack is empty,
 -- make the history of these lines.
 abbrev pub WriterMakesLines : Type 0
-WriterMakesLines = (n size start count : ℕ) (lines : List Command) (s : LineWriting) (payloads : List (List ℕ))
-    (t : LineWriting) (lefts : List (List ℕ))
+WriterMakesLines = (n size start : ℕ) (lines : List Command) (last : LineWriting)
     → 1 ≤ n
-    → LinesCalls n size start lines (first_writer start) [] s payloads
-    → RestCalls n size start count s payloads t lefts
-    → t.frames ≡ []
-    → IsMadeByLines n size start lines t.history
+    → IsReachedByLines n size start lines last
+    → last.frames ≡ []
+    → IsMadeByLines n size start lines last.history

@@ -1,6 +1,6 @@
 -- The calls of a writer for its lines, whatever the reader does between them.
 -- docs/FORMATS.md, "Writer frames".
-use Rattle.std.specs.Prelude.{◌≡◌, ℕ, zero, suc, ◌+◌, ◌≤◌, List, [], ◌∷◌, length}
+use Rattle.std.specs.Prelude.{◌≡◌, ℕ, zero, suc, ◌+◌, ◌≤◌, ◌⊎◌, List, [], ◌∷◌, length}
 use Rattle.trace_model.specs.History.{HistoryEvent}
 use Rattle.trace_model.specs.Frames.{Frame, Refusal}
 use Rattle.trace_model.specs.Ring.{Core}
@@ -47,7 +47,7 @@ TopCalls n size start depth before payloads (x ∷ calls) after lefts =
 
 -- ---- the calls of a line
 
--- `s K`: at most K calls for the top frame; none if there is no frame
+-- `s K`: K calls for the top frame, or fewer if it is popped before that; none if there is no frame
 pub data StepsCalls (n size start count : ℕ) (before : LineWriting) (payloads : List (List ℕ)) (after : LineWriting)
     (lefts : List (List ℕ))
     : Type 0 where
@@ -59,6 +59,7 @@ pub data StepsCalls (n size start count : ℕ) (before : LineWriting) (payloads 
       → length before.frames ≡ suc depth
       → TopCalls n size start depth before payloads (x ∷ calls) after lefts
       → suc (length calls) ≤ count
+      → (suc (length calls) ≡ count) ⊎ (length after.frames ≤ depth)
       → StepsCalls n size start count before payloads after lefts
 
 -- `f`: calls for the top frame until it is popped; none if there is no frame
@@ -135,3 +136,13 @@ RestCalls n size start (suc count) before payloads after lefts =
     (between : LineWriting) × (middle : List (List ℕ))
     × FinishCalls n size start before payloads between middle
     × RestCalls n size start count between middle after lefts
+
+-- From the writer of a new ring to this one: the calls of the lines, one line after the other, and then those that
+-- finish the frames which are left.
+pub record IsReachedByLines (n size start : ℕ) (lines : List Command) (last : LineWriting) : Type 0 where
+  pub behind : LineWriting
+  pub payloads : List (List ℕ)
+  pub calls : LinesCalls n size start lines (first_writer start) [] behind payloads
+  pub count : ℕ
+  pub lefts : List (List ℕ)
+  pub rest : RestCalls n size start count behind payloads last lefts

@@ -1,5 +1,5 @@
 -- Calls for the frame on top, one after the other; and the lines that are made of them.
-use Rattle.std.proofs.Common.{◌≡◌, ◌≢◌, ℕ, suc, ◌+◌, ◌-◌, ◌<◌, ◌≤◌, ◌⊎◌, ⊎_elim, Bool, true, false, List, [], ◌∷◌, ◌++◌, length, refl, sym, ap, ◌∙◌, subst, arith, length-append}
+use Rattle.std.proofs.Common.{◌≡◌, ◌≢◌, ℕ, suc, ◌+◌, ◌-◌, ◌<◌, ◌≤◌, ◌⊎◌, ⊎_elim, Bool, true, false, List, [], ◌∷◌, ◌++◌, length, refl, sym, ap, ◌∙◌, subst, inl, inr, arith, length-append}
 use Rattle.trace_model.specs.Steps.{Event, pushes, Exchange}
 use Rattle.text_model.specs.Script.{begin_frame, step_frame, finish_frame}
 use Rattle.line_model.specs.WriterCalls.{LineWriting, IsWriterCall, TopCalls, StepsCalls, steps_top, FinishCalls, finishes_top, begins_frame, begins_none, WholeCalls, writes_frame, writes_none}
@@ -91,7 +91,11 @@ module _ (depth made : ℕ) (old new : LineWriter) (deep : depth ≡ length old.
     by_calls [] many (same, all) =
         ⊎_elim (λ enough. absurd (omega arith))
         (λ other. absurd (other (ap (λ (w : LineWriting). length w.frames) (sym same) ∙ sym deep))) stop
-    by_calls (x ∷ calls) many run = steps_top (depth - 1) x calls deep_is run (omega (arith, many))
+    by_calls (x ∷ calls) many run =
+        steps_top (depth - 1) x calls deep_is run (omega (arith, many))
+        (⊎_elim (λ enough. inl (let all : suc (length calls) ≡ count = omega (arith, many) in all))
+        (λ other. inr (let low : length new.writer.part.frames ≤ depth - 1 =
+        let at_most = part_way.few in omega arith in low)) stop)
 
     pub stepped : (cpu : ℕ) → MakesLine (step_frame cpu count) old new
     stepped cpu = record { is = part_way.is; same = part_way.same; made = by_calls part_way.calls part_way.made part_way.run }

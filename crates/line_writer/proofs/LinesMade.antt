@@ -10,7 +10,7 @@ use Rattle.trace_model.proofs.collections.Elements.{some_is}
 use Rattle.text_model.specs.Script.{Command, finish_frame}
 use Rattle.line_model.specs.Lines.{writer_lines, IsMadeByLines}
 use Rattle.line_model.specs.ReplayedLines.{commands_of}
-use Rattle.line_model.specs.WriterCalls.{LineWriting, first_writer, LineCalls, LinesCalls, RestCalls, FinishCalls}
+use Rattle.line_model.specs.WriterCalls.{LineWriting, first_writer, LineCalls, LinesCalls, RestCalls, FinishCalls, IsReachedByLines}
 use Rattle.line_model.proofs.PartsJoined.{lines_calls_go_on, rest_calls_go_on}
 use Rattle.line_model.proofs.LineCallsMade.{writer_makes_lines}
 use Rattle.line_model.proofs.WrittenLines.{whole_lines_commit}
@@ -177,11 +177,20 @@ module _ (cpu : ℕ) (commands : List (ℕ × Command)) (before : WriterValue) (
   enough =
       subst (λ (s : Shape). MIN_PAGES ≤ s.pages) last_shape rest.makes.is.writer.reached.may_start.some_pages
 
+  reached : IsReachedByLines shape.pages shape.size shape.start lines (writer_in last.writer.part)
+  reached = record {
+    behind = writer_in mid.writer.part;
+    payloads = payloads_of mid;
+    calls = calls;
+    count = rest.count;
+    lefts = payloads_of last;
+    rest = rest_calls;
+  }
+
   made : IsMadeByLines shape.pages shape.size shape.start lines last.writer.part.history
   made =
-      writer_makes_lines shape.pages shape.size shape.start rest.count lines (writer_in mid.writer.part)
-      (payloads_of mid) (writer_in last.writer.part) (payloads_of last) (let two = enough in omega arith) calls rest_calls
-      rest.none
+      writer_makes_lines shape.pages shape.size shape.start lines (writer_in last.writer.part)
+      (let two = enough in omega arith) reached rest.none
 
   pub obeyed : HasObeyed cpu commands before last.writer
   unfolding IsWriter
@@ -190,6 +199,7 @@ module _ (cpu : ℕ) (commands : List (ℕ × Command)) (before : WriterValue) (
       record {
         same = (last_shape, rest.makes.same.1 ∙ lines_are.same.1 ∙ ap (λ (v : WriterValue). v.table) first_is);
         at_rest = rest.none;
+        calls = reached;
         made = made;
         committed = λ whole room.
             whole_lines_commit shape.pages shape.size shape.start lines last.writer.part.history enough whole room

@@ -6,11 +6,13 @@ use Rattle.trace_model.specs.declared.numbers.FillNo.{FillNo}
 use Rattle.trace_model.specs.History.{committed_records}
 use Rattle.text_model.specs.Script.{Command}
 use Rattle.line_model.specs.Lines.{writer_lines, IsMadeByLines}
+use Rattle.line_model.specs.WriterCalls.{IsReachedByLines}
 use Rattle.line_model.specs.WrittenRecords.{AllWriteOrClose, records_of_lines}
 use Rattle.line_model.specs.ReplayedLines.{commands_of}
 use Rattle.ring_shared.specs.Value.{WriterValue, SameWriter}
 use Rattle.line_writer.specs.declared.gate.Who.{Who}
 use Rattle.line_writer.specs.declared.gate.Who.TheVariants as who
+use Rattle.line_writer.specs.LineWriters.{writer_in}
 
 -- the command of this index is the line
 abbrev pub IsLineAt : List (ℕ × Command) → (line_index : ℕ) → Command → Type 0
@@ -20,12 +22,15 @@ IsLineAt commands line_index line = (number : ℕ) × (slice_get commands line_i
 abbrev pub AreLinesOf : (cpu : ℕ) → List (ℕ × Command) → (indexes : List ℕ) → Type 0
 AreLinesOf cpu commands indexes = AllZip (IsLineAt commands) indexes (writer_lines cpu (commands_of commands))
 
--- From a new ring, the CPU's writer lines have made the history of the same writer, and no frame is left. With `w` and
--- `c` lines alone, at most as many as there are numbers left for fills, the committed records are exactly those of the
--- `w` lines that are neither too long nor too late, in order, moments raised.
+-- From a new ring, the writer has made the calls of the CPU's writer lines, one line after the other, and then those
+-- that finish the frames which are left: so these lines have made its history, and no frame is left. With `w` and `c`
+-- lines alone, at most as many as there are numbers left for fills, the committed records are exactly those of the `w`
+-- lines that are neither too long nor too late, in order, moments raised.
 pub record HasObeyed (cpu : ℕ) (commands : List (ℕ × Command)) (before after : WriterValue) : Type 0 where
   pub same : SameWriter before after
   pub at_rest : after.part.frames ≡ []
+  pub calls : IsReachedByLines before.shape.pages before.shape.size before.shape.start
+      (writer_lines cpu (commands_of commands)) (writer_in after.part)
   pub made : IsMadeByLines before.shape.pages before.shape.size before.shape.start
       (writer_lines cpu (commands_of commands)) after.part.history
   pub committed : AllWriteOrClose (writer_lines cpu (commands_of commands))

@@ -1,5 +1,5 @@
 -- What a threaded run leaves.
-use Rattle.std.specs.Prelude.{◌≡◌, ℕ, ◌+◌, ◌<◌, ◌≤◌, List, length, Some, vec_len}
+use Rattle.std.specs.Prelude.{◌≡◌, ℕ, ◌+◌, ◌<◌, ◌≤◌, List, [], length, Some, vec_len}
 use Rattle.std.specs.List.{slice_get}
 use Rattle.trace_model.specs.declared.limits.TheConstants.{LINK_FILLS}
 use Rattle.trace_model.specs.History.{HistoryEvent, IsHistory, committed_records}
@@ -7,6 +7,7 @@ use Rattle.trace_model.specs.Packing.{IsPacked}
 use Rattle.trace_model.specs.Ring.{Core}
 use Rattle.text_model.specs.Script.{Command, Script}
 use Rattle.line_model.specs.Lines.{writer_lines, IsMadeByLines}
+use Rattle.line_model.specs.WriterCalls.{LineWriting, IsReachedByLines}
 use Rattle.line_model.specs.WrittenRecords.{AllWriteOrClose, records_of_lines}
 use Rattle.line_model.specs.ReplayedLines.{commands_of}
 use Rattle.ring_steps.specs.declared.rule.Shape.{Shape}
@@ -25,11 +26,17 @@ abbrev pub lines_of : Script → (cpu : ℕ) → List Command
 lines_of script cpu = writer_lines cpu (commands_of script.commands)
 
 -- The history keeps the discipline of the stack, is packed in pages of the ring's size, and is made by the lines of the
--- CPU's writer. With `w` and `c` lines alone, at most as many as there are numbers left for fills, the committed
--- records are exactly those of the `w` lines that are neither too long nor too late, in order, moments raised.
+-- CPU's writer: it is that of a writer without frames that the calls of these lines, and those that finish the frames
+-- which are left, lead to. With `w` and `c` lines alone, at most as many as there are numbers left for fills, the
+-- committed records are exactly those of the `w` lines that are neither too long nor too late, in order, moments
+-- raised.
 pub record IsRunHistory (script : Script) (cpu : ℕ) (history : List HistoryEvent) : Type 0 where
   pub allowed : IsHistory history
   pub packed : IsPacked history script.size
+  pub last : LineWriting
+  pub calls : IsReachedByLines script.pages script.size script.start (lines_of script cpu) last
+  pub at_rest : last.frames ≡ []
+  pub history_is : last.history ≡ history
   pub made : IsMadeByLines script.pages script.size script.start (lines_of script cpu) history
   pub committed : AllWriteOrClose (lines_of script cpu)
       → script.start + length (lines_of script cpu) + script.pages ≤ LINK_FILLS

@@ -1,5 +1,5 @@
 -- The two threads of each ring, and what they leave.
-use Rattle.std.specs.Prelude.{◌≡◌, ℕ, suc, Bool, false, List, [], ◌∷◌, length, Some}
+use Rattle.std.specs.Prelude.{◌≡◌, ℕ, suc, ◌<◌, Bool, false, List, [], ◌∷◌, length, Some}
 use Rattle.std.specs.List.{slice_get}
 use Rattle.text_model.specs.Script.{Script}
 use Rattle.trace_script.specs.declared.replay_fault.ReplayFault.{ReplayFault}
@@ -23,10 +23,11 @@ pub record RunningValue (Gate : Type 0) : Type 0 where
   pub script : Script
   pub gate : Gate
 
--- a run that ends so was ended by the gate: it didn't let an end of a ring pass
-abbrev pub IsByGate : {Gate : Type 0} (answers : Gate → Who → (cpu fill : ℕ) → Bool → Type 0) → Gate
+-- a run of so many CPUs that ends so was ended by the gate: it didn't let an end of the ring of one of them pass
+abbrev pub IsByGate : {Gate : Type 0} (answers : Gate → Who → (cpu fill : ℕ) → Bool → Type 0) → Gate → (cpus : ℕ)
     → ReplayFault → Type 0
-IsByGate answers gate fault = fault ≡ GateShut → (who : Who) × (cpu : ℕ) × (fill : ℕ) × answers gate who cpu fill false
+IsByGate answers gate cpus fault = fault ≡ GateShut
+    → (who : Who) × (cpu : ℕ) × (fill : ℕ) × (cpu < cpus) × answers gate who cpu fill false
 
 -- Both ends are those of one ring, after all lines of its CPU.
 pub record IsJoined (script : Script) (cpu : ℕ) (ends : WriterValue × ReaderEndValue) : Type 0 where

@@ -62,7 +62,7 @@ fn complete_rings<R: Threads + Wait, G: Gate>(
     requires running { AreRunning job.now.script.now job.now.gate.now 0 threads.items }
     ensures ledgers { IfOk result (λ ledgers. AreRunLedgers job.now.script.now 0 ledgers.items) }
     ensures count { IfOk result (λ ledgers. vec_len ledgers ≡ vec_len threads.entry) }
-    ensures shut { IfErr result (IsByGate G.answers job.now.gate.now) }
+    ensures shut { IfErr result (IsByGate G.answers job.now.gate.now job.now.script.now.cpus) }
 {
     let mut ledgers = Ok(Vec::new(alloc));
     for running in threads {
@@ -84,7 +84,7 @@ fn run_rings_in<'s, E, R: Threads + Wait + Sync, G: Gate>(
     requires over { length over.now ≡ job.now.script.now.cpus }
     ensures ledgers { IfOk result (λ ledgers. AreRunLedgers job.now.script.now 0 ledgers.items) }
     ensures count { IfOk result (λ ledgers. vec_len ledgers ≡ job.now.script.now.cpus) }
-    ensures shut { IfErr result (IsByGate G.answers job.now.gate.now) }
+    ensures shut { IfErr result (IsByGate G.answers job.now.gate.now job.now.script.now.cpus) }
 {
     let mut threads = Vec::with_capacity(alloc, over.len())?;
     let started = start_rings(rt, scope, alloc, job, indexes, over, &mut threads);
@@ -107,7 +107,7 @@ pub(crate) fn run_rings<R: Threads + Wait + Sync, G: Gate>(
     requires over { length over.now ≡ script.now.cpus }
     ensures ledgers { IfOk result (λ ledgers. AreRunLedgers script.now 0 ledgers.items) }
     ensures count { IfOk result (λ ledgers. vec_len ledgers ≡ script.now.cpus) }
-    ensures shut { IfErr result (IsByGate G.answers gate.now) }
+    ensures shut { IfErr result (IsByGate G.answers gate.now script.now.cpus) }
 {
     thread::scope(
         thread::scope_env(),
@@ -116,7 +116,7 @@ pub(crate) fn run_rings<R: Threads + Wait + Sync, G: Gate>(
             requires { AreIndexes script.now indexes.now × (length over.now ≡ script.now.cpus) }
             ensures { IfOk result (λ ledgers. AreRunLedgers script.entry.now 0 ledgers.items)
                 × IfOk result (λ ledgers. vec_len ledgers ≡ script.entry.now.cpus)
-                × IfErr result (IsByGate G.answers gate.entry.now) }
+                × IfErr result (IsByGate G.answers gate.entry.now script.entry.now.cpus) }
         {
             let job = Job {
                 script,

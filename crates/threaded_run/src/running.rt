@@ -1,5 +1,5 @@
 //! The run of a script by threads.
-ghost use Rattle.std.specs.Prelude.{◌≡◌, ◌≢◌, ℕ, ◌≤◌, length, vec_len, vec_capacity, false, OnOk, IfOk, IfErr};
+ghost use Rattle.std.specs.Prelude.{◌≡◌, ◌≢◌, ℕ, ◌<◌, ◌≤◌, length, vec_len, vec_capacity, false, OnOk, IfOk, IfErr};
 ghost use Rattle.trace_script.specs.declared.replay_fault.ReplayFault.TheVariants.{GateShut};
 ghost use Rattle.line_writer.specs.declared.gate.Who.{Who as WhoSeen};
 ghost use Rattle.threaded_run.specs.Runs.{IsRan};
@@ -62,7 +62,7 @@ fn run_all<'s, E, R: Threads + Wait + Sync, G: Gate>(
     ensures collectors { OnOk result (vec_len threads.new ≡ script.now.collectors) }
     ensures ledgers { IfOk result (λ ledgers. AreRunLedgers script.now 0 ledgers.items) }
     ensures cpus { IfOk result (λ ledgers. vec_len ledgers ≡ script.now.cpus) }
-    ensures shut { IfErr result (IsByGate G.answers gate.now) }
+    ensures shut { IfErr result (IsByGate G.answers gate.now script.now.cpus) }
 {
     start_collectors(rt, scope, alloc, script.collectors(), senders, threads)?;
     run_rings(rt, alloc, script, gate, indexes, over, senders.as_slice())
@@ -82,7 +82,7 @@ fn run_with<'s, E, R: Threads + Wait + Sync, G: Gate>(
     requires indexes { AreIndexes script.now indexes.now }
     requires over { length over.now ≡ script.now.cpus }
     ensures ran { IfOk result (IsRan script.now) }
-    ensures shut { IfErr result (IsByGate G.answers gate.now) }
+    ensures shut { IfErr result (IsByGate G.answers gate.now script.now.cpus) }
 {
     let count = script.collectors();
     let mut senders = Vec::with_capacity(alloc, count)?;
@@ -124,9 +124,9 @@ pub fn run<R: Threads + Wait + Sync, G: Gate>(
 ) -> Result<Ran, ReplayFault>
     // The collectors and the ledgers are as many as the script says; each ledger is that of its CPU's lines.
     ensures ran { IfOk result (IsRan script.now) }
-    // The gate is blamed only if it was shut for a thread.
-    ensures shut { IfErr result (λ fault. fault ≡ GateShut
-        → (who : WhoSeen) × (cpu fill : ℕ) × G.answers gate.now who cpu fill false) }
+    // The gate is blamed only if it was shut for a thread of one of the script's CPUs.
+    ensures shut { IfErr result (λ fault. fault ≡ GateShut → (who : WhoSeen) × (cpu fill : ℕ)
+        × (cpu < script.now.cpus) × G.answers gate.now who cpu fill false) }
 {
     let indexes = lines_by_cpu(alloc, script)?;
     let over = new_flags(alloc, script.cpus() as usize)?;
@@ -137,7 +137,8 @@ pub fn run<R: Threads + Wait + Sync, G: Gate>(
         rt,
         |scope| -> Result<Ran, ReplayFault>
             requires { AreIndexes script.now indexes.now × (length over.now ≡ script.now.cpus) }
-            ensures { IfOk result (IsRan script.entry.now) × IfErr result (IsByGate G.answers gate.entry.now) }
+            ensures { IfOk result (IsRan script.entry.now)
+                × IfErr result (IsByGate G.answers gate.entry.now script.entry.now.cpus) }
         { run_with(rt, scope, alloc, script, gate, indexes, over) },
     )
 }

@@ -44,7 +44,7 @@ pub(crate) struct Running<'a, G: Gate> {
 }
 
 impl<'a, G: Gate> Model for Running<'a, G> {
-    ghost use Rattle.std.specs.Prelude.{◌≡◌};
+    ghost use Rattle.std.specs.Prelude.{◌≡◌, ◌<◌};
     ghost use Rattle.ring_shared.specs.NewEnds.{AreNewEnds};
     ghost use Rattle.threaded_run.specs.Runs.{shape_of};
     ghost use Rattle.threaded_run.specs.Threads.{RunningValue};
@@ -62,7 +62,8 @@ impl<'a, G: Gate> Model for Running<'a, G> {
         × (r.writer.promise.cpu.0 ≡ r.cpu.0)
         × (r.reader.promise.cpu.0 ≡ r.cpu.0)
         × (r.reader.promise.was.value.cpu ≡ r.cpu.0)
-        × (r.reader.promise.gate.now ≡ r.writer.promise.gate.now) };
+        × (r.reader.promise.gate.now ≡ r.writer.promise.gate.now)
+        × (r.cpu.0 < r.writer.promise.script.now.cpus) };
 }
 
 /// Starts a writer's thread.
@@ -185,7 +186,7 @@ fn join<R: Threads, G: Gate>(
     running: Running<'_, G>,
 ) -> Result<(Writer, ReaderEnd), ReplayFault>
     ensures joined { IfOk result (IsJoined running.entry.script running.entry.cpu) }
-    ensures shut { IfErr result (IsByGate G.answers running.entry.gate) }
+    ensures shut { IfErr result (IsByGate G.answers running.entry.gate running.entry.script.cpus) }
 {
     let Running { writer, reader, .. } = running;
     let wrote = writer.join(rt);
@@ -208,7 +209,7 @@ pub(crate) fn complete<R: Threads + Wait, G: Gate>(
     collectors: &[Sender<Parcel>],
 ) -> Result<Ledger, ReplayFault>
     ensures ledger { IfOk result (IsRunLedger running.entry.script running.entry.cpu) }
-    ensures shut { IfErr result (IsByGate G.answers running.entry.gate) }
+    ensures shut { IfErr result (IsByGate G.answers running.entry.gate running.entry.script.cpus) }
 {
     let (writer, reader) = join(rt, running)?;
     let ledger = settle_ends(rt, alloc, writer, reader, collectors)?;

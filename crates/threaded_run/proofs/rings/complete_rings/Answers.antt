@@ -2,6 +2,7 @@ use Rattle.std.specs.Prelude.{Vec, vec_len, IfErr}
 use Rattle.std.specs.declared.alloc.Global.{Global}
 use Rattle.std.proofs.Common.{◌≡◌, ◌+◌, ◌-◌, subst, arith}
 use Rattle.std.specs.Vec.Iter.{into_iter_items, into_iter_len}
+use Rattle.text_model.specs.Script.{Script}
 use Rattle.run_audit.specs.declared.ledger.Ledger.{Ledger}
 use Rattle.threaded_run.specs.Runs.{IsRunLedger}
 use Rattle.threaded_run.specs.Threads.{AreRunLedgers, IsByGate}
@@ -24,11 +25,13 @@ loop-running-preserved g c =
     (λ (all : Vec Ledger Global). AreRunLedgers job.script.now 0 all.items × (vec_len all + left ≡ total))
     (λ (all : Vec Ledger Global). AreRunLedgers job.script.now 0 all.items × (vec_len all + after ≡ total))
     (IsRunLedger threads.script threads.cpu)
-    (IsByGate g.G.Gate.answers job.gate.now)
+    (IsByGate g.G.Gate.answers job.gate.now job.script.now.cpus)
     c.loop-running.ledgers c.complete.result c.with_next-ledgers.result
     c.with_next-ledgers.ensures.more c.with_next-ledgers.ensures.fault
     was.ledgers was.shut c.complete.ensures.ledger
-    (subst (λ gate. IfErr c.complete.result (IsByGate g.G.Gate.answers gate)) next.0.2 c.complete.ensures.shut)
+    (subst (λ gate. IfErr c.complete.result (IsByGate g.G.Gate.answers gate job.script.now.cpus)) next.0.2
+    (subst (λ (s : Script). IfErr c.complete.result (IsByGate g.G.Gate.answers threads.gate s.cpus)) next.0.1
+    c.complete.ensures.shut))
     (λ e. absurd (cc))
     (λ all one more (are, count) is items len. (
       ledger_pushed job.script.now job.gate.now (total - left) threads all.items more.items one next.0 is are

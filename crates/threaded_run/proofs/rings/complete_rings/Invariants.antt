@@ -10,5 +10,5 @@ invariant-loop-running g l = record {
       (into_iter_items l.running-iterator);
   ledgers : IfOk l.ledgers (λ ledgers. AreRunLedgers l.job.script.now 0 ledgers.items
       × (vec_len ledgers + into_iter_len l.running-iterator ≡ vec_len l.fn.threads));
-  shut : IfErr l.ledgers (IsByGate g.G.Gate.answers l.job.gate.now);
+  shut : IfErr l.ledgers (IsByGate g.G.Gate.answers l.job.gate.now l.job.script.now.cpus);
 }

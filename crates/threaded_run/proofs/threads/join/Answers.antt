@@ -7,13 +7,14 @@ use Rattle.threaded_run.proofs.threads.join.Goals as goal
 pub returns-in_default-clause-shut : goal.returns-in_default-clause-shut
 returns-in_default-clause-shut g c =
     let p = c.running.inside.writer.promise in
-    writer_by_gate g.G.Gate.answers _ c.args.running p.cpu.0 c.in_default.field-0 _ c.running.view_is c.in_default.ensures
+    writer_by_gate g.G.Gate.answers _ c.args.running p.cpu.0 c.in_default.field-0 _ c.running.view_is
+    c.running.invariant.1 c.running.invariant.5 c.in_default.ensures
 
 pub returns-in-Err-clause-shut : goal.returns-in-Err-clause-shut
 returns-in-Err-clause-shut g c =
     let p = c.running.inside.reader.promise in
-    reader_by_gate g.G.Gate.answers _ c.args.running p.gate.now p.cpu.0 c.in-Err.stop c.fault_of.result c.running.view_is
-    c.running.invariant.4 c.fault_of.ensures c.in-Err.ensures
+    reader_by_gate g.G.Gate.answers _ c.args.running p.gate.now p.cpu.0 c.in-Err.stop c.fault_of.result
+    c.running.view_is c.running.invariant.2 c.running.invariant.5 c.running.invariant.4 c.fault_of.ensures c.in-Err.ensures
 
 pub returns-in-Ok-took-clause-joined : goal.returns-in-Ok-took-clause-joined
 returns-in-Ok-took-clause-joined g c =
