@@ -56,13 +56,13 @@ impl ReaderSeat {
     }
 
     /// A load of the link into the position of the reader's hint, from the word of the page before that position. At a
-    /// HEADER the reader has found the head, this page as this fill; at an UPDATE this fill is lost, and the head is
-    /// moved on to the next one; at a NORMAL that has the hint as its fill the HEADER is still owed there; and at any
-    /// other NORMAL the reader looks on, at the fill one round before the next one, since all fills below that are
+    /// HEADER the reader has found the head, the link's page as the link's fill; at an UPDATE that fill is lost, and the
+    /// head is moved on to the next one; at a NORMAL that has the hint as its fill the HEADER is still owed there; and at
+    /// any other NORMAL the reader looks on, at the fill one round before the next one, since all fills below that are
     /// taken or lost. A reader that keeps the spare's slot gives it back.
-    pub fn load_head(&mut self, page: u16) -> Link
+    pub fn load_head(&mut self, front: u16) -> Link
         requires due { (reading_in self.old).reader.phase ≡ loading_head }
-        requires page { page ≡ page_before self.old.shape.pages (reading_in self.old).order
+        requires front { front ≡ page_before self.old.shape.pages (reading_in self.old).order
             (reading_in self.old).reader.hint }
         ensures same { SameReaderSeat self.old self.new }
         ensures fits { FitsWord (link_of result) }
@@ -85,7 +85,7 @@ impl ReaderSeat {
             → (reading_in self.old).reader.hint + self.old.shape.pages ≤ result.fill }
         ensures spare { (reading_in self.new).keeps_spare ≡ false }
     {
-        let word = page as usize + LINKS_WORD;
+        let word = front as usize + LINKS_WORD;
         link_in(load::<Brand, _>(&self.board, self.shape, &mut self.seat, word, &()))
     }
 

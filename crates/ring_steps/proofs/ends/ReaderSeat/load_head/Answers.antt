@@ -7,7 +7,7 @@ use Rattle.ring_steps.proofs.ends.ReaderSeat.load_head.Goals as goal
 
 pub load-requires-clause-allowed : goal.load-requires-clause-allowed
 load-requires-clause-allowed c = let is = c.args.self.now.is_reading in
-    reader_allows c.args.self.now.shape _ _ _ _ _ _ is.view (λ core words homes s. load_link_moves c.args.self.now.shape _ is core words homes s c.args.page c.requires.due c.requires.page)
+    reader_allows c.args.self.now.shape _ _ _ _ _ _ is.view (λ core words homes s. load_link_moves c.args.self.now.shape _ is core words homes s c.args.front c.requires.due c.requires.front)
 
 pub link_in-requires : goal.link_in-requires
 link_in-requires c = record { mark = λ three. no_mark _ (ap (λ (word : ℕ). word % 4) c.load.ensures.reported.1.step.1.seen.word_is ∙ three) }
