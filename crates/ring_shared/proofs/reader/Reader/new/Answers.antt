@@ -1,4 +1,4 @@
-use Rattle.std.proofs.Common.{refl, sym, ap, ◌∙◌}
+use Rattle.std.proofs.Common.{refl, ap, ◌∙◌}
 use Rattle.ring_steps.specs.Views.{Reading}
 use Rattle.ring_shared.proofs.FirstReader.{counted_pages, first_part}
 use Rattle.ring_shared.proofs.reader.Reader.new.Goals as goal
