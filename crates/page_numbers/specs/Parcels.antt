@@ -1,6 +1,6 @@
 -- What contracts see of a parcel: the page that it shares, under its numbers; and the model's parcel that this is.
-use Rattle.std.specs.Prelude.{◌≡◌, ℕ, List, length, map}
-use Rattle.std.specs.List.{enumerate_from}
+use Rattle.std.specs.Prelude.{◌≡◌, ℕ, List, length, map, Some}
+use Rattle.std.specs.List.{slice_get, enumerate_from}
 use Rattle.trace_model.specs.Record.{Record}
 use Rattle.trace_model.specs.Parcel.{Parcel}
 use Rattle.trace_model.specs.ParcelBytes.{IsParcel}
@@ -43,6 +43,10 @@ pub record IsParcelValue (parcel : ParcelValue) : Type 0 where
 -- the records of a parcel in their order, each under its number
 abbrev pub entries_of_parcel : Parcel → List (ℕ × Record)
 entries_of_parcel parcel = enumerate_from parcel.first parcel.records
+
+-- all parcels are of this CPU
+abbrev pub AreOfCpu : List Parcel → ℕ → Type 0
+AreOfCpu parcels cpu = (k : ℕ) (parcel : Parcel) → slice_get parcels k ≡ Some parcel → parcel.cpu ≡ cpu
 
 -- both have the same records under the same numbers
 pub record HaveSameRecords (parcel other : Parcel) : Type 0 where

@@ -1,8 +1,8 @@
 //! Whether ledgers are in the order in which a run leaves them.
 ghost use Rattle.std.specs.Prelude.{◌≡◌, ◌↔◌, IsTrue};
 ghost use Rattle.deliveries.specs.Deliveries.{AreRising};
-ghost use Rattle.page_numbers.specs.Parcels.{as_parcels};
-ghost use Rattle.run_audit.specs.Order.{AreOfCpu, AreInOrder};
+ghost use Rattle.page_numbers.specs.Parcels.{as_parcels, AreOfCpu};
+ghost use Rattle.run_audit.specs.Order.{AreInOrder};
 ghost use Rattle.run_audit.specs.declared.order.Order.TheVariants.{Rising};
 
 use crate::ledger::Ledger;
@@ -19,7 +19,7 @@ pub(crate) enum Order {
 
 /// Whether the parcels are all of this CPU, and their fills rise.
 fn are_rising_of(cpu: usize, parcels: &[Parcel]) -> bool
-    ensures { IsTrue result ↔ (AreOfCpu cpu (as_parcels parcels.now) × AreRising (as_parcels parcels.now)) }
+    ensures { IsTrue result ↔ (AreOfCpu (as_parcels parcels.now) cpu × AreRising (as_parcels parcels.now)) }
 {
     for index in 0..parcels.len() {
         let parcel = &parcels[index];
