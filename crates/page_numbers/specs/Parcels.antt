@@ -14,8 +14,8 @@ pub record ParcelValue : Type 0 where
   pub page : Contents
 
 -- the parcel that a page is, under this CPU and with this many numbers missing before its records
-abbrev pub parcel_of : ℕ → Contents → ℕ → Parcel
-parcel_of cpu page missed = record {
+abbrev pub parcel_of_page : ℕ → Contents → ℕ → Parcel
+parcel_of_page cpu page missed = record {
   cpu = cpu;
   fill = page.fill;
   first = page.first;
@@ -25,7 +25,7 @@ parcel_of cpu page missed = record {
 
 -- the model's parcel, which has the page's records and not the page
 abbrev pub as_parcel : ParcelValue → Parcel
-as_parcel parcel = parcel_of parcel.cpu parcel.page parcel.missed
+as_parcel parcel = parcel_of_page parcel.cpu parcel.page parcel.missed
 
 abbrev pub as_parcels : List ParcelValue → List Parcel
 as_parcels parcels = map as_parcel parcels

@@ -16,7 +16,7 @@ use Rattle.ring_frames.specs.Lens.{IsOneMore}
 use Rattle.page_image.specs.Contents.{Contents}
 use Rattle.parcel_buffer.specs.Fronts.{HasAtFront}
 use Rattle.page_numbers.specs.Written.{bytes_of_page}
-use Rattle.page_numbers.specs.Parcels.{parcel_of}
+use Rattle.page_numbers.specs.Parcels.{parcel_of_page}
 use Rattle.trace_model.specs.declared.limits.TheConstants.{MAX_CPUS}
 use Rattle.trace_model.specs.Ring.{HasRingLimits}
 use Rattle.ring_shared.specs.Value.{WriterValue}
@@ -128,7 +128,7 @@ pub data TakesSo (old : HeldReader) (out : List ℕ) (was : Taken) (code : ℤ) 
       → IsPageTaken old.reader.shape old.reader.part page missed new.reader.part
       → AnswersTake old.reader (Page page missed) new.reader
       → IsGiven old.cpu.0 page missed out left reported
-      → DecodesParcel (bytes_of_page old.cpu.0 page missed) (parcel_of old.cpu.0 page missed)
+      → DecodesParcel (bytes_of_page old.cpu.0 page missed) (parcel_of_page old.cpu.0 page missed)
       → TakesSo old out was code left reported new
   is_empty : (done : ℕ)
       → (back : List ℕ)
