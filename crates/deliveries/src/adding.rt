@@ -1,5 +1,5 @@
 //! A parcel is added to a collector.
-ghost use Rattle.std.specs.Prelude.{◌≡◌, ◌++◌, [], ◌∷◌, IfOk};
+ghost use Rattle.std.specs.Prelude.{◌≡◌, ◌++◌, [], ◌∷◌, IfOk, OnErr};
 ghost use Rattle.trace_model.specs.Collection.{Agree};
 ghost use Rattle.page_numbers.specs.Parcels.{as_parcel};
 ghost use Rattle.deliveries.specs.Deliveries.{Adds};
@@ -19,10 +19,11 @@ fn refused(fault: AddFault) -> NoMemory
     }
 }
 
-/// Adds a parcel that is at odds with none. If memory is refused, the collector stays as it was (read off the code).
+/// Adds a parcel that is at odds with none. If memory is refused, the collector stays as it was.
 pub fn collect(collector: &mut Collector, parcel: &Parcel) -> Result<Added, NoMemory>
     requires { Agree (collector.old ++ as_parcel parcel.now ∷ []) }
-    ensures { IfOk result (λ added. Adds added collector.old (as_parcel parcel.now) collector.new) }
+    ensures added { IfOk result (λ added. Adds added collector.old (as_parcel parcel.now) collector.new) }
+    ensures refused { OnErr result (collector.new ≡ collector.old) }
 {
     match collector.add(parcel.share()?) {
         Ok(added) => Ok(added),

@@ -13,7 +13,7 @@ use Rattle.page_image.specs.Contents.{Contents, records_of_page}
 use Rattle.page_numbers.specs.declared.fault.ParcelFault.{ParcelFault}
 use Rattle.page_numbers.specs.declared.fault.ParcelFault.TheVariants.{Image as ImageIs, NumberOverflow, MissedTooMany, MissedDiffers, BadCpu, NoMemory as MemoryIs}
 use Rattle.page_numbers.specs.declared.numbers.Numbers.{Numbers}
-use Rattle.page_numbers.specs.Parcels.{parcel_of}
+use Rattle.page_numbers.specs.Parcels.{parcel_of_page}
 use Rattle.page_numbers.specs.Written.{page_under, IsPageRead}
 use Rattle.page_numbers.specs.Faults.{IsRefusedAs, fault_of_image, IsParcelFault}
 
@@ -36,10 +36,10 @@ image_refused bytes cpu fill first missed image NoMemory h known is not = absurd
 
 -- an image that was outlined is that of the parcel of its page, under its CPU and numbers
 pub HasImage-outlined : (bytes : List ℕ) (cpu named : ℕ) (numbers : Numbers) (image : List ℕ) (outline : Outline) → image ≡ drop 32 bytes → HasNumbers bytes cpu numbers.fill numbers.first numbers.missed (drop 32 bytes) → named ≡ cpu → cpu < MAX_CPUS → IsOutlined image outline
-    → HasImage bytes (parcel_of named (page_under (page_in image outline.time outline.size) numbers) numbers.missed) (missed_of outline.missed)
+    → HasImage bytes (parcel_of_page named (page_under (page_in image outline.time outline.size) numbers) numbers.missed) (missed_of outline.missed)
 HasImage-outlined bytes cpu named numbers image outline image_is h named_is known is =
     let page : Contents = page_under (page_in image outline.time outline.size) numbers in
-    subst (λ (k : ℕ). HasImage bytes (parcel_of k page numbers.missed) (missed_of outline.missed)) (sym named_is) (record {
+    subst (λ (k : ℕ). HasImage bytes (parcel_of_page k page numbers.missed) (missed_of outline.missed)) (sym named_is) (record {
       image = image;
       numbers = subst (λ (b : List ℕ). HasNumbers bytes cpu numbers.fill numbers.first numbers.missed b) (sym image_is) h;
       cpu_known = known;

@@ -1,6 +1,6 @@
 -- What contracts see of a parcel: the page that it shares, under its numbers; and the model's parcel that this is.
-use Rattle.std.specs.Prelude.{◌≡◌, ℕ, List, length, map}
-use Rattle.std.specs.List.{enumerate_from}
+use Rattle.std.specs.Prelude.{◌≡◌, ℕ, List, length, map, Some}
+use Rattle.std.specs.List.{slice_get, enumerate_from}
 use Rattle.trace_model.specs.Record.{Record}
 use Rattle.trace_model.specs.Parcel.{Parcel}
 use Rattle.trace_model.specs.ParcelBytes.{IsParcel}
@@ -14,8 +14,8 @@ pub record ParcelValue : Type 0 where
   pub page : Contents
 
 -- the parcel that a page is, under this CPU and with this many numbers missing before its records
-abbrev pub parcel_of : ℕ → Contents → ℕ → Parcel
-parcel_of cpu page missed = record {
+abbrev pub parcel_of_page : ℕ → Contents → ℕ → Parcel
+parcel_of_page cpu page missed = record {
   cpu = cpu;
   fill = page.fill;
   first = page.first;
@@ -25,7 +25,7 @@ parcel_of cpu page missed = record {
 
 -- the model's parcel, which has the page's records and not the page
 abbrev pub as_parcel : ParcelValue → Parcel
-as_parcel parcel = parcel_of parcel.cpu parcel.page parcel.missed
+as_parcel parcel = parcel_of_page parcel.cpu parcel.page parcel.missed
 
 abbrev pub as_parcels : List ParcelValue → List Parcel
 as_parcels parcels = map as_parcel parcels
@@ -43,6 +43,10 @@ pub record IsParcelValue (parcel : ParcelValue) : Type 0 where
 -- the records of a parcel in their order, each under its number
 abbrev pub entries_of_parcel : Parcel → List (ℕ × Record)
 entries_of_parcel parcel = enumerate_from parcel.first parcel.records
+
+-- all parcels are of this CPU
+abbrev pub AreOfCpu : List Parcel → ℕ → Type 0
+AreOfCpu parcels cpu = (k : ℕ) (parcel : Parcel) → slice_get parcels k ≡ Some parcel → parcel.cpu ≡ cpu
 
 -- both have the same records under the same numbers
 pub record HaveSameRecords (parcel other : Parcel) : Type 0 where

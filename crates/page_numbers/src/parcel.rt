@@ -42,7 +42,7 @@ impl Parcel {
     ghost use Rattle.trace_model.specs.declared.limits.TheConstants.{MAX_CPUS};
     ghost use Rattle.page_image.specs.Contents.{IsPage, records_of_page};
     ghost use Rattle.page_borrow.specs.Entries.{AllStandInPage};
-    ghost use Rattle.page_numbers.specs.Parcels.{parcel_of, as_parcel, fitted_parcel, entries_of_parcel, AreAlike, HaveSameRecords};
+    ghost use Rattle.page_numbers.specs.Parcels.{parcel_of_page, as_parcel, fitted_parcel, entries_of_parcel, AreAlike, HaveSameRecords};
     ghost use Rattle.page_numbers.specs.Faults.{IsRefused, NumbersOverflow, MissesTooMany};
 
     /// The page as a parcel of this CPU, with `missed` numbers missing before its records. If it is refused, the
@@ -50,12 +50,12 @@ impl Parcel {
     pub fn of(alloc: Global, cpu: CpuId, page: Page, missed: u64) -> Result<Parcel, ParcelFault>
         requires page { IsPage page }
         ensures parcel { IfOk result (λ parcel. parcel ≡ record { cpu = cpu.0; missed = missed; page = page }) }
-        ensures sound { OnOk result (IsParcel (parcel_of cpu.0 page missed)) }
+        ensures sound { OnOk result (IsParcel (parcel_of_page cpu.0 page missed)) }
         ensures is_bad_cpu { (result ≡ Err ParcelFault.BadCpu) ↔ (MAX_CPUS ≤ cpu.0) }
-        ensures overflows { (result ≡ Err ParcelFault.NumberOverflow) ↔ NumbersOverflow (parcel_of cpu.0 page missed) }
+        ensures overflows { (result ≡ Err ParcelFault.NumberOverflow) ↔ NumbersOverflow (parcel_of_page cpu.0 page missed) }
         ensures misses_too_many { (result ≡ Err ParcelFault.MissedTooMany)
-            ↔ MissesTooMany (parcel_of cpu.0 page missed) }
-        ensures refused { IfErr result (λ fault. IsRefused (parcel_of cpu.0 page missed) fault) }
+            ↔ MissesTooMany (parcel_of_page cpu.0 page missed) }
+        ensures refused { IfErr result (λ fault. IsRefused (parcel_of_page cpu.0 page missed) fault) }
     {
         Parcel::checked(alloc, cpu, page, missed)
     }
@@ -64,8 +64,8 @@ impl Parcel {
     fn checked(alloc: Global, cpu: CpuId, page: Page, missed: u64) -> Result<Parcel, ParcelFault>
         requires page { IsPage page }
         ensures parcel { IfOk result (λ parcel. parcel ≡ record { cpu = cpu.0; missed = missed; page = page }) }
-        ensures sound { OnOk result (IsParcel (parcel_of cpu.0 page missed)) }
-        ensures refused { IfErr result (λ fault. IsRefused (parcel_of cpu.0 page missed) fault) }
+        ensures sound { OnOk result (IsParcel (parcel_of_page cpu.0 page missed)) }
+        ensures refused { IfErr result (λ fault. IsRefused (parcel_of_page cpu.0 page missed) fault) }
     {
         if cpu.0 >= MAX_CPUS {
             return Err(ParcelFault::BadCpu);

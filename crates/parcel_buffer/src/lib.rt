@@ -7,7 +7,7 @@ ghost use Rattle.trace_model.specs.declared.limits.TheConstants.{MAX_SIZE};
 ghost use Rattle.trace_model.specs.Image.{stores_count as is_count_stored, stored_count};
 ghost use Rattle.trace_model.specs.ParcelBytes.{IsParcel, DecodesParcel};
 ghost use Rattle.page_image.specs.Contents.{IsPage};
-ghost use Rattle.page_numbers.specs.Parcels.{parcel_of};
+ghost use Rattle.page_numbers.specs.Parcels.{parcel_of_page};
 ghost use Rattle.page_numbers.specs.Written.{bytes_of_page};
 ghost use Rattle.parcel_buffer.specs.Fronts.{HasAtFront};
 
@@ -30,8 +30,8 @@ pub fn put_parcel(out: &mut [u8], cpu: CpuId, page: &Page, missed: u64) -> usize
     ensures bytes { HasAtFront out.old (bytes_of_page cpu.0 page.now missed) out.new }
     ensures len { length (bytes_of_page cpu.0 page.now missed) ≡ result }
     ensures size { result ≡ PARCEL_HEADER + page.now.size }
-    ensures reads { IsPage page.now → IsParcel (parcel_of cpu.0 page.now missed)
-        → DecodesParcel (bytes_of_page cpu.0 page.now missed) (parcel_of cpu.0 page.now missed) }
+    ensures reads { IsPage page.now → IsParcel (parcel_of_page cpu.0 page.now missed)
+        → DecodesParcel (bytes_of_page cpu.0 page.now missed) (parcel_of_page cpu.0 page.now missed) }
 {
     let size = page.end() + room(page);
     let stored = stores_count(page.end(), missed, size);

@@ -40,8 +40,11 @@ impl From<AllocError> for Fault {
 }
 
 impl From<io::Error> for Fault {
-    fn from(_: io::Error) -> Fault {
-        Fault::End
+    fn from(error: io::Error) -> Fault {
+        match error.kind() {
+            io::ErrorKind::OutOfMemory => Fault::NoMemory,
+            _ => Fault::End,
+        }
     }
 }
 

@@ -15,7 +15,7 @@ use std::marker::Model;
 use trace_model::{MAX_FRAMES, NoMemory};
 
 /// More steps than a frame makes before it has reserved or is gone.
-const MOST_STEPS: u32 = 10_000;
+const MOST_FRAME_STEPS: u32 = 10_000;
 
 /// A ring as a value.
 #[derive(Drop)]
@@ -117,7 +117,7 @@ impl Ring for Value {
         let depth = self.core.depth();
         let closes = self.is_close(depth);
         let mut met = None;
-        for _ in 0..MOST_STEPS {
+        for _ in 0..MOST_FRAME_STEPS {
             match self.step() {
                 Answer::Going => {}
                 Answer::Refused(fault) if closes && self.core.depth() == depth => {

@@ -197,6 +197,11 @@ pub data TakesSteps (shape : Shape) (before : Reading) (result : Take) (after : 
       → result ≡ Moving fill back
       → TakesSteps shape before result after
 
+-- The reader has this answer by its steps, and knows since then whether it found nothing.
+pub record AnswersTake (old : ReaderValue) (answer : Take) (new : ReaderValue) : Type 0 where
+  pub steps : TakesSteps old.shape old.part answer new.part
+  pub empty_at : new.empty_at ≡ empty_of answer
+
 -- the end of a ring stays the same one
 abbrev pub SameRing : ReaderValue → ReaderValue → Type 0
 SameRing before after = (after.shape ≡ before.shape) × (after.table ≡ before.table)

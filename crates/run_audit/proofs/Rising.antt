@@ -6,7 +6,7 @@ use Rattle.std.proofs.lemmas.Option.{slice_get_within, slice_get-get_or}
 use Rattle.trace_model.specs.Parcel.{Parcel}
 use Rattle.trace_model.proofs.collections.Elements.{some_is}
 use Rattle.deliveries.specs.Deliveries.{AreRising}
-use Rattle.run_audit.specs.Order.{AreOfCpu}
+use Rattle.page_numbers.specs.Parcels.{AreOfCpu}
 
 -- the first of them are this CPU's, and their fills rise
 pub record RiseTo (cpu : ℕ) (parcels : List Parcel) (end : ℕ) : Type 0 where
@@ -52,7 +52,7 @@ module _ (cpu : ℕ) (parcels : List Parcel) where
           (cases_lt k end);
     }
 
-  pub rise_all : (end : ℕ) → length parcels ≤ end → RiseTo cpu parcels end → AreOfCpu cpu parcels × AreRising parcels
+  pub rise_all : (end : ℕ) → length parcels ≤ end → RiseTo cpu parcels end → AreOfCpu parcels cpu × AreRising parcels
   rise_all end past to = (
     λ k parcel there. let within = slice_get_within parcels k parcel there in to.own k parcel (omega arith) there,
     λ j k earlier later low at_j at_k. let within = slice_get_within parcels k later at_k in to.rising j k earlier later low (omega arith) at_j at_k,

@@ -1,16 +1,16 @@
 //! Whether ledgers are in the order in which a run leaves them.
 ghost use Rattle.std.specs.Prelude.{◌≡◌, ◌↔◌, IsTrue};
 ghost use Rattle.deliveries.specs.Deliveries.{AreRising};
-ghost use Rattle.page_numbers.specs.Parcels.{as_parcels};
-ghost use Rattle.run_audit.specs.Order.{AreOfCpu, AreInOrder};
-ghost use Rattle.run_audit.specs.declared.order.Order.TheVariants.{Rising};
+ghost use Rattle.page_numbers.specs.Parcels.{as_parcels, AreOfCpu};
+ghost use Rattle.run_audit.specs.Order.{AreInOrder};
+ghost use Rattle.run_audit.specs.declared.order.LedgerOrder.TheVariants.{Rising};
 
 use crate::ledger::Ledger;
 use page_numbers::Parcel;
 
 /// What is known of the order of ledgers.
 #[derive(Clone, Copy, Debug)]
-pub(crate) enum Order {
+pub(crate) enum LedgerOrder {
     /// Each ledger has parcels of its own CPU alone, and their fills rise.
     Rising,
     /// Nothing.
@@ -19,7 +19,7 @@ pub(crate) enum Order {
 
 /// Whether the parcels are all of this CPU, and their fills rise.
 fn are_rising_of(cpu: usize, parcels: &[Parcel]) -> bool
-    ensures { IsTrue result ↔ (AreOfCpu cpu (as_parcels parcels.now) × AreRising (as_parcels parcels.now)) }
+    ensures { IsTrue result ↔ (AreOfCpu (as_parcels parcels.now) cpu × AreRising (as_parcels parcels.now)) }
 {
     for index in 0..parcels.len() {
         let parcel = &parcels[index];
@@ -34,13 +34,13 @@ fn are_rising_of(cpu: usize, parcels: &[Parcel]) -> bool
 }
 
 /// In which order the ledgers are.
-pub(crate) fn order_of(ledgers: &[Ledger]) -> Order
+pub(crate) fn order_of(ledgers: &[Ledger]) -> LedgerOrder
     ensures { (result ≡ Rising) ↔ AreInOrder ledgers.now }
 {
     for cpu in 0..ledgers.len() {
         if !are_rising_of(cpu, &ledgers[cpu].taken) {
-            return Order::Unknown;
+            return LedgerOrder::Unknown;
         }
     }
-    Order::Rising
+    LedgerOrder::Rising
 }

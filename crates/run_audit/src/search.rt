@@ -4,11 +4,11 @@ ghost use Rattle.deliveries.specs.Deliveries.{AreRising};
 ghost use Rattle.page_numbers.specs.Parcels.{as_parcel, as_parcels};
 ghost use Rattle.run_audit.specs.Audit.{taken_in};
 ghost use Rattle.run_audit.specs.Order.{AreInOrder};
-ghost use Rattle.run_audit.specs.declared.order.Order.TheVariants.{Rising};
+ghost use Rattle.run_audit.specs.declared.order.LedgerOrder.TheVariants.{Rising};
 
 use crate::equal::are_equal;
 use crate::ledger::Ledger;
-use crate::order::Order;
+use crate::order::LedgerOrder;
 use deliveries::find;
 use page_numbers::Parcel;
 
@@ -60,12 +60,12 @@ fn is_among_all(parcel: &Parcel, ledgers: &[Ledger]) -> bool
 }
 
 /// Whether the parcel equals one that was taken.
-pub(crate) fn is_taken(parcel: &Parcel, ledgers: &[Ledger], order: Order) -> bool
+pub(crate) fn is_taken(parcel: &Parcel, ledgers: &[Ledger], order: LedgerOrder) -> bool
     requires { order ≡ Rising → AreInOrder ledgers.now }
     ensures { IsTrue result ↔ Contains (taken_in ledgers.now) (as_parcel parcel.now) }
 {
     match order {
-        Order::Rising => is_found_by_cpu(parcel, ledgers),
-        Order::Unknown => is_among_all(parcel, ledgers),
+        LedgerOrder::Rising => is_found_by_cpu(parcel, ledgers),
+        LedgerOrder::Unknown => is_among_all(parcel, ledgers),
     }
 }

@@ -13,7 +13,7 @@ use Rattle.replay_log.specs.declared.line.LogLine.{LogLine}
 use Rattle.replay_log.specs.LogTypes.{shown_log}
 use Rattle.script_replay.specs.Value.{LaneValue}
 use Rattle.script_replay.specs.Lanes.{IsLaneOf, MakesExchanges, HasLine}
-use Rattle.script_replay.specs.Takes.{ReadsOnce, ReadsOn, IsReading}
+use Rattle.script_replay.specs.Takes.{ReadsOnce, ReadsOn, ReadsSteps}
 use Rattle.script_replay.proofs.Logs.{reported_more}
 
 abbrev AllReading : List Exchange → Type 0
@@ -47,13 +47,13 @@ answered_more (y ∷ []) x ends = ends
 answered_more (y ∷ z ∷ ys) x ends = answered_more (z ∷ ys) x ends
 
 reading_more : (steps n size : ℕ) (goes_on : Bool) (before between after : Lane) (xs ys : List Exchange)
-    → IsReading steps true n size before xs between
+    → ReadsSteps steps true n size before xs between
     → ReadsOnce goes_on n size between ys after
-    → IsReading (steps + 1) goes_on n size before (xs ++ ys) after
+    → ReadsSteps (steps + 1) goes_on n size before (xs ++ ys) after
 reading_more steps n size goes_on before between after xs ys r once =
     let x : Exchange = record { event = reads; answer = once.answer } in
     let all : AllReading xs = r.goes refl in
-    subst (λ (l : List Exchange). IsReading (steps + 1) goes_on n size before (xs ++ l) after)
+    subst (λ (l : List Exchange). ReadsSteps (steps + 1) goes_on n size before (xs ++ l) after)
     (sym once.exchanges_are) record {
       run = run_more n size before between after xs x r.run all refl once.core once.step once.after_is;
       made = let count = length-append xs (x ∷ []) in let made = r.made in omega arith;
@@ -65,9 +65,9 @@ reading_more steps n size goes_on before between after xs ys r once =
 
 pub read_more : (line cpu steps : ℕ) (goes_on : Bool) (first between new : LaneValue)
     (log log_between new_log : List LogLine)
-    → MakesExchanges (IsReading steps true) line cpu first log between log_between
+    → MakesExchanges (ReadsSteps steps true) line cpu first log between log_between
     → MakesExchanges (ReadsOnce goes_on) line cpu between log_between new new_log
-    → MakesExchanges (IsReading (steps + 1) goes_on) line cpu first log new new_log
+    → MakesExchanges (ReadsSteps (steps + 1) goes_on) line cpu first log new new_log
 read_more line cpu steps goes_on first between new log log_between new_log so_far once = λ n size start lane is.
     let h = so_far n size start lane is in
     let k = once n size start h.after h.is_lane in
@@ -94,7 +94,7 @@ lane_of line cpu v new log new_log (n, size, start, lane, is) has =
 -- all steps are made
 pub all_read : (line cpu steps count : ℕ) (goes_on : Bool) (v new : LaneValue) (log new_log : List LogLine)
     → steps ≡ count
-    → MakesExchanges (IsReading steps goes_on) line cpu v log new new_log
+    → MakesExchanges (ReadsSteps steps goes_on) line cpu v log new new_log
     → MakesExchanges (ReadsOn count) line cpu v log new new_log
 all_read line cpu steps count goes_on v new log new_log all has = λ n size start lane is.
     let h = has n size start lane is in
@@ -109,7 +109,7 @@ all_read line cpu steps count goes_on v new log new_log all has = λ n size star
 -- the take is answered
 pub answer_read : (line cpu steps count : ℕ) (v new : LaneValue) (log new_log : List LogLine)
     → steps ≤ count
-    → MakesExchanges (IsReading steps false) line cpu v log new new_log
+    → MakesExchanges (ReadsSteps steps false) line cpu v log new new_log
     → MakesExchanges (ReadsOn count) line cpu v log new new_log
 answer_read line cpu steps count v new log new_log few has = λ n size start lane is.
     let h = has n size start lane is in

@@ -27,7 +27,7 @@ abbrev pub ReadsOn : (count : ℕ) → (n size : ℕ) → Lane → List Exchange
 ReadsOn count n size before exchanges after = ReaderRun n size before exchanges after × IsRead count exchanges
 
 -- Part of that: `steps` steps are made, and the take continues or is answered.
-pub record IsReading (steps : ℕ) (goes_on : Bool) (n size : ℕ) (before : Lane) (exchanges : List Exchange)
+pub record ReadsSteps (steps : ℕ) (goes_on : Bool) (n size : ℕ) (before : Lane) (exchanges : List Exchange)
     (after : Lane)
     : Type 0 where
   pub run : ReaderRun n size before exchanges after

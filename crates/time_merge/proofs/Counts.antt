@@ -1,8 +1,7 @@
 -- Parcels by their values: how many records they have, and whose they are.
 use Rattle.std.proofs.Common.{◌≡◌, ℕ, List, length, Some, sym, ap, ◌∙◌}
 use Rattle.std.specs.List.{slice_get, sum_by}
-use Rattle.page_numbers.specs.Parcels.{ParcelValue, as_parcel, as_parcels}
-use Rattle.time_merge.specs.Lines.{AreOfCpu}
+use Rattle.page_numbers.specs.Parcels.{ParcelValue, as_parcel, as_parcels, AreOfCpu}
 use Rattle.time_merge.proofs.Ordered.{mapped_at}
 
 abbrev pub count_of : List ParcelValue → ℕ

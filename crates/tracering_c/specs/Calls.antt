@@ -16,19 +16,18 @@ use Rattle.ring_frames.specs.Lens.{IsOneMore}
 use Rattle.page_image.specs.Contents.{Contents}
 use Rattle.parcel_buffer.specs.Fronts.{HasAtFront}
 use Rattle.page_numbers.specs.Written.{bytes_of_page}
-use Rattle.page_numbers.specs.Parcels.{parcel_of}
+use Rattle.page_numbers.specs.Parcels.{parcel_of_page}
 use Rattle.trace_model.specs.declared.limits.TheConstants.{MAX_CPUS}
 use Rattle.trace_model.specs.Ring.{HasRingLimits}
-use Rattle.ring_shared.specs.Value.{WriterValue, ReaderValue}
+use Rattle.ring_shared.specs.Value.{WriterValue}
 use Rattle.ring_shared.specs.Rooms.{rooms}
 use Rattle.ring_shared.specs.Promises.{KeepsSlots}
-use Rattle.ring_shared.specs.declared.take.Take.{Take}
 use Rattle.ring_shared.specs.declared.take.Take.TheVariants.{Page, Empty, Moving}
 use Rattle.ring_shared.specs.Lending.{with_lent}
 use Rattle.ring_shared.specs.Calls.{MakesSome}
 use Rattle.ring_shared.specs.Finishing.{Finishes}
 use Rattle.ring_shared.specs.WholeWrites.{IsWritten, IsRefusedWrite}
-use Rattle.ring_shared.specs.Takes.{IsPageTaken, IsEmptyFound, IsMovingFound, TakesSteps, empty_of}
+use Rattle.ring_shared.specs.Takes.{IsPageTaken, IsEmptyFound, IsMovingFound, AnswersTake}
 use Rattle.ring_shared.specs.Settling.{IsSettled, unread_page}
 use Rattle.ring_shared.specs.declared.settling.Settled.{Settled}
 use Rattle.tracering_c.specs.declared.ends.HeldReader.{HeldReader}
@@ -119,11 +118,6 @@ pub record IsGiven (cpu : ℕ) (page : Contents) (missed : ℕ) (out left : List
   pub bytes : HasAtFront out (bytes_of_page cpu page missed) left
   pub numbers : AreNumbersOf page missed (length (bytes_of_page cpu page missed)) reported
 
--- The reader has this answer by its steps, and knows since then whether it found nothing.
-pub record AnswersTake (old : ReaderValue) (answer : Take) (new : ReaderValue) : Type 0 where
-  pub steps : TakesSteps old.shape old.part answer new.part
-  pub empty_at : new.empty_at ≡ empty_of answer
-
 -- A page is taken and given, and the answer is 0; or nothing is taken and nothing is given: no closed page is unread,
 -- or a move of the head isn't finished, or the take has made as many steps as it may, or the buffer is shorter than a
 -- parcel of the ring.
@@ -134,7 +128,7 @@ pub data TakesSo (old : HeldReader) (out : List ℕ) (was : Taken) (code : ℤ) 
       → IsPageTaken old.reader.shape old.reader.part page missed new.reader.part
       → AnswersTake old.reader (Page page missed) new.reader
       → IsGiven old.cpu.0 page missed out left reported
-      → DecodesParcel (bytes_of_page old.cpu.0 page missed) (parcel_of old.cpu.0 page missed)
+      → DecodesParcel (bytes_of_page old.cpu.0 page missed) (parcel_of_page old.cpu.0 page missed)
       → TakesSo old out was code left reported new
   is_empty : (done : ℕ)
       → (back : List ℕ)

@@ -24,7 +24,7 @@ impl Parcel {
     ghost use Rattle.trace_model.specs.ParcelBytes.{IsParcel, AgreesWith, DecodesParcel, ParcelCause, FirstParcelFault};
     ghost use Rattle.trace_model.specs.declared.limits.TheConstants.{MAX_CPUS, MAX_SIZE};
     ghost use Rattle.page_image.specs.Images.{missed_of, page_in, IsOutlined};
-    ghost use Rattle.page_numbers.specs.Parcels.{parcel_of, as_parcel, IsParcelValue};
+    ghost use Rattle.page_numbers.specs.Parcels.{parcel_of_page, as_parcel, IsParcelValue};
     ghost use Rattle.page_numbers.specs.Faults.{parcel_fault, IsParcelFault, HasReading, IsRefusedAs};
     ghost use Rattle.page_numbers.specs.Written.{page_under, bytes_of_page, IsWrittenAs, IsPageRead};
 
@@ -71,10 +71,10 @@ impl Parcel {
           page = page_under (page_in image.now outline.time outline.size) numbers;
         }) }
         ensures sound { OnOk result (IsParcel
-            (parcel_of cpu.0 (page_under (page_in image.now outline.time outline.size) numbers) numbers.missed)) }
+            (parcel_of_page cpu.0 (page_under (page_in image.now outline.time outline.size) numbers) numbers.missed)) }
         ensures agrees { OnOk result (AgreesWith (missed_of outline.missed) numbers.missed) }
         ensures refused { IfErr result (λ fault. IsRefusedAs
-            (parcel_of cpu.0 (page_under (page_in image.now outline.time outline.size) numbers) numbers.missed)
+            (parcel_of_page cpu.0 (page_under (page_in image.now outline.time outline.size) numbers) numbers.missed)
             (missed_of outline.missed) fault) }
     {
         let first = RecordNo(numbers.first);

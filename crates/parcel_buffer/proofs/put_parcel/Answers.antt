@@ -2,7 +2,7 @@ use Rattle.std.proofs.Common.{◌≡◌, ◌+◌, ◌-◌, ℕ, List, ◌++◌, 
 use Rattle.std.specs.Int.{to_le_bytes, w64}
 use Rattle.trace_model.specs.Image.{stores_count, stored_count, commit_of, commit_word}
 use Rattle.trace_model.proofs.images.Parcels.{length-bytes_of_parcel, DecodesParcel-bytes_of_parcel}
-use Rattle.page_numbers.specs.Parcels.{parcel_of}
+use Rattle.page_numbers.specs.Parcels.{parcel_of_page}
 use Rattle.parcel_buffer.proofs.Fronts.{stays_after, whole_is, stored_fits, parts_are}
 use Rattle.parcel_buffer.proofs.put_parcel.Goals as goal
 
@@ -23,7 +23,7 @@ returns-clause-len c =
     let page = c.args.page.now in
     let room = c.room.ensures.room in
     let end = c.end.ensures in
-    let whole = length-bytes_of_parcel (parcel_of c.args.cpu.0 page c.args.missed) page.time page.bytes page.size (omega arith) in
+    let whole = length-bytes_of_parcel (parcel_of_page c.args.cpu.0 page c.args.missed) page.time page.bytes page.size (omega arith) in
     omega (arith, whole)
 
 pub returns-clause-reads : goal.returns-clause-reads
@@ -32,7 +32,7 @@ returns-clause-reads c = λ is sound.
     let room = c.room.ensures.room in
     let limit = c.room.ensures.limit in
     let fill = c.fill.ensures in
-    DecodesParcel-bytes_of_parcel (parcel_of c.args.cpu.0 page c.args.missed) page.time page.bytes page.size sound (omega arith) is.in_time (omega arith) (omega arith) is.reads
+    DecodesParcel-bytes_of_parcel (parcel_of_page c.args.cpu.0 page c.args.missed) page.time page.bytes page.size sound (omega arith) is.in_time (omega arith) (omega arith) is.reads
 
 pub returns-clause-bytes : goal.returns-clause-bytes
 returns-clause-bytes c =

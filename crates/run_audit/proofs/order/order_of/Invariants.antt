@@ -2,9 +2,9 @@ use Rattle.std.proofs.Common.{◌≡◌, ℕ, ◌<◌, Some}
 use Rattle.std.specs.List.{slice_get}
 use Rattle.run_audit.specs.declared.ledger.Ledger.{Ledger}
 use Rattle.run_audit.specs.Audit.{taken_of}
-use Rattle.run_audit.specs.Order.{AreOfCpu}
+use Rattle.page_numbers.specs.Parcels.{AreOfCpu}
 use Rattle.deliveries.specs.Deliveries.{AreRising}
 use Rattle.run_audit.proofs.order.order_of.Given as goal
 
 abbrev pub invariant-loop-cpu : goal.invariant-loop-cpu
-invariant-loop-cpu l = (k : ℕ) (ledger : Ledger) → k < l.cpu → slice_get l.ledgers k ≡ Some ledger → AreOfCpu k (taken_of ledger) × AreRising (taken_of ledger)
+invariant-loop-cpu l = (k : ℕ) (ledger : Ledger) → k < l.cpu → slice_get l.ledgers k ≡ Some ledger → AreOfCpu (taken_of ledger) k × AreRising (taken_of ledger)

@@ -34,5 +34,5 @@ returns c = λ script ready lines part_way.
     let at = slice_get_read c.args.state.now.collectors.items script.collectors c.args.collector c.index_mut.result.now (sym count) ready.within.0 c.index_mut.ensures.value in
     taken_line script c.args.line c.args.collector c.args.cpu.0 c.args.fill.0 lines c.args.state.now _
     ready.limits ready.within.1 refl part_way (as_parcel c.in-Some.parcel.now) c.in_ok-added.added c.index_mut.result.now c.collect.new.collector
-    (rw c.as_slice.ensures.value at c.in-Some.ensures.found) at c.in_ok-added.ensures refl
+    (rw c.as_slice.ensures.value at c.in-Some.ensures.found) at c.in_ok-added.ensures.added refl
     (log_more c.args.state.now.log.items c.push-2.new.self.items _ _ c.in_ok-push-2.ensures.items c.reported_delivery.ensures)

@@ -1,8 +1,8 @@
 use Rattle.std.proofs.Common.{ℕ, refl, sym, subst}
 use Rattle.ring_shared.specs.Value.{ReaderValue}
-use Rattle.ring_shared.specs.Takes.{IsPageTaken}
+use Rattle.ring_shared.specs.Takes.{IsPageTaken, AnswersTake}
 use Rattle.ring_shared.specs.declared.take.Take.TheVariants.{Page}
-use Rattle.tracering_c.specs.Calls.{AreNumbersOf, AnswersTake, is_page, is_empty, is_moving}
+use Rattle.tracering_c.specs.Calls.{AreNumbersOf, is_page, is_empty, is_moving}
 use Rattle.tracering_c.proofs.reading.take_into.Goals as goal
 
 pub returns-in-Page-clause-takes : goal.returns-in-Page-clause-takes

@@ -1,6 +1,6 @@
 use Rattle.std.proofs.Common.{Bool, subst, arith}
 use Rattle.script_replay.specs.Lanes.{MakesExchanges}
-use Rattle.script_replay.specs.Takes.{IsReading}
+use Rattle.script_replay.specs.Takes.{ReadsSteps}
 use Rattle.script_replay.proofs.TakesRuns.{lane_of, read_more, all_read, answer_read}
 use Rattle.script_replay.proofs.lane.Lane.step_reader.Goals as goal
 
@@ -16,7 +16,7 @@ loop-steps-preserved c = record {
       read_more c.args.at.line c.args.at.cpu.0 c.loop-steps.steps c.in_ok-goes_on.goes_on c.args.self.now
       c.loop-steps.self c.read_once.new.self c.args.log.now.items c.loop-steps.log.items c.read_once.new.log.items
       (subst
-      (λ (b : Bool). MakesExchanges (IsReading c.loop-steps.steps b) c.args.at.line c.args.at.cpu.0 c.args.self.now
+      (λ (b : Bool). MakesExchanges (ReadsSteps c.loop-steps.steps b) c.args.at.line c.args.at.cpu.0 c.args.self.now
       c.args.log.now.items c.loop-steps.self c.loop-steps.log.items) c.if-goes_on.true c.loop-steps.invariant.so_far)
       c.in_ok-goes_on.ensures;
 }
@@ -26,7 +26,7 @@ returns-else-goes_on c =
     answer_read c.args.at.line c.args.at.cpu.0 c.loop-steps.steps c.args.count c.args.self.now c.loop-steps.self
     c.args.log.now.items c.loop-steps.log.items c.loop-steps.invariant.few
     (subst
-    (λ (b : Bool). MakesExchanges (IsReading c.loop-steps.steps b) c.args.at.line c.args.at.cpu.0 c.args.self.now
+    (λ (b : Bool). MakesExchanges (ReadsSteps c.loop-steps.steps b) c.args.at.line c.args.at.cpu.0 c.args.self.now
     c.args.log.now.items c.loop-steps.self c.loop-steps.log.items) c.if-goes_on.false c.loop-steps.invariant.so_far)
 
 pub returns-after-loop-steps : goal.returns-after-loop-steps
