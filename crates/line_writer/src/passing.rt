@@ -36,7 +36,7 @@ impl<'a> LineWriter<'a> {
         self.pass_closed(gate, cpu, done)
     }
 
-    /// A line `s`: at most `count` calls for the frame on top, as long as it is on the stack.
+    /// A line `s`: `count` calls for the frame on top, or fewer if it is popped before that.
     pub(crate) fn step<G: Gate>(&mut self, gate: &G, cpu: CpuId, count: u64) -> Result<(), FillNo>
         requires is { IsLineWriter self.old }
         requires some { 1 ≤ count }
