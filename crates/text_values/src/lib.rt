@@ -1,4 +1,4 @@
-//! Numbers and payloads as text: what every printed line is made of.
+//! Numbers and payloads as text, for what is printed.
 #![tactic(auto)]
 
 mod values;

@@ -23,7 +23,8 @@ pub record RunningValue (Gate : Type 0) : Type 0 where
   pub script : Script
   pub gate : Gate
 
--- a run of so many CPUs that ends so was ended by the gate: it didn't let an end of the ring of one of them pass
+-- A run of the CPUs below `cpus` that ends with this fault was ended by the gate, if the fault says so: it didn't let
+-- an end of the ring of one of them pass.
 abbrev pub IsByGate : {Gate : Type 0} (answers : Gate → Who → (cpu fill : ℕ) → Bool → Type 0) → Gate → (cpus : ℕ)
     → ReplayFault → Type 0
 IsByGate answers gate cpus fault = fault ≡ GateShut
