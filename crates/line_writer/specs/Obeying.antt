@@ -38,7 +38,7 @@ pub record HasObeyed (cpu : ℕ) (commands : List (ℕ × Command)) (before afte
       → committed_records after.part.history
       ≡ records_of_lines before.shape.size 0 (writer_lines cpu (commands_of commands))
 
--- The lines are obeyed; or the gate was asked with this number and didn't let the writer pass.
+-- The lines are obeyed; or the gate may answer false to the writer, asked with this number.
 abbrev pub ObeysLines : {Gate : Type 0} (answers : Gate → Who → (cpu fill : ℕ) → Bool → Type 0) → Gate
     → (cpu : ℕ) → List (ℕ × Command) → WriterValue → Result WriterValue FillNo → Type 0
 ObeysLines answers gate cpu commands before (Ok after) = HasObeyed cpu commands before after

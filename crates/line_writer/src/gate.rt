@@ -17,6 +17,7 @@ pub enum Who {
 /// What the two ends of a ring pass in a run: a writer after each fill that it has closed, a reader after each page
 /// that it has taken.
 pub trait Gate: Sync {
+    // Which answers the gate may give.
     ghost answers: { Self → WhoSeen → (cpu fill : ℕ) → Bool → Type 0 };
 
     /// Whether this end of the CPU's ring may go on. On false it stops; the other threads of the run go on to their

@@ -17,8 +17,8 @@ use Rattle.link_marks.proofs.links.LinkFills.{fill_at, normal_reports}
 use Rattle.link_marks.proofs.links.Positions.{at_position}
 use Rattle.ring_frames.specs.declared.answer.Answer.{Answer}
 use Rattle.ring_frames.specs.declared.answer.Answer.TheVariants.{Looking, Empty, Moving, Wished}
-use Rattle.ring_frames.specs.declared.head.HeadSeen.{HeadSeen}
-use Rattle.ring_frames.specs.declared.head.HeadSeen.TheVariants.{Head, Moved, Passed}
+use Rattle.ring_frames.specs.declared.looking.HeadSeen.{HeadSeen}
+use Rattle.ring_frames.specs.declared.looking.HeadSeen.TheVariants.{Head, Unfinished, Passed}
 use Rattle.ring_frames.specs.declared.reader.TakeState.{TakeState}
 use Rattle.ring_frames.specs.declared.reader.ReaderPhase.TheVariants.{LoadingHead, LoadingDone, StoringSpareLink, Swapping}
 use Rattle.ring_frames.proofs.Same.{same_frames}
@@ -164,14 +164,14 @@ link_loaded v hint link mark same is marked = ap (ring.link_into (length v.links
 -- by what was seen: what the reader answers, and how it goes on
 abbrev pub SeesBy : (n size start : ℕ) (v : CoreValue) (c : ring.Core) (body : List ℕ) → HeadSeen → Type 0
 SeesBy n size start v c body (Head page fill) = IsStep n size start c model.reads (Looking body) (record v { reader = record v.reader { phase = LoadingDone page fill; hint = fill } })
-SeesBy n size start v c body (Moved fill) = IsStep n size start c model.reads (Moving record { 0 = fill } body) (record v { reader = record v.reader { phase = LoadingHead; hint = fill } })
+SeesBy n size start v c body (Unfinished fill) = IsStep n size start c model.reads (Moving record { 0 = fill } body) (record v { reader = record v.reader { phase = LoadingHead; hint = fill } })
 SeesBy n size start v c body (Passed fill) = IsStep n size start c model.reads (Looking body) (record v { reader = record v.reader { phase = LoadingHead; hint = fill } })
 
 module _ (n size start : ℕ) (v : CoreValue) (c : ring.Core) (core : IsCore n size start v c) (body : List ℕ) (hint positions : ℕ) (link : FoundLink) (seen : HeadSeen)
     (at : v.reader.phase ≡ LoadingHead) (hint_is : hint ≡ v.reader.hint) (positions_are : positions ≡ length v.links) (loaded : link_of link ≡ ring.link_into (length v.links) v.links hint)
     (header : link.mark ≡ Header → seen ≡ Head link.page link.fill)
-    (update : link.mark ≡ Update → seen ≡ Moved (link.fill + 1))
-    (owed : link.mark ≡ Normal → link.fill ≡ hint → seen ≡ Moved hint)
+    (update : link.mark ≡ Update → seen ≡ Unfinished (link.fill + 1))
+    (owed : link.mark ≡ Normal → link.fill ≡ hint → seen ≡ Unfinished hint)
     (passed : link.mark ≡ Normal → link.fill ≢ hint → seen ≡ Passed (link.fill + 1 - positions)) where
   seen_as : (mark : Mark) → link.mark ≡ mark → ring.link_into (length v.links) v.links v.reader.hint ≡ link_of record { mark = mark; page = link.page; fill = link.fill }
   seen_as mark is = link_loaded v hint link mark hint_is loaded is
@@ -180,7 +180,7 @@ module _ (n size start : ℕ) (v : CoreValue) (c : ring.Core) (core : IsCore n s
   normal is true test =
       let here : link.fill ≡ hint = eqb-true link.fill hint test in
       subst (SeesBy n size start v c body) (sym (owed is here))
-      (subst (λ (k : ℕ). SeesBy n size start v c body (Moved k)) (sym hint_is)
+      (subst (λ (k : ℕ). SeesBy n size start v c body (Unfinished k)) (sym hint_is)
       (sees_owed n size start v c core link.page body at (seen_as Normal is ∙ ap (normal_link link.page) (here ∙ hint_is))))
   normal is false test =
       let other : link.fill ≢ hint = λ e. let holds = eq-eqb link.fill hint e in absurd (let both = sym holds ∙ test in cc) in

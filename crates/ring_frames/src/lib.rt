@@ -10,8 +10,8 @@ pub mod answer;
 mod first_pages;
 #[tactic(auto, unfolding(nested_writer::specs::IsStack::IsReachedStack))]
 pub mod frames;
-mod head;
 pub mod laws;
+mod looking;
 mod packed_phase;
 mod payload;
 pub mod phase;
@@ -21,7 +21,7 @@ pub use answer::Answer;
 pub use first_pages::first_order;
 pub use frames::Frames;
 pub use frames::write::WriteKind;
-pub use head::{HeadSeen, head_seen};
+pub use looking::{HeadSeen, head_seen};
 pub use payload::write_padded;
 pub use phase::{Phase, Role, StepAnswer};
 pub use reader::{ReaderPhase, TakeState};

@@ -23,8 +23,8 @@ pub record RunningValue (Gate : Type 0) : Type 0 where
   pub script : Script
   pub gate : Gate
 
--- A run of the CPUs below `cpus` that ends with this fault was ended by the gate, if the fault says so: it didn't let
--- an end of the ring of one of them pass.
+-- If a run of the CPUs below `cpus` ends with this fault, and it says that the gate was shut, then the gate may answer
+-- false to an end of the ring of one of them.
 abbrev pub IsByGate : {Gate : Type 0} (answers : Gate → Who → (cpu fill : ℕ) → Bool → Type 0) → Gate → (cpus : ℕ)
     → ReplayFault → Type 0
 IsByGate answers gate cpus fault = fault ≡ GateShut

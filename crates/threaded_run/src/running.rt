@@ -124,7 +124,7 @@ pub fn run<R: Threads + Wait + Sync, G: Gate>(
 ) -> Result<Ran, ReplayFault>
     // The collectors and the ledgers are as many as the script says; each ledger is that of its CPU's lines.
     ensures ran { IfOk result (IsRan script.now) }
-    // The gate is blamed only if it was shut for a thread of one of the script's CPUs.
+    // The gate is blamed only if it may answer false to a thread of one of the script's CPUs.
     ensures shut { IfErr result (λ fault. fault ≡ GateShut → (who : WhoSeen) × (cpu fill : ℕ)
         × (cpu < script.now.cpus) × G.answers gate.now who cpu fill false) }
 {

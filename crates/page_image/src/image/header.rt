@@ -98,7 +98,7 @@ impl Commit {
         }
     }
 
-    /// A count of missed records is stored after the data.
+    /// Whether a count of missed records is stored after the data, if any were missed.
     pub(crate) fn stores_count(self) -> bool
         ensures { result ≡ self.is_stored }
     {

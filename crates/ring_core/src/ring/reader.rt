@@ -54,7 +54,7 @@ impl Core {
                 self.reader_at(ReaderPhase::LoadingDone { page, fill }, fill);
                 Answer::Looking(body)
             }
-            HeadSeen::Moved { fill } => {
+            HeadSeen::Unfinished { fill } => {
                 self.reader_at(ReaderPhase::LoadingHead, fill);
                 Answer::Moving(FillNo(fill), body)
             }

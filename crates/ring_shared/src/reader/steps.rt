@@ -50,7 +50,7 @@ impl Reader {
                 self.at.hint = fill;
                 TakeStep::Looking(body)
             }
-            HeadSeen::Moved { fill } => {
+            HeadSeen::Unfinished { fill } => {
                 self.at.hint = fill;
                 TakeStep::Done(Take::Moving(FillNo(fill), body))
             }

@@ -23,9 +23,9 @@ returns-in-Head c = let seen = c.head_seen.ensures in makes_read _ _ _ _
     (sees n size start c.args.self.now state core c.args.body c.self.inside.reader.hint c.positions.result c.link_into-link.result c.head_seen.result
     c.requires.phase (ap (λ (w : CoreValue). w.reader.hint) c.self.view_is) c.positions.ensures.positions c.link_into-link.ensures seen.header seen.update seen.owed seen.passed))) (search rules) (search rules)
 
-pub returns-in-Moved : goal.returns-in-Moved
-returns-in-Moved c = let seen = c.head_seen.ensures in makes_read _ _ _ _
-    (λ n size start state core. rw c.reader_at-in-Moved.ensures (subst (SeesBy n size start c.args.self.now state c.args.body) c.in-Moved.is
+pub returns-in-Unfinished : goal.returns-in-Unfinished
+returns-in-Unfinished c = let seen = c.head_seen.ensures in makes_read _ _ _ _
+    (λ n size start state core. rw c.reader_at-in-Unfinished.ensures (subst (SeesBy n size start c.args.self.now state c.args.body) c.in-Unfinished.is
     (sees n size start c.args.self.now state core c.args.body c.self.inside.reader.hint c.positions.result c.link_into-link.result c.head_seen.result
     c.requires.phase (ap (λ (w : CoreValue). w.reader.hint) c.self.view_is) c.positions.ensures.positions c.link_into-link.ensures seen.header seen.update seen.owed seen.passed))) (search rules) (search rules)
 

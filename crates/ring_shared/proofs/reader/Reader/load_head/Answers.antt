@@ -10,8 +10,8 @@ use Rattle.link_marks.specs.declared.link.Link.{Link}
 use Rattle.link_marks.specs.declared.link.Mark.{Mark}
 use Rattle.link_marks.specs.declared.link.Mark.TheVariants.{Normal, Header, Update}
 use Rattle.ring_frames.specs.ReaderPhases.{reader_phase_of}
-use Rattle.ring_frames.specs.declared.head.HeadSeen.{HeadSeen}
-use Rattle.ring_frames.specs.declared.head.HeadSeen.TheVariants.{Head, Moved, Passed}
+use Rattle.ring_frames.specs.declared.looking.HeadSeen.{HeadSeen}
+use Rattle.ring_frames.specs.declared.looking.HeadSeen.TheVariants.{Head, Unfinished, Passed}
 use Rattle.ring_frames.specs.declared.reader.ReaderPhase.{ReaderPhase}
 use Rattle.ring_frames.specs.declared.reader.ReaderPhase.TheVariants.{LoadingHead}
 use Rattle.ring_steps.specs.declared.rule.Shape.{Shape}
@@ -31,7 +31,7 @@ Goes v link after reported phase hint = LinkLoaded v.shape v.part (link_of link)
 -- by what was seen
 abbrev GoesBy : ReaderValue → Link → Reading → HeadSeen → Type 0
 GoesBy v link after (Head page fill) = (page ≡ link.page) × Goes v link after model.reading (ring.loading_done page fill) fill
-GoesBy v link after (Moved fill) = Goes v link after (model.moving fill) ring.loading_head fill
+GoesBy v link after (Unfinished fill) = Goes v link after (model.moving fill) ring.loading_head fill
 GoesBy v link after (Passed fill) = Goes v link after model.reading ring.loading_head fill
 
 module _ {w v : ReaderValue} (same : w ≡ v) (is : IsReader v) where
@@ -44,8 +44,8 @@ module _ {w v : ReaderValue} (same : w ≡ v) (is : IsReader v) where
 
   module _ (link : Link) (after : Reading) (n : ℕ) (seen : HeadSeen) (pages : n ≡ length w.order)
       (header : link.mark ≡ Header → seen ≡ Head link.page link.fill)
-      (update : link.mark ≡ Update → seen ≡ Moved (link.fill + 1))
-      (owed : link.mark ≡ Normal → link.fill ≡ w.at.hint → seen ≡ Moved w.at.hint)
+      (update : link.mark ≡ Update → seen ≡ Unfinished (link.fill + 1))
+      (owed : link.mark ≡ Normal → link.fill ≡ w.at.hint → seen ≡ Unfinished w.at.hint)
       (passed : link.mark ≡ Normal → link.fill ≢ w.at.hint → seen ≡ Passed (link.fill + 1 - n))
       (at_header : link.mark ≡ Header → Goes w link after model.reading (ring.loading_done link.page link.fill) link.fill)
       (at_update : link.mark ≡ Update → Goes w link after (model.moving (link.fill + 1)) ring.loading_head (link.fill + 1))
@@ -108,30 +108,30 @@ returns-in-Head c =
           (refl, refl, old.2, old.3) reported.spare (subst (λ (p : ℕ). p < LINK_PAGES) (sym page) reported.fits.page_fits);
     }
 
-pub returns-in-Moved : goal.returns-in-Moved
-returns-in-Moved c =
+pub returns-in-Unfinished : goal.returns-in-Unfinished
+returns-in-Unfinished c =
     let v : ReaderValue = c.args.self.now in
     let new = c.load_head-link.new.self in let after : Reading = reading_in new in
     let seen = c.head_seen.ensures in let reported = c.load_head-link.ensures in
-    let h = subst (GoesBy v c.load_head-link.result after) c.in-Moved.is
+    let h = subst (GoesBy v c.load_head-link.result after) c.in-Unfinished.is
     (goes c.self.view_is c.requires.taking.reader c.load_head-link.result after c.len-pages.result c.head_seen.result (c.len-pages.ensures ∙ c.self.inside.order.ok.0)
     seen.header seen.update seen.owed seen.passed reported.header reported.update reported.owed reported.passed) in
-    let hint = ap (λ (x : ring.Reader). x.hint) (loaded v.shape v.part (link_of c.load_head-link.result) (model.moving c.in-Moved.fill) ring.loading_head c.in-Moved.fill after h).reader_is in
+    let hint = ap (λ (x : ring.Reader). x.hint) (loaded v.shape v.part (link_of c.load_head-link.result) (model.moving c.in-Unfinished.fill) ring.loading_head c.in-Unfinished.fill after h).reader_is in
     record {
       take_step = (
         refl,
         record {
-          nothing = none_taken v c.load_head-link.result after (model.moving c.in-Moved.fill) ring.loading_head c.in-Moved.fill h;
+          nothing = none_taken v c.load_head-link.result after (model.moving c.in-Unfinished.fill) ring.loading_head c.in-Unfinished.fill h;
           hint_le = h.hint_le;
           hint_is = hint;
-          passed = passed_below_hint v.shape after c.in-Moved.fill hint;
+          passed = passed_below_hint v.shape after c.in-Unfinished.fill hint;
         },
       );
-      answered = record { reported = model.moving c.in-Moved.fill; step = so v.shape v.part after _ (model.moving c.in-Moved.fill) h.step; reports = refl };
+      answered = record { reported = model.moving c.in-Unfinished.fill; step = so v.shape v.part after _ (model.moving c.in-Unfinished.fill) h.step; reports = refl };
       empty = search rules;
       empty_at = search rules;
       ring = search rules;
-      reader = still c.self.view_is c.requires.taking.reader (ap (λ (w : ReaderValue). w.at.phase) c.self.view_is ∙ c.requires.phase) c.requires.taking.again new.shape (reader_table new) c.load_head-link.result after (model.moving c.in-Moved.fill) c.in-Moved.fill reported.same.shape h;
+      reader = still c.self.view_is c.requires.taking.reader (ap (λ (w : ReaderValue). w.at.phase) c.self.view_is ∙ c.requires.phase) c.requires.taking.again new.shape (reader_table new) c.load_head-link.result after (model.moving c.in-Unfinished.fill) c.in-Unfinished.fill reported.same.shape h;
     }
 
 pub returns-in-Passed : goal.returns-in-Passed
