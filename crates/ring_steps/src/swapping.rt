@@ -17,10 +17,10 @@ use std::marker::Brand;
 use trace_model::{FillNo, RecordNo};
 
 impl ReaderSeat {
-    /// A compare and exchange of the link to the head, this page as this fill, in the word of the page before: that
-    /// word becomes the link to the reader's spare. If it still was the link to that head, `body` is in the ring at the
-    /// spare's number, and the head's page is answered, whose number is the spare's from now on; else a body of the
-    /// same size is returned. In both cases the reader keeps the spare's slot until its next load of a link.
+    /// A compare and exchange of the link to the head, this page as this fill, in the word of the page before. If it
+    /// still was the link to that head, it becomes the link to the reader's spare: `body` is in the ring at the spare's
+    /// number, and the head's page is answered, whose number is the spare's from now on. Else a body of the same size
+    /// is returned. In both cases the reader keeps the spare's slot until its next load of a link.
     pub fn swap_head(
         &mut self,
         front: u16,
