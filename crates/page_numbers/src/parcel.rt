@@ -52,7 +52,8 @@ impl Parcel {
         ensures parcel { IfOk result (λ parcel. parcel ≡ record { cpu = cpu.0; missed = missed; page = page }) }
         ensures sound { OnOk result (IsParcel (parcel_of_page cpu.0 page missed)) }
         ensures is_bad_cpu { (result ≡ Err ParcelFault.BadCpu) ↔ (MAX_CPUS ≤ cpu.0) }
-        ensures overflows { (result ≡ Err ParcelFault.NumberOverflow) ↔ NumbersOverflow (parcel_of_page cpu.0 page missed) }
+        ensures overflows { (result ≡ Err ParcelFault.NumberOverflow)
+            ↔ NumbersOverflow (parcel_of_page cpu.0 page missed) }
         ensures misses_too_many { (result ≡ Err ParcelFault.MissedTooMany)
             ↔ MissesTooMany (parcel_of_page cpu.0 page missed) }
         ensures refused { IfErr result (λ fault. IsRefused (parcel_of_page cpu.0 page missed) fault) }

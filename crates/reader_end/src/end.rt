@@ -9,8 +9,8 @@ use std::alloc::Global;
 use std::marker::Model;
 use trace_model::{CpuId, NoMemory};
 
-/// The reader's end of a CPU's ring, and all parcels that it took, in order. `take` takes it and returns it by value, so
-/// that a thread's result has all of it.
+/// The reader's end of a CPU's ring, and all parcels that it took, in order. `take` takes it and returns it by value,
+/// so that a thread's result has all of it.
 #[derive(Drop)]
 pub struct ReaderEnd {
     cpu: CpuId,

@@ -56,10 +56,10 @@ impl ReaderSeat {
     }
 
     /// A load of the link into the position of the reader's hint, from the word of the page before that position. At a
-    /// HEADER the reader has found the head, the link's page as the link's fill; at an UPDATE that fill is lost, and the
-    /// head is moved on to the next one; at a NORMAL that has the hint as its fill the HEADER is still owed there; and at
-    /// any other NORMAL the reader looks on, at the fill one round before the next one, since all fills below that are
-    /// taken or lost. A reader that keeps the spare's slot gives it back.
+    /// HEADER the reader has found the head, the link's page as the link's fill; at an UPDATE that fill is lost, and
+    /// the head is moved on to the next one; at a NORMAL that has the hint as its fill the HEADER is still owed there;
+    /// and at any other NORMAL the reader looks on, at the fill one round before the next one, since all fills below
+    /// that are taken or lost. A reader that keeps the spare's slot gives it back.
     pub fn load_head(&mut self, front: u16) -> Link
         requires due { (reading_in self.old).reader.phase ≡ loading_head }
         requires front { front ≡ page_before self.old.shape.pages (reading_in self.old).order
