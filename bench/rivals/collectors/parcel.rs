@@ -28,10 +28,10 @@ pub struct Parcel<'a> {
 }
 
 impl<'a> Parcel<'a> {
-    /// The parcel that the bytes spell, if they do.
+    /// The parcel that these bytes are, if they are one; their length isn't limited here.
     pub fn from_bytes(bytes: &'a [u8]) -> Option<Parcel<'a>> {
         let [cpu, fill, first, missed, time, commit] = [0, 8, 16, 24, 32, 40].map(|at| number_at(bytes, at));
-        let (cpu, commit, missed) = (cpu? as u32, commit?, missed?);
+        let (cpu, commit, missed) = (cpu?, commit?, missed?);
         let size = (commit % (1 << 30)) as usize;
         let data = bytes[48..].get(..size)?;
         let told = match commit >> 30 & 3 {
@@ -39,10 +39,10 @@ impl<'a> Parcel<'a> {
             2 => missed > 0,
             _ => missed > 0 && number_at(bytes, 48 + size)? == missed,
         };
-        let mut parcel = Parcel { cpu, fill: fill?, first: first?, count: 0, missed, time: time?, data };
+        let mut parcel = Parcel { cpu: cpu as u32, fill: fill?, first: first?, count: 0, missed, time: time?, data };
         parcel.count = parcel.whole_count()?;
         let fits = parcel.first.checked_add(parcel.count).is_some() && missed <= parcel.first;
-        (u64::from(cpu) < MAX_CPUS && told && fits).then_some(parcel)
+        (cpu < MAX_CPUS && told && fits).then_some(parcel)
     }
 
     /// How many records there are, if the data has a reading.

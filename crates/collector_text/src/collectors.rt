@@ -33,14 +33,17 @@ fn put_head(out: &mut Vec<u8>, number: u64) -> Result<(), NoMemory>
     Ok(())
 }
 
-/// Puts this part of the text once more, with no room for it but the text's own.
+/// Puts this part of the text once more. (`extend_from_within` would copy it byte by byte.)
 fn put_again(out: &mut Vec<u8>, span: Span) -> Result<(), NoMemory>
     requires forward { span.start ≤ span.end }
     requires inside { span.end ≤ length out.old.items }
     ensures text { OnOk result (out.new.items ≡ out.old.items ++ slice_range out.old.items span.start span.end) }
     ensures behind { IsPrefix out.old.items out.new.items }
 {
-    out.extend_from_within(span.start..span.end)?;
+    let len = out.len();
+    out.resize(len + (span.end - span.start), 0)?;
+    let (text, again) = out.split_at_mut(len);
+    again.copy_from_slice(&text[span.start..span.end]);
     Ok(())
 }
 

@@ -76,8 +76,8 @@ WritersAreNearTheirEnd = (n size start passed : ℕ) (c : Core)
     → rank_in n passed c ≤ frame_limit n
 
 -- A frame that is about to claim the head has seen its HEADER: if it is there no more, the head was moved on.
-abbrev pub ClaimsFailBehindTheHead : Type 0
-ClaimsFailBehindTheHead = (n size start : ℕ) (c : Core) (frame : Frame) (below : List Frame) (noted page lost : ℕ)
+abbrev pub ClaimsFailOnceTheHeadMoved : Type 0
+ClaimsFailOnceTheHeadMoved = (n size start : ℕ) (c : Core) (frame : Frame) (below : List Frame) (noted page lost : ℕ)
     → IsReached n size start c
     → c.frames ≡ frame ∷ below
     → frame.phase ≡ claiming noted page

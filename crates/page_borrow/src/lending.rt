@@ -10,7 +10,7 @@ use crate::entries::Records;
 use page_image::{Page, Place};
 
 /// The records of a page in their order, numbered from its first number on, each with its bytes in place.
-/// There must be numbers for as many records as the page counts.
+/// The number after the last record that the page counts must fit 64 bits.
 pub fn records(page: &Page) -> Records<'_>
     requires { page.now.first + page.now.count < 2 ^ 64 }
     ensures records { IsPage page.now → result ≡ entries_of page.now }

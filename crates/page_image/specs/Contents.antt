@@ -23,7 +23,8 @@ abbrev pub is_blank : List ℕ → Bool
 is_blank [] = true
 is_blank (byte ∷ bytes) = false
 
--- What holds of every page that this crate makes: its data reads, and its records are counted.
+-- What holds of every page that is made, and what every call but `part_mut` keeps: its data reads, and its records are
+-- counted.
 pub record IsPage (page : Contents) : Type 0 where
   pub reads : Decodes page.bytes page.time (records_of_page page)
   pub counted : page.count ≡ length (records_of_page page)

@@ -14,12 +14,12 @@ use Rattle.page_numbers.specs.declared.fault.ParcelFault.TheVariants.{Image, Num
 
 -- ---- of a page
 
--- the CPU is known, and the records' numbers don't fit
+-- the CPU is known, and the number after the last record's doesn't fit 64 bits
 pub record NumbersOverflow (parcel : Parcel) : Type 0 where
   pub cpu_known : parcel.cpu < MAX_CPUS
   pub past : 2 ^ 64 ≤ parcel.first + length parcel.records
 
--- they fit, and more are missing before the first one than there are
+-- it fits, and more numbers are missing before the first record's than there are
 pub record MissesTooMany (parcel : Parcel) : Type 0 where
   pub cpu_known : parcel.cpu < MAX_CPUS
   pub numbers_fit : parcel.first + length parcel.records < 2 ^ 64

@@ -26,7 +26,8 @@ pub(crate) struct Numbers {
     pub(crate) missed: u64,
 }
 
-/// Looks whether `count` records have numbers from the first one on, and whether there are `missed` numbers before it.
+/// Looks whether `count` records from this number on, and the number after them, fit 64 bits, and whether there are
+/// `missed` numbers before it.
 pub(crate) fn check_numbers(first: RecordNo, count: u64, missed: u64) -> Result<(), ParcelFault>
     ensures numbers { OnOk result (first.0 + count < 2 ^ 64) }
     ensures missed { OnOk result (missed ≤ first.0) }

@@ -22,7 +22,7 @@ use Rattle.link_marks.proofs.links.Positions.{page_turn}
 use Rattle.link_marks.proofs.links.FrameChanges.{top_kept}
 use Rattle.link_marks.proofs.links.LinksFit.{links_fit_words}
 use Rattle.link_marks.proofs.seats.PrivateSteps.{IsPrivateOf}
-use Rattle.link_marks.proofs.links.SeenLinks.{claims_fail_behind_the_head}
+use Rattle.link_marks.proofs.links.SeenLinks.{claims_fail_once_the_head_moved}
 use Rattle.link_marks.proofs.frames.TopSteps.{top_stepped}
 use Rattle.link_marks.proofs.partition.RingsKept.{reached_kept, reached_further}
 use Rattle.link_marks.proofs.steps.StepsGiven.{each_event_is_a_step}
@@ -346,7 +346,7 @@ module _ (shape : Shape) (me : Sat) (is : IsWriting me) (now : Writing) (c : Cor
       raised tail from to lost sum
       (fails_on tail now.opened from to (header_link page lost) (record frame { phase = looking now.opened } ∷ below) e from_is record { page_fits = fits; fill_fits = omega arith } (differ lost sum)
       (goes answer after (in_phase c frame below (looking now.opened)) step a after_is))
-      (claims_fail_behind_the_head shape.pages shape.size shape.start c frame below now.opened page lost s.reached top at_phase opened_is sum (differ lost sum))
+      (claims_fail_once_the_head_moved shape.pages shape.size shape.start c frame below now.opened page lost s.reached top at_phase opened_is sum (differ lost sum))
 
   pub claim_moves : (tail page lost from to : ℕ) → tail ≡ tail_in now → IsTopIn now.frames (claiming now.opened page)
       → lost + shape.pages ≡ now.opened → page < LINK_PAGES → from ≡ word_of (header_link page lost) → to ≡ word_of (update_link page lost) → ClaimMoves tail from to

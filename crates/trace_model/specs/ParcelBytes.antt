@@ -87,14 +87,14 @@ pub record HasBadImage (bytes : List ℕ) (cause : ImageCause) : Type 0 where
   pub cpu_known : cpu < MAX_CPUS
   pub fault : FirstImageFault image cause
 
--- the image is read, and the records' numbers don't fit
+-- the image is read, and the number after the last record's doesn't fit 64 bits
 pub record HasOverflow (bytes : List ℕ) : Type 0 where
   pub parcel : Parcel
   pub reported : Missed
   pub image : HasImage bytes parcel reported
   pub past : 2 ^ 64 ≤ parcel.first + length parcel.records
 
--- they fit, and more are missing before the first one than there are
+-- it fits, and more numbers are missing before the first record's than there are
 pub record HasTooManyMissed (bytes : List ℕ) : Type 0 where
   pub parcel : Parcel
   pub reported : Missed

@@ -87,7 +87,7 @@ pub record LacksFrame (n size : ℕ) (before : Lane) (exchanges : List Exchange)
   pub exchanges_are : exchanges ≡ record { event = steps; answer = refused no_frame } ∷ []
   pub stays : after ≡ before
 
--- the frame on top makes at most this many steps, and stops when it is gone
+-- the frame on top makes exactly this many steps, or fewer if it is gone after them
 pub data StepsFrame (n size count : ℕ) (before : Lane) (exchanges : List Exchange) (after : Lane) : Type 0 where
   lacks_to_step : LacksFrame n size before exchanges after → StepsFrame n size count before exchanges after
   steps_on : before.core.frames ≢ []

@@ -12,7 +12,7 @@ use Rattle.trace_model.proofs.steps.StepSound.{cases_of}
 use Rattle.link_marks.specs.KeptLinks.{PhaseKept, FramesKept, LinkKept, is_normal, is_header, is_update, LinksKept}
 use Rattle.link_marks.specs.Reached.{IsReached}
 use Rattle.link_marks.specs.SeenLinks.{HasSeenLink, HaveSeenLinks, FramesHaveSeenLinks}
-use Rattle.link_marks.specs.WriterRanks.{ClaimsFailBehindTheHead}
+use Rattle.link_marks.specs.WriterRanks.{ClaimsFailOnceTheHeadMoved}
 use Rattle.link_marks.proofs.contents.PageChanges.{page_below}
 use Rattle.link_marks.proofs.links.FramePhases.{after_set, normal_ne_header, header_ne_update}
 use Rattle.link_marks.proofs.links.LinkFills.{fill_at}
@@ -192,8 +192,8 @@ reached_sees n size start c r =
 
 -- ---- the laws
 
-pub claims_fail_behind_the_head : ClaimsFailBehindTheHead
-claims_fail_behind_the_head n size start c frame below noted page lost reached top at now sum other =
+pub claims_fail_once_the_head_moved : ClaimsFailOnceTheHeadMoved
+claims_fail_once_the_head_moved n size start c frame below noted page lost reached top at now sum other =
     let (round, page_is, still) = subst (Sees n c.links c.head) at (subst (AllSee n c.links c.head) top (reached_sees n size start c reached)).0 in
     let k = (reached_kept n size start c reached).links in let within = k.opened_le in
     dite (ℕ_discrete lost c.head)

@@ -1,7 +1,7 @@
 //! Laws of a ring's two seats, the writer's and the reader's: what each reads and changes.
 ghost use Rattle.link_marks.specs.SeatLaws.{PrivateCommutes, PrivateLeavesOtherPages, PrivateTouchesNoWord, ReaderLeavesOpenPages, ReaderLeavesWriter, ReaderReadsNoWriter, WriterLeavesReader, WriterReadsNoReader};
 ghost use Rattle.link_marks.specs.SeenLinks.{FramesHaveSeenLinks};
-ghost use Rattle.link_marks.specs.WriterRanks.{ClaimsFailBehindTheHead};
+ghost use Rattle.link_marks.specs.WriterRanks.{ClaimsFailOnceTheHeadMoved};
 
 /// A step of the writer reads nothing of the reader's part, and leaves it as it is; and a step of the reader reads
 /// nothing of the writer's part, and leaves it as it is, with the words that the writer alone stores and the pages
@@ -26,5 +26,5 @@ pub fn private_steps_commute()
 /// HEADER while it is the head; so a claim that fails shows that the head was moved on.
 pub fn frames_have_seen_links()
     ensures seen { FramesHaveSeenLinks }
-    ensures claims { ClaimsFailBehindTheHead }
+    ensures claims { ClaimsFailOnceTheHeadMoved }
 {}
