@@ -25,8 +25,8 @@
 //
 // Signals. A handler may call write, begin, put, finish, end, begin_close and depth on the handle of the thread that
 // it interrupts: its records are nested. Amid a call on that handle they answer BUSY (depth: 0). It may call take and
-// wish on a reader's handle in the same way. It must not call those that take or release memory: new, settle, all calls
-// on collectors, and those that free. It completes what it begins.
+// wish on a reader's handle in the same way. It must not call new, settle, those that free, or any call on a collector:
+// most of these take or release memory. It completes what it begins.
 // A handler that interrupts a call on one end of a ring, and calls the other end of that ring, does what another thread
 // would do between two instructions. The library is proved for threads, and tried for such handlers.
 //
@@ -92,8 +92,8 @@ struct tracering_line {
     uint64_t moment; // when the record was made, in its writer's units
     uint64_t number; // the record's number among those of its CPU
     uint32_t cpu;    // the CPU that made it
-    size_t len;      // how many bytes it has: its payload, rounded up to a multiple of 4 (if written here, by zeros or
-                     // what its writer put into the rest of the slot)
+    size_t len;      // how many bytes it has: its payload, rounded up to a multiple of 4 (if written here, to 4 at
+                     // least, by zeros or what its writer put into the rest of the slot)
 };
 
 // The bytes of a parcel before its page's data.

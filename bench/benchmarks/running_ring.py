@@ -36,7 +36,7 @@ def run(folder):
     def record(reader, way, function):
         return instructions(folder, program, reader, way, function)
 
-    yield "Instructions a record; the rival only copies the same bytes, by the same `memmove`."
+    yield "Instructions a record; the rival only copies the same bytes, by `memmove`, as the single calls do."
     yield ""
     yield from tables.compared_head()
     copy = record("alone", "copy", "round_of_copies")

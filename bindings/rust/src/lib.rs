@@ -5,7 +5,8 @@
 //! the calls in use.
 //!
 //! `include/tracering.h` says what each call does. What is a condition there is kept here by types: an end is in one
-//! call at a time, since calls borrow it, and it is freed when it is dropped.
+//! call at a time, since calls borrow it, and it is freed when it is dropped. That two ends are of one ring is looked at
+//! when they are settled: both carry its number.
 use std::os::raw::c_void;
 use std::ptr::null_mut;
 use std::sync::atomic::{AtomicU64, Ordering};

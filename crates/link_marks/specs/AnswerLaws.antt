@@ -8,9 +8,13 @@ use Rattle.trace_model.specs.Window.{IsCrowded}
 use Rattle.trace_model.specs.Steps.{Event, steps, Answer, NeedsPage, refused, empty, moving, page_taken, Step}
 use Rattle.link_marks.specs.RingKept.{IsRingKept}
 
--- each fill from the first on, below this one, was taken, or lost with a whole round of fills begun from it on
+-- each fill from the first on, below this one, was taken, or is lost: the head is after it, and a whole round of fills
+-- is begun from it on
 abbrev pub ArePassed : ℕ → ℕ → Core → ℕ → Type 0
-ArePassed n start c f = (g : ℕ) → start ≤ g → g < f → IsTaken c g ⊎ (g + n ≤ c.opened)
+ArePassed n start c f = (g : ℕ)
+    → start ≤ g
+    → g < f
+    → IsTaken c g ⊎ ((g < c.head) × (g + n ≤ c.opened))
 
 -- The frame on top is about to reserve, and needs a page: its record doesn't fit in the tail page, or it closes
 -- one that holds a record.

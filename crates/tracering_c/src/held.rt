@@ -52,7 +52,7 @@ impl Held {
         }
     }
 
-    /// The writer, if there is one.
+    /// The writer, which must be there.
     #[inline(always)]
     pub(crate) fn writer(&mut self) -> &mut HeldWriter
         requires { is_some (writer_of self.old.value) ≡ true }
@@ -86,7 +86,7 @@ impl Held {
         }
     }
 
-    /// The reader, if there is one.
+    /// The reader, which must be there.
     #[inline(always)]
     pub(crate) fn reader(&mut self) -> &mut HeldReader
         requires { is_some (reader_of self.old.value) ≡ true }
@@ -120,7 +120,7 @@ impl Held {
         }
     }
 
-    /// The collector, if there is one.
+    /// The collector, which must be there.
     #[inline(always)]
     pub(crate) fn collector(&mut self) -> &mut HeldCollector
         requires { is_some (collector_of self.old.value) ≡ true }

@@ -1,11 +1,11 @@
 -- What each answer of a ring says of its state.
-use Rattle.std.proofs.Common.{◌≡◌, ℕ, suc, ◌+◌, ◌%◌, ◌<◌, ◌≤◌, List, [], ◌∷◌, ◌++◌, get_or, refl, sym, ap, ◌∙◌, subst, mod-lt, arith}
+use Rattle.std.proofs.Common.{◌≡◌, ℕ, suc, ◌+◌, ◌%◌, ◌<◌, ◌≤◌, List, [], ◌∷◌, ◌++◌, get_or, refl, sym, ap, ◌∙◌, subst, inl, inr, ◌⊎◌, mod-lt, arith}
 use mathlib.Core.Logic.{dite}
 use native.Mathlib.Decide.{dec_le}
 use Rattle.trace_model.specs.declared.limits.TheConstants.{LINK_FILLS}
 use Rattle.trace_model.specs.Frames.{Kind, for_record, for_close, FrameState, waiting, reserved, left, Phase, idle, looking, claiming, looking_next, marking, clearing, opening, releasing, wishing, Frame, Refusal, too_deep, too_long, late_moment, crowded, worn, no_frame, not_reserved}
 use Rattle.trace_model.specs.Links.{Link, normal_link, update_link}
-use Rattle.trace_model.specs.Ring.{link_into, page_at, ReaderPhase, loading_head, loading_done, storing_spare_link, swapping, TakenFill, Core}
+use Rattle.trace_model.specs.Ring.{link_into, page_at, IsTaken, ReaderPhase, loading_head, loading_done, storing_spare_link, swapping, TakenFill, Core}
 use Rattle.trace_model.specs.Steps.{Event, Answer, pushed, going, reserved_as, pending, full, gone, refused, reading, empty, moving, page_taken, wished_for, leave_answer, begin_answer, end_answer, Step}
 use Rattle.trace_model.proofs.steps.StepCases.{StepCases, BeginsAgain, reserves, finds_nothing, is_crowded, is_worn, notes, load_link_late, sees_free, sees_header, sees_update, claim_late, claims, claim_fails, load_next_late, sees_normal, sees_other, mark_late, marks, mark_fails, clears, open_late, opens, releases, releases_last, grants, closes_more, goes_away, IdleStep, FrameStep, PushRefused, all_stand, has_no_room, comes_late, push_step, push_refused, close_step, close_refused, frame_step, frame_lacks, end_step, end_lacks, end_early, read_step, store_wish_step, loads_header, loads_update, loads_owed, loads_passed, finds_none, finds_closed, swaps, swap_fails, ReadStep}
 use Rattle.trace_model.proofs.steps.StepSound.{cases_of}
@@ -146,9 +146,17 @@ owed_by n links order head frames f page fill (is_normal e owed) at here = owed 
 owed_by n links order head frames f page fill (is_header e is) at here = absurd (normal_ne_header page fill (page_at n order f) f (sym at ∙ e))
 owed_by n links order head frames f page fill (is_update lost sum e st) at here = absurd (normal_ne_update page fill (page_at n order f) lost (sym at ∙ e))
 
+-- a fill before the head that isn't taken is lost
+taken_or_lost : (n : ℕ) (c : Core) (g : ℕ) → g < c.head → IsTaken c g ⊎ (g + n ≤ c.opened)
+    → IsTaken c g ⊎ ((g < c.head) × (g + n ≤ c.opened))
+taken_or_lost n c g before (inl taken) = inl taken
+taken_or_lost n c g before (inr round) = inr (before, round)
+
 module _ (n size start : ℕ) (c : Core) (r : IsRingKept n size start c) where
   pub passed_below : (f : ℕ) → f ≤ c.head → ArePassed n start c f
-  passed_below f le g low high = (is_ring n size start c r).lost g low (omega arith)
+  passed_below f le g low high =
+      let before : g < c.head = omega arith in
+      taken_or_lost n c g before ((is_ring n size start c r).lost g low before)
 
   -- an unfinished move of the head is in the reader's way
   in_the_way : (lost fill : ℕ) → HasMover c.frames (lost + n) → fill ≤ c.head → c.reader.hint ≤ fill → IsInTheWay n start c fill

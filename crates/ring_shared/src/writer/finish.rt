@@ -128,7 +128,8 @@ impl Writer {
         met_first(None, self.leave_top())
     }
 
-    /// The frame on top, which has left, closes fills, and looks for the reader's wish, as long as it is up to these.
+    /// The frame on top closes fills and looks for the reader's wish, as long as it is up to these: if it has left, and
+    /// isn't about to close the tail.
     #[inline(always)]
     fn close_fills(&mut self) -> StepAnswer
         requires { HasLeavingTop self.old }
