@@ -6,7 +6,8 @@ use Rattle.trace_model.specs.Frames.{Frame, pushed_frames}
 use Rattle.trace_model.specs.Ring.{Core, TakenFill}
 use Rattle.link_marks.specs.KeptLinks.{spot, passed_spot}
 
--- a frame of these is about to open this fill, and has found the head moved on from its position
+-- a frame of these is about to open this fill, and has found that the head isn't at its position, or has claimed it
+-- there
 abbrev pub Passing : List Frame → ℕ → Type 0
 Passing [] f = ⊥
 Passing (frame ∷ below) f = ((page : ℕ) × (passed_spot frame.phase ≡ Some (spot f page))) ⊎ Passing below f

@@ -24,7 +24,7 @@ pub record Spot : Type 0 where
 abbrev pub spot : ℕ → ℕ → Spot
 spot fill page = record { fill = fill; page = page }
 
--- the fill and its page, if the frame has found the head moved on from that position
+-- the fill and its page, if the frame has found that the head isn't at that position, or has claimed it there
 abbrev pub passed_spot : Phase → Option Spot
 passed_spot idle = None
 passed_spot (looking o) = None

@@ -1,5 +1,5 @@
--- How far the frame on top is from being gone, and a take from its answer: numbers that each of their steps lowers,
--- if nothing comes between. So both have an end. docs/FORMATS.md, "Writer frames" and "The reader".
+-- How far the frame on top is from being gone, and a take from its answer: numbers that each step of a take, each step
+-- of a frame that hasn't reserved, and each end lowers, if nothing comes between. So both have an end. docs/FORMATS.md, "Writer frames" and "The reader".
 use Rattle.std.specs.Prelude.{◌≡◌, ℕ, ◌+◌, ◌-◌, ◌*◌, ◌<◌, ◌≤◌, min, None, Bool, true, false, if◌then◌else◌, ◌==◌, List, [], ◌∷◌, length}
 use Rattle.trace_model.specs.History.{Reservation}
 use Rattle.trace_model.specs.Packing.{tail_of}
@@ -64,7 +64,8 @@ top_rank n c (frame ∷ below) = phase_rank n c frame.state frame.phase
 abbrev pub frame_rank : ℕ → Core → ℕ
 frame_rank n c = 3 * (c.opened - c.done) + top_rank n c c.frames
 
--- no more steps than these does a frame make in a ring of n positions, if nothing comes between
+-- no more steps than these does a frame make in a ring of n positions, if nothing comes between, and its record is
+-- ended once it is reserved
 abbrev pub frame_limit : ℕ → ℕ
 frame_limit n = 3 * n + 52
 

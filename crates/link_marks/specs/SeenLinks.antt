@@ -1,4 +1,4 @@
--- What a frame has seen of a link that it is about to set.
+-- What a frame has seen of a link that it is about to claim, or to mark.
 use Rattle.std.specs.Prelude.{◌≡◌, ℕ, ◌+◌, ◌<◌, ◌≤◌, List, [], ◌∷◌}
 use Rattle.trace_model.specs.declared.limits.TheConstants.{MAX_PAGES, LINK_PAGES}
 use Rattle.trace_model.specs.Links.{Link, header_link}

@@ -23,7 +23,7 @@ pub fn stacks_come_to_rest()
     ensures at_rest { AllIsClosedAtRest }
 {}
 
-/// There is a new ring of each number of positions, and only one.
+/// There is a new ring of each number of positions and each first fill, and only one.
 pub fn new_ring_is_one()
     ensures one { NewRingIsOne }
 {}

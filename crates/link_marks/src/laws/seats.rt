@@ -22,8 +22,8 @@ pub fn private_steps_commute()
     ensures commute { PrivateCommutes }
 {}
 
-/// What a frame has seen of a link that it is about to set has room in a word. A head that it is about to claim has its
-/// HEADER while it is the head; so a claim that fails shows that the head was moved on.
+/// The page that a frame has seen in the link that it is about to claim, or to mark, has room in a word. A head that it
+/// is about to claim has its HEADER while it is the head; so a claim that fails shows that the head was moved on.
 pub fn frames_have_seen_links()
     ensures seen { FramesHaveSeenLinks }
     ensures claims { ClaimsFailOnceTheHeadMoved }
