@@ -17,7 +17,7 @@ pub enum Fault {
     #[error("line {0}: neither an event nor a row that there can be")]
     Line(u64),
     /// The line of this number asks a collector that the row has not, or merges one into itself.
-    #[error("line {0}: there is no such collector")]
+    #[error("line {0}: there is no such collector, or it is merged into itself")]
     NoCollector(u64),
     /// A read or a write failed.
     #[error("a read or a write failed")]

@@ -665,5 +665,12 @@ module _ (script : Script) (w : World) (limits : IsWithinLimits script) (of : Wo
     (at_behind (length script.commands)).stands.reported,
   )
 
-pub worlds_have_accounts : (script : Script) (w : World) (cpu : ℕ) → IsWithinLimits script → WorldOf script w → cpu < script.cpus → (events : ℕ → List RingEvent) × IsAccount script cpu events
-worlds_have_accounts script w cpu limits of low = (events_behind script w limits of cpu low, account_behind script w limits of cpu low)
+pub worlds_have_accounts : (script : Script) (w : World) (cpu : ℕ) → IsWithinLimits script → WorldOf script w → cpu < script.cpus
+    → (events : ℕ → List RingEvent) × IsAccount script cpu events
+    × (lane : Lane) × (slice_get w.lanes cpu ≡ Some lane)
+    × AreEventsOfRun script.pages script.start lane.core (events (length script.commands))
+worlds_have_accounts script w cpu limits of low = (
+  events_behind script w limits of cpu low,
+  account_behind script w limits of cpu low,
+  last_reported script w limits of cpu low,
+)

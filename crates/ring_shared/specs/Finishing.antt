@@ -33,7 +33,8 @@ pub data MakesSteps (shape : Shape) (before : Writing) : Writing → Type 0 wher
       → IsCall shape between model.steps Going after
       → MakesSteps shape before after
 
--- this frame's record is reserved under a number; or the frame is refused, and is gone from the stack or has left
+-- This frame's record is reserved under a number; or the frame is refused, and is gone from the stack, or a frame that
+-- leaves is in its place. (That it is this frame, which has left, follows from the step in `Reserves`.)
 pub data IsReservedOr (kind : Kind) (below : List Frame) : Answer → List Frame → Type 0 where
   is_reserved : (next : Frame) (number : RecordNo) (after : List Frame)
       → after ≡ next ∷ below

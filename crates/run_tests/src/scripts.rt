@@ -14,7 +14,7 @@ pub const EIGHT: &[u8] = b"pages 16\nsize 32\ncpus 1\ncollectors 2\n\
     c0 w 8 08080808080808080808080808080808080808080808080808080808\n\
     c0 c\n";
 
-/// The same with another first payload.
+/// Two records, the first with another payload than in `EIGHT`.
 pub const ANOTHER: &[u8] = b"pages 16\nsize 32\ncpus 1\ncollectors 1\n\
     c0 w 1 11111111111111111111111111111111111111111111111111111111\n\
     c0 w 2 02020202020202020202020202020202020202020202020202020202\n";

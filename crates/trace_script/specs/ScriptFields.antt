@@ -18,7 +18,7 @@ AreFields (Two first second) fields = fields ≡ first.now ∷ second.now ∷ []
 AreFields (Three first second third) fields = fields ≡ first.now ∷ second.now ∷ third.now ∷ []
 AreFields (More first second third rest) fields = fields ≡ first.now ∷ second.now ∷ third.now ∷ fields_of rest.now
 
--- what follows the third field is one field
+-- there is no fifth field
 abbrev pub HasNoFifth : Fields → Type 0
 HasNoFifth (More first second third rest) = length (fields_of rest.now) ≡ 1
 HasNoFifth _ = ⊤

@@ -51,7 +51,7 @@ pub(crate) fn is_well_spaced(line: &[u8]) -> bool
     }
 }
 
-/// Whether what follows the third field is one field.
+/// Whether there is no fifth field.
 pub(crate) fn is_whole(fields: Fields) -> bool
     ensures { IsTrue result ↔ HasNoFifth fields.entry }
 {

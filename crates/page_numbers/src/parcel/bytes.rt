@@ -90,8 +90,8 @@ impl Parcel {
         })
     }
 
-    /// The parcel as bytes: its numbers, and its page's image, which states how many records were missed, or only that
-    /// some were, if it has no room for the number.
+    /// The parcel as bytes: its numbers, and its page's image, which states, if any records were missed, how
+    /// many, or only that some were if it has no room for the number.
     pub fn to_bytes(&self, alloc: Global) -> Result<Vec<u8>, NoMemory>
         ensures written { IfOk result (λ bytes. IsWrittenAs self.now bytes.items) }
         ensures reads { IfOk result (λ bytes. DecodesParcel bytes.items (as_parcel self.now)) }
