@@ -19,7 +19,7 @@ use std::process::ExitCode;
 /// The text was read to its end.
 const DONE: u8 = 0;
 
-/// A line of the text belongs to no row.
+/// A line of the text is neither an event nor a ring, or asks a ring that isn't there.
 const REFUSED: u8 = 1;
 
 /// Memory was refused, or a read or a write failed.
