@@ -1,4 +1,4 @@
-"""The command `./tracering`: what it adds to a run of the program, which it looks for sources that changed
+"""The command `./tracering`: what it adds to a run of the program, by looking whether a source has changed
 
 A script of the examples, replayed 100 times in a row; the least of five rounds.
 """

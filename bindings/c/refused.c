@@ -48,7 +48,7 @@ void __wrap_free(void *block)
 // The parcel of one record of 4 bytes, whose moment is the earlier, the higher its number.
 static void make_parcel(uint8_t *out, uint64_t cpu, uint64_t first, uint64_t missed)
 {
-    uint64_t numbers[6] = {cpu, 0, first, missed, 100 - first, 8 | (missed ? 1ull << 31 : 0)};
+    uint64_t numbers[6] = {cpu, 0, first, missed, 1000 - first, 8 | (missed ? 1ull << 31 : 0)};
     for (size_t at = 0; at < TRACERING_HEADER; at++)
         out[at] = (uint8_t)(numbers[at / 8] >> at % 8 * 8);
     memcpy(out + TRACERING_HEADER, "\1\0\0\0abcd", 8);

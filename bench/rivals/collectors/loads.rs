@@ -87,7 +87,7 @@ fn genuine(random: &mut Random, records: u64) -> Vec<Draft> {
 /// 0 has few numbers, so that each record comes several times, and one in fifty is another record;
 /// 1 has short runs of missing numbers among the records;
 /// 2 has numbers of 64 bits, and runs that are as long;
-/// 3 has no clash: a record for even numbers, missing odd ones, all far apart.
+/// 3 has few clashes: a record for even numbers, missing odd ones, all far apart.
 fn forged(random: &mut Random, count: u64) -> Draft {
     let cpu = random.below(4);
     let first = match cpu {

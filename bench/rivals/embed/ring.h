@@ -1,6 +1,6 @@
-// A running ring of this repository's protocol in plain C, as fast as we could write it: one writer, whose records may
-// be nested by signal handlers, and one reader in another thread. It numbers and counts as the library does, with the
-// same tests of what it is given.
+// A running ring of this repository's protocol in plain C, as fast as we could write it: one writer of whole records,
+// which no other interrupts, and one reader in another thread. It numbers as the library does, and tests a record's
+// length and moment.
 #include <stdatomic.h>
 #include <stdbool.h>
 #include <stdint.h>

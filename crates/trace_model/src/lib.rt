@@ -1,4 +1,4 @@
-//! The plain types that every crate speaks of, and the definitions that their contracts cite.
+//! The plain types that nearly every crate speaks of, and the definitions that their contracts cite.
 //!
 //! Each subject has its definitions in a module of `specs/`; the laws over them are the contracts of
 //! the functions of `laws`.
