@@ -2,7 +2,7 @@
 //!
 //! They make a thousand runs. `rt test` leaves them as a program, which makes those of one test again, on two cores for
 //! example by `taskset -c 0,1 out/run_tests_tests runs::each_collector_has_what_was_written`. Under `ulimit -v 200000`
-//! `runs::many_cpus_and_collectors_run_at_once` meets a thread that can't be started, and ends with `NoThread`.
+//! `runs::many_cpus_and_collectors_are_run` meets a thread that can't be started, and ends with `NoThread`.
 #![tactic(auto)]
 
 #[cfg(test)]

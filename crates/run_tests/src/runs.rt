@@ -167,7 +167,7 @@ fn compare_wide(rt: &impl Abort, ran: &Ran, cpus: u8, collectors: usize) {
 }
 
 #[test]
-fn many_cpus_and_collectors_run_at_once(rt: HostRuntime) -> Result<(), Fail> {
+fn many_cpus_and_collectors_are_run(rt: HostRuntime) -> Result<(), Fail> {
     for (cpus, collectors) in WIDTHS {
         let script = wide_script(rt.alloc(), *cpus, *collectors)?;
         for _ in 0..WIDE_RUNS {
