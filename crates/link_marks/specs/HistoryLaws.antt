@@ -14,7 +14,8 @@ use Rattle.link_marks.specs.Appended.{Appends}
 
 -- ---- histories
 
--- An event appends to what the frames did the history events that its answer states, and nothing else.
+-- An event appends to what the frames did the history events that its answer, in the state before it, stands for, and
+-- nothing else.
 abbrev pub StepsAppend : Type 0
 StepsAppend = (n size start : ℕ) (c : Core) (event : Event) (answer : Answer) (after : Core)
     → IsRingKept n size start c

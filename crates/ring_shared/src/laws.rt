@@ -2,7 +2,8 @@
 ghost use Rattle.ring_shared.specs.Laws.{CallsAppend, ClosesAppend, EndsAppend, NumbersAreReportedAgain, PushesAppend, RefusalsAppend, ReservationsAppend};
 ghost use Rattle.ring_shared.specs.WholeLaws.{FinishesClose, FinishesLeft, FinishesRefused, FinishesReserve, PaddedTwice, RefusedWritesAppend, RefusedWritesKeepFrames, RefusedWritesReserveNone, WritersHaveHistories, WritesAppend, WritesReserve};
 
-/// A call appends to the history of its writer's frames what its answer states, and nothing else.
+/// A call appends to the history of its writer's frames what its answer, in a state with that writer's part before it,
+/// stands for, and nothing else.
 pub fn calls_append()
     ensures calls { CallsAppend }
     ensures pushes { PushesAppend }
