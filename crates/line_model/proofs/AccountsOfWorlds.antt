@@ -669,8 +669,6 @@ pub worlds_have_accounts : (script : Script) (w : World) (cpu : ℕ) → IsWithi
     → (events : ℕ → List RingEvent) × IsAccount script cpu events
     × (lane : Lane) × (slice_get w.lanes cpu ≡ Some lane)
     × AreEventsOfRun script.pages script.start lane.core (events (length script.commands))
-worlds_have_accounts script w cpu limits of low = (
-  events_behind script w limits of cpu low,
-  account_behind script w limits of cpu low,
-  last_reported script w limits of cpu low,
-)
+worlds_have_accounts script w cpu limits of low =
+    let (lane, at, are) = last_reported script w limits of cpu low in
+    (events_behind script w limits of cpu low, account_behind script w limits of cpu low, lane, at, are)

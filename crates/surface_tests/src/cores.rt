@@ -11,7 +11,7 @@ use std::process::Abort;
 use std::test::Fail;
 use trace_model::{FillNo, RecordNo};
 
-/// Steps of the frame on top until one answers: the example of a loop at the crate's head.
+/// Steps of the frame on top until one answers: the example of a loop at the head of `ring_core`.
 fn finish(core: &mut Core) -> Answer
     requires ring { IsReachedCore core.old }
     ensures ring { IsReachedCore core.new }

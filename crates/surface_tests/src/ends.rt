@@ -18,7 +18,7 @@ use trace_model::{CpuId, FillNo, RecordNo};
 /// A record whose payload is so many bytes of this value fills a page of 32 bytes.
 const WHOLE: usize = 28;
 
-/// Steps of the frame on top until one answers: the example of a loop at the crate's head.
+/// Steps of the frame on top until one answers: the example of a loop at the head of `ring_shared`.
 fn finish(writer: &mut Writer) -> Answer
     requires writer { IsWriter writer.old }
     ensures writer { IsWriter writer.new }

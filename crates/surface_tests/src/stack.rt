@@ -20,7 +20,8 @@ const SECOND: Allot = Allot::Fits(Place { start: 12, len: 4 });
 /// The place of a payload that fills a page of 32 bytes.
 const WHOLE: Allot = Allot::Fits(Place { start: 4, len: 28 });
 
-/// Reserves a record at each of these moments, each within the one before: the example of a loop at the crate's head.
+/// Reserves a record at each of these moments, each within the one before: the example of a loop at the head
+/// of `nested_writer`.
 fn reserve_all(stack: &mut WriterStack, moments: &[u64]) -> Result<(), WriteFault>
     requires stack { IsReachedStack stack.old }
     ensures stack { IsReachedStack stack.new }
