@@ -60,17 +60,6 @@ fn write_all(writer: &mut Writer, moments: u8) -> Result<(), WriteFault>
     Ok(())
 }
 
-/// Begins a record at each moment below this one, each within the one before.
-fn begin_all(writer: &mut Writer, moments: u8)
-    requires writer { IsWriter writer.old }
-    ensures writer { IsWriter writer.new }
-    ensures ring { SameWriter writer.old writer.new }
-{
-    for moment in 0..moments {
-        writer.begin(moment.into(), 4);
-    }
-}
-
 /// Takes pages as long as there are any: their number.
 fn take_all(reader: &mut Reader, body: Body) -> u64
     requires reader { IsReader reader.old }
@@ -122,22 +111,6 @@ fn a_record_is_written_by_its_steps(rt: HostRuntime) -> Result<(), Fail> {
     write_by_steps(&rt, &mut writer)
 }
 
-/// Asks for what is refused.
-fn ask_in_vain(rt: &impl Abort, writer: &mut Writer)
-    requires { IsWriter writer.old }
-{
-    assert!(rt; matches!(writer.begin(100, 29), Answer::Refused(WriteFault::TooLong)));
-    assert!(rt; matches!(writer.step(), Answer::Refused(WriteFault::NoFrame)));
-    assert!(rt; writer.top_mut().err() == Some(WriteFault::NoFrame));
-}
-
-#[test]
-fn what_cannot_be_written_is_refused(rt: HostRuntime) -> Result<(), Fail> {
-    let (mut writer, _reader) = ring(rt.alloc(), 2, 32)?;
-    ask_in_vain(&rt, &mut writer);
-    Ok(())
-}
-
 /// Writes a record in the middle of which another one is refused.
 fn write_on(rt: &impl Abort, writer: &mut Writer) -> Result<(), Fail>
     requires { IsWriter writer.old }
@@ -155,24 +128,6 @@ fn write_on(rt: &impl Abort, writer: &mut Writer) -> Result<(), Fail>
 fn a_record_goes_on_after_a_push_is_refused(rt: HostRuntime) -> Result<(), Fail> {
     let (mut writer, _reader) = ring(rt.alloc(), 2, 32)?;
     write_on(&rt, &mut writer)
-}
-
-/// Begins four records, and asks for what is refused then.
-fn begin_four(rt: &impl Abort, writer: &mut Writer)
-    requires { IsWriter writer.old }
-{
-    begin_all(writer, 4);
-    assert!(rt; writer.depth() == 4);
-    assert!(rt; matches!(writer.begin(104, 4), Answer::Refused(WriteFault::TooDeep)));
-    assert!(rt; matches!(writer.end(), Answer::Refused(WriteFault::NotReserved)));
-    assert!(rt; writer.top_mut().err() == Some(WriteFault::NotReserved));
-}
-
-#[test]
-fn a_fifth_frame_is_refused(rt: HostRuntime) -> Result<(), Fail> {
-    let (mut writer, _reader) = ring(rt.alloc(), 2, 32)?;
-    begin_four(&rt, &mut writer);
-    Ok(())
 }
 
 /// Takes nothing, twice with the same body.
@@ -251,25 +206,6 @@ fn a_page_that_is_wished_for_is_a_parcel(rt: HostRuntime) -> Result<(), Fail> {
     Ok(())
 }
 
-/// Takes a page that follows a lost record.
-fn take_after_lost(rt: &impl Abort, alloc: Global, reader: &mut Reader) -> Result<(), Fail>
-    requires reader { IsReader reader.old }
-    requires size { reader.old.shape.size ≡ 32 }
-{
-    let Take::Page(page, 1) = reader.take(Body::new(alloc, 32)?) else {
-        return Err(Fail::new("no page is taken that follows one missed number"));
-    };
-    assert!(rt; page.fill() == FillNo(1) && page.first() == RecordNo(1));
-    Ok(())
-}
-
-#[test]
-fn an_overwritten_page_is_missed(rt: HostRuntime) -> Result<(), Fail> {
-    let (mut writer, mut reader) = ring(rt.alloc(), 2, 32)?;
-    write_all(&mut writer, 3)?;
-    take_after_lost(&rt, rt.alloc(), &mut reader)
-}
-
 /// Writes three records, each in a page of its own, and takes what is closed and not overwritten: one page.
 fn write_and_take(
     rt: &impl Abort,
@@ -329,25 +265,6 @@ fn write_nested(rt: &impl Abort, writer: &mut Writer) -> Result<(), Fail>
 fn a_nested_record_is_pending(rt: HostRuntime) -> Result<(), Fail> {
     let (mut writer, _reader) = ring(rt.alloc(), 2, 32)?;
     write_nested(&rt, &mut writer)
-}
-
-/// Reserves a record on each of two pages, and asks for a third one.
-fn fill_both(rt: &impl Abort, writer: &mut Writer)
-    requires { IsWriter writer.old }
-{
-    writer.begin(1, WHOLE);
-    writer.finish_top();
-    writer.begin(2, WHOLE);
-    writer.finish_top();
-    assert!(rt; matches!(writer.begin(3, WHOLE), Answer::Pushed));
-    assert!(rt; matches!(writer.finish_top(), Answer::Refused(WriteFault::Crowded)));
-}
-
-#[test]
-fn a_page_more_than_the_ring_has_is_refused(rt: HostRuntime) -> Result<(), Fail> {
-    let (mut writer, _reader) = ring(rt.alloc(), 2, 32)?;
-    fill_both(&rt, &mut writer);
-    Ok(())
 }
 
 /// Writes a record in the middle of which one is refused that needs a page. Its frame is on top again then.

@@ -116,41 +116,6 @@ fn a_nested_record_is_pending(rt: HostRuntime) -> Result<(), Fail> {
     Ok(())
 }
 
-/// Reserves a record on each of a new stack's two pages, one within the other. A third one within these is refused.
-fn crowd(rt: &impl Abort, alloc: Global, stack: &mut WriterStack) -> Result<(), Fail>
-    requires { IsNewStack stack.old }
-{
-    stack.begin(1, 28)?;
-    let Allot::Fits(_) = stack.allot()? else {
-        return Err(Fail::new("no record is reserved"));
-    };
-    stack.begin(2, 28)?;
-    let Allot::NeedsPage = stack.allot()? else {
-        return Err(Fail::new("no page is needed"));
-    };
-    stack.add_page(Body::new(alloc, 32)?);
-    let Allot::Fits(_) = stack.allot()? else {
-        return Err(Fail::new("no record is reserved on a second page"));
-    };
-    let Ok(Ended::Pending) = stack.end() else {
-        return Err(Fail::new("the frame below is gone"));
-    };
-    stack.begin(3, 28)?;
-    let Err(WriteFault::Crowded) = stack.allot() else {
-        return Err(Fail::new("a third page is begun"));
-    };
-    stack.top_mut()?.copy_from_slice(&[1; 28]);
-    assert!(rt; stack.end() == Ok(Ended::Full));
-    Ok(())
-}
-
-/// The frame below the one that is refused is on top again.
-#[test]
-fn a_third_page_is_refused_while_two_are_open(rt: HostRuntime) -> Result<(), Fail> {
-    let mut stack = WriterStack::new(rt.alloc(), 2, 32)?;
-    crowd(&rt, rt.alloc(), &mut stack)
-}
-
 /// Writes a record and closes its page, for which the frame at the bottom is asked; the page is answered as a parcel.
 fn close_asked(rt: &impl Abort, alloc: Global, stack: &mut WriterStack) -> Result<Parcel, Fail>
     requires { IsNewStack stack.old }
@@ -201,46 +166,6 @@ fn a_payload_is_written_byte_by_byte(rt: HostRuntime) -> Result<(), Fail> {
     write_bytes(&rt, &mut stack)
 }
 
-/// A record that begins before the last one has its moment.
-#[test]
-fn moments_never_fall(rt: HostRuntime) -> Result<(), Fail> {
-    let mut stack = WriterStack::new(rt.alloc(), 2, 32)?;
-    assert!(rt; stack.write(9, b"aaaa") == Wrote::Record);
-    stack.pop_bottom();
-    assert!(rt; stack.write(4, b"bbbb") == Wrote::Record);
-    stack.pop_bottom();
-    let tail = stack.into_tail();
-    assert!(rt; tail.time() == 9);
-    assert!(rt; tail.data() == b"\x01\0\0\0aaaa\x01\0\0\0bbbb".as_slice());
-    Ok(())
-}
-
-#[test]
-fn what_cannot_be_begun_is_refused(rt: HostRuntime) -> Result<(), Fail> {
-    let mut stack = WriterStack::new(rt.alloc(), 2, 32)?;
-    assert!(rt; stack.begin(2, 29) == Err(WriteFault::TooLong));
-    assert!(rt; stack.begin(1 << 59, 28) == Err(WriteFault::LateMoment));
-    assert!(rt; stack.begin((1 << 59) - 1, 28) == Ok(()));
-    Ok(())
-}
-
-#[test]
-fn what_no_frame_has_is_refused(rt: HostRuntime) -> Result<(), Fail> {
-    let mut stack = WriterStack::new(rt.alloc(), 2, 32)?;
-    assert!(rt; stack.top_mut().err() == Some(WriteFault::NoFrame));
-    assert!(rt; stack.end() == Err(WriteFault::NoFrame));
-    Ok(())
-}
-
-#[test]
-fn a_frame_without_a_record_has_no_payload(rt: HostRuntime) -> Result<(), Fail> {
-    let mut stack = WriterStack::new(rt.alloc(), 2, 32)?;
-    stack.begin(1, 4)?;
-    assert!(rt; stack.top_mut().err() == Some(WriteFault::NotReserved));
-    assert!(rt; stack.end() == Err(WriteFault::NotReserved));
-    Ok(())
-}
-
 /// Four frames, each within the one before.
 #[test]
 fn a_fifth_frame_is_refused(rt: HostRuntime) -> Result<(), Fail> {
@@ -248,19 +173,5 @@ fn a_fifth_frame_is_refused(rt: HostRuntime) -> Result<(), Fail> {
     reserve_all(&mut stack, &[1, 2, 3, 4])?;
     assert!(rt; stack.depth() == 4);
     assert!(rt; stack.begin(5, 4) == Err(WriteFault::TooDeep));
-    Ok(())
-}
-
-/// The last fill that links can tell is never left.
-#[test]
-fn no_fill_is_begun_after_the_last(rt: HostRuntime) -> Result<(), Fail> {
-    let mut stack = WriterStack::new_at(rt.alloc(), 2, 32, (1 << 48) - 3)?;
-    assert!(rt; stack.write(1, &[1; 28]) == Wrote::Record);
-    stack.pop_bottom();
-    stack.begin(2, 28)?;
-    assert!(rt; stack.allot() == Err(WriteFault::Worn));
-    stack.pop_bottom();
-    let tail = stack.into_tail();
-    assert!(rt; tail.count() == 1);
     Ok(())
 }
