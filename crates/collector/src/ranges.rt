@@ -184,7 +184,7 @@ impl Ranges {
         }
     }
 
-    /// Whether no range begins from one place up to another one, or reaches over the first.
+    /// Whether no range begins from one place up to another one, which is after it, or reaches over the first.
     fn is_free(&self, low: u64, end: u64) -> bool
         requires { AreApart self.now }
         ensures { IsTrue result → IsFree self.now low end }

@@ -42,8 +42,9 @@ impl WriterSeat {
         self.note::<Brand, _>(&());
     }
 
-    /// Notes a step of the frame on top that needs no word: it reserves its record or notes what to begin, or begins
-    /// again, as another frame has begun that fill.
+    /// Notes a step of the frame on top that needs no word: it reserves its record, notes what to begin, or leaves,
+    /// refused or with nothing to close; if another frame has begun that fill, it begins again, or leaves if it is a
+    /// close frame; if it has reserved, it stays as it is.
     #[inline(always)]
     pub fn note_step(&mut self)
         requires private { TopIsPrivate (writing_in self.old).frames (writing_in self.old).opened }
@@ -53,7 +54,8 @@ impl WriterSeat {
         self.note::<Brand, _>(&());
     }
 
-    /// Notes that the frame on top ends with this payload, which takes exactly the slot that its record has.
+    /// Notes that the frame on top ends with this payload, which takes exactly the slot that its record has; if it has
+    /// reserved none, nothing changes.
     #[inline(always)]
     pub fn note_end(&mut self, payload: &[u8])
         requires fills { FillsTopSlot (writing_in self.old).frames payload.now }
