@@ -1,4 +1,4 @@
-//! What parcels and collectors keep: pages. What they answer is in the text that `collector_rows` reads.
+//! What parcels and collectors keep: pages. What they answer is in `collector_rows/stdout`.
 use collector::{Added, Collector};
 use page_image::read_image;
 use page_numbers::Parcel;

@@ -30,7 +30,7 @@ fn write_amid(rt: &impl Abort, stack: &mut WriterStack)
 
 /// Nothing is written at once above a frame, nor once one was ended and stays; and that one reserves nothing more.
 #[test]
-fn nothing_is_written_under_a_frame(rt: HostRuntime) -> Result<(), Fail> {
+fn nothing_is_written_at_once_above_a_frame(rt: HostRuntime) -> Result<(), Fail> {
     let mut stack = WriterStack::new(rt.alloc(), 2, 64)?;
     write_amid(&rt, &mut stack);
     Ok(())

@@ -60,7 +60,7 @@ fn put_records(out: &mut String, page: &Page) -> Result<(), NoMemory> {
     Ok(())
 }
 
-/// Puts what a page is, and its records.
+/// Puts what a page is.
 fn put_page(out: &mut String, name: &str, page: &Page) -> Result<(), NoMemory> {
     let (fill, first, count) = (page.fill().0, page.first().0, page.count());
     write!(out, "{name} fill {fill} first {first} count {count}")?;

@@ -163,7 +163,7 @@ fn a_page_that_is_wished_for_is_taken(rt: HostRuntime) -> Result<(), Fail> {
     take_wished(&rt, rt.alloc(), &mut core)
 }
 
-/// Closes a page without records, so that there is none to take.
+/// A close frame on an empty tail closes nothing, so that there is no page to take.
 fn close_and_take(rt: &impl Abort, alloc: Global, core: &mut Core) -> Result<(), Fail>
     requires ring { IsReachedCore core.old }
     requires size { core.old.stack.size ≡ 32 }
@@ -175,7 +175,7 @@ fn close_and_take(rt: &impl Abort, alloc: Global, core: &mut Core) -> Result<(),
 }
 
 #[test]
-fn a_page_is_closed(rt: HostRuntime) -> Result<(), Fail> {
+fn an_empty_tail_is_not_closed(rt: HostRuntime) -> Result<(), Fail> {
     let mut core = Core::new(rt.alloc(), 2, 32)?;
     close_and_take(&rt, rt.alloc(), &mut core)
 }

@@ -152,7 +152,7 @@ fn begin_third(writer: &mut WriterSeat) -> Result<Body, Fail>
     Ok(writer.open_fill(0, FillNo(2)))
 }
 
-/// A page is closed during its record. During another one the head is moved past it.
+/// A page is left during its record, and closed after it. During another one the head is moved past it.
 #[test]
 fn a_page_is_closed_and_lost(rt: HostRuntime) -> Result<(), Fail> {
     let (mut writer, _reader) = seats(rt.alloc(), 2, 32)?;
