@@ -47,8 +47,8 @@ AllWriteOrClose (line ∷ lines) = WritesOrCloses line × AllWriteOrClose lines
 
 -- ---- laws
 
--- Fills that are begun are at most one more than the records, since each fill but the last has a record; and at most
--- the records if the tail has one.
+-- Fills that are begun are at most one more than the records of a packed history, since each fill but the last has a
+-- record; and at most the records if the tail has one.
 abbrev pub FillsAreFew : Type 0
 FillsAreFew = (n size start : ℕ) (events : List RingEvent) (w : Window)
     → WindowRun n start events w
@@ -64,8 +64,9 @@ pub record IsAtRest (p : LineState) : Type 0 where
   pub settled : IsTrue (is_settled p.history)
   pub closed : p.window.done + 1 ≡ p.window.opened
 
--- A `w` or `c` line from rest commits exactly its record or none, and ends at rest. So a frame that is alone is never
--- refused for want of a page; and only if records have taken the numbers of fills is it refused for want of a number.
+-- In a packed history that keeps the discipline of the stack, a `w` or `c` line from rest commits exactly its record
+-- or none, and ends at rest. So a frame that is alone is never refused for want of a page; and only if records have
+-- taken the numbers of fills is it refused for want of a number.
 abbrev pub LinesFromRestCommit : Type 0
 LinesFromRestCommit = (n size start : ℕ) (lines : List Command) (line : Command) (p q : LineState)
     (events more : List RingEvent)
@@ -82,9 +83,9 @@ LinesFromRestCommit = (n size start : ℕ) (lines : List Command) (line : Comman
     ⊎ ((LINK_FILLS ≤ start + length (reserved_records p.history) + n)
     × (committed_records q.history ≡ committed_records p.history)))
 
--- Of a CPU that has only `w` and `c` lines, at most as many as there are numbers left for fills, and a history that is
--- of these lines in this sense, the committed records are exactly those of its `w` lines that are neither too long nor
--- too late, in order, moments raised.
+-- Of a CPU that has only `w` and `c` lines, at most as many as there are numbers left for fills, and a history that keeps
+-- the discipline of the stack, is packed, and is of these lines in this sense, the committed records are exactly those
+-- of its `w` lines that are neither too long nor too late, in order, moments raised.
 abbrev pub CommitsWholeLines : ((n size start : ℕ) → List Command → List HistoryEvent → Type 0) → Type 0
 CommitsWholeLines IsOfLines = (n size start : ℕ) (lines : List Command) (history : List HistoryEvent)
     → MIN_PAGES ≤ n
