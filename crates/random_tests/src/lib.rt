@@ -1,5 +1,6 @@
-//! Tests alone: random scripts and page images, and the two ends of a ring in two threads. Random exchanges with a ring
-//! are made by `tools/random-rows`, random parcels for collectors by `tools/random-parcels`.
+//! Tests alone: random scripts and page images, the two ends of a ring in two threads, and the seats of a new ring.
+//! Random exchanges with a ring are made by `tools/random-rows`, random parcels for collectors by
+//! `tools/random-parcels`.
 #![tactic(auto)]
 
 #[cfg(test)]
