@@ -175,3 +175,17 @@ fn a_fifth_frame_is_refused(rt: HostRuntime) -> Result<(), Fail> {
     assert!(rt; stack.begin(5, 4) == Err(WriteFault::TooDeep));
     Ok(())
 }
+
+/// The last fill that a link has a number for is never left.
+#[test]
+fn no_fill_is_begun_after_the_last(rt: HostRuntime) -> Result<(), Fail> {
+    let mut stack = WriterStack::new_at(rt.alloc(), 2, 32, (1 << 48) - 3)?;
+    assert!(rt; stack.write(1, &[1; 28]) == Wrote::Record);
+    stack.pop_bottom();
+    stack.begin(2, 28)?;
+    assert!(rt; stack.allot() == Err(WriteFault::Worn));
+    stack.pop_bottom();
+    let tail = stack.into_tail();
+    assert!(rt; tail.count() == 1);
+    Ok(())
+}
