@@ -12,7 +12,8 @@
 // Answers. A call answers TRACERING_DONE or another number that isn't positive if it did what it says, and else a
 // positive one: why it didn't. What is changed all the same, the call's own text says. A call may answer these,
 // which its own list leaves out:
-//   TRACERING_NULL     a pointer is null (one to bytes may be, if their number is 0)
+//   TRACERING_NULL     a pointer is null (one to bytes or runs may be, if their number is 0; `out` of take and of settle
+//                      may not)
 //   TRACERING_ABSENT   the handle has nothing: it is new, or what it had was freed or settled
 //   TRACERING_BUSY     the handle is in another call, which this one interrupts
 // Then nothing is changed.
