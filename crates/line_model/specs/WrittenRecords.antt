@@ -83,9 +83,9 @@ LinesFromRestCommit = (n size start : ℕ) (lines : List Command) (line : Comman
     ⊎ ((LINK_FILLS ≤ start + length (reserved_records p.history) + n)
     × (committed_records q.history ≡ committed_records p.history)))
 
--- Of a CPU that has only `w` and `c` lines, at most as many as there are numbers left for fills, and a history that keeps
--- the discipline of the stack, is packed, and is of these lines in this sense, the committed records are exactly those
--- of its `w` lines that are neither too long nor too late, in order, moments raised.
+-- Of a CPU that has only `w` and `c` lines, at most as many as there are numbers left for fills, and a history that
+-- keeps the discipline of the stack, is packed, and is of these lines in this sense, the committed records are exactly
+-- those of its `w` lines that are neither too long nor too late, in order, moments raised.
 abbrev pub CommitsWholeLines : ((n size start : ℕ) → List Command → List HistoryEvent → Type 0) → Type 0
 CommitsWholeLines IsOfLines = (n size start : ℕ) (lines : List Command) (history : List HistoryEvent)
     → MIN_PAGES ≤ n

@@ -128,9 +128,9 @@ MayAddPage s (top ∷ below) = HasNoted s top.progress
 abbrev pub HasRecordRoom : Stack → (moment len : ℕ) → Type 0
 HasRecordRoom s moment len = end_with s moment len ≤ s.size
 
--- The record of the frame on top is put after those of the tail, with zeros in its payload's place, at its moment or, if
--- that is later, at the last one. Frames below and pages before the tail stay. What the tail's header holds isn't said
--- here: `IsStack` ties it to the history.
+-- The record of the frame on top is put after those of the tail, with zeros in its payload's place, at its moment or,
+-- if that is later, at the last one. Frames below and pages before the tail stay. What the tail's header holds isn't
+-- said here: `IsStack` ties it to the history.
 pub record ReservesRecord (s : Stack) (top : Frame) (below : List Frame) (moment len : ℕ) (place : Place)
     (after : Stack)
     : Type 0 where

@@ -7,9 +7,9 @@ pub fn fills_are_few()
     ensures few { FillsAreFew }
 {}
 
-/// In a packed history that keeps the discipline of the stack, a `w` or `c` line from rest commits exactly its record or
-/// none. A frame that is alone is never refused for want of a page, and for want of a number only if records have taken
-/// the numbers of fills.
+/// In a packed history that keeps the discipline of the stack, a `w` or `c` line from rest commits exactly its record
+/// or none. A frame that is alone is never refused for want of a page, and for want of a number only if records have
+/// taken the numbers of fills.
 pub fn lines_from_rest_commit()
     ensures one { LinesFromRestCommit }
 {}

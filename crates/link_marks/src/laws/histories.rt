@@ -6,8 +6,8 @@ pub fn runs_are_histories()
     ensures histories { RunsAreHistories }
 {}
 
-/// An event appends to it what its answer, in the state before it, stands for, and nothing else: a push its push, an end
-/// its leave with the payload, and a step of the frame on top what that frame does.
+/// An event appends to it what its answer, in the state before it, stands for, and nothing else: a push its push, an
+/// end its leave with the payload, and a step of the frame on top what that frame does.
 pub fn steps_append()
     ensures append { StepsAppend }
     ensures one { AppendedIsOne }

@@ -61,8 +61,8 @@ impl Reader {
         }
     }
 
-    /// A load of the number of closed fills: this fill, which the reader found at the head, is closed, or no closed fill
-    /// is unread.
+    /// A load of the number of closed fills: this fill, which the reader found at the head, is closed, or no closed
+    /// fill is unread.
     fn load_done(&mut self, page: u16, fill: u64, body: Body) -> TakeStep
         requires taking { KeepsNoEmpty self.old }
         requires phase { self.old.at.phase ≡ LoadingDone page fill }
