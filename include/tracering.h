@@ -22,7 +22,8 @@
 // overlap; a handle is in one call at a time, other than by a signal's handler.
 //
 // Threads. A writer's handle belongs to one thread at a time, and so does a reader's, and a collector's. A handle is
-// handed to another thread by pthread_create, pthread_join, a lock, or a sequentially consistent atomic.
+// handed to another thread by pthread_create, pthread_join, a lock, or a sequentially consistent atomic. Both ends of a
+// ring make sequentially consistent accesses of the words that they share; the proofs assume a memory that is so.
 //
 // Signals. A handler may call write, begin, put, finish, end, begin_close and depth on the handle of the thread that
 // it interrupts: its records are nested. Amid a call on that handle they answer BUSY (depth: 0). It may call take and

@@ -1,5 +1,5 @@
 -- A record that is written at once: the private steps of it, and the look for the reader's wish after them.
-use Rattle.std.proofs.Common.{◌≡◌, ◌≢◌, ℕ, List, [], ◌∷◌, length, refl, sym, ap, ◌∙◌, subst, arith}
+use Rattle.std.proofs.Common.{◌≡◌, ◌≢◌, ℕ, List, [], ◌∷◌, ◌++◌, length, refl, sym, ap, ◌∙◌, subst, arith, append_assoc}
 use Rattle.trace_model.specs.declared.numbers.RecordNo.{RecordNo}
 use Rattle.trace_model.specs.Words.{padded}
 use Rattle.trace_model.specs.Frames.{for_record, left, wishing, Frame}
@@ -11,7 +11,6 @@ use Rattle.link_marks.specs.Reached.{IsReached}
 use Rattle.link_marks.specs.Seats.{IsPrivate}
 use Rattle.link_marks.specs.FrameOutcomes.{IsLeaving}
 use Rattle.link_marks.proofs.seats.PrivateSteps.{private_result, changes_privately}
-use Rattle.link_marks.proofs.partition.RingsKept.{reached_further}
 use Rattle.link_marks.proofs.frames.TopSteps.{top_stepped}
 use Rattle.nested_writer.specs.declared.frame.Frame as stack
 use Rattle.nested_writer.specs.declared.stack.leave.Ended.TheVariants.{Full}
@@ -28,11 +27,13 @@ use Rattle.ring_frames.specs.AtOnce.{with_left_frame, IsWriteAtOnce, WritesAtOnc
 use Rattle.ring_frames.proofs.Reported.{is_going}
 use Rattle.ring_steps.specs.declared.rule.Shape.{Shape}
 use Rattle.ring_steps.specs.declared.ends.WriterSeat.{WriterSeat}
-use Rattle.ring_steps.specs.Views.{Writing, writing_of}
+use Rattle.ring_steps.specs.Made.{WriterMade, writer_made, writer_made_of}
+use Rattle.ring_steps.specs.Views.{Writing, writing_of, writing_after}
 use Rattle.ring_steps.specs.Seats.{Leads, IsWriterStep}
 use Rattle.ring_steps.specs.Ends.{writing_in, passed_in, writer_table, SameSeat}
 use Rattle.ring_steps.specs.Paging.{IsTopIn}
 use Rattle.ring_steps.specs.Notes.{part_after}
+use Rattle.ring_steps.proofs.Made.{reached_on, part_then}
 use Rattle.ring_steps.proofs.PartAfter.{part_after_is}
 use Rattle.ring_shared.specs.Value.{WriterValue}
 use Rattle.ring_shared.specs.Calls.{AreWriterFields, IsCall, MakesSome}
@@ -86,22 +87,55 @@ module _ (v : WriterValue) (w : AreWriterFields v) (moment : ℕ) (payload : Lis
   abbrev mid : WriterValue
   mid = record v { part = now; frames = frames }
 
-  module _ (c : Core) (reached : IsReached n size start c) (is : writing_of c ≡ v.part) where
+  -- what is made at once
+  abbrev x_push : model.Exchange
+  x_push = record { event = model.pushes moment (length payload); answer = model.pushed }
+
+  abbrev x_reserve : model.Exchange
+  x_reserve = record { event = model.steps; answer = model.reserved_as (next_number v.frames.stack) }
+
+  abbrev x_end : model.Exchange
+  x_end = record { event = model.ends (padded payload); answer = model.full }
+
+  module _ (c : Core) (reached : IsReached n size start c) (is : writing_of (writer_made_of reached) c ≡ v.part) where
     abbrev h : IsWriteAtOnce n size start c moment payload (next_number v.frames.stack) frames
     h = wrote n size start c reached (frames_in v w c is)
 
-    pushed_part : writing_of h.pushed ≡ part_after v.shape v.part (model.pushes moment (length payload))
-    pushed_part = part_after_is v.shape v.part c (model.pushes moment (length payload)) model.pushed h.pushed is h.push_private h.push
+    abbrev pushes_made : WriterMade
+    pushes_made = writer_made x_push h.pushed
 
-    reserved_part : writing_of h.reserved ≡ part_after v.shape (part_after v.shape v.part (model.pushes moment (length payload))) model.steps
-    reserved_part = part_after_is v.shape (part_after v.shape v.part (model.pushes moment (length payload))) h.pushed model.steps (model.reserved_as (next_number v.frames.stack)) h.reserved pushed_part h.reserve_private h.reserve
+    abbrev reserves_made : WriterMade
+    reserves_made = writer_made x_reserve h.reserved
 
-    now_part : writing_of h.after ≡ now
-    now_part = part_after_is v.shape (part_after v.shape (part_after v.shape v.part (model.pushes moment (length payload))) model.steps) h.reserved (model.ends (padded payload)) model.full h.after reserved_part h.end_private h.end
+    abbrev ends_made : WriterMade
+    ends_made = writer_made x_end h.after
+
+    abbrev made_push : List WriterMade
+    made_push = v.part.made ++ pushes_made ∷ []
+
+    abbrev made_reserve : List WriterMade
+    made_reserve = made_push ++ reserves_made ∷ []
+
+    abbrev made_end : List WriterMade
+    made_end = made_reserve ++ ends_made ∷ []
+
+    made_all : made_end ≡ v.part.made ++ pushes_made ∷ reserves_made ∷ ends_made ∷ []
+    made_all = ap (λ (made : List WriterMade). made ++ ends_made ∷ []) (append_assoc v.part.made (pushes_made ∷ []) (reserves_made ∷ [])) ∙ append_assoc v.part.made (pushes_made ∷ reserves_made ∷ []) (ends_made ∷ [])
+
+    pushed_part : writing_of made_push h.pushed ≡ part_after v.shape v.part (model.pushes moment (length payload))
+    pushed_part = part_after_is v.shape v.part (writer_made_of reached) c (model.pushes moment (length payload)) model.pushed h.pushed is h.push_private h.push
+
+    reserved_part : writing_of made_reserve h.reserved ≡ part_after v.shape (part_after v.shape v.part (model.pushes moment (length payload))) model.steps
+    reserved_part = ap (λ (w : Writing). writing_after w.made x_reserve (writing_of [] h.reserved)) pushed_part
+        ∙ part_after_is v.shape (part_after v.shape v.part (model.pushes moment (length payload))) made_push h.pushed model.steps (model.reserved_as (next_number v.frames.stack)) h.reserved pushed_part h.reserve_private h.reserve
+
+    now_part : writing_of made_end h.after ≡ now
+    now_part = ap (λ (w : Writing). writing_after w.made x_end (writing_of [] h.after)) reserved_part
+        ∙ part_after_is v.shape (part_after v.shape (part_after v.shape v.part (model.pushes moment (length payload))) model.steps) made_reserve h.reserved (model.ends (padded payload)) model.full h.after reserved_part h.end_private h.end
 
   pub leads_write : Leads v.shape v.part now
   leads_write = λ c reached is. (
-    record { event = model.pushes moment (length payload); answer = model.pushed } ∷ record { event = model.steps; answer = model.reserved_as (next_number v.frames.stack) } ∷ record { event = model.ends (padded payload); answer = model.full } ∷ [],
+    x_push ∷ x_reserve ∷ x_end ∷ [],
     (h c reached is).after,
     (
       (h c reached is).push_private,
@@ -114,20 +148,20 @@ module _ (v : WriterValue) (w : AreWriterFields v) (moment : ℕ) (payload : Lis
         ((h c reached is).end_private, (h c reached is).after, (h c reached is).end, refl),
       ),
     ),
-    now_part c reached is,
+    ap (λ (made : List WriterMade). writing_of made (h c reached is).after) (sym (made_all c reached is)) ∙ now_part c reached is,
   )
 
   abbrev first : IsWriteAtOnce n size start w.core moment payload (next_number v.frames.stack) frames
   first = h w.core w.reached w.part_is
 
-  pushed_reached : IsReached n size start first.pushed
-  pushed_reached = reached_further n size start w.core (model.pushes moment (length payload)) model.pushed first.pushed w.reached first.push
+  abbrev pushed_reached : IsReached n size start first.pushed
+  pushed_reached = reached_on n size start w.core (model.pushes moment (length payload)) model.pushed first.pushed w.reached first.push
 
-  reserved_reached : IsReached n size start first.reserved
-  reserved_reached = reached_further n size start first.pushed model.steps (model.reserved_as (next_number v.frames.stack)) first.reserved pushed_reached first.reserve
+  abbrev reserved_reached : IsReached n size start first.reserved
+  reserved_reached = reached_on n size start first.pushed model.steps (model.reserved_as (next_number v.frames.stack)) first.reserved pushed_reached first.reserve
 
-  after_reached : IsReached n size start first.after
-  after_reached = reached_further n size start first.reserved (model.ends (padded payload)) model.full first.after reserved_reached first.end
+  abbrev after_reached : IsReached n size start first.after
+  after_reached = reached_on n size start first.reserved (model.ends (padded payload)) model.full first.after reserved_reached first.end
 
   pages_stay : now.open_pages ≡ v.part.open_pages
   pages_stay = ap (λ (x : Writing). x.open_pages) (sym (now_part w.core w.reached w.part_is))
@@ -136,12 +170,24 @@ module _ (v : WriterValue) (w : AreWriterFields v) (moment : ℕ) (payload : Lis
       ∙ (open_stay n size w.core (model.pushes moment (length payload)) model.pushed first.pushed first.push_private first.push
       ∙ ap (λ (x : Writing). x.open_pages) w.part_is)))
 
+  abbrev pushed_as : Writing
+  pushed_as = writing_of (made_push w.core w.reached w.part_is) first.pushed
+
+  abbrev reserved_then : Writing
+  reserved_then = writing_of (made_reserve w.core w.reached w.part_is) first.reserved
+
+  pushed_here : writing_of (writer_made_of pushed_reached) first.pushed ≡ pushed_as
+  pushed_here = part_then n size start w.core (model.pushes moment (length payload)) model.pushed first.pushed w.reached first.push v.part pushed_as refl w.part_is refl
+
+  reserved_here : writing_of (writer_made_of reserved_reached) first.reserved ≡ reserved_then
+  reserved_here = part_then n size start first.pushed model.steps (model.reserved_as (next_number v.frames.stack)) first.reserved pushed_reached first.reserve pushed_as reserved_then refl pushed_here refl
+
   -- the writer after them
   writer_mid : AreWriterFields mid
   writer_mid = record {
     core = first.after;
     reached = after_reached;
-    part_is = now_part w.core w.reached w.part_is;
+    part_is = part_then n size start first.reserved (model.ends (padded payload)) model.full first.after reserved_reached first.end reserved_then now refl reserved_here (now_part w.core w.reached w.part_is);
     frames_are = first.are;
     pages_are = pages_stay ∙ w.pages_are;
   }
@@ -173,24 +219,21 @@ module _ (v : WriterValue) (w : AreWriterFields v) (moment : ℕ) (payload : Lis
   abbrev number : RecordNo
   number = record { 0 = next_number v.frames.stack }
 
-  abbrev pushed_as : Writing
-  pushed_as = writing_of first.pushed
-
   push_call : IsCall v.shape v.part (model.pushes moment (length payload)) Pushed pushed_as
-  push_call = record { core = w.core; next = first.pushed; answer = model.pushed; reached = w.reached; before_is = w.part_is; step = first.push; after_is = refl; reports = refl }
+  push_call = record { core = w.core; next = first.pushed; answer = model.pushed; is_own = refl; reached = w.reached; before_is = w.part_is; step = first.push; after_is = refl; reports = refl }
 
-  reserve_call : IsCall v.shape pushed_as model.steps (Reserved number) (writing_of first.reserved)
-  reserve_call = record { core = first.pushed; next = first.reserved; answer = model.reserved_as (next_number v.frames.stack); reached = pushed_reached; before_is = refl; step = first.reserve; after_is = refl; reports = refl }
+  reserve_call : IsCall v.shape pushed_as model.steps (Reserved number) reserved_then
+  reserve_call = record { core = first.pushed; next = first.reserved; answer = model.reserved_as (next_number v.frames.stack); is_own = refl; reached = pushed_reached; before_is = pushed_here; step = first.reserve; after_is = refl; reports = refl }
 
-  end_call : IsCall v.shape (writing_of first.reserved) (model.ends (padded payload)) (Ended Full) now
-  end_call = record { core = first.reserved; next = first.after; answer = model.full; reached = reserved_reached; before_is = refl; step = first.end; after_is = now_part w.core w.reached w.part_is; reports = refl }
+  end_call : IsCall v.shape reserved_then (model.ends (padded payload)) (Ended Full) now
+  end_call = record { core = first.reserved; next = first.after; answer = model.full; is_own = refl; reached = reserved_reached; before_is = reserved_here; step = first.end; after_is = now_part w.core w.reached w.part_is; reports = refl }
 
   abbrev begun : HasBegun moment (length payload) v.part pushed_as
   begun = (has_begun v.shape v.part pushed_as moment (length payload) Pushed push_call (λ (fault, e). cc)).0
 
-  reserves_it : Reserves v.shape (for_record moment (length payload)) v.part.frames pushed_as (Reserved number) (writing_of first.reserved)
-  reserves_it = subst (λ (k : Rattle.trace_model.specs.Frames.Kind). Reserves v.shape k v.part.frames pushed_as (Reserved number) (writing_of first.reserved)) begun.kind_is
-      (reserving_ends v.shape begun.frame.kind v.part.frames pushed_as pushed_as (writing_of first.reserved) (Reserved number)
+  reserves_it : Reserves v.shape (for_record moment (length payload)) v.part.frames pushed_as (Reserved number) reserved_then
+  reserves_it = subst (λ (k : Rattle.trace_model.specs.Frames.Kind). Reserves v.shape k v.part.frames pushed_as (Reserved number) reserved_then) begun.kind_is
+      (reserving_ends v.shape begun.frame.kind v.part.frames pushed_as pushed_as reserved_then (Reserved number)
       (reserving_first v.shape begun.frame v.part.frames pushed_as begun.top begun.reserves) reserve_call (λ e. cc))
 
   none_stood : v.part.frames ≡ []
@@ -199,7 +242,7 @@ module _ (v : WriterValue) (w : AreWriterFields v) (moment : ℕ) (payload : Lis
   written_then : (last : Answer) (after : Writing) → Leaves v.shape [] now last after → IsWritten v.shape v.part moment payload after
   written_then last after leaves = record {
     pushed = pushed_as;
-    reserved = writing_of first.reserved;
+    reserved = reserved_then;
     ended = now;
     number = number;
     how = Full;

@@ -1,5 +1,5 @@
 -- What a call of a writer appends to the history of its frames.
-use Rattle.std.proofs.Common.{◌≡◌, ◌≢◌, ℕ, List, [], ◌∷◌, ◌++◌, length, Some, None, sym, ap, ◌∙◌, subst, inl, inr, append-nil}
+use Rattle.std.proofs.Common.{◌≡◌, ◌≢◌, ℕ, List, [], ◌∷◌, ◌++◌, length, Some, None, refl, sym, ap, ◌∙◌, subst, inl, inr, append-nil}
 use Rattle.trace_model.specs.History.{HistoryEvent, push, push_close, reserve, leave, reserved_records}
 use Rattle.trace_model.specs.Frames.{Kind, for_record, for_close, FrameState, waiting, reserved, left, Phase, Frame, Refusal}
 use Rattle.trace_model.specs.Ring.{Core}
@@ -11,8 +11,14 @@ use Rattle.nested_writer.specs.declared.stack.leave.Ended.{Ended as How}
 use Rattle.nested_writer.specs.declared.stack.leave.Ended.TheVariants.{Pending, Full}
 use Rattle.ring_frames.specs.declared.answer.Answer.TheVariants.{Ended}
 use Rattle.ring_frames.specs.Answers.{IsAnswerOf, refusal_of}
-use Rattle.ring_steps.specs.Views.{Writing, writing_of}
+use Rattle.ring_steps.specs.Made.{WriterMade, writer_made_of}
+use Rattle.ring_steps.specs.Views.{Writing, writing_of, writing_made, writing_after}
+use Rattle.ring_steps.proofs.Made.{part_here}
 use Rattle.ring_shared.specs.Laws.{CallsAppend, PushesAppend, ClosesAppend, EndsAppend, ReservationsAppend, NumbersAreReportedAgain, RefusalsAppend, events_of_refusal}
+
+-- a step is one more that the writer made, with the part after it
+step_made : (before : Writing) (x : model.Exchange) (next : Core) (after : Writing) → writing_after before.made x (writing_of [] next) ≡ after → after.made ≡ before.made ++ writing_made x after ∷ []
+step_made before x next after is = subst (λ (w : Writing). w.made ≡ before.made ++ writing_made x w ∷ []) is refl
 
 pub calls_append : CallsAppend
 calls_append shape before event result after call =
@@ -20,10 +26,11 @@ calls_append shape before event result after call =
       core = call.core;
       answer = call.answer;
       history_events = history_events;
-      before_is = call.before_is;
+      before_is = part_here (writer_made_of call.reached) call.core before call.before_is;
       reports = call.reports;
       appends = by;
       history_is = ap (λ (w : Writing). w.history) (sym call.after_is) ∙ is ∙ ap (λ (w : Writing). w.history ++ history_events) call.before_is;
+      made_is = step_made before record { event = event; answer = call.answer } call.next after call.after_is;
     }
 
 -- ---- a push
@@ -92,7 +99,7 @@ module _ (n : ℕ) (c : Core) (below : List Frame) (answer : model.Answer) (hist
   again_event kind state phase number has appends = subst (λ (s : FrameState). FrameAppends n c kind s phase below answer history_events) has appends
 
 -- the part's frames are the state's
-frames_are : (core : Core) (before : Writing) (frames : List Frame) → writing_of core ≡ before → before.frames ≡ frames → core.frames ≡ frames
+frames_are : {made : List WriterMade} (core : Core) (before : Writing) (frames : List Frame) → writing_of made core ≡ before → before.frames ≡ frames → core.frames ≡ frames
 frames_are core before frames is top = ap (λ (w : Writing). w.frames) is ∙ top
 
 pub reservations_append : ReservationsAppend

@@ -35,4 +35,5 @@ first_part shape part is same =
         wish_is = sym s.wish;
         observed_is = sym (ap (λ (r : Reader). take r.expected (map as_record (reserved_records c.history))) s.reader);
       };
+      made_is = refl;
     }

@@ -21,7 +21,7 @@ use Rattle.ring_shared.proofs.Standing.{frames_like, frames_in, top_in, made}
 abbrev pub Moves : WriterValue → ModelPhase → ModelPhase → Core → Core → Type 0
 Moves v from to c after = (frame : Frame) (below : List Frame)
     → cases.FrameStep v.shape.pages v.shape.size c frame below from model.going after
-    → writing_of after ≡ writing_of (model.in_phase c frame below to)
+    → writing_of [] after ≡ writing_of [] (model.in_phase c frame below to)
 
 -- a step of a value whose view is that one, and which has this answer
 as_called : (v x new : WriterValue) (result : Answer) → v ≡ x → result ≡ Going → MakesSome v model.steps Going new → MakesSome x model.steps result new

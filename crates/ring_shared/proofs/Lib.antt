@@ -14,6 +14,7 @@ pub mod PageTaken
 pub mod TakeSteps
 pub mod Depths
 pub mod Targets
+pub mod NoFrame
 pub mod Finishes
 pub mod Nearing
 pub mod PushedEnded
@@ -28,3 +29,5 @@ pub mod StepEvents
 pub mod WholeAppends
 pub mod TopLent
 pub mod Rooms
+pub mod TakenMade
+pub mod OneRun

@@ -10,6 +10,7 @@ use Rattle.link_marks.proofs.partition.RingsKept.{reached_kept}
 use Rattle.link_marks.proofs.seats.WriterEnds.{writer_steps_lower}
 use Rattle.ring_frames.specs.declared.answer.Answer.{Answer}
 use Rattle.ring_steps.specs.declared.rule.Shape.{Shape}
+use Rattle.ring_steps.specs.Made.{WriterMade}
 use Rattle.ring_steps.specs.Views.{Writing, writing_of}
 use Rattle.ring_steps.specs.Seats.{IsWriterStep}
 use Rattle.ring_steps.specs.Paging.{IsTopIn}
@@ -55,8 +56,8 @@ abbrev rank_part : (n passed : ℕ) → Writing → ℕ
 rank_part n passed w = writer_rank n passed w.done w.opened w.history w.frames
 
 module _ (v new : WriterValue) (shape_is : new.shape ≡ v.shape) (knows : v.passed ≤ new.passed) where
-  module _ (core next : Core) (answer : model.Answer) (reached : IsReached v.shape.pages v.shape.size v.shape.start core) (before_is : writing_of core ≡ v.part)
-      (step : model.Step v.shape.pages v.shape.size core model.steps answer next) (after_is : writing_of next ≡ new.part)
+  module _ {made made_next : List WriterMade} (core next : Core) (answer : model.Answer) (reached : IsReached v.shape.pages v.shape.size v.shape.start core) (before_is : writing_of made core ≡ v.part)
+      (step : model.Step v.shape.pages v.shape.size core model.steps answer next) (after_is : writing_of made_next next ≡ new.part)
       (looks : (noted : ℕ) → IsTopIn v.part.frames (looking noted) → noted ≡ v.part.opened → v.passed ≤ core.head)
       (claims : (noted page : ℕ) → IsTopIn v.part.frames (claiming noted page) → noted ≡ v.part.opened → noted < new.passed + v.shape.pages) where
     opened_is : core.opened ≡ v.part.opened
@@ -67,14 +68,14 @@ module _ (v new : WriterValue) (shape_is : new.shape ≡ v.shape) (knows : v.pas
         let there : core.frames ≡ frame ∷ below = ap (λ (w : Writing). w.frames) before_is ∙ top in
         let still : length next.frames ≡ length core.frames = ap (λ (w : Writing). length w.frames) after_is ∙ stands ∙ sym (ap (λ (w : Writing). length w.frames) before_is) in
         let on_top : (phase : Phase) → frame.phase ≡ phase → IsTopIn v.part.frames phase = λ phase is. subst (λ (fs : List Frame). IsTopIn fs phase) (sym top) is in
-        let lower : rank_part v.shape.pages new.passed (writing_of next) < rank_part v.shape.pages v.passed (writing_of core) =
+        let lower : rank_part v.shape.pages new.passed (writing_of made_next next) < rank_part v.shape.pages v.passed (writing_of made core) =
         writer_steps_lower v.shape.pages v.shape.size v.shape.start core frame below answer next v.passed new.passed
         (reached_kept v.shape.pages v.shape.size v.shape.start core reached) there unnumbered step still knows
         (λ noted is now. looks noted (on_top (looking noted) is) (now ∙ opened_is))
         (λ noted page is now. claims noted page (on_top (claiming noted page) is) (now ∙ opened_is)) in
         subst (λ (s : Shape). rank_part s.pages new.passed new.part < rank_part v.shape.pages v.passed v.part) (sym shape_is)
         (subst (λ (w : Writing). rank_part v.shape.pages new.passed new.part < rank_part v.shape.pages v.passed w) before_is
-        (subst (λ (w : Writing). rank_part v.shape.pages new.passed w < rank_part v.shape.pages v.passed (writing_of core)) after_is lower))
+        (subst (λ (w : Writing). rank_part v.shape.pages new.passed w < rank_part v.shape.pages v.passed (writing_of made core)) after_is lower))
 
   -- a step of a frame that is in neither of these two phases, or in one of them late
   nearer_quietly : (result : Answer) (phase : Phase) → MakesSome v model.steps result new → IsTopIn v.part.frames phase → IsQuiet v.part.opened phase → IsNearer v new

@@ -6,12 +6,13 @@ use Rattle.trace_model.specs.Ring as ring
 use Rattle.trace_model.specs.Steps as model
 use Rattle.trace_model.proofs.steps.StepCases as cases
 use Rattle.trace_model.proofs.steps.StepIs.{step_by}
-use Rattle.link_marks.proofs.partition.RingsKept.{reached_further}
 use Rattle.link_marks.proofs.steps.StepsDetermined.{steps_are_determined}
 use Rattle.page_image.specs.Contents.{records_of_page}
 use Rattle.ring_steps.specs.declared.rule.Shape.{Shape}
 use Rattle.ring_steps.specs.Views.{Reading}
 use Rattle.ring_steps.specs.Seats.{IsReaderStep}
+use Rattle.ring_steps.proofs.Made.{reached_on}
+use Rattle.ring_steps.proofs.ReaderSteps.{step_read}
 use Rattle.ring_shared.specs.declared.take.Take.{Take}
 use Rattle.ring_shared.specs.declared.take.Take.TheVariants.{Page, Empty, Moving}
 use Rattle.ring_shared.specs.declared.take.TakeStep.TheVariants.{Looking}
@@ -78,8 +79,9 @@ wish_stays shape before after sees answer r =
     let is = (steps_are_determined shape.pages shape.size r.core model.wishes answer (model.wished_for r.core.reader.seen) r.next (model.with_wish r.core) r.step (step_by (cases.store_wish_step refl refl refl))).1 in record {
       known = record {
         core = r.next;
-        reached = reached_further shape.pages shape.size shape.start r.core model.wishes answer r.next r.reached r.step;
+        reached = reached_on shape.pages shape.size shape.start r.core model.wishes answer r.next r.reached r.step;
         is = r.after_is;
+        made_is = step_read shape before sees model.wishes answer after r;
       };
       order_is = r.after_is.order_is ∙ (ap (λ (d : ring.Core). d.order) is ∙ sym r.before_is.order_is);
       spare_is = r.after_is.spare_is ∙ (ap (λ (d : ring.Core). d.spare) is ∙ sym r.before_is.spare_is);

@@ -62,7 +62,7 @@ module _ (shape : Shape) (before : Reading) (page fill : ℕ) (after : Reading) 
       let sees : ring.Core → Type 0 = λ core. ring.link_into shape.pages core.links fill ≢ header_link page fill in
       let seen = (facts shape before after sees model.reading h.step (ring.swapping page fill) at).0 in
       let fill_is = seen.fill_is in let hint = hint_is shape before after sees model.reading h.step in (
-        stays shape before after sees model.reading h.step (record before.reader { phase = ring.loading_head; hint = fill + 1 }) before.spare_link before.keeps_spare h.after_is,
+        stays shape before after sees model.reading h.step (record before.reader { phase = ring.loading_head; hint = fill + 1 }) before.spare_link before.keeps_spare _ h.after_is,
         omega arith,
       )
 

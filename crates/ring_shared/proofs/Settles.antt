@@ -14,13 +14,16 @@ use Rattle.page_image.specs.Contents.{Contents, records_of_page}
 use Rattle.nested_writer.specs.IsStack.{IsStack}
 use Rattle.nested_writer.specs.Released.{IsWrittenPage}
 use Rattle.ring_steps.specs.declared.rule.Shape.{Shape}
+use Rattle.ring_steps.specs.declared.settling.SettledSeats.{SettledSeats}
+use Rattle.ring_steps.specs.Made.{writer_made_of}
 use Rattle.ring_steps.specs.Views.{Writing, Reading}
 use Rattle.ring_steps.specs.Seats.{AreParts}
+use Rattle.ring_steps.proofs.Made.{part_here}
 use Rattle.ring_shared.specs.Value.{WriterValue, ReaderValue}
 use Rattle.ring_shared.specs.Calls.{AreWriterFields}
 use Rattle.ring_shared.specs.Takes.{IsReader}
 use Rattle.ring_shared.specs.declared.settling.Settled.{Settled}
-use Rattle.ring_shared.specs.Settling.{piece_unread, unread_page, WasTaken, IsSettled}
+use Rattle.ring_shared.specs.Settling.{piece_unread, unread_page, WasTaken, IsOneRun, IsSettled}
 
 -- what is left as one piece more, before which nothing is skipped
 rest_as_piece : (records : List Record) (pieces : List Piece) (rest : List Record) → IsPartition records pieces rest → IsPartition records (pieces ++ record { skipped = 0; records = rest } ∷ []) []
@@ -43,6 +46,20 @@ with_unread records pieces settled is counted = elim (cases_Bool (settled.tail.c
       subst (λ (o : Option Contents). IsPartition records (pieces ++ piece_unread o) []) (sym (cond-false (settled.tail.count == 0) _ _ some))
       (rest_as_piece records pieces (records_of_page settled.tail) is)
 ]
+
+-- what both ends made is one run
+pub one_run : (shape : Shape) (writing : Writing) (part : Reading) → AreParts shape writing part → IsOneRun shape writing part
+one_run shape writing part p = record {
+  from = p.reached.from;
+  exchanges = p.reached.exchanges;
+  last = p.core;
+  may_start = p.reached.may_start;
+  is_new = p.reached.is_new;
+  run = p.reached.run;
+  made = record { by_writer_are = ap (λ (w : Writing). w.made) p.writing_is; by_reader_are = sym p.reader_made_is };
+  writing_is = part_here (writer_made_of p.reached) p.core writing p.writing_is;
+  reading_is = p.reading_is;
+}
 
 module _ (shape : Shape) (writing : Writing) (part : Reading) (settled : Settled) (p : AreParts shape writing part) (at_rest : writing.frames ≡ []) (hint : part.reader.hint ≡ writing.done)
     (tail : IsWrittenPage shape.size writing.done (fill_of writing.history shape.start writing.done) settled.tail) where
@@ -103,6 +120,7 @@ module _ (shape : Shape) (writing : Writing) (part : Reading) (settled : Settled
     passed = passed;
     fills = fills;
     parts = p;
+    one_run = one_run shape writing part p;
   }
 
 -- ---- by the fields of both ends
@@ -111,7 +129,7 @@ module _ (shape : Shape) (writing : Writing) (part : Reading) (settled : Settled
 pub done_there : (w : WriterValue) → AreWriterFields w → w.part.done ≡ w.frames.stack.done
 done_there w writer = sym (ap (λ (p : Writing). p.done) writer.part_is) ∙ writer.frames_are.done_is
 
-module _ (w : WriterValue) (r : ReaderValue) (tail : Contents) (writer : AreWriterFields w) (reader : IsReader r) (at_rest : w.part.frames ≡ []) (found : r.empty_at ≡ Some w.part.done) where
+module _ (w : WriterValue) (r : ReaderValue) (tail : Contents) (seats : SettledSeats) (writer : AreWriterFields w) (reader : IsReader r) (at_rest : w.part.frames ≡ []) (found : r.empty_at ≡ Some w.part.done) where
   tail_there : ((start : ℕ) (history : List HistoryEvent) → IsStack start history w.frames.stack → IsWrittenPage w.frames.stack.size w.frames.stack.done (fill_of history start w.frames.stack.done) tail)
       → IsWrittenPage w.shape.size w.part.done (fill_of w.part.history w.shape.start w.part.done) tail
   tail_there written =
@@ -124,9 +142,9 @@ module _ (w : WriterValue) (r : ReaderValue) (tail : Contents) (writer : AreWrit
   pub ends_settle : (shown_w : WriterValue) (shown_r : ReaderValue) → shown_w ≡ w → shown_r ≡ r
       → AreParts shown_w.shape shown_w.part shown_r.part
       → ((start : ℕ) (history : List HistoryEvent) → IsStack start history shown_w.frames.stack → IsWrittenPage shown_w.frames.stack.size shown_w.frames.stack.done (fill_of history start shown_w.frames.stack.done) tail)
-      → IsSettled w.shape w.part r.part record { tail = tail }
+      → IsSettled w.shape w.part r.part record { tail = tail; seats = seats }
   ends_settle shown_w shown_r w_is r_is parts written =
-      settles w.shape w.part r.part record { tail = tail }
+      settles w.shape w.part r.part record { tail = tail; seats = seats }
       (subst (λ (v : ReaderValue). AreParts w.shape w.part v.part) r_is (subst (λ (v : WriterValue). AreParts v.shape v.part shown_r.part) w_is parts))
       at_rest (reader.empty w.part.done found).hint_is
       (tail_there (subst (λ (v : WriterValue). (start : ℕ) (history : List HistoryEvent) → IsStack start history v.frames.stack → IsWrittenPage v.frames.stack.size v.frames.stack.done (fill_of history start v.frames.stack.done) tail) w_is written))

@@ -1,12 +1,12 @@
 -- What a writer's fields state of each state with its part; and what they are after a step of the frame on top.
-use Rattle.std.proofs.Common.{◌≡◌, ◌≢◌, List, [], sym, ap, ◌∙◌, subst}
+use Rattle.std.proofs.Common.{◌≡◌, ◌≢◌, List, [], refl, sym, ap, ◌∙◌, subst}
 use Rattle.trace_model.specs.Frames.{Phase, Frame}
 use Rattle.trace_model.specs.Ring.{Core}
 use Rattle.trace_model.specs.Steps as model
-use Rattle.link_marks.specs.Reached.{IsReached}
 use Rattle.link_marks.specs.RingKept.{IsRingKept}
-use Rattle.link_marks.proofs.partition.RingsKept.{reached_kept, reached_further}
+use Rattle.link_marks.proofs.partition.RingsKept.{reached_kept}
 use Rattle.ring_steps.specs.declared.rule.Shape.{Shape}
+use Rattle.ring_steps.specs.Made.{WriterMade}
 use Rattle.ring_steps.specs.Views.{Writing, writing_of}
 use Rattle.ring_steps.specs.Seats.{IsWriterStep}
 use Rattle.ring_steps.specs.Paging.{IsTopIn}
@@ -16,13 +16,14 @@ use Rattle.ring_frames.specs.AreFrames.{AreFrames}
 use Rattle.ring_frames.specs.Answers.{IsAnswerOf}
 use Rattle.ring_frames.proofs.Same.{same_frames}
 use Rattle.ring_frames.proofs.Tops.{IsTopped, topped}
+use Rattle.ring_steps.proofs.Made.{reached_on, reached_as, part_then, part_as}
 use Rattle.ring_shared.specs.Value.{WriterValue}
 use Rattle.ring_shared.specs.Calls.{IsWriter, AreWriterFields, MakesSome}
 
 abbrev pub FramesIn : Shape → FramesValue → Core → Type 0
 FramesIn shape frames c = AreFrames shape.pages shape.size shape.start frames c
 
-pub frames_like : (shape : Shape) (frames : FramesValue) (c other : Core) → FramesIn shape frames c → writing_of other ≡ writing_of c → FramesIn shape frames other
+pub frames_like : {made others : List WriterMade} (shape : Shape) (frames : FramesValue) (c other : Core) → FramesIn shape frames c → writing_of others other ≡ writing_of made c → FramesIn shape frames other
 frames_like shape frames c other are same =
     same_frames shape.pages shape.size shape.start frames c other are
     (ap (λ (w : Writing). w.frames) same) (ap (λ (w : Writing). w.history) same) (ap (λ (w : Writing). w.done) same) (ap (λ (w : Writing). w.opened) same)
@@ -32,10 +33,10 @@ module _ (v : WriterValue) (w : AreWriterFields v) where
   kept_now = reached_kept v.shape.pages v.shape.size v.shape.start w.core w.reached
 
   -- the frames are those of each state with this part
-  pub frames_in : (c : Core) → writing_of c ≡ v.part → FramesIn v.shape v.frames c
+  pub frames_in : {made : List WriterMade} (c : Core) → writing_of made c ≡ v.part → FramesIn v.shape v.frames c
   frames_in c is = frames_like v.shape v.frames w.core c w.frames_are (is ∙ sym w.part_is)
 
-  pub top_in : (c : Core) → writing_of c ≡ v.part → v.frames.stack.frames ≢ [] → IsTopped v.frames c
+  pub top_in : {made : List WriterMade} (c : Core) → writing_of made c ≡ v.part → v.frames.stack.frames ≢ [] → IsTopped v.frames c
   top_in c is some = topped v.shape.pages v.shape.size v.shape.start v.frames c (frames_in c is) some
 
   -- the phase of the frame on top is that of the model's
@@ -57,12 +58,12 @@ module _ (v : WriterValue) (w : AreWriterFields v) where
   made new sees answer result shape_is table_is s reports are pages = record {
     shape_is = shape_is;
     table_is = table_is;
-    call = record { core = s.core; next = s.next; answer = answer; reached = s.reached; before_is = s.before_is; step = s.step; after_is = s.after_is; reports = reports };
+    call = record { core = s.core; next = s.next; answer = answer; is_own = refl; reached = s.reached; before_is = s.before_is; step = s.step; after_is = s.after_is; reports = reports };
     writer = record {
       core = s.next;
-      reached = subst (λ (shape : Shape). IsReached shape.pages shape.size shape.start s.next) (sym shape_is)
-          (reached_further v.shape.pages v.shape.size v.shape.start s.core model.steps answer s.next s.reached s.step);
-      part_is = s.after_is;
+      reached = reached_as v.shape new.shape s.next (sym shape_is) (reached_on v.shape.pages v.shape.size v.shape.start s.core model.steps answer s.next s.reached s.step);
+      part_is = part_as v.shape new.shape s.next (sym shape_is) (reached_on v.shape.pages v.shape.size v.shape.start s.core model.steps answer s.next s.reached s.step) new.part
+          (part_then v.shape.pages v.shape.size v.shape.start s.core model.steps answer s.next s.reached s.step v.part new.part refl s.before_is s.after_is);
       frames_are = subst (λ (shape : Shape). FramesIn shape new.frames s.next) (sym shape_is) are;
       pages_are = sym (ap (λ (p : Writing). p.open_pages) s.after_is) ∙ pages;
     };

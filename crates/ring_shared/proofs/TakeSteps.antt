@@ -1,17 +1,20 @@
 -- What each step of a take makes of what the reader knows.
 use Rattle.std.specs.Prelude.{⊤, false}
-use Rattle.std.proofs.Common.{◌≡◌, ℕ, ◌≤◌, Bool, refl, ap, ◌∙◌, arith}
+use Rattle.std.proofs.Common.{◌≡◌, ℕ, ◌≤◌, Bool, List, refl, ap, ◌∙◌, arith}
 use Rattle.trace_model.specs.Links.{Link}
 use Rattle.trace_model.specs.Ring.{Core, Reader, ReaderPhase, loading_head}
 use Rattle.trace_model.specs.Steps as model
 use Rattle.trace_model.proofs.steps.StepSound.{cases_of}
 use Rattle.link_marks.proofs.frames.AnswersRight.{passed_below}
-use Rattle.link_marks.proofs.partition.RingsKept.{reached_kept, reached_further}
+use Rattle.link_marks.proofs.partition.RingsKept.{reached_kept}
 use Rattle.link_marks.proofs.seats.SeatSteps.{reader_leaves_writer}
 use Rattle.ring_steps.specs.declared.rule.Shape.{Shape}
+use Rattle.ring_steps.specs.Made.{ReaderMade}
 use Rattle.ring_steps.specs.Views.{Reading}
 use Rattle.ring_steps.specs.Seats.{IsReaderStep}
 use Rattle.ring_steps.specs.Taking.{LinkLoaded, DoneLoaded}
+use Rattle.ring_steps.proofs.Made.{reached_on}
+use Rattle.ring_steps.proofs.ReaderSteps.{step_read}
 use Rattle.ring_steps.proofs.TakeSteps.{seen_as}
 use Rattle.ring_shared.specs.Takes.{IsReaderPart, ArePassedBelow, TakesNothing, IsEmptyFound, ReadsSo}
 
@@ -49,16 +52,17 @@ module _ (shape : Shape) (before after : Reading) (sees : Core → Type 0) (answ
   pub known_after : IsReaderPart shape after
   known_after = record {
     core = r.next;
-    reached = reached_further shape.pages shape.size shape.start r.core model.reads answer r.next r.reached r.step;
+    reached = reached_on shape.pages shape.size shape.start r.core model.reads answer r.next r.reached r.step;
     is = r.after_is;
+    made_is = step_read shape before sees model.reads answer after r;
   }
 
   -- the model answers the step so
   pub so : ReadsSo shape before answer after
   so = seen_as shape before sees (λ core. ⊤) model.reads answer answer after r tt refl
 
-  pub stays : (reader : Reader) (link : Link) (keeps : Bool) → after ≡ record before { spare_link = link; reader = reader; keeps_spare = keeps } → Stays shape before after reader
-  stays reader link keeps is = record {
+  pub stays : (reader : Reader) (link : Link) (keeps : Bool) (made : List ReaderMade) → after ≡ record before { spare_link = link; reader = reader; keeps_spare = keeps; made = made } → Stays shape before after reader
+  stays reader link keeps made is = record {
     known = known_after;
     order_is = ap (λ (part : Reading). part.order) is;
     spare_is = ap (λ (part : Reading). part.spare) is;
@@ -70,12 +74,12 @@ module _ (shape : Shape) (before after : Reading) (sees : Core → Type 0) (answ
 -- after a load of a link
 pub loaded : (shape : Shape) (before : Reading) (link : Link) (reported : model.Answer) (phase : ReaderPhase) (hint : ℕ) (after : Reading) → LinkLoaded shape before link reported phase hint after
     → Stays shape before after (record before.reader { phase = phase; hint = hint })
-loaded shape before link reported phase hint after h = stays shape before after _ reported h.step (record before.reader { phase = phase; hint = hint }) before.spare_link false h.after_is
+loaded shape before link reported phase hint after h = stays shape before after _ reported h.step (record before.reader { phase = phase; hint = hint }) before.spare_link false _ h.after_is
 
 -- after a load of the number of closed fills
 pub counted : (shape : Shape) (before : Reading) (done : ℕ) (reported : model.Answer) (phase : ReaderPhase) (after : Reading) → DoneLoaded shape before done reported phase after
     → Stays shape before after (record before.reader { phase = phase; seen = done })
-counted shape before done reported phase after h = stays shape before after _ reported h.step (record before.reader { phase = phase; seen = done }) before.spare_link before.keeps_spare h.after_is
+counted shape before done reported phase after h = stays shape before after _ reported h.step (record before.reader { phase = phase; seen = done }) before.spare_link before.keeps_spare _ h.after_is
 
 -- no closed fill is unread
 pub none_found : (shape : Shape) (before : Reading) (done : ℕ) (reported : model.Answer) (after : Reading) → DoneLoaded shape before done reported loading_head after → before.reader.hint ≡ done → IsEmptyFound shape before done after

@@ -5,6 +5,7 @@ use Rattle.trace_model.specs.Words.{padded}
 use Rattle.trace_model.specs.Packing.{IsPacked}
 use Rattle.trace_model.specs.History.{IsHistory, HistoryEvent, push, reserve, leave, Reservation, reservation_for, record_frame, records_with_payload, WriterState, writer_after, reserved_records}
 use Rattle.trace_model.specs.Frames.{Kind, for_record, for_close, FrameState, waiting, left, Refusal, Frame}
+use Rattle.trace_model.specs.Ring.{Core}
 use Rattle.trace_model.specs.Steps as model
 use Rattle.trace_model.proofs.histories.HistoryPrefixes.{writer-append}
 use Rattle.trace_model.proofs.steps.StepSound.{cases_of}
@@ -19,7 +20,7 @@ use Rattle.ring_frames.specs.Answers.{refusal_of}
 use Rattle.ring_frames.specs.declared.answer.Answer.{Answer}
 use Rattle.ring_frames.specs.declared.answer.Answer.TheVariants.{Pushed, Going, Reserved, Ended, Refused}
 use Rattle.ring_steps.specs.declared.rule.Shape.{Shape}
-use Rattle.ring_steps.specs.Views.{Writing, writing_of}
+use Rattle.ring_steps.specs.Views.{Writing}
 use Rattle.ring_shared.specs.Calls.{IsWriter, IsCall}
 use Rattle.ring_shared.specs.Laws.{events_of_refusal}
 use Rattle.ring_shared.specs.Finishing.{MakesSteps, at_once, one_more, Reserves, Leaves, is_gone, was_refused}
@@ -289,16 +290,16 @@ pub refused_writes_append : RefusedWritesAppend
 refused_writes_append shape before moment len fault after (inl turned) = inl (refusals_append shape before (model.pushes moment len) fault after turned ∙ append-nil before.history)
 refused_writes_append shape before moment len fault after (inr r) = inr (pushed_and_refused shape before moment len fault after r)
 
--- a push that is refused changes nothing
-refused_push : (shape : Shape) (before : Writing) (moment len : ℕ) (fault : WriteFault) (after : Writing) → IsCall shape before (model.pushes moment len) (Refused fault) after → after ≡ before
+-- a push that is refused leaves the frames as they are
+refused_push : (shape : Shape) (before : Writing) (moment len : ℕ) (fault : WriteFault) (after : Writing) → IsCall shape before (model.pushes moment len) (Refused fault) after → after.frames ≡ before.frames
 refused_push shape before moment len fault after call = by (push_answers shape.pages shape.size call.core moment len call.answer call.next (cases_of call.step))
   where
-    by : IsPushed moment len call.answer call.core.frames call.next.frames ⊎ ((why : Refusal) × (call.answer ≡ model.refused why) × (call.next ≡ call.core)) → after ≡ before
+    by : IsPushed moment len call.answer call.core.frames call.next.frames ⊎ ((why : Refusal) × (call.answer ≡ model.refused why) × (call.next ≡ call.core)) → after.frames ≡ before.frames
     by (inl p) = absurd (let both : model.refused (refusal_of fault) ≡ model.pushed = sym call.reports ∙ p.answer_is in cc)
-    by (inr (why, denied, same)) = sym call.after_is ∙ ap writing_of same ∙ call.before_is
+    by (inr (why, denied, same)) = ap (λ (w : Writing). w.frames) (sym call.after_is) ∙ ap (λ (d : Core). d.frames) same ∙ ap (λ (w : Writing). w.frames) call.before_is
 
 pub refused_writes_keep_frames : RefusedWritesKeepFrames
-refused_writes_keep_frames shape before moment len fault after (inl turned) = ap (λ (w : Writing). w.frames) (refused_push shape before moment len fault after turned)
+refused_writes_keep_frames shape before moment len fault after (inl turned) = refused_push shape before moment len fault after turned
 refused_writes_keep_frames shape before moment len fault after (inr r) = r.frames
 
 -- ---- the reserved records

@@ -1,5 +1,5 @@
 -- What the calls of a writer make of a running ring.
-use Rattle.std.specs.Prelude.{◌≡◌}
+use Rattle.std.specs.Prelude.{◌≡◌, [], true}
 use Rattle.trace_model.specs.Ring.{Core}
 use Rattle.trace_model.specs.Steps as model
 use Rattle.link_marks.specs.Reached.{IsReached}
@@ -7,14 +7,15 @@ use Rattle.ring_frames.specs.declared.answer.Answer.{Answer}
 use Rattle.ring_frames.specs.Answers.{IsAnswerOf}
 use Rattle.ring_frames.specs.AreFrames.{AreFrames}
 use Rattle.ring_steps.specs.declared.rule.Shape.{Shape}
-use Rattle.ring_steps.specs.Views.{Writing, writing_of}
+use Rattle.ring_steps.specs.Made.{is_by_writer, writer_made_of}
+use Rattle.ring_steps.specs.Views.{Writing, writing_of, writing_after}
 use Rattle.ring_shared.specs.Value.{WriterValue}
 
 -- The writer's fields are its part of the ring, which is that of a state which steps reach.
 pub record AreWriterFields (v : WriterValue) : Type 0 where
   pub core : Core
   pub reached : IsReached v.shape.pages v.shape.size v.shape.start core
-  pub part_is : writing_of core ≡ v.part
+  pub part_is : writing_of (writer_made_of reached) core ≡ v.part
   pub frames_are : AreFrames v.shape.pages v.shape.size v.shape.start v.frames core
   pub pages_are : v.part.open_pages ≡ v.pages
 
@@ -29,10 +30,11 @@ pub record IsCall (shape : Shape) (before : Writing) (event : model.Event) (resu
   pub core : Core
   pub next : Core
   pub answer : model.Answer
+  pub is_own : is_by_writer event ≡ true
   pub reached : IsReached shape.pages shape.size shape.start core
-  pub before_is : writing_of core ≡ before
+  pub before_is : writing_of (writer_made_of reached) core ≡ before
   pub step : model.Step shape.pages shape.size core event answer next
-  pub after_is : writing_of next ≡ after
+  pub after_is : writing_after before.made record { event = event; answer = answer } (writing_of [] next) ≡ after
   pub reports : IsAnswerOf shape.size result answer
 
 -- What the writer's call does is such a step, and the writer after it is that of the same ring.

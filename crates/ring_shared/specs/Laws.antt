@@ -13,20 +13,21 @@ use Rattle.ring_frames.specs.declared.answer.Answer.{Answer}
 use Rattle.ring_frames.specs.declared.answer.Answer.TheVariants.{Pushed, Reserved, Ended, Refused}
 use Rattle.ring_frames.specs.Answers.{IsAnswerOf}
 use Rattle.ring_steps.specs.declared.rule.Shape.{Shape}
-use Rattle.ring_steps.specs.Views.{Writing, writing_of}
+use Rattle.ring_steps.specs.Views.{Writing, writing_of, writing_made}
 use Rattle.ring_shared.specs.Calls.{IsCall}
 
 -- The event appends these history events to the history of the writer's part, as the model has it for the answer: in a
--- state with that part.
+-- state with that part. And it is one step more that the writer made.
 pub record IsAppended (shape : Shape) (before : Writing) (event : model.Event) (result : Answer) (after : Writing)
     : Type 0 where
   pub core : Core
   pub answer : model.Answer
   pub history_events : List HistoryEvent
-  pub before_is : writing_of core ≡ before
+  pub before_is : writing_of before.made core ≡ before
   pub reports : IsAnswerOf shape.size result answer
   pub appends : Appends shape.pages core event answer history_events
   pub history_is : after.history ≡ before.history ++ history_events
+  pub made_is : after.made ≡ before.made ++ writing_made record { event = event; answer = answer } after ∷ []
 
 -- Each call appends what the model says, and nothing else.
 abbrev pub CallsAppend : Type 0

@@ -14,3 +14,5 @@ pub mod WholeWrites
 pub mod Laws
 pub mod Turning
 pub mod WholeLaws
+pub mod TakenLaws
+pub mod RunLaws

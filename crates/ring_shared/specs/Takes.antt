@@ -15,6 +15,7 @@ use Rattle.ring_frames.specs.ReaderPhases.{reader_phase_of}
 use Rattle.ring_frames.specs.declared.reader.ReaderPhase.{ReaderPhase}
 use Rattle.ring_frames.specs.declared.reader.ReaderPhase.TheVariants.{LoadingHead, LoadingDone, StoringSpareLink, Swapping}
 use Rattle.ring_steps.specs.declared.rule.Shape.{Shape}
+use Rattle.ring_steps.specs.Made.{reader_made_of}
 use Rattle.ring_steps.specs.Views.{Reading}
 use Rattle.ring_steps.specs.Shown.{IsReading}
 use Rattle.ring_steps.specs.Seats.{IsReaderStep}
@@ -31,6 +32,7 @@ pub record IsReaderPart (shape : Shape) (part : Reading) : Type 0 where
   pub core : Core
   pub reached : IsReached shape.pages shape.size shape.start core
   pub is : IsReading core part
+  pub made_is : part.made ≡ reader_made_of reached
 
 -- the slot of the spare is out with the reader while it is about to swap, and may be until its next load of a link
 abbrev pub KeepsSpare : ReaderPhase → Bool → Type 0

@@ -2,12 +2,14 @@
 use crate::reader::Reader;
 use crate::writer::Writer;
 use page_image::Page;
+use ring_steps::SettledSeats;
 use std::alloc::Global;
 
-/// What is left of a ring whose ends were joined.
+/// What is left of a ring whose ends were joined. Contracts see in it the parts of both ends, as they were then.
 #[derive(Debug, Drop)]
 pub struct Settled {
     pub(crate) tail: Page,
+    pub(crate) seats: SettledSeats,
 }
 
 impl Settled {
@@ -35,7 +37,7 @@ pub enum SettleFault {
 ghost use Rattle.std.specs.Prelude.{◌≡◌, [], Some, IfOk, IfErr};
 ghost use Rattle.ring_shared.specs.Calls.{IsWriter};
 ghost use Rattle.ring_shared.specs.Takes.{IsReader};
-ghost use Rattle.ring_shared.specs.Settling.{IsSettled};
+ghost use Rattle.ring_shared.specs.Settling.{AreEndsOf, IsSettled};
 
 /// Joins the two ends of a ring: the pages that its reader took, and then the unread one if there is one, are all
 /// records that its writer committed, except those that are reported as missed. The writer has no frame on its stack,
@@ -46,14 +48,16 @@ pub fn settle(alloc: Global, writer: Writer, reader: Reader) -> Result<Settled, 
     requires one_ring { reader.table ≡ writer.table }
     requires at_rest { writer.part.frames ≡ [] }
     requires all_read { reader.empty_at ≡ Some writer.part.done }
+    ensures ends { IfOk result (λ settled. AreEndsOf writer.part reader.part settled) }
     ensures settled { IfOk result (λ settled. IsSettled writer.shape writer.part reader.part settled) }
     ensures never { IfErr result (λ _. ⊥) }
 {
     let _alloc = alloc;
     let Writer { seat, frames, .. } = writer;
     let Reader { seat: other, .. } = reader;
-    ring_steps::settle(seat, other);
+    let seats = ring_steps::settle(seat, other);
     Ok(Settled {
         tail: frames.into_tail(),
+        seats,
     })
 }

@@ -10,6 +10,7 @@ use Rattle.link_marks.specs.RingKept.{IsRingKept}
 use Rattle.link_marks.proofs.contents.PageChanges.{pages_differ}
 use Rattle.link_marks.proofs.partition.RingsKept.{reached_kept}
 use Rattle.ring_steps.specs.declared.rule.Shape.{Shape}
+use Rattle.ring_steps.specs.Made.{writer_made_of}
 use Rattle.ring_steps.specs.Views.{Writing, writing_of, Reading, SeatView, laid, whole, writes, reads, writing, passed, reading, AreSeated, made, running}
 use Rattle.ring_steps.specs.Shown.{Homes, AreHomes, Shows}
 use Rattle.ring_steps.specs.Seats.{Sat}
@@ -42,7 +43,7 @@ module _ (shape : Shape) (first_w : Writing) (first_r : Reading) where
   pub tail_taken : (slots id : ℕ) (me : Sat) → me ≡ (laid first_w first_r, [])
       → Allows (Shows shape.pages shape.size shape.start) slots id me 0 (λ n. n) (λ _ after. (after.0 ≡ whole first_w first_r) × (after.1 ≡ (get_or first_w.open_pages 0 0, None) ∷ []))
   tail_taken slots id me is s h deep at range =
-      let (views, first, w_is, r_is) = laid_at (writing_of h.core) h.reader h.core.head s.views id first_w first_r h.seats (at ∙ ap (λ (m : Sat). some m.0) is) in
+      let (views, first, w_is, r_is) = laid_at (writing_of (writer_made_of h.shown.reached) h.core) h.reader h.core.head s.views id first_w first_r h.seats (at ∙ ap (λ (m : Sat). some m.0) is) in
       let page : ℕ = get_or first_w.open_pages 0 0 in
       let k = reached_kept shape.pages shape.size shape.start h.core h.shown.reached in
       let home = h.tail first_w first_r (views ∙ (λ i. laid (sym w_is i) (sym r_is i) ∷ [])) in (
@@ -58,8 +59,9 @@ module _ (shape : Shape) (first_w : Writing) (first_r : Reading) where
             are_words = subst (Rattle.ring_steps.specs.Shown.AreWords shape.pages h.core) (sym (set-get_or s.words 0 0)) h.shown.are_words;
             are_homes = oldest_taken shape.pages shape.size shape.start h.core h.reader s.homes page k h.shown.is_reading.spare_is (ap (λ (w : Writing). get_or w.open_pages 0 0) w_is) h.shown.are_homes;
             is_reading = h.shown.is_reading;
+            reader_made_is = h.shown.reader_made_is;
           };
-          seats = subst (AreSeated (writing_of h.core) h.reader h.core.head) (λ i. set (sym views i) (sym first i) (whole (sym w_is i) (sym r_is i))) made;
+          seats = subst (AreSeated (writing_of (writer_made_of h.shown.reached) h.core) h.reader h.core.head) (λ i. set (sym views i) (sym first i) (whole (sym w_is i) (sym r_is i))) made;
           tail = λ u v e. let there : whole first_w first_r ∷ [] ≡ laid u v ∷ [] = sym (λ i. set (views i) (first i) (whole first_w first_r)) ∙ e in absurd (cc);
         },
         (refl, ap (λ (m : Sat). (page, None) ∷ m.1) is),
@@ -67,11 +69,11 @@ module _ (shape : Shape) (first_w : Writing) (first_r : Reading) where
 
 pub cut : (n size start id : ℕ) (view : SeatView) → view ≡ whole (writing view) (reading view) → Splits (Shows n size start) id view (writes (writing view) (passed view)) (reads (reading view))
 cut n size start id view is s h at =
-    let (views, first, w_is, r_is) = whole_at (writing_of h.core) h.reader h.core.head s.views id (writing view) (reading view) h.seats (at ∙ ap some is) in record {
+    let (views, first, w_is, r_is) = whole_at (writing_of (writer_made_of h.shown.reached) h.core) h.reader h.core.head s.views id (writing view) (reading view) h.seats (at ∙ ap some is) in record {
       core = h.core;
       reader = h.reader;
       shown = h.shown;
-      seats = subst (AreSeated (writing_of h.core) h.reader h.core.head) (λ i. set (sym views i) (sym first i) (writes (sym w_is i) (passed (sym is i))) ++ reads (sym r_is i) ∷ []) (running 0 (omega arith));
+      seats = subst (AreSeated (writing_of (writer_made_of h.shown.reached) h.core) h.reader h.core.head) (λ i. set (sym views i) (sym first i) (writes (sym w_is i) (passed (sym is i))) ++ reads (sym r_is i) ∷ []) (running 0 (omega arith));
       tail = λ u v e. let there : writes (writing view) (passed view) ∷ reads (reading view) ∷ [] ≡ laid u v ∷ [] = sym (λ i. set (views i) (first i) (writes (writing view) (passed view)) ++ reads (reading view) ∷ []) ∙ e in absurd (cc);
     }
 

@@ -1,3 +1,4 @@
+pub mod Made
 pub mod Placed
 pub mod Observed
 pub mod Private

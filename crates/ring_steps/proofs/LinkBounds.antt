@@ -1,6 +1,6 @@
 -- What the writer knows of the counts before its steps on links, and what such a step shows after it.
 use Rattle.std.specs.Prelude.{slice_index_or, true, ◌==◌, ◌↔◌}
-use Rattle.std.proofs.Common.{◌≡◌, ℕ, ◌+◌, ◌-◌, ◌<◌, ◌≤◌, List, length, Some, refl, sym, ap, ◌∙◌, subst, eq-eqb, arith}
+use Rattle.std.proofs.Common.{◌≡◌, ℕ, ◌+◌, ◌-◌, ◌<◌, ◌≤◌, List, ◌++◌, length, Some, refl, sym, ap, ◌∙◌, subst, eq-eqb, arith}
 use Rattle.std.proofs.lemmas.Bool.{eqb-true}
 use Rattle.std.proofs.Math.Logic.{∥∥₁_elim}
 use Rattle.std.proofs.Props.{props}
@@ -20,6 +20,7 @@ use Rattle.link_marks.proofs.frames.TopSteps.{top_stepped}
 use Rattle.link_marks.proofs.partition.RingsKept.{reached_kept}
 use Rattle.ring_steps.specs.declared.rule.Shape.{Shape}
 use Rattle.ring_steps.specs.declared.ends.WriterSeat.{WriterSeat}
+use Rattle.ring_steps.specs.Made.{WriterMade, privately_made}
 use Rattle.ring_steps.specs.Views.{Writing, writing_of, writing}
 use Rattle.ring_steps.specs.Seats.{Leads, IsWriterStep}
 use Rattle.ring_steps.specs.Ends.{writing_in}
@@ -34,13 +35,15 @@ use Rattle.ring_steps.proofs.Linking.{link_fits}
 -- a state whose writer's part is this
 record StateNow (shape : Shape) (now : Writing) : Type 0 where
   core : Core
+  made : List WriterMade
   kept : IsRingKept shape.pages shape.size shape.start core
-  is : writing_of core ≡ now
+  is : writing_of made core ≡ now
 
 state_now : (shape : Shape) (before now : Writing) → IsWriterReached shape before → Leads shape before now → StateNow shape now
 state_now shape before now known leads =
     let (exchanges, aside, run, now_is) = leads known.core known.reached known.is in record {
       core = aside;
+      made = before.made ++ privately_made shape.pages shape.size known.core exchanges aside run;
       kept = reached_kept shape.pages shape.size shape.start aside (private_reached shape.pages shape.size shape.start known.core aside exchanges known.reached run);
       is = now_is;
     }

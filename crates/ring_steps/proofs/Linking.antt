@@ -1,7 +1,7 @@
 -- The writer's steps that load and set links, and load the reader's wish.
 use Rattle.std.specs.Prelude.{slice_index_or, slice_set, Some, ◌==◌}
 use Rattle.std.specs.List.{slice_index}
-use Rattle.std.proofs.Common.{◌≡◌, ◌≢◌, ℕ, suc, ◌+◌, ◌-◌, ◌%◌, ◌<◌, ◌≤◌, Bool, List, [], ◌∷◌, length, refl, sym, ap, ◌∙◌, subst, mod-lt, eq-eqb, ne_eqb, arith}
+use Rattle.std.proofs.Common.{◌≡◌, ◌≢◌, ℕ, suc, ◌+◌, ◌-◌, ◌%◌, ◌<◌, ◌≤◌, Bool, List, [], ◌∷◌, ◌++◌, length, refl, sym, ap, ◌∙◌, subst, mod-lt, eq-eqb, ne_eqb, arith}
 use Rattle.std.proofs.lemmas.List.{set-get_or}
 use Rattle.std.proofs.lemmas.List.Elements.{All-get_or}
 use mathlib.Core.Logic.{dite}
@@ -24,14 +24,16 @@ use Rattle.link_marks.proofs.links.LinksFit.{links_fit_words}
 use Rattle.link_marks.proofs.seats.PrivateSteps.{IsPrivateOf}
 use Rattle.link_marks.proofs.links.SeenLinks.{claims_fail_once_the_head_moved}
 use Rattle.link_marks.proofs.frames.TopSteps.{top_stepped}
-use Rattle.link_marks.proofs.partition.RingsKept.{reached_kept, reached_further}
+use Rattle.link_marks.proofs.partition.RingsKept.{reached_kept}
 use Rattle.link_marks.proofs.steps.StepsGiven.{each_event_is_a_step}
 use Rattle.ring_steps.specs.declared.rule.Shape.{Shape}
+use Rattle.ring_steps.specs.Made.{writer_made, writer_made_of}
 use Rattle.ring_steps.specs.Views.{Writing, writing_of, Reading, writing, passed}
 use Rattle.ring_steps.specs.Shown.{page_word, page_before, AreWords, Homes}
 use Rattle.ring_steps.specs.Seats.{Sat, emptied, IsWriting, WriterReported}
 use Rattle.ring_steps.specs.Paging.{IsTopIn}
 use Rattle.ring_steps.specs.Linking.{tail_in, LooksNext, MarksNext, number_or_zero, noted_on_top, role_in, role_on_top, after_lost_in, SeesLink, LinkReported, ClaimReported, WishReported}
+use Rattle.ring_steps.proofs.Made.{reached_on, writer_then, reader_same}
 use Rattle.ring_steps.proofs.LinkWords.{with_link_word}
 use Rattle.ring_steps.proofs.Private.{stays_shown}
 use Rattle.ring_steps.proofs.Allowing.{IsShownBy, WriterMoves}
@@ -102,7 +104,7 @@ not_done_at found from to ne = subst (λ (b : Bool). either b to found ≡ found
 abbrev moved : Core → List Frame → List Link → ℕ → Core
 moved c frames links head = record c { frames = frames; links = links; head = head }
 
-module _ (shape : Shape) (me : Sat) (is : IsWriting me) (now : Writing) (c : Core) (r : Reading) (ws : List ℕ) (homes : Homes) (s : IsShownBy shape c r ws homes) (now_is : writing_of c ≡ now) (pages : c.open_pages ≡ (writing me.0).open_pages) (known : passed me.0 ≤ c.head) where
+module _ (shape : Shape) (me : Sat) (is : IsWriting me) (now : Writing) (c : Core) (r : Reading) (ws : List ℕ) (homes : Homes) (s : IsShownBy shape c r ws homes) (now_is : writing_of (writer_made_of s.reached) c ≡ now) (pages : c.open_pages ≡ (writing me.0).open_pages) (known : passed me.0 ≤ c.head) where
   kept : IsRingKept shape.pages shape.size shape.start c
   kept = reached_kept shape.pages shape.size shape.start c s.reached
 
@@ -120,7 +122,7 @@ module _ (shape : Shape) (me : Sat) (is : IsWriting me) (now : Writing) (c : Cor
     valid = tt;
     shown = record {
       pages_fit = s.pages_fit;
-      reached = reached_further shape.pages shape.size shape.start c steps going (moved c frames links head) s.reached step;
+      reached = reached_on shape.pages shape.size shape.start c steps going (moved c frames links head) s.reached step;
       are_words = words;
       are_homes = record { count = s.are_homes.count; closed = λ f from below. s.are_homes.closed f (omega arith) below; free = s.are_homes.free; spare = s.are_homes.spare };
       is_reading = record {
@@ -131,7 +133,10 @@ module _ (shape : Shape) (me : Sat) (is : IsWriting me) (now : Writing) (c : Cor
         wish_is = s.is_reading.wish_is;
         observed_is = s.is_reading.observed_is;
       };
+      reader_made_is = s.reader_made_is ∙ sym (reader_same shape.pages shape.size shape.start c steps going (moved c frames links head) s.reached step refl);
     };
+    made = now.made ++ writer_made record { event = steps; answer = going } (moved c frames links head) ∷ [];
+    made_is = writer_then shape.pages shape.size shape.start c steps going (moved c frames links head) s.reached step now refl now_is;
     reported = record {
       seat = record { view = refl; hand = is.hand ∙ ap emptied (sym pages) };
       knows = omega arith;
@@ -252,7 +257,7 @@ module _ (shape : Shape) (me : Sat) (is : IsWriting me) (now : Writing) (c : Cor
   asks : (answer : Answer) (after next : Core) → Step shape.pages shape.size c steps answer after → after ≡ next → IsPrivateOf c next → ((page : ℕ) → contents_of next page ≡ contents_of c page) → next.open_pages ≡ c.open_pages
       → WriterMoves shape r me ws homes 2 (λ n. n) (λ found after. WishReported shape now (passed me.0) found after)
   asks answer after next step after_is own holds same =
-      let shown = stays_shown shape.pages shape.size shape.start c steps answer next r ws homes s (subst (λ (d : Core). Step shape.pages shape.size c steps answer d) after_is step) own
+      let shown = stays_shown shape.pages shape.size shape.start c steps answer next r ws homes s (subst (λ (d : Core). Step shape.pages shape.size c steps answer d) after_is step) own refl
       (λ f low high. holds (page_at shape.pages c.order f)) in
       let head = ap (λ (d : Core). d.head) own in record {
         next = next;
@@ -260,7 +265,16 @@ module _ (shape : Shape) (me : Sat) (is : IsWriting me) (now : Writing) (c : Cor
         low = omega arith;
         act = keeps;
         valid = tt;
-        shown = subst (λ (words : List ℕ). IsShownBy shape next r words homes) (sym (set-get_or ws 2 0)) shown;
+        shown = record {
+          pages_fit = shown.pages_fit;
+          reached = shown.reached;
+          are_words = subst (AreWords shape.pages next) (sym (set-get_or ws 2 0)) shown.are_words;
+          are_homes = shown.are_homes;
+          is_reading = shown.is_reading;
+          reader_made_is = shown.reader_made_is;
+        };
+        made = now.made ++ writer_made record { event = steps; answer = answer } next ∷ [];
+        made_is = writer_then shape.pages shape.size shape.start c steps answer next s.reached (subst (λ (d : Core). Step shape.pages shape.size c steps answer d) after_is step) now refl now_is;
         reported = record {
           seat = record { view = refl; hand = is.hand ∙ ap emptied (sym (same ∙ pages)) };
           knows = omega arith;
@@ -321,6 +335,8 @@ module _ (shape : Shape) (me : Sat) (is : IsWriting me) (now : Writing) (c : Cor
         act = m.act;
         valid = m.valid;
         shown = m.shown;
+        made = m.made;
+        made_is = m.made_is;
         reported = record {
           reported = record { seat = record { view = refl; hand = m.reported.seat.hand }; knows = omega arith; step = m.reported.step };
           lost = omega arith;

@@ -23,14 +23,16 @@ use Rattle.link_marks.proofs.contents.PageChanges.{pages_differ, page_below}
 use Rattle.link_marks.proofs.contents.OtherPageSteps.{ended_at}
 use Rattle.link_marks.proofs.seats.PrivateSteps.{private_state, IsPrivateOf}
 use Rattle.link_marks.proofs.seats.SeatSteps.{writer_leaves_reader}
-use Rattle.link_marks.proofs.partition.RingsKept.{reached_kept, reached_further}
+use Rattle.link_marks.proofs.partition.RingsKept.{reached_kept}
 use Rattle.page_image.specs.Contents.{Contents}
 use Rattle.nested_writer.specs.Released.{IsWrittenPage}
 use Rattle.ring_steps.specs.declared.rule.Shape.{Shape}
+use Rattle.ring_steps.specs.Made.{writer_made, writer_made_of, reader_made_of}
 use Rattle.ring_steps.specs.Views.{Writing, writing_of, Reading, writing, passed}
 use Rattle.ring_steps.specs.Shown.{Homes, IsHome, HasBody, AreWords, AreHomes, IsReading, Shows}
 use Rattle.ring_steps.specs.Seats.{Sat, emptied, IsWriting, Leads, WriterReported}
 use Rattle.ring_steps.specs.Paging.{IsTopIn, begun_answer, OpenReported}
+use Rattle.ring_steps.proofs.Made.{reached_on, writer_then, reader_same}
 use Rattle.ring_steps.proofs.Words as words
 use Rattle.ring_steps.proofs.Observed.{first_records, observed_stays}
 use Rattle.ring_steps.proofs.Allowing.{IsShownBy, WriterMoves, writer_allows}
@@ -87,6 +89,9 @@ module _ (shape : Shape) (c : Core) (r : Reading) (ws : List ℕ) (homes : Homes
   kept = reached_kept shape.pages shape.size shape.start c s.reached
 
   -- a step of the writer leaves the reader its part
+  reads_stay : (answer : Answer) (after : Core) (step : Step shape.pages shape.size c steps answer after) → r.made ≡ reader_made_of (reached_on shape.pages shape.size shape.start c steps answer after s.reached step)
+  reads_stay answer after step = s.reader_made_is ∙ sym (reader_same shape.pages shape.size shape.start c steps answer after s.reached step refl)
+
   reading_stays : (answer : Answer) (after : Core) → Step shape.pages shape.size c steps answer after → IsReading after r
   reading_stays answer after step =
       let stays = writer_leaves_reader shape.pages shape.size c steps answer after (λ own. own) step in
@@ -163,7 +168,7 @@ module _ (shape : Shape) (c : Core) (r : Reading) (ws : List ℕ) (homes : Homes
         → IsShownBy shape (released_in frames) r (slice_set ws 1 (fill + 1)) homes_with
     released_shown fill frames fill_is step = let w = words.with_done shape.pages c ws (fill + 1) s.are_words in record {
       pages_fit = s.pages_fit;
-      reached = reached_further shape.pages shape.size shape.start c steps going (released_in frames) s.reached step;
+      reached = reached_on shape.pages shape.size shape.start c steps going (released_in frames) s.reached step;
       are_words = record { count = w.count; opened = w.opened; done = w.done ∙ ap (λ (k : ℕ). k + 1) fill_is; wish = w.wish; links = w.links; spare = w.spare };
       are_homes = record {
         count = length-set homes number (some (Some page)) ∙ s.are_homes.count;
@@ -172,6 +177,7 @@ module _ (shape : Shape) (c : Core) (r : Reading) (ws : List ℕ) (homes : Homes
         spare = spare_stays number c.done at_done (some (Some page));
       };
       is_reading = reading_stays going (released_in frames) step;
+      reader_made_is = reads_stay going (released_in frames) step;
     }
 
   -- the frame on top is alone, and goes on in one of two phases
@@ -231,21 +237,27 @@ module _ (shape : Shape) (c : Core) (r : Reading) (ws : List ℕ) (homes : Homes
         let new_words : AreWords shape.pages (private_state (with_new_tail c number) begun.frames begun.history begun.held) (slice_set ws 0 (fill + 1)) =
         record { count = w.count; opened = w.opened ∙ ap (λ (k : ℕ). k + 1) fill_is; done = w.done; wish = w.wish; links = w.links; spare = w.spare } in record {
           pages_fit = s.pages_fit;
-          reached = reached_further shape.pages shape.size shape.start c steps _ begun s.reached opened_step;
+          reached = reached_on shape.pages shape.size shape.start c steps _ begun s.reached opened_step;
           are_words = subst (λ (d : Core). AreWords shape.pages d (slice_set ws 0 (fill + 1))) (sym begun_is) new_words;
           are_homes = subst (λ (d : Core). AreHomes shape.pages shape.size d r homes_without) (sym begun_is) (begun_homes begun.frames begun.history begun.held others_hold);
           is_reading = reading_stays _ begun opened_step;
+          reader_made_is = reads_stay _ begun opened_step;
         }
 
 -- ---- the steps
 
-module _ (shape : Shape) (me : Sat) (now : Writing) (c : Core) (r : Reading) (ws : List ℕ) (homes : Homes) (s : IsShownBy shape c r ws homes) (now_is : writing_of c ≡ now) (low : passed me.0 ≤ c.head) where
+module _ (shape : Shape) (me : Sat) (now : Writing) (c : Core) (r : Reading) (ws : List ℕ) (homes : Homes) (s : IsShownBy shape c r ws homes) (now_is : writing_of (writer_made_of s.reached) c ≡ now) (low : passed me.0 ≤ c.head) where
+  made_is : (answer : Answer) (after : Core) (step : Step shape.pages shape.size c steps answer after)
+      → writer_made_of (reached_on shape.pages shape.size shape.start c steps answer after s.reached step) ≡ now.made ++ writer_made record { event = steps; answer = answer } after ∷ []
+  made_is answer after step = writer_then shape.pages shape.size shape.start c steps answer after s.reached step now refl now_is
+
   top_now : (phase : Phase) → IsTopIn now.frames phase → HasTop c.frames phase
   top_now phase top = top_of c.frames phase (subst (λ (w : Writing). IsTopIn w.frames phase) (sym now_is) top)
 
   release_moves : (number fill : ℕ) (page : Contents) → rest me.1 ≡ emptied (drop 1 c.open_pages) → IsTopIn now.frames releasing → number ≡ slice_index_or now.open_pages 0 0
       → IsWrittenPage shape.size now.done (fill_of now.history shape.start now.done) page → fill ≡ now.done
       → WriterMoves shape r (me.0, (number, Some page) ∷ rest me.1) ws homes 1 (λ _. fill + 1) (λ _. WriterReported shape now (passed me.0) (λ _. ⊤) going)
+  unfolding released_shown
   release_moves number fill page hand phase oldest written fill_is =
       let (frames, step) = released_step shape c r ws homes s (top_now releasing phase) in
       let oldest_is : number ≡ slice_index_or c.open_pages 0 0 = oldest ∙ ap (λ (w : Writing). slice_index_or w.open_pages 0 0) (sym now_is) in
@@ -257,6 +269,8 @@ module _ (shape : Shape) (me : Sat) (now : Writing) (c : Core) (r : Reading) (ws
         act = gives;
         valid = tt;
         shown = released_shown shape c r ws homes s number page oldest_is written_is fill frames done_is step;
+        made = now.made ++ writer_made record { event = steps; answer = going } (released_in shape c r ws homes s frames) ∷ [];
+        made_is = made_is going (released_in shape c r ws homes s frames) step;
         reported = record {
           seat = record { view = refl; hand = hand };
           knows = omega arith;
@@ -266,6 +280,7 @@ module _ (shape : Shape) (me : Sat) (now : Writing) (c : Core) (r : Reading) (ws
 
   open_moves : (number fill : ℕ) → me.1 ≡ emptied c.open_pages → IsTopIn now.frames (opening fill number) → fill ≡ now.opened
       → WriterMoves shape r me ws homes 0 (λ _. fill + 1) (λ _. OpenReported shape now (passed me.0))
+  unfolding begun_shown
   open_moves number fill hand phase fill_is =
       let now_opened : fill ≡ c.opened = fill_is ∙ ap (λ (w : Writing). w.opened) (sym now_is) in
       let top = top_now (opening fill number) phase in
@@ -282,6 +297,9 @@ module _ (shape : Shape) (me : Sat) (now : Writing) (c : Core) (r : Reading) (ws
         act = takes number (Some body);
         valid = lies;
         shown = begun_shown shape c r ws homes s top.frame top.below top.is number phase_is fill now_opened;
+        made = now.made ++ writer_made record { event = steps; answer = begun_answer now.frames } next ∷ [];
+        made_is = made_is (begin_answer top.frame.kind top.frame.state top.below) next (opened_step shape c r ws homes s top.frame top.below top.is number phase_is)
+            ∙ ap (λ (a : Answer). now.made ++ writer_made record { event = steps; answer = a } next ∷ []) answers;
         reported = record {
           view = refl;
           knows = omega arith;

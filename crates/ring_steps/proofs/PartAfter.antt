@@ -10,14 +10,16 @@ use Rattle.link_marks.proofs.seats.PrivateAlike.{private_computed}
 use Rattle.link_marks.proofs.partition.RingsKept.{reached_kept}
 use Rattle.link_marks.proofs.steps.StepsGiven.{each_event_is_a_step}
 use Rattle.ring_steps.specs.declared.rule.Shape.{Shape}
-use Rattle.ring_steps.specs.Views.{Writing, writing_of}
+use Rattle.ring_steps.specs.Made.{WriterMade, writer_made_of}
+use Rattle.ring_steps.specs.Views.{Writing, writing_of, writing_after}
 use Rattle.ring_steps.specs.Seats.{Leads}
 use Rattle.ring_steps.specs.Notes.{alone, part_of, part_after, FillsSlotOf, FillsTopSlot}
 
 -- ---- the writer's part
 
-part_is : (c d : Core) → WriterStays c d → writing_of c ≡ writing_of d
+part_is : (c d : Core) → WriterStays c d → writing_of [] c ≡ writing_of [] d
 part_is c d same = λ i. record {
+  made = [];
   frames = sym same.frames i;
   open_pages = sym same.open_pages i;
   history = sym same.history i;
@@ -25,8 +27,8 @@ part_is c d same = λ i. record {
   opened = sym same.opened i;
 }
 
-stands_alone : (w : Writing) (c : Core) → writing_of c ≡ w → WriterStays c (alone w)
-stands_alone w c is = record {
+stands_alone : (w : Writing) (made : List WriterMade) (c : Core) → writing_of made c ≡ w → WriterStays c (alone w)
+stands_alone w made c is = record {
   frames = ap (λ (x : Writing). x.frames) (sym is);
   open_pages = ap (λ (x : Writing). x.open_pages) (sym is);
   history = ap (λ (x : Writing). x.history) (sym is);
@@ -35,18 +37,19 @@ stands_alone w c is = record {
 }
 
 -- after a private step it is the one that is computed
-pub part_after_is : (shape : Shape) (w : Writing) (c : Core) (event : model.Event) (answer : model.Answer) (after : Core) → writing_of c ≡ w → IsPrivate c event → model.Step shape.pages shape.size c event answer after → writing_of after ≡ part_after shape w event
-part_after_is shape w c event answer after is own step =
-    let (next, computed, same) = private_computed shape.pages shape.size c (alone w) event answer after (stands_alone w c is) own step in
-    part_is after next same ∙ sym (ap (part_of w) computed)
+pub part_after_is : (shape : Shape) (w : Writing) (made : List WriterMade) (c : Core) (event : model.Event) (answer : model.Answer) (after : Core) → writing_of made c ≡ w → IsPrivate c event → model.Step shape.pages shape.size c event answer after
+    → writing_after w.made record { event = event; answer = answer } (writing_of [] after) ≡ part_after shape w event
+part_after_is shape w made c event answer after is own step =
+    let (next, computed, same) = private_computed shape.pages shape.size c (alone w) event answer after (stands_alone w made c is) own step in
+    ap (writing_after w.made record { event = event; answer = answer }) (part_is after next same) ∙ sym (ap (part_of w event) computed)
 
 -- ---- what a note asks
 
 -- in each state with this as the writer's part, the event is private and may be asked
 abbrev pub MayNote : Shape → Writing → model.Event → Type 0
 MayNote shape w event = (c : Core)
-    → IsReached shape.pages shape.size shape.start c
-    → writing_of c ≡ w
+    → (reached : IsReached shape.pages shape.size shape.start c)
+    → writing_of (writer_made_of reached) c ≡ w
     → IsPrivate c event
     × MayAsk c event
 
@@ -54,7 +57,7 @@ pub leads_after : (shape : Shape) (w : Writing) (event : model.Event) → MayNot
 leads_after shape w event may = λ c reached is.
     let (own, ask) = may c reached is in
     let (answer, after, step) = each_event_is_a_step shape.pages shape.size shape.start c event (reached_kept shape.pages shape.size shape.start c reached) ask in
-    (record { event = event; answer = answer } ∷ [], after, (own, after, step, refl), part_after_is shape w c event answer after is own step)
+    (record { event = event; answer = answer } ∷ [], after, (own, after, step, refl), part_after_is shape w (writer_made_of reached) c event answer after is own step)
 
 pub push_leads : (shape : Shape) (w : Writing) (moment len : ℕ) → Leads shape w (part_after shape w (model.pushes moment len))
 push_leads shape w moment len = leads_after shape w (model.pushes moment len) (λ c reached is. (tt, tt))

@@ -20,6 +20,7 @@ use Rattle.link_marks.proofs.links.Positions.{at_position, apart}
 use Rattle.link_marks.proofs.partition.OneNewRing.{new_ring_is_one}
 use Rattle.page_image.specs.Contents.{Contents}
 use Rattle.ring_steps.specs.declared.rule.Shape.{Shape}
+use Rattle.ring_steps.specs.Made.{writer_made_of}
 use Rattle.ring_steps.specs.Views.{Writing, writing_of, laid, AreSeated, begun}
 use Rattle.ring_steps.specs.Shown.{HasBody, page_word, page_before, AreWords, AreHomes, IsReading, Shows}
 use Rattle.ring_steps.specs.Seats.{IsReaderWithin}
@@ -114,8 +115,8 @@ module _ (shape : Shape) (is : IsShape shape) (ws : List ℕ) (first_ws : AreFir
       observed_is = sym (ap (λ (r : Reader). take r.expected (map as_record (reserved_records c.history))) s.reader);
     }
 
-    first_writing_is : writing_of c ≡ first_writing shape
-    first_writing_is = λ i. record { frames = s.frames i; open_pages = s.open_pages i; history = s.history i; done = s.done i; opened = s.opened i }
+    first_writing_is : writing_of [] c ≡ first_writing shape
+    first_writing_is = λ i. record { made = []; frames = s.frames i; open_pages = s.open_pages i; history = s.history i; done = s.done i; opened = s.opened i }
 
   pub starts : Shows n shape.size start (opening ws slots (laid (first_writing shape) (first_reading shape)))
   starts = let (c, s, one) = new_ring_is_one n start some_pages in let numbers = is.numbers_left in record {
@@ -133,6 +134,7 @@ module _ (shape : Shape) (is : IsShape shape) (ws : List ℕ) (first_ws : AreFir
       are_words = first_are_words c s;
       are_homes = first_are_homes c s;
       is_reading = first_is_reading c s;
+      reader_made_is = refl;
     };
     seats = subst (λ (w : Writing). AreSeated w (first_reading shape) c.head (laid (first_writing shape) (first_reading shape) ∷ [])) (sym (first_writing_is c s)) begun;
     tail = λ w r e. let same : first_writing shape ≡ w = cc in let low = mod-lt start some_pages in
@@ -140,12 +142,12 @@ module _ (shape : Shape) (is : IsShape shape) (ws : List ℕ) (first_ws : AreFir
   }
 
 -- The model's new ring is one that no step is needed to reach, and the writer's first part is its.
-pub first_state : (shape : Shape) → IsShape shape → (c : Core) × IsStart shape.pages shape.start c × IsReached shape.pages shape.size shape.start c × (writing_of c ≡ first_writing shape)
+pub first_state : (shape : Shape) → IsShape shape → (c : Core) × IsStart shape.pages shape.start c × (reached : IsReached shape.pages shape.size shape.start c) × (writing_of (writer_made_of reached) c ≡ first_writing shape)
 first_state shape is = let some_pages = is.limits.some_pages in let (c, s, one) = new_ring_is_one shape.pages shape.start (omega arith) in let numbers = is.numbers_left in (
   c,
   s,
   record { from = c; exchanges = []; may_start = record { some_pages = is.limits.some_pages; numbers_left = omega arith }; is_new = s; run = refl },
-  λ i. record { frames = s.frames i; open_pages = s.open_pages i; history = s.history i; done = s.done i; opened = s.opened i },
+  λ i. record { made = []; frames = s.frames i; open_pages = s.open_pages i; history = s.history i; done = s.done i; opened = s.opened i },
 )
 
 pub first_reached : (shape : Shape) → IsShape shape → IsWriterReached shape (first_writing shape)

@@ -26,7 +26,8 @@ use Rattle.link_marks.proofs.contents.RecordCounts.{records_few}
 use Rattle.page_image.specs.Contents.{Contents, records_of_page}
 use Rattle.nested_writer.specs.Released.{IsWrittenPage}
 use Rattle.ring_steps.specs.declared.rule.Shape.{Shape}
-use Rattle.ring_steps.specs.Views.{Reading, reading}
+use Rattle.ring_steps.specs.Made.{writer_made_of}
+use Rattle.ring_steps.specs.Views.{Reading, reading_after, reading}
 use Rattle.ring_steps.specs.Shown.{page_before, AreWords, Homes, AreHomes, Shows}
 use Rattle.ring_steps.specs.Seats.{Sat, kept_slots, IsSeatOfReader, IsReaderStep}
 use Rattle.ring_steps.specs.Swapping.{HeadTaken, HeadGone, head_to_take, SwapReported}
@@ -35,7 +36,7 @@ use Rattle.ring_steps.proofs.Observed.{first_records}
 use Rattle.ring_steps.proofs.ObservedMore.{observed_with}
 use Rattle.ring_steps.proofs.Paging.{body_of, same_body}
 use Rattle.ring_steps.proofs.SwapWords as behind
-use Rattle.ring_steps.proofs.Taking.{reading_of, gone_on, words_on, homes_on, link_fits, kept, phase_in, step_in, word_into, reads_on}
+use Rattle.ring_steps.proofs.Taking.{reading_of, reading_on, gone_on, words_on, homes_on, link_fits, kept, phase_in, step_in, word_into, reads_on}
 
 -- ---- one swap
 
@@ -44,7 +45,7 @@ module _ (shape : Shape) (me : Sat) (c : Core) (ws : List ℕ) (homes : Homes) (
     (sized : blank.size ≡ shape.size) (front_is : front ≡ page_before shape.pages (reading me.0).order fill) (fits : FitsWord (header_link page fill))
     (from_is : from ≡ word_of (header_link page fill)) (to_is : to ≡ word_of (normal_link (reading me.0).spare (fill + shape.pages))) where
   abbrev Moves : Type 0
-  Moves = ReaderMoves shape c me ws homes (front + 3) (λ k. either (k == from) to k) (λ found after. SwapReported shape me (spot fill page) found after)
+  Moves = ReaderMoves shape c (writer_made_of s.reached) me ws homes (front + 3) (λ k. either (k == from) to k) (λ found after. SwapReported shape me (spot fill page) found after)
 
   abbrev found : ℕ
   found = slice_index ws (front + 3)
@@ -64,7 +65,7 @@ module _ (shape : Shape) (me : Sat) (c : Core) (ws : List ℕ) (homes : Homes) (
   spare_here : (reading me.0).spare ≡ c.spare
   spare_here = s.is_reading.spare_is
 
-  seen_by : (sees : Core → Type 0) (answer : model.Answer) (next : Core) → sees c → model.Step shape.pages shape.size c model.reads answer next → IsReaderStep shape (reading me.0) sees model.reads answer (reading_of next true)
+  seen_by : (sees : Core → Type 0) (answer : model.Answer) (next : Core) → sees c → model.Step shape.pages shape.size c model.reads answer next → IsReaderStep shape (reading me.0) sees model.reads answer (reading_on (reading me.0) next true answer)
   seen_by sees answer next seen step = record {
     core = c;
     next = next;
@@ -74,6 +75,8 @@ module _ (shape : Shape) (me : Sat) (c : Core) (ws : List ℕ) (homes : Homes) (
     of_reader = tt;
     step = step;
     after_is = record { order_is = refl; spare_is = refl; spare_link_is = refl; reader_is = refl; wish_is = refl; observed_is = refl };
+    made_is = s.reader_made_is;
+    one_more = refl;
   }
 
   -- ---- it fails
@@ -102,7 +105,7 @@ module _ (shape : Shape) (me : Sat) (c : Core) (ws : List ℕ) (homes : Homes) (
             refl,
             record {
               step = seen_by _ model.reading next differs step;
-              after_is = λ i. record {
+              after_is = ap (reading_after (reading me.0).made record { event = model.reads; answer = model.reading }) (λ i. record {
                 order = sym s.is_reading.order_is i;
                 spare = sym s.is_reading.spare_is i;
                 spare_link = sym s.is_reading.spare_link_is i;
@@ -110,7 +113,8 @@ module _ (shape : Shape) (me : Sat) (c : Core) (ws : List ℕ) (homes : Homes) (
                 wish = sym s.is_reading.wish_is i;
                 observed = sym s.is_reading.observed_is i;
                 keeps_spare = sym keeps_slot i;
-              };
+                made = [];
+              });
             },
           );
         })
@@ -165,7 +169,7 @@ module _ (shape : Shape) (me : Sat) (c : Core) (ws : List ℕ) (homes : Homes) (
     unfolding next
     step = step_in shape me c ws homes s (swapping page fill) (model.page_taken (model.taken_fill c page fill)) next at (cases.swaps reported refl refl)
 
-    taken : HeadTaken shape (reading me.0) page fill home.0 (reading_of next true)
+    taken : HeadTaken shape (reading me.0) page fill home.0 (reading_on (reading me.0) next true (model.page_taken (model.taken_fill c page fill)))
     unfolding next
     taken = let on : suc fill ≡ fill + 1 = omega arith in let first = written.first_is in let held = ap (λ (h : PageRecords). h.first) holds in let low = expected_low in let same_number = expected_is in record {
       reported = model.taken_fill c page fill;

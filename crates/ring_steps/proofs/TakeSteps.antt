@@ -1,6 +1,6 @@
 -- What each step of a take makes of the reader's part: it is determined by what the step finds.
 use Rattle.std.specs.Prelude.{⊤}
-use Rattle.std.proofs.Common.{◌≡◌, ◌≢◌, ℕ, suc, ◌+◌, ◌-◌, ◌%◌, ◌<◌, ◌≤◌, List, get_or, take, map, Bool, true, false, refl, sym, ap, ◌∙◌, subst, arith, mod-lt}
+use Rattle.std.proofs.Common.{◌≡◌, ◌≢◌, ℕ, suc, ◌+◌, ◌-◌, ◌%◌, ◌<◌, ◌≤◌, List, [], ◌∷◌, ◌++◌, get_or, take, map, Bool, true, false, refl, sym, ap, ◌∙◌, subst, arith, mod-lt}
 use mathlib.Core.Logic.{dite}
 use native.Mathlib.Decide.{dec_le}
 use Rattle.trace_model.specs.Record.{Record}
@@ -23,10 +23,14 @@ use Rattle.link_marks.proofs.links.Positions.{at_position, one_position}
 use Rattle.link_marks.proofs.partition.RingsKept.{reached_kept}
 use Rattle.link_marks.proofs.steps.StepsDetermined.{steps_are_determined}
 use Rattle.ring_steps.specs.declared.rule.Shape.{Shape}
-use Rattle.ring_steps.specs.Views.{Reading}
+use Rattle.ring_steps.specs.Views.{Reading, reading_made, reading_after}
 use Rattle.ring_steps.specs.Seats.{IsReaderStep}
 use Rattle.ring_steps.specs.Taking.{IsReadStep, IsWordInto, page_found, fill_found, IsStoringLink, LinkLoaded, DoneLoaded, SpareLinked}
 use Rattle.ring_steps.proofs.Taking.{gone_on}
+
+-- this part, as the one after a step of a take
+abbrev after_read : Reading → model.Answer → Reading → Reading
+after_read before answer part = reading_after before.made record { event = model.reads; answer = answer } part
 
 -- the step is seen as one of which less is told, and that has this answer
 pub seen_as : (shape : Shape) (before : Reading) (sees other : Core → Type 0) (event : model.Event) (answer reported : model.Answer) (after : Reading)
@@ -43,6 +47,8 @@ seen_as shape before sees other event answer reported after r seen e = record {
   of_reader = r.of_reader;
   step = subst (λ (a : model.Answer). model.Step shape.pages shape.size r.core event a r.next) e r.step;
   after_is = r.after_is;
+  made_is = r.made_is;
+  one_more = r.one_more ∙ ap (λ (a : model.Answer). before.made ++ reading_made record { event = event; answer = a } after ∷ []) e;
 }
 
 module _ (shape : Shape) (before after : Reading) (sees : Core → Type 0) (answer : model.Answer) (r : IsReaderStep shape before sees model.reads answer after) where
@@ -78,9 +84,9 @@ module _ (shape : Shape) (before after : Reading) (sees : Core → Type 0) (answ
   so reported e = seen_as shape before sees sees model.reads answer reported after r r.seen e
 
   -- the reader's part, after a step by which nothing is taken
-  part_is : (reader : Reader) (link : Link) (keeps : Bool) → r.next ≡ gone_on r.core reader link → reader.expected ≡ r.core.reader.expected → after.keeps_spare ≡ keeps
-      → after ≡ record before { spare_link = link; reader = reader; keeps_spare = keeps }
-  part_is reader link keeps is expected slot =
+  part_is : (reader : Reader) (link : Link) (keeps : Bool) (reported : model.Answer) → answer ≡ reported → r.next ≡ gone_on r.core reader link → reader.expected ≡ r.core.reader.expected → after.keeps_spare ≡ keeps
+      → after ≡ after_read before reported (record before { spare_link = link; reader = reader; keeps_spare = keeps })
+  part_is reader link keeps reported answered is expected slot =
       let order = r.after_is.order_is ∙ (ap (λ (d : Core). d.order) is ∙ sym r.before_is.order_is) in
       let spare = r.after_is.spare_is ∙ (ap (λ (d : Core). d.spare) is ∙ sym r.before_is.spare_is) in
       let spare_link = r.after_is.spare_link_is ∙ ap (λ (d : Core). d.spare_link) is in
@@ -89,7 +95,8 @@ module _ (shape : Shape) (before after : Reading) (sees : Core → Type 0) (answ
       let observed = r.after_is.observed_is
       ∙ (ap (λ (d : Core). let observed : List Record = take d.reader.expected (map as_record (reserved_records d.history)) in observed) is
       ∙ (ap (λ (e : ℕ). let observed : List Record = take e (map as_record (reserved_records r.core.history)) in observed) expected ∙ sym r.before_is.observed_is)) in
-      λ i. record {
+      (λ i. record after { made = r.one_more i })
+      ∙ (ap (after_read before answer) (λ i. record {
         order = order i;
         spare = spare i;
         spare_link = spare_link i;
@@ -97,13 +104,15 @@ module _ (shape : Shape) (before after : Reading) (sees : Core → Type 0) (answ
         wish = wish i;
         observed = observed i;
         keeps_spare = slot i;
-      }
+        made = [];
+      })
+      ∙ ap (λ (a : model.Answer). after_read before a (record before { spare_link = link; reader = reader; keeps_spare = keeps })) answered)
 
   -- which keeps the spare's link
-  part_like : (reader : Reader) (keeps : Bool) → r.next ≡ gone_on r.core reader r.core.spare_link → reader.expected ≡ r.core.reader.expected → after.keeps_spare ≡ keeps
-      → after ≡ record before { reader = reader; keeps_spare = keeps }
-  part_like reader keeps is expected slot = subst (λ (link : Link). after ≡ record before { spare_link = link; reader = reader; keeps_spare = keeps }) (sym r.before_is.spare_link_is)
-      (part_is reader r.core.spare_link keeps is expected slot)
+  part_like : (reader : Reader) (keeps : Bool) (reported : model.Answer) → answer ≡ reported → r.next ≡ gone_on r.core reader r.core.spare_link → reader.expected ≡ r.core.reader.expected → after.keeps_spare ≡ keeps
+      → after ≡ after_read before reported (record before { reader = reader; keeps_spare = keeps })
+  part_like reader keeps reported answered is expected slot = subst (λ (link : Link). after ≡ after_read before reported (record before { spare_link = link; reader = reader; keeps_spare = keeps })) (sym r.before_is.spare_link_is)
+      (part_is reader r.core.spare_link keeps reported answered is expected slot)
 
   -- ---- a store of the spare's link
 
@@ -118,9 +127,9 @@ module _ (shape : Shape) (before after : Reading) (sees : Core → Type 0) (answ
       let next : Core = gone_on r.core (record r.core.reader { phase = swapping page fill; hint = r.core.reader.hint }) behind in
       let (reported, next_is) = is_step (storing_spare_link page fill) model.reading next at record { answer_is = refl; after_is = refl } in record {
         step = seen_as shape before sees (λ _. ⊤) model.reads answer model.reading after r tt reported;
-        after_is = subst (λ (l : Link). after ≡ record before { spare_link = l; reader = record before.reader { phase = swapping page fill }; keeps_spare = true }) (sym same)
-            (subst (λ (x : Reader). after ≡ record before { spare_link = behind; reader = record x { phase = swapping page fill }; keeps_spare = true }) (sym reader_is)
-            (part_is (record r.core.reader { phase = swapping page fill }) behind true next_is refl slot));
+        after_is = subst (λ (l : Link). after ≡ after_read before model.reading (record before { spare_link = l; reader = record before.reader { phase = swapping page fill }; keeps_spare = true })) (sym same)
+            (subst (λ (x : Reader). after ≡ after_read before model.reading (record before { spare_link = behind; reader = record x { phase = swapping page fill }; keeps_spare = true })) (sym reader_is)
+            (part_is (record r.core.reader { phase = swapping page fill }) behind true model.reading reported next_is refl slot));
       }
 
 -- ---- a load of a link
@@ -138,8 +147,8 @@ module _ (shape : Shape) (before after : Reading) (link : Link) (answer : model.
       let (reported_is, next_is) = is_step shape before after (SeesLinkAtHint shape before link) answer r loading_head reported (model.reader_at r.core phase hint) at step in record {
         step = so shape before after (SeesLinkAtHint shape before link) answer r reported reported_is;
         hint_le = low;
-        after_is = subst (λ (x : Reader). after ≡ record before { reader = record x { phase = phase; hint = hint }; keeps_spare = false }) (sym (reader_is shape before after (SeesLinkAtHint shape before link) answer r))
-            (part_like shape before after (SeesLinkAtHint shape before link) answer r (record r.core.reader { phase = phase; hint = hint }) false next_is refl slot);
+        after_is = subst (λ (x : Reader). after ≡ after_read before reported (record before { reader = record x { phase = phase; hint = hint }; keeps_spare = false })) (sym (reader_is shape before after (SeesLinkAtHint shape before link) answer r))
+            (part_like shape before after (SeesLinkAtHint shape before link) answer r (record r.core.reader { phase = phase; hint = hint }) false reported reported_is next_is refl slot);
       }
 
   k : IsRingKept shape.pages shape.size shape.start r.core
@@ -229,9 +238,9 @@ module _ (shape : Shape) (before after : Reading) (done : ℕ) (answer : model.A
       let low = seen_low shape before after sees answer r in let same : r.core.done ≡ done = r.seen in record {
         step = so shape before after sees answer r reported reported_is;
         seen_le = omega arith;
-        after_is = subst (λ (d : ℕ). after ≡ record before { reader = record before.reader { phase = phase; seen = d } }) same
-            (subst (λ (x : Reader). after ≡ record before { reader = record x { phase = phase; seen = r.core.done } }) (sym (reader_is shape before after sees answer r))
-            (part_like shape before after sees answer r (record r.core.reader { phase = phase; seen = r.core.done }) before.keeps_spare next_is refl slot));
+        after_is = subst (λ (d : ℕ). after ≡ after_read before reported (record before { reader = record before.reader { phase = phase; seen = d } })) same
+            (subst (λ (x : Reader). after ≡ after_read before reported (record before { reader = record x { phase = phase; seen = r.core.done } })) (sym (reader_is shape before after sees answer r))
+            (part_like shape before after sees answer r (record r.core.reader { phase = phase; seen = r.core.done }) before.keeps_spare reported reported_is next_is refl slot));
       }
 
   pub finds_closed : fill < done → DoneLoaded shape before done model.reading (storing_spare_link page fill) after

@@ -23,15 +23,17 @@ use Rattle.trace_model.proofs.steps.StepIs.{step_by}
 use Rattle.link_marks.specs.RingKept.{IsRingKept}
 use Rattle.link_marks.specs.Seats.{IsOfReader}
 use Rattle.link_marks.proofs.links.LinksFit.{links_fit_words}
-use Rattle.link_marks.proofs.partition.RingsKept.{reached_kept, reached_further}
+use Rattle.link_marks.proofs.partition.RingsKept.{reached_kept}
 use Rattle.link_marks.proofs.seats.SeatSteps.{reader_leaves_writer}
 use Rattle.link_marks.proofs.steps.StepsGiven.{each_event_is_a_step}
 use Rattle.page_image.specs.Contents.{Contents}
 use Rattle.ring_steps.specs.declared.rule.Shape.{Shape}
-use Rattle.ring_steps.specs.Views.{Reading, reading, reads}
+use Rattle.ring_steps.specs.Made.{writer_made_of}
+use Rattle.ring_steps.specs.Views.{Reading, reading_after, reading, reads}
 use Rattle.ring_steps.specs.Shown.{page_word, page_before, AreWords, Homes, AreHomes, IsReading}
 use Rattle.ring_steps.specs.Seats.{Sat, kept_slots, IsSeatOfReader}
 use Rattle.ring_steps.specs.Taking.{ReadReported, SeatReported, IsWordInto}
+use Rattle.ring_steps.proofs.Made.{reached_on, writer_same, reader_then}
 use Rattle.ring_steps.proofs.Allowing.{IsShownBy, ReaderMoves}
 use Rattle.ring_steps.proofs.ReaderSteps.{reader_within}
 
@@ -45,7 +47,12 @@ reading_of c keeps_spare = record {
   wish = c.wish;
   observed = take c.reader.expected (map as_record (reserved_records c.history));
   keeps_spare = keeps_spare;
+  made = [];
 }
+
+-- and after a step of a take
+abbrev pub reading_on : Reading → Core → Bool → model.Answer → Reading
+reading_on before c keeps_spare answer = reading_after before.made record { event = model.reads; answer = answer } (reading_of c keeps_spare)
 
 -- the reader goes on, and the link of its page may be set
 abbrev pub gone_on : Core → Reader → Link → Core
@@ -158,24 +165,31 @@ module _ (shape : Shape) (me : Sat) (c : Core) (ws : List ℕ) (homes : Homes) (
       → Valid homes me.1 act
       → AreWords shape.pages next (slice_set ws i (f (slice_index ws i)))
       → AreHomes shape.pages shape.size next (reading_of next b) (homes_after homes me.1 act)
-      → (ReadReported shape sees b me (reads (reading_of next b), carried_after me.1 act) → reports (slice_index ws i) (reads (reading_of next b), carried_after me.1 act))
-      → ReaderMoves shape c me ws homes i f reports
+      → (ReadReported shape sees b me (reads (reading_on (reading me.0) next b answer), carried_after me.1 act) → reports (slice_index ws i) (reads (reading_on (reading me.0) next b answer), carried_after me.1 act))
+      → ReaderMoves shape c (writer_made_of s.reached) me ws homes i f reports
   reads_on i f reports sees b answer next act step head_le seen valid words at_home report =
-      let reached = reached_further shape.pages shape.size shape.start c model.reads answer next s.reached step in
+      let reached = reached_on shape.pages shape.size shape.start c model.reads answer next s.reached step in
       let stays = reader_leaves_writer shape.pages shape.size c model.reads answer next tt (cases_of step) in
-      let is_reading : IsReading next (reading_of next b) = record { order_is = refl; spare_is = refl; spare_link_is = refl; reader_is = refl; wish_is = refl; observed_is = refl } in record {
+      let is_reading : IsReading next (reading_on (reading me.0) next b answer) = record { order_is = refl; spare_is = refl; spare_link_is = refl; reader_is = refl; wish_is = refl; observed_is = refl } in record {
         next = next;
-        after = reading_of next b;
+        after = reading_on (reading me.0) next b answer;
         act = act;
         valid = valid;
-        shown = record { pages_fit = s.pages_fit; reached = reached; are_words = words; are_homes = at_home; is_reading = is_reading };
-        writer_is = λ k. record { frames = stays.frames k; open_pages = stays.open_pages k; history = stays.history k; done = stays.done k; opened = stays.opened k };
+        shown = record {
+          pages_fit = s.pages_fit;
+          reached = reached;
+          are_words = words;
+          are_homes = record { count = at_home.count; closed = at_home.closed; free = at_home.free; spare = at_home.spare };
+          is_reading = is_reading;
+          reader_made_is = reader_then shape.pages shape.size shape.start c model.reads answer next s.reached step (reading me.0) (reading_on (reading me.0) next b answer) refl s.reader_made_is is_reading;
+        };
+        writer_is = λ k. record { made = writer_same shape.pages shape.size shape.start c model.reads answer next s.reached step refl k; frames = stays.frames k; open_pages = stays.open_pages k; history = stays.history k; done = stays.done k; opened = stays.opened k };
         head_le = head_le;
         reported = report record {
           view = refl;
-          within = reader_within shape next (reading_of next b) (reached_kept shape.pages shape.size shape.start next reached) is_reading;
+          within = reader_within shape next (reading_on (reading me.0) next b answer) (reached_kept shape.pages shape.size shape.start next reached) is_reading;
           keeps_is = refl;
-          step = (answer, record { core = c; next = next; reached = s.reached; before_is = s.is_reading; seen = seen; of_reader = tt; step = step; after_is = is_reading });
+          step = (answer, record { core = c; next = next; reached = s.reached; before_is = s.is_reading; seen = seen; of_reader = tt; step = step; after_is = is_reading; made_is = s.reader_made_is; one_more = refl });
         };
       }
 
@@ -184,7 +198,7 @@ module _ (shape : Shape) (me : Sat) (is : IsSeatOfReader me) (c : Core) (ws : Li
   loads_on : (i : ℕ) (sees : ℕ → Core → Type 0) (answer : model.Answer) (reader : Reader)
       → model.Step shape.pages shape.size c model.reads answer (gone_on c reader c.spare_link)
       → sees (slice_index ws i) c
-      → ReaderMoves shape c me ws homes i (λ k. k) (λ found after. SeatReported shape (sees found) (reading me.0).keeps_spare me after)
+      → ReaderMoves shape c (writer_made_of s.reached) me ws homes i (λ k. k) (λ found after. SeatReported shape (sees found) (reading me.0).keeps_spare me after)
   loads_on i sees answer reader step seen =
       let same = set-get_or ws i 0 in
       let b : Bool = (reading me.0).keeps_spare in
@@ -195,7 +209,7 @@ module _ (shape : Shape) (me : Sat) (is : IsSeatOfReader me) (c : Core) (ws : Li
 
   -- the number of closed fills is loaded
   pub load_done_moves : (page fill : ℕ) → (reading me.0).reader.phase ≡ loading_done page fill
-      → ReaderMoves shape c me ws homes 1 (λ k. k) (λ found after. SeatReported shape (λ core. core.done ≡ found) (reading me.0).keeps_spare me after)
+      → ReaderMoves shape c (writer_made_of s.reached) me ws homes 1 (λ k. k) (λ found after. SeatReported shape (λ core. core.done ≡ found) (reading me.0).keeps_spare me after)
   load_done_moves page fill at = let seen = sym s.are_words.done in
       dite (dec_le c.done fill)
       (λ le. loads_on 1 (λ found core. core.done ≡ found) (model.empty c.done) (record c.reader { phase = loading_head; seen = c.done })
@@ -205,7 +219,7 @@ module _ (shape : Shape) (me : Sat) (is : IsSeatOfReader me) (c : Core) (ws : Li
 
   -- the link into the position of the hint is loaded, and the spare's slot is put home
   pub load_link_moves : (page : ℕ) → (reading me.0).reader.phase ≡ loading_head → page ≡ page_before shape.pages (reading me.0).order (reading me.0).reader.hint
-      → ReaderMoves shape c me ws homes (page + 3) (λ k. k) (λ found after. SeatReported shape (IsWordInto shape (reading me.0).reader.hint found) false me after)
+      → ReaderMoves shape c (writer_made_of s.reached) me ws homes (page + 3) (λ k. k) (λ found after. SeatReported shape (IsWordInto shape (reading me.0).reader.hint found) false me after)
   load_link_moves page at page_is =
       let k = kept shape me c ws homes s in let some_pages = some_position shape me c ws homes s in
       let hint : ℕ = (reading me.0).reader.hint in
@@ -228,7 +242,7 @@ module _ (shape : Shape) (me : Sat) (is : IsSeatOfReader me) (c : Core) (ws : Li
   pub store_moves : (page fill spare new : ℕ) (link : Link) → (reading me.0).reader.phase ≡ storing_spare_link page fill → spare ≡ (reading me.0).spare → (reading me.0).keeps_spare ≡ false
       → new ≡ word_of link
       → link ≡ header_link (page_at shape.pages (reading me.0).order (fill + 1)) (fill + 1)
-      → ReaderMoves shape c me ws homes (spare + 3) (λ _. new) (λ _ after. SeatReported shape (λ _. ⊤) true me after)
+      → ReaderMoves shape c (writer_made_of s.reached) me ws homes (spare + 3) (λ _. new) (λ _ after. SeatReported shape (λ _. ⊤) true me after)
   store_moves page fill spare new link at spare_is empty new_is link_is =
       let k = kept shape me c ws homes s in let some_pages = some_position shape me c ws homes s in
       let behind : Link = model.next_header shape.pages c fill in

@@ -4,6 +4,7 @@ use Rattle.std.proofs.Common.{◌≡◌, ℕ, ◌≤◌, List}
 use Rattle.trace_model.specs.Ring.{Core}
 use Rattle.trace_model.specs.Steps.{Answer}
 use Rattle.ring_steps.specs.declared.rule.Shape.{Shape}
+use Rattle.ring_steps.specs.Made.{writer_made_of}
 use Rattle.ring_steps.specs.Views.{Writing, writing_of, Reading, writing, passed}
 use Rattle.ring_steps.specs.Shown.{Homes}
 use Rattle.ring_steps.specs.Seats.{Sat, IsWriting, Leads, WriterReported}
@@ -29,7 +30,7 @@ pub writer_move : (shape : Shape) (me : Sat) (now : Writing) (word : ℕ) (f : �
     → IsWriting me
     → Leads shape (writing me.0) now
     → ((found : ℕ) (after : Sat) → reports found after → StaysWriting shape after)
-    → ((c : Core) (r : Reading) (words : List ℕ) (homes : Homes) → IsShownBy shape c r words homes → writing_of c ≡ now → c.open_pages ≡ (writing me.0).open_pages → passed me.0 ≤ c.head → WriterMoves shape r me words homes word f reports)
+    → ((c : Core) (r : Reading) (words : List ℕ) (homes : Homes) (s : IsShownBy shape c r words homes) → writing_of (writer_made_of s.reached) c ≡ now → c.open_pages ≡ (writing me.0).open_pages → passed me.0 ≤ c.head → WriterMoves shape r me words homes word f reports)
     → IsWriterMove shape me word f reports
 writer_move shape me now word f reports is leads stays moves = record {
   allowed = λ slots id. writer_allows shape slots id me now word f reports is.view leads moves;

@@ -1,24 +1,25 @@
 -- The writer's part, if steps reach a state of which it is that.
-use Rattle.std.proofs.Common.{◌≡◌, ℕ, ◌<◌, ◌≤◌, List, length, sym, ap, ◌∙◌, arith}
+use Rattle.std.proofs.Common.{◌≡◌, ℕ, ◌<◌, ◌≤◌, List, length, refl, sym, ap, ◌∙◌, arith}
 use Rattle.std.specs.Prelude.{slice_index_or}
 use Rattle.std.proofs.Math.Logic.{∥∥₁_elim}
 use Rattle.std.proofs.Props.{props}
 use Rattle.trace_model.specs.declared.limits.TheConstants.{LINK_FILLS}
 use Rattle.trace_model.specs.Ring.{Core}
 use Rattle.trace_model.specs.Steps.{steps, Answer}
-use Rattle.link_marks.proofs.partition.RingsKept.{reached_kept, reached_further}
+use Rattle.link_marks.proofs.partition.RingsKept.{reached_kept}
 use Rattle.ring_steps.specs.declared.rule.Shape.{Shape}
 use Rattle.ring_steps.specs.Views.{Writing}
 use Rattle.ring_steps.specs.Seats.{Leads, IsWriterStep}
 use Rattle.ring_steps.specs.Paging.{IsWriterReached}
+use Rattle.ring_steps.proofs.Made.{reached_on, part_then}
 use Rattle.ring_steps.proofs.Private.{private_open_pages, private_reached}
 
 -- the writer's part after a step is one that steps reach
 pub step_reached : (shape : Shape) (before : Writing) (sees : Core → Type 0) (answer : Answer) (after : Writing) → IsWriterStep shape before sees answer after → IsWriterReached shape after
 step_reached shape before sees answer after s = record {
   core = s.next;
-  reached = reached_further shape.pages shape.size shape.start s.core steps answer s.next s.reached s.step;
-  is = s.after_is;
+  reached = reached_on shape.pages shape.size shape.start s.core steps answer s.next s.reached s.step;
+  is = part_then shape.pages shape.size shape.start s.core steps answer s.next s.reached s.step before after refl s.before_is s.after_is;
 }
 
 -- what is known of the writer's part before its private steps, and after them

@@ -3,6 +3,7 @@ use Rattle.std.specs.Prelude.{◌≡◌, ◌≤◌, ℕ}
 use Rattle.atomic_table.specs.Seated.{TableId}
 use Rattle.ring_steps.specs.declared.ends.WriterSeat.{WriterSeat}
 use Rattle.ring_steps.specs.declared.ends.ReaderSeat.{ReaderSeat}
+use Rattle.ring_steps.specs.declared.settling.SettledSeats.{SettledSeats}
 use Rattle.ring_steps.specs.Views.{Writing, Reading, passed, reading}
 
 -- the writer's part, as of its last step on a word or note of what it did in private
@@ -16,6 +17,13 @@ passed_in writer = passed writer.seat.me.0
 -- the reader's part
 abbrev pub reading_in : ReaderSeat → Reading
 reading_in reader = reading reader.seat.me.0
+
+-- and both, of the seats that were joined
+abbrev pub writing_settled : SettledSeats → Writing
+writing_settled seats = seats.ghost_part.now
+
+abbrev pub reading_settled : SettledSeats → Reading
+reading_settled seats = reading seats.seat.me.0
 
 -- the table of a ring; seats that were made together have the same one, and no others do
 abbrev pub writer_table : WriterSeat → TableId

@@ -1,3 +1,4 @@
+pub mod Made
 pub mod Views
 pub mod Shown
 pub mod Seats

@@ -3,9 +3,9 @@ use Rattle.std.specs.Prelude.{◌≡◌, ℕ, ◌+◌, ◌-◌, ◌<◌, ◌≤�
 use Rattle.trace_model.specs.Links.{Mark, normal, header, update, word_of}
 use Rattle.trace_model.specs.Frames.{Role, owner, helper, Phase, looking, claiming, looking_next, marking, opening, Frame, noted_fill}
 use Rattle.trace_model.specs.Ring.{link_into, Core}
-use Rattle.trace_model.specs.Steps.{MayContinue, after_next, going, Answer}
+use Rattle.trace_model.specs.Steps.{MayContinue, after_next, steps, going, Answer}
 use Rattle.ring_steps.specs.declared.rule.Shape.{Shape}
-use Rattle.ring_steps.specs.Views.{Writing, writing, passed}
+use Rattle.ring_steps.specs.Views.{Writing, writing_after, writing, passed}
 use Rattle.ring_steps.specs.Seats.{Sat, IsWriting, IsWriterStep, WriterReported}
 use Rattle.ring_steps.specs.Paging.{IsTopIn}
 
@@ -80,7 +80,8 @@ frames_in [] phase = []
 frames_in (frame ∷ below) phase = record frame { phase = phase } ∷ below
 
 abbrev pub part_in : Writing → Phase → Writing
-part_in w phase = record w { frames = frames_in w.frames phase }
+part_in w phase =
+    writing_after w.made record { event = steps; answer = going } (record w { frames = frames_in w.frames phase })
 
 -- the phase in which it goes on by the link that it found into the position of the fill to open
 abbrev pub found_at : Mark → (noted page : ℕ) → Phase

@@ -30,6 +30,7 @@ first_writing shape = record {
   history = [];
   done = shape.start;
   opened = shape.start + 1;
+  made = [];
 }
 
 -- each position has the page of its number, and the spare is the last page
@@ -42,6 +43,7 @@ first_reading shape = record {
   wish = 0;
   observed = [];
   keeps_spare = false;
+  made = [];
 }
 
 -- the word of a page's link in a new ring: it leads into the position after the page's own

@@ -8,7 +8,7 @@ use Rattle.trace_model.specs.Ring.{Core, first_reader}
 use Rattle.trace_model.specs.Events.{Event, steps, Outcome}
 use Rattle.trace_model.specs.Steps.{step_of}
 use Rattle.ring_steps.specs.declared.rule.Shape.{Shape}
-use Rattle.ring_steps.specs.Views.{Writing, writing_of}
+use Rattle.ring_steps.specs.Views.{Writing, writing_of, writing_after}
 
 -- a state with this as the writer's part, and nothing else
 abbrev pub alone : Writing → Core
@@ -28,18 +28,19 @@ alone w = record {
   reader = first_reader 0;
 }
 
-abbrev pub part_of : Writing → Outcome → Writing
-part_of w None = w
-part_of w (Some outcome) = writing_of outcome.1
+abbrev pub part_of : Writing → Event → Outcome → Writing
+part_of w event None = w
+part_of w event (Some outcome) =
+    writing_after w.made record { event = event; answer = outcome.0 } (writing_of [] outcome.1)
 
 -- The writer's part after an event that finds nothing in a word: a private one, or a store of a count. It is a function
 -- of the part alone.
 abbrev pub part_after : Shape → Writing → Event → Writing
-part_after shape w event = part_of w (step_of shape.pages shape.size (alone w) event)
+part_after shape w event = part_of w event (step_of shape.pages shape.size (alone w) event)
 
 -- and after a load of the reader's wish, by what was found
 abbrev pub part_after_wish : Shape → Writing → (wish : ℕ) → Writing
-part_after_wish shape w wish = part_of w (step_of shape.pages shape.size (record (alone w) { wish = wish }) steps)
+part_after_wish shape w wish = part_of w steps (step_of shape.pages shape.size (record (alone w) { wish = wish }) steps)
 
 -- the payload takes exactly the slot that the frame on top was given, if that has reserved a record
 abbrev pub FillsSlotOf : Kind → FrameState → List ℕ → Type 0

@@ -6,6 +6,7 @@ use Rattle.trace_model.specs.Steps.{Answer, refused, begin_answer}
 use Rattle.link_marks.specs.Reached.{IsReached}
 use Rattle.page_image.specs.Contents.{Contents}
 use Rattle.ring_steps.specs.declared.rule.Shape.{Shape}
+use Rattle.ring_steps.specs.Made.{writer_made_of}
 use Rattle.ring_steps.specs.Views.{Writing, writing_of, writes, writing, passed}
 use Rattle.ring_steps.specs.Seats.{Sat, emptied, IsWriterStep}
 
@@ -13,7 +14,7 @@ use Rattle.ring_steps.specs.Seats.{Sat, emptied, IsWriterStep}
 pub record IsWriterReached (shape : Shape) (w : Writing) : Type 0 where
   pub core : Core
   pub reached : IsReached shape.pages shape.size shape.start core
-  pub is : writing_of core ≡ w
+  pub is : writing_of (writer_made_of reached) core ≡ w
 
 -- there is a frame on top, and it is in this phase
 abbrev pub IsTopIn : List Frame → Phase → Type 0

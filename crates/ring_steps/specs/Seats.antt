@@ -1,5 +1,5 @@
 -- What ties a seat to its ring's table, and what a step of either end shows.
-use Rattle.std.specs.Prelude.{◌≡◌, ℕ, ◌+◌, ◌<◌, ◌≤◌, List, [], ◌∷◌, map, Option, None, Bool, true, false}
+use Rattle.std.specs.Prelude.{◌≡◌, ℕ, ◌+◌, ◌<◌, ◌≤◌, List, [], ◌∷◌, ◌++◌, map, Option, None, Bool, true, false}
 use Rattle.atomic_table.specs.Table.{Me}
 use Rattle.atomic_table.specs.Seated.{TableId}
 use Rattle.trace_model.specs.declared.limits.TheConstants.{MIN_PAGES, MAX_PAGES, LINK_FILLS}
@@ -9,7 +9,8 @@ use Rattle.link_marks.specs.Reached.{IsReached}
 use Rattle.link_marks.specs.Seats.{IsOfReader, PrivateRun}
 use Rattle.page_image.specs.Contents.{Contents}
 use Rattle.ring_steps.specs.declared.rule.Shape.{Shape}
-use Rattle.ring_steps.specs.Views.{Writing, writing_of, Reading, SeatView, writes, reads, writing, passed, reading}
+use Rattle.ring_steps.specs.Made.{writer_made_of, reader_made_of, privately_made}
+use Rattle.ring_steps.specs.Views.{Writing, writing_of, writing_after, Reading, reading_made, SeatView, writes, reads, writing, passed, reading}
 use Rattle.ring_steps.specs.Shown.{IsReading}
 
 -- a seat's view, and the slots that are out with it
@@ -73,6 +74,8 @@ pub record IsReaderStep (shape : Shape) (before : Reading) (sees : Core → Type
   pub of_reader : IsOfReader event
   pub step : Step shape.pages shape.size core event answer next
   pub after_is : IsReading next after
+  pub made_is : before.made ≡ reader_made_of reached
+  pub one_more : after.made ≡ before.made ++ reading_made record { event = event; answer = answer } after ∷ []
 
 -- what a step of the reader by which it neither takes nor gives back a slot shows of its seat: a store of the wish
 -- (those of a take: Taking)
@@ -86,12 +89,12 @@ pub record ReaderReported (shape : Shape) (sees : Core → Type 0) (event : Even
 -- In each state in which the writer's part is this, private steps lead to one in which it is that.
 abbrev pub Leads : Shape → (before now : Writing) → Type 0
 Leads shape before now = (c : Core)
-    → IsReached shape.pages shape.size shape.start c
-    → writing_of c ≡ before
+    → (reached : IsReached shape.pages shape.size shape.start c)
+    → writing_of (writer_made_of reached) c ≡ before
     → (exchanges : List Exchange)
     × (aside : Core)
-    × PrivateRun shape.pages shape.size c exchanges aside
-    × (writing_of aside ≡ now)
+    × (run : PrivateRun shape.pages shape.size c exchanges aside)
+    × (writing_of (before.made ++ privately_made shape.pages shape.size c exchanges aside run) aside ≡ now)
 
 -- A step of the frame on top: from a state in which the writer's part is the first, and of which this holds, to one in
 -- which it is the second.
@@ -100,10 +103,10 @@ pub record IsWriterStep (shape : Shape) (before : Writing) (sees : Core → Type
   pub core : Core
   pub next : Core
   pub reached : IsReached shape.pages shape.size shape.start core
-  pub before_is : writing_of core ≡ before
+  pub before_is : writing_of (writer_made_of reached) core ≡ before
   pub seen : sees core
   pub step : Step shape.pages shape.size core steps answer next
-  pub after_is : writing_of next ≡ after
+  pub after_is : writing_after before.made record { event = steps; answer = answer } (writing_of [] next) ≡ after
 
 -- What each step of the writer shows of its seat; by now its part is this, and below the known number it knows all
 -- fills to be passed, as it does after the step.
@@ -120,5 +123,6 @@ pub record WriterReported (shape : Shape) (now : Writing) (known : ℕ) (sees : 
 pub record AreParts (shape : Shape) (w : Writing) (r : Reading) : Type 0 where
   pub core : Core
   pub reached : IsReached shape.pages shape.size shape.start core
-  pub writing_is : writing_of core ≡ w
+  pub writing_is : writing_of (writer_made_of reached) core ≡ w
   pub reading_is : IsReading core r
+  pub reader_made_is : r.made ≡ reader_made_of reached

@@ -14,6 +14,7 @@ use Rattle.link_marks.specs.Reached.{IsReached}
 use Rattle.page_image.specs.Contents.{Contents}
 use Rattle.nested_writer.specs.Released.{IsWrittenPage}
 use Rattle.ring_steps.specs.declared.rule.TheConstants.{OPENED_WORD, DONE_WORD, WISH_WORD, LINKS_WORD}
+use Rattle.ring_steps.specs.Made.{writer_made_of, reader_made_of}
 use Rattle.ring_steps.specs.Views.{Writing, writing_of, Reading, SeatView, laid, AreSeated}
 
 -- ---- words
@@ -82,13 +83,14 @@ pub record IsShown (n size start : ℕ) (c : Core) (r : Reading) (words : List �
   pub are_words : AreWords n c words
   pub are_homes : AreHomes n size c r homes
   pub is_reading : IsReading c r
+  pub reader_made_is : r.made ≡ reader_made_of reached
 
 -- Some state is shown, and its two parts are what the seats know. The tail's slot is empty, while no seat has it.
 pub record Shows (n size start : ℕ) (s : State (Option Contents) SeatView) : Type 0 where
   pub core : Core
   pub reader : Reading
   pub shown : IsShown n size start core reader s.words s.homes
-  pub seats : AreSeated (writing_of core) reader core.head s.views
+  pub seats : AreSeated (writing_of (writer_made_of shown.reached) core) reader core.head s.views
   pub tail : (w : Writing) (r : Reading)
       → s.views ≡ laid w r ∷ []
       → get_elem? s.homes (slice_index_or w.open_pages 0 0) ≡ some (some None)

@@ -9,7 +9,7 @@ use Rattle.link_marks.specs.KeptLinks.{Spot, spot}
 use Rattle.page_image.specs.Contents.{Contents, records_of_page}
 use Rattle.nested_writer.specs.Released.{IsWrittenPage}
 use Rattle.ring_steps.specs.declared.rule.Shape.{Shape}
-use Rattle.ring_steps.specs.Views.{Reading, reading}
+use Rattle.ring_steps.specs.Views.{Reading, reading_after, reading}
 use Rattle.ring_steps.specs.Seats.{Sat, IsReaderStep}
 use Rattle.ring_steps.specs.Taking.{ReadReported}
 
@@ -47,7 +47,9 @@ pub record HeadGone (shape : Shape) (before : Reading) (page fill : ℕ) (after 
   pub step : IsReaderStep shape before (λ core. link_into shape.pages core.links fill ≢ header_link page fill)
       model.reads model.reading after
   pub after_is : after
-      ≡ record before { reader = record before.reader { phase = loading_head; hint = fill + 1 } }
+      ≡ reading_after before.made record { event = model.reads; answer = model.reading } (record before {
+        reader = record before.reader { phase = loading_head; hint = fill + 1 };
+      })
 
 -- the fill that the reader is about to take, and its page
 abbrev pub head_to_take : ReaderPhase → Spot

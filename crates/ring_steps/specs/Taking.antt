@@ -4,7 +4,7 @@ use Rattle.trace_model.specs.Links.{Link, word_of, FitsWord}
 use Rattle.trace_model.specs.Ring.{ReaderPhase, loading_head, loading_done, storing_spare_link, swapping, Core, link_into}
 use Rattle.trace_model.specs.Steps as model
 use Rattle.ring_steps.specs.declared.rule.Shape.{Shape}
-use Rattle.ring_steps.specs.Views.{Reading, reads, reading}
+use Rattle.ring_steps.specs.Views.{Reading, reading_after, reads, reading}
 use Rattle.ring_steps.specs.Seats.{Sat, IsSeatOfReader, IsReaderWithin, IsReaderStep}
 
 -- A step of the reader's take, with the model's answer to it.
@@ -65,10 +65,10 @@ pub record LinkLoaded (shape : Shape) (before : Reading) (link : Link) (answer :
       answer after
   pub hint_le : before.reader.hint ≤ hint
   pub after_is : after
-      ≡ record before {
+      ≡ reading_after before.made record { event = model.reads; answer = answer } (record before {
         reader = record before.reader { phase = phase; hint = hint };
         keeps_spare = false;
-      }
+      })
 
 -- The number of closed fills was loaded, with this answer of the model's: the reader goes on in this phase, and has
 -- seen that many, which are no fewer than before. Nothing else of its part changes.
@@ -77,17 +77,20 @@ pub record DoneLoaded (shape : Shape) (before : Reading) (done : ℕ) (answer : 
     : Type 0 where
   pub step : IsReaderStep shape before (λ core. core.done ≡ done) model.reads answer after
   pub seen_le : before.reader.seen ≤ done
-  pub after_is : after ≡ record before { reader = record before.reader { phase = phase; seen = done } }
+  pub after_is : after
+      ≡ reading_after before.made record { event = model.reads; answer = answer } (record before {
+        reader = record before.reader { phase = phase; seen = done };
+      })
 
 -- The spare's link was stored: the reader is about to swap the spare for the head, and keeps the spare's slot. Nothing
 -- else of its part changes.
 pub record SpareLinked (shape : Shape) (before : Reading) (link : Link) (after : Reading) : Type 0 where
   pub step : IsReaderStep shape before (λ _. ⊤) model.reads model.reading after
   pub after_is : after
-      ≡ record before {
+      ≡ reading_after before.made record { event = model.reads; answer = model.reading } (record before {
         spare_link = link;
         reader = record before.reader {
           phase = swapping (page_found before) (fill_found before);
         };
         keeps_spare = true;
-      }
+      })

@@ -1,33 +1,53 @@
 -- What the two ends of a running ring know, each of its own part.
 -- docs/MODEL.md, "The running ring".
-use Rattle.std.specs.Prelude.{ℕ, ◌≤◌, List, [], ◌∷◌, Bool, false}
+use Rattle.std.specs.Prelude.{ℕ, ◌≤◌, List, [], ◌∷◌, ◌++◌, Bool, false}
+use Rattle.trace_model.specs.Steps.{Exchange}
 use Rattle.trace_model.specs.Record.{Record}
 use Rattle.trace_model.specs.History.{HistoryEvent}
 use Rattle.trace_model.specs.Links.{Link, normal_link}
 use Rattle.trace_model.specs.Frames.{Frame}
 use Rattle.trace_model.specs.Ring.{Core, Reader, first_reader}
+use Rattle.ring_steps.specs.Made.{WriterMade, ReaderMade}
 
 -- The writer's part of a ring: its frames, the pages of the fills that are begun and not closed, the oldest first, what
--- the frames did, and the two counts that it alone stores.
+-- the frames did, and the two counts that it alone stores; made: its steps so far.
 pub record Writing : Type 0 where
   pub frames : List Frame
   pub open_pages : List ℕ
   pub history : List HistoryEvent
   pub done : ℕ
   pub opened : ℕ
+  pub made : List WriterMade
 
-abbrev pub writing_of : Core → Writing
-writing_of c = record {
+-- the part of a state to which these steps led
+abbrev pub writing_of : List WriterMade → Core → Writing
+writing_of made c = record {
   frames = c.frames;
   open_pages = c.open_pages;
   history = c.history;
   done = c.done;
   opened = c.opened;
+  made = made;
 }
+
+-- the writer's step that led to this part
+abbrev pub writing_made : Exchange → Writing → WriterMade
+writing_made x w = record {
+  exchange = x;
+  frames = w.frames;
+  open_pages = w.open_pages;
+  history = w.history;
+  done = w.done;
+  opened = w.opened;
+}
+
+-- this part, by one step more than these
+abbrev pub writing_after : List WriterMade → Exchange → Writing → Writing
+writing_after made x w = record w { made = made ++ writing_made x w ∷ [] }
 
 -- The reader's part: the page at each position, the page outside the ring and its link, how far its take has come and
 -- what it took, and the wish, which it alone stores. observed: the committed records up to the last one that it took,
--- those that were lost before it among them. keeps_spare: the spare's slot is out with it.
+-- those that were lost before it among them. keeps_spare: the spare's slot is out with it. made: its steps so far.
 pub record Reading : Type 0 where
   pub order : List ℕ
   pub spare : ℕ
@@ -36,6 +56,22 @@ pub record Reading : Type 0 where
   pub wish : ℕ
   pub observed : List Record
   pub keeps_spare : Bool
+  pub made : List ReaderMade
+
+-- the reader's step that led to this part
+abbrev pub reading_made : Exchange → Reading → ReaderMade
+reading_made x r = record {
+  exchange = x;
+  order = r.order;
+  spare = r.spare;
+  spare_link = r.spare_link;
+  reader = r.reader;
+  wish = r.wish;
+}
+
+-- this part, by one step more than these
+abbrev pub reading_after : List ReaderMade → Exchange → Reading → Reading
+reading_after made x r = record r { made = made ++ reading_made x r ∷ [] }
 
 -- What a seat knows. laid: the first one, before it has the tail's slot; whole: and then, before it is split. writes:
 -- the writer's, with a number below which each fill is passed. joined: the one that both became, and spent is what it
@@ -49,7 +85,7 @@ pub data SeatView : Type 0 where
   spent : SeatView
 
 abbrev pub no_writing : Writing
-no_writing = record { frames = []; open_pages = []; history = []; done = 0; opened = 0 }
+no_writing = record { frames = []; open_pages = []; history = []; done = 0; opened = 0; made = [] }
 
 abbrev pub no_reading : Reading
 no_reading = record {
@@ -60,6 +96,7 @@ no_reading = record {
   wish = 0;
   observed = [];
   keeps_spare = false;
+  made = [];
 }
 
 -- the writer's part of what a seat knows, if it has one

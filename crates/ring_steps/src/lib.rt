@@ -24,5 +24,5 @@ pub use ends::{ReaderSeat, WriterSeat};
 pub use making::{seats, seats_at};
 pub use noting::ChosenPart;
 pub use rule::Shape;
-pub use settling::settle;
+pub use settling::{SettledSeats, settle};
 pub use views::View;

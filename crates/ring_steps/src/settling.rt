@@ -2,13 +2,15 @@
 ghost use Rattle.std.specs.Prelude.{◌≡◌, false};
 ghost use Rattle.ring_steps.specs.Views.{writing, reading, joined};
 ghost use Rattle.ring_steps.specs.Seats.{IsTableOf, AreParts};
-ghost use Rattle.ring_steps.specs.Ends.{writing_in, reading_in, writer_table, reader_table};
+ghost use Rattle.ring_steps.specs.Ends.{writing_in, reading_in, writing_settled, reading_settled, writer_table, reader_table};
 
 use crate::ends::{ReaderSeat, WriterSeat};
+use crate::ghost_part::GhostPart;
 use crate::plays::{TableSeat, load};
 use crate::rule::{Board, DONE_WORD, Shape};
 use crate::views::View;
 use atomic_table::Join;
+use std::fmt;
 use std::marker::Brand;
 
 /// Both parts in one view.
@@ -28,27 +30,45 @@ fn load_done_joined(board: &Board, shape: Shape, seat: &mut TableSeat)
     requires table { IsTableOf shape board.now.shared.table_id }
     requires seated { seat.old.table_id ≡ board.now.shared.table_id }
     requires seat { seat.old.me.0 ≡ joined (writing seat.old.me.0) (reading seat.old.me.0) }
-    ensures { AreParts shape (writing seat.old.me.0) (reading seat.old.me.0) }
+    ensures same { seat.new.me.0 ≡ seat.old.me.0 }
+    ensures parts { AreParts shape (writing seat.old.me.0) (reading seat.old.me.0) }
 {
     load::<Brand, _>(board, shape, seat, DONE_WORD, &());
+}
+
+/// The two seats of a ring in one, which has no bytes: what contracts see of it is the part of each end, as it was when
+/// they were joined.
+#[derive(Drop)]
+pub struct SettledSeats {
+    pub(crate) seat: TableSeat,
+    pub(crate) ghost_part: GhostPart,
+}
+
+impl fmt::Debug for SettledSeats {
+    fn fmt<W: fmt::Write>(&self, f: &mut fmt::Formatter<W>) -> fmt::Result {
+        f.debug_struct("SettledSeats").finish_non_exhaustive()
+    }
 }
 
 /// Joins the two seats of a ring, and loads once how many fills are closed. So what both know are the parts of one
 /// state that the ring reached. The reader has no slot then: it hasn't stored its spare's link, or has loaded a
 /// link since.
-pub fn settle(writer: WriterSeat, reader: ReaderSeat)
+pub fn settle(writer: WriterSeat, reader: ReaderSeat) -> SettledSeats
     requires one_table { reader_table reader ≡ writer_table writer }
     requires no_slot { (reading_in reader).keeps_spare ≡ false }
-    ensures { AreParts writer.shape (writing_in writer) (reading_in reader) }
+    ensures writing { writing_settled result ≡ writing_in writer }
+    ensures reading { reading_settled result ≡ reading_in reader }
+    ensures parts { AreParts writer.shape (writing_in writer) (reading_in reader) }
 {
     writer.recall();
     let WriterSeat {
         board,
         mut seat,
+        ghost_part,
         shape,
-        ..
     } = writer;
     let ReaderSeat { seat: other, .. } = reader;
     board.shared.join_seat::<Both>(&mut seat, other);
     load_done_joined(&board, shape, &mut seat);
+    SettledSeats { seat, ghost_part }
 }

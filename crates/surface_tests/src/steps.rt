@@ -77,7 +77,7 @@ fn begin_second(writer: &mut WriterSeat) -> Result<Body, Fail>
     requires new { writing_in writer.old ≡ first_writing writer.old.shape }
     ensures shape { writer.new.shape ≡ writer.old.shape }
     ensures body { IfOk result (λ body. length body ≡ 32) }
-    ensures part { IfOk result (λ _. writing_in writer.new ≡ second_begun) }
+    ensures part { IfOk result (λ _. writing_in writer.new ≡ second_begun (writing_in writer.new).made) }
 {
     writer.note_push(1, 0);
     writer.note_step();
@@ -98,9 +98,9 @@ fn begin_second(writer: &mut WriterSeat) -> Result<Body, Fail>
 fn close_first(writer: &mut WriterSeat, body: Body)
     requires shape { writer.old.shape ≡ two_pages }
     requires body { length body ≡ 32 }
-    requires part { writing_in writer.old ≡ second_begun }
+    requires part { writing_in writer.old ≡ second_begun (writing_in writer.old).made }
     ensures shape { writer.new.shape ≡ writer.old.shape }
-    ensures part { writing_in writer.new ≡ first_closed }
+    ensures part { writing_in writer.new ≡ first_closed (writing_in writer.new).made }
 {
     writer.note_end(&[]);
     let mut front = Page::fresh(body, RecordNo(0), FillNo(0));
@@ -111,9 +111,9 @@ fn close_first(writer: &mut WriterSeat, body: Body)
 /// Another record, during which a close frame claims the head.
 fn claim_first(writer: &mut WriterSeat) -> Result<(), Fail>
     requires shape { writer.old.shape ≡ two_pages }
-    requires part { writing_in writer.old ≡ first_closed }
+    requires part { writing_in writer.old ≡ first_closed (writing_in writer.old).made }
     ensures shape { writer.new.shape ≡ writer.old.shape }
-    ensures part { IfOk result (λ _. writing_in writer.new ≡ first_claimed) }
+    ensures part { IfOk result (λ _. writing_in writer.new ≡ first_claimed (writing_in writer.new).made) }
 {
     writer.note_push(2, 0);
     writer.note_step();
@@ -136,7 +136,7 @@ fn claim_first(writer: &mut WriterSeat) -> Result<(), Fail>
 /// The second page becomes the head, and a third fill is begun on the first page.
 fn begin_third(writer: &mut WriterSeat) -> Result<Body, Fail>
     requires shape { writer.old.shape ≡ two_pages }
-    requires part { writing_in writer.old ≡ first_claimed }
+    requires part { writing_in writer.old ≡ first_claimed (writing_in writer.old).made }
     ensures body { IfOk result (λ body. length body ≡ 32) }
 {
     let Link {

@@ -19,6 +19,7 @@ use Rattle.page_numbers.specs.Written.{bytes_of_page}
 use Rattle.page_numbers.specs.Parcels.{parcel_of_page}
 use Rattle.trace_model.specs.declared.limits.TheConstants.{MAX_CPUS}
 use Rattle.trace_model.specs.Ring.{HasRingLimits}
+use Rattle.ring_steps.specs.Views.{reading_after}
 use Rattle.ring_shared.specs.Value.{WriterValue}
 use Rattle.ring_shared.specs.Rooms.{rooms}
 use Rattle.ring_shared.specs.Promises.{KeepsSlots}
@@ -153,13 +154,18 @@ pub data TakesSo (old : HeldReader) (out : List ℕ) (was : Taken) (code : ℤ) 
       → reported ≡ was
       → TakesSo old out was code left reported new
 
--- The wish is for the tail page, and nothing else of the end changes. The answer is 0.
+-- The wish is for the first fill that the reader doesn't know to be closed, and is one step more that the end made;
+-- nothing else of it changes. The answer is 0.
 pub record WishesSo (old : HeldReader) (code : ℤ) (new : HeldReader) : Type 0 where
   pub code_is : code ≡ pos 0
   pub new_is :
       new
       ≡ record old {
-        reader = record old.reader { part = record old.reader.part { wish = old.reader.part.reader.seen + 1 } };
+        reader = record old.reader {
+          part = reading_after old.reader.part.made
+              record { event = model.wishes; answer = model.wished_for old.reader.part.reader.seen }
+              (record old.reader.part { wish = old.reader.part.reader.seen + 1 });
+        };
       }
 
 -- ---- both

@@ -7,6 +7,7 @@ use trace_model::FillNo;
 impl Reader {
     ghost use Rattle.std.specs.Prelude.{◌≡◌, ◌+◌, ⊤, length};
     ghost use Rattle.trace_model.specs.Steps.{wishes, wished_for};
+    ghost use Rattle.ring_steps.specs.Views.{reading_after};
     ghost use Rattle.ring_steps.specs.Seats.{IsReaderStep};
     ghost use Rattle.ring_shared.specs.declared.take.TakeStep.TheVariants.{Done};
     ghost use Rattle.ring_shared.specs.Takes.{IsReader, KeepsNoEmpty, IsTake, TakesSteps, EmptyAfter, SameRing, IsOfSize, empty_of};
@@ -60,7 +61,10 @@ impl Reader {
         requires reader { IsReader self.old }
         ensures fill { result.0 ≡ self.old.part.reader.seen }
         ensures step { IsReaderStep self.old.shape self.old.part (λ _. ⊤) wishes (wished_for result.0) self.new.part }
-        ensures wished { self.new ≡ record self.old { part = record self.old.part { wish = result.0 + 1 } } }
+        ensures wished { self.new ≡ record self.old {
+          part = reading_after self.old.part.made record { event = wishes; answer = wished_for result.0 }
+              (record self.old.part { wish = result.0 + 1 });
+        } }
         ensures ring { SameRing self.old self.new }
         ensures reader { IsReader self.new }
     {

@@ -32,6 +32,7 @@ impl Writer {
         ensures writer { IsWriter self.new }
     {
         if self.frames.is_empty() {
+            self.seat.note_step();
             return Answer::Refused(WriteFault::NoFrame);
         }
         match self.frames.phase() {

@@ -14,7 +14,7 @@ join_seat-requires c = (
   joins _ _ _ _ _ _ _ c.args.writer.is_writing.view c.args.reader.is_reading.view,
 )
 
-pub returns : goal.returns
-returns c = let writer = c.args.writer in
+pub returns-clause-parts : goal.returns-clause-parts
+returns-clause-parts c = let writer = c.args.writer in
     let parts : AreParts writer.shape (writing writer.seat.me.0) (reading c.args.reader.seat.me.0) = search rules in
     parts_now writer.shape _ _ _ c.recall.ensures parts

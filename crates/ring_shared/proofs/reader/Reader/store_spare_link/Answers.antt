@@ -5,7 +5,7 @@ use Rattle.trace_model.specs.Ring as ring
 use Rattle.trace_model.specs.Steps as model
 use Rattle.link_marks.specs.ModelLinks.{link_of}
 use Rattle.ring_frames.specs.ReaderPhases.{reader_phase_of}
-use Rattle.ring_steps.specs.Views.{Reading}
+use Rattle.ring_steps.specs.Views.{Reading, reading_after}
 use Rattle.ring_steps.specs.Ends.{reading_in, reader_table}
 use Rattle.ring_steps.specs.Taking.{page_in, fill_in, SpareLinked}
 use Rattle.ring_shared.specs.Value.{ReaderValue}
@@ -31,8 +31,8 @@ returns c =
     let h = subst (λ (w : ReaderValue). SpareLinked w.shape w.part link after) c.self.view_is reported.linked in
     let about : ring.ReaderPhase = ring.swapping c.args.page c.args.fill in
     let reader : ring.Reader = record v.part.reader { phase = about } in
-    let is = subst (λ (p : ring.ReaderPhase). after ≡ record v.part { spare_link = link; reader = record v.part.reader { phase = ring.swapping (page_in p) (fill_in p) }; keeps_spare = true }) at h.after_is in
-    let s = stays v.shape v.part after _ model.reading h.step reader link true is in
+    let is = subst (λ (p : ring.ReaderPhase). after ≡ reading_after v.part.made record { event = model.reads; answer = model.reading } (record v.part { spare_link = link; reader = record v.part.reader { phase = ring.swapping (page_in p) (fill_in p) }; keeps_spare = true })) at h.after_is in
+    let s = stays v.shape v.part after _ model.reading h.step reader link true _ is in
     record {
       take_step = (refl, nothing v.shape v.part after reader s refl refl (omega arith) (omega arith));
       answered = record { reported = model.reading; step = so v.shape v.part after _ model.reading h.step; reports = refl };

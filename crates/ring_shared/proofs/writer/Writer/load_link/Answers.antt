@@ -1,4 +1,4 @@
-use Rattle.std.proofs.Common.{◌≡◌, Some, refl, sym, ap, ◌∙◌, subst}
+use Rattle.std.proofs.Common.{◌≡◌, [], Some, refl, sym, ap, ◌∙◌, subst}
 use Rattle.trace_model.specs.Frames.{looking, noted_fill}
 use Rattle.trace_model.specs.Ring.{link_into}
 use Rattle.trace_model.specs.Steps as model
@@ -48,7 +48,7 @@ returns-clause-makes c =
     let link : link_into v.shape.pages s.core.links c.args.noted ≡ link_of l = ap (link_into v.shape.pages s.core.links) now ∙ s.seen.1 in
     let here : c.args.noted ≡ s.core.opened = now ∙ ap (λ (p : Writing). p.opened) (sym s.before_is) in
     let found : (m : Mark) → l.mark ≡ m → Moves v (looking c.args.noted) (found_at (mark_of m) c.args.noted l.page) s.core s.next =
-    λ m e frame below step. subst (λ (k : Mark). writing_of s.next ≡ writing_of (model.in_phase s.core frame below (found_at (mark_of k) c.args.noted l.page))) e
+    λ m e frame below step. subst (λ (k : Mark). writing_of [] s.next ≡ writing_of [] (model.in_phase s.core frame below (found_at (mark_of k) c.args.noted l.page))) e
     (looked v.shape.pages s.core frame below model.going s.next c.args.noted (link_of l) here link step) in
     let goes : (p : Phase) → noted_fill (phase_of p) ≡ Some c.args.noted → c.match-link.phase ≡ p → Moves v (looking c.args.noted) (phase_of p) s.core s.next → MakesSome c.args.self.now model.steps (as_answer c.go_on.result) new =
     λ p noted_is is moves. goes_on_called c.self.view_is c.requires.framed.writer c.requires.framed.top c.requires.phase c.args.noted c.match-link.phase p _ refl noted_is is c.load_link-link.ensures.same.shape c.load_link-link.ensures.same.table refl c.go_on.ensures.goes_on (ap as_answer c.go_on.ensures.answer) s moves in

@@ -1,4 +1,4 @@
-use Rattle.std.proofs.Common.{◌≡◌, ◌+◌, Some, refl, sym, ap, ◌∙◌, subst}
+use Rattle.std.proofs.Common.{◌≡◌, ◌+◌, [], Some, refl, sym, ap, ◌∙◌, subst}
 use Rattle.trace_model.specs.Links.{Link, normal_link}
 use Rattle.trace_model.specs.Frames.{Phase as ModelPhase, looking_next, noted_fill}
 use Rattle.trace_model.specs.Steps as model
@@ -57,7 +57,7 @@ returns-clause-makes c =
           (λ frame below step. waits v.shape.pages s.core frame below model.going s.next (role_of c.args.role) c.args.noted c.args.page c.after_lost-after_lost.result (link_of l) on fill s.seen
           (ap marked b.in-Normal.is ∙ ap (normal_link l.page) b.if-link-after_lost.true) step)
       | in_default b ↦ goes b.after_next-phase.result (ap noted_fill b.after_next-phase.ensures ∙ noted_after (role_of c.args.role) c.args.noted c.args.page) b.phase-is
-          (λ frame below step. subst (λ (p : ModelPhase). writing_of s.next ≡ writing_of (model.in_phase s.core frame below p)) (sym b.after_next-phase.ensures)
+          (λ frame below step. subst (λ (p : ModelPhase). writing_of [] s.next ≡ writing_of [] (model.in_phase s.core frame below p)) (sym b.after_next-phase.ensures)
           (is_passed v.shape.pages s.core frame below model.going s.next (role_of c.args.role) c.args.noted c.args.page c.after_lost-after_lost.result (link_of l) on fill s.seen
           (λ page e. elim b.in_default.branch [
             | in_default-via-in-Normal+else-link-after_lost d ↦ d.if-link-after_lost.false (ap (λ (k : Link). k.fill) e)

@@ -1,4 +1,4 @@
-use Rattle.std.proofs.Common.{◌≡◌, ◌+◌, ◌≤◌, refl, sym, ap, ◌∙◌, subst}
+use Rattle.std.proofs.Common.{◌≡◌, ◌+◌, ◌≤◌, [], refl, sym, ap, ◌∙◌, subst}
 use Rattle.trace_model.specs.declared.limits.TheConstants.{MAX_PAGES}
 use Rattle.trace_model.specs.Frames.{Phase as ModelPhase, marking, noted_fill}
 use Rattle.trace_model.specs.Steps as model
@@ -50,7 +50,7 @@ returns-clause-makes c =
     let next : Phase = c.after_next.result in
     goes_on_called c.self.view_is c.requires.framed.writer c.requires.framed.top c.requires.phase c.args.noted next next _ refl (ap noted_fill c.after_next.ensures ∙ noted_after (role_of c.args.role) c.args.noted c.args.page) refl
     c.mark_head-marked.ensures.same.shape c.mark_head-marked.ensures.same.table refl c.go_on.ensures.goes_on (ap as_answer c.go_on.ensures.answer) s
-    (λ frame below step. subst (λ (p : ModelPhase). writing_of s.next ≡ writing_of (model.in_phase s.core frame below p)) (sym c.after_next.ensures)
+    (λ frame below step. subst (λ (p : ModelPhase). writing_of [] s.next ≡ writing_of [] (model.in_phase s.core frame below p)) (sym c.after_next.ensures)
     (marked v.shape.pages s.core frame below model.going s.next (role_of c.args.role) c.args.noted c.args.page c.args.next on step))
 
 pub returns-clause-nearer : goal.returns-clause-nearer
