@@ -5,6 +5,7 @@ import struct
 import subprocess
 import tempfile
 from pathlib import Path
+from typing import NamedTuple
 
 from lib.programs import BENCH, call
 
@@ -26,12 +27,20 @@ def ran(command, data, **environment):
     return done.returncode, done.stdout, done.stderr
 
 
-def refused(preloaded, number, command, data, and_on=False):
-    """What a run answers if the growth of that number is refused, alone or with all after it; how many growths there
-    were, how many of them were refused, and how many blocks were not freed."""
-    with tempfile.NamedTemporaryFile() as seen:
-        seen.write(bytes(24))
-        seen.flush()
-        given = {"LD_PRELOAD": str(preloaded), "REFUSED": str(number), "REFUSED_SEEN": seen.name}
+class Seen(NamedTuple):
+    """What bench/preload/refuse.c saw: growths, those that were refused, blocks that were not freed, and threads."""
+
+    growths: int
+    refused: int
+    kept: int
+    threads: int
+
+
+def refused(preloaded, number, command, data, and_on=False, **given):
+    """What a run answers if the growth of that number is refused, alone or with all after it, and what was seen."""
+    with tempfile.NamedTemporaryFile() as file:
+        file.write(bytes(32))
+        file.flush()
+        given |= {"LD_PRELOAD": str(preloaded), "REFUSED": str(number), "REFUSED_SEEN": file.name}
         found = ran(command, data, **given, **({"REFUSED_ON": "1"} if and_on else {}))
-        return found, *struct.unpack("qqq", Path(seen.name).read_bytes())
+        return found, Seen(*struct.unpack("4q", Path(file.name).read_bytes()))

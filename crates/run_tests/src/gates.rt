@@ -64,26 +64,44 @@ impl Gate for Counting {
     }
 }
 
-/// Holds one end at a fill until the other end has passed with a fill.
+/// Where a gate is asked: by which end, of which CPU's ring, and at which fill.
+pub type Asked = (Who, u32, u64);
+
+/// The same as a gate is given it.
+#[derive(Clone, Copy, Debug, PartialEq, Eq)]
+struct Place {
+    who: Who,
+    cpu: CpuId,
+    fill: FillNo,
+}
+
+fn place_of(asked: Asked) -> Place {
+    let (who, cpu, fill) = asked;
+    Place {
+        who,
+        cpu: CpuId(cpu),
+        fill: FillNo(fill),
+    }
+}
+
+/// Holds an end at one place until an end has passed another one.
 #[derive(Drop)]
 pub struct Meeting {
-    held: Who,
-    at: FillNo,
-    until: FillNo,
+    held: Place,
+    awaited: Place,
     has_passed: AtomicBool,
 }
 
 impl Meeting {
-    pub fn new(held: Who, at: u64, until: u64) -> Meeting {
+    pub fn new(held: Asked, awaited: Asked) -> Meeting {
         Meeting {
-            held,
-            at: FillNo(at),
-            until: FillNo(until),
+            held: place_of(held),
+            awaited: place_of(awaited),
             has_passed: AtomicBool::new(false),
         }
     }
 
-    /// Gives way to other threads until the other end has passed.
+    /// Gives way to other threads until an end has passed the place that is awaited.
     fn waits(&self) -> bool {
         for _ in 0..TURNS {
             if self.has_passed.load(Ordering::SeqCst) {
@@ -98,13 +116,11 @@ impl Meeting {
 impl Gate for Meeting {
     ghost answers = { λ gate who cpu fill answer. Unit {0} };
 
-    fn pass(&self, who: Who, _cpu: CpuId, fill: FillNo) -> bool {
-        if who == self.held {
-            return fill != self.at || self.waits();
-        }
-        if fill == self.until {
+    fn pass(&self, who: Who, cpu: CpuId, fill: FillNo) -> bool {
+        let place = Place { who, cpu, fill };
+        if place == self.awaited {
             self.has_passed.store(true, Ordering::SeqCst);
         }
-        true
+        place != self.held || self.waits()
     }
 }

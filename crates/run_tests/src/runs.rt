@@ -1,5 +1,5 @@
 //! Runs of scripts: each collector has what was written, and its audit is yes.
-use crate::gates::{Counting, Meeting, Shut, ShutAt};
+use crate::gates::{Asked, Counting, Meeting, Shut, ShutAt};
 use crate::scripts::{ANOTHER, CLOSES, EIGHT, OVERFLOW, OVERFLOW_RECORDS, ROWS, Row, wide_script};
 use collector::Collector;
 use std::process::Abort;
@@ -30,6 +30,19 @@ const ASKED: &[(Who, u64, bool)] = &[
     (Who::Reader, 7, true),
     (Who::Reader, 9, true),
     (Who::Reader, 10, false),
+];
+
+/// Where the one end of a ring is held, until the other end has passed the second place.
+const ENDS_MEET: &[(Asked, Asked)] = &[
+    ((Who::Writer, 0, 1), (Who::Reader, 0, 0)),
+    ((Who::Reader, 0, 0), (Who::Writer, 0, 8)),
+];
+
+/// Where an end is held, until an end of another CPU has passed the second place.
+const CPUS_MEET: &[(Asked, Asked)] = &[
+    ((Who::Writer, 0, 1), (Who::Reader, 1, 0)),
+    ((Who::Writer, 4, 1), (Who::Reader, 0, 0)),
+    ((Who::Reader, 0, 0), (Who::Writer, 4, 2)),
 ];
 
 /// The run of a script, which meets no fault.
@@ -121,8 +134,17 @@ fn each_collector_has_what_was_written(rt: HostRuntime) -> Result<(), Fail> {
 /// would wait for the other in vain.
 #[test]
 fn writer_and_reader_work_at_once(rt: HostRuntime) -> Result<(), Fail> {
-    for (held, at, until) in [(Who::Writer, 1, 0), (Who::Reader, 0, 8)] {
-        check(&rt, &ROWS[0], &Meeting::new(held, at, until))?;
+    for (held, awaited) in ENDS_MEET {
+        check(&rt, &ROWS[0], &Meeting::new(*held, *awaited))?;
+    }
+    Ok(())
+}
+
+/// Refuses a `run` that joins the threads of a CPU before it starts another's.
+#[test]
+fn cpus_work_at_once(rt: HostRuntime) -> Result<(), Fail> {
+    for (held, awaited) in CPUS_MEET {
+        check(&rt, &ROWS[4], &Meeting::new(*held, *awaited))?;
     }
     Ok(())
 }
