@@ -73,15 +73,15 @@ module _ (n size start : ℕ) where
       let least = moved_least s.frames between.frames (call_moves n size start s x between payloads event call) in
       calls_least depth between _ calls t lefts (omega (arith, deep, least)) rest
 
-  steps_least : (count : ℕ) (s : LineWriting) (payloads : List (List ℕ)) (t : LineWriting) (lefts : List (List ℕ)) → StepsCalls n size start count s payloads t lefts → length s.frames ≤ suc (length t.frames)
-  steps_least count s payloads t lefts (none_to_step none same all) = let e = ap (λ (v : LineWriting). length v.frames) same in omega (arith, e)
-  steps_least count s payloads t lefts (steps_top depth x calls deep run few stop) =
+  steps_least : (count : ℕ) (s : LineWriting) (payloads : List (List ℕ)) (made : List Exchange) (t : LineWriting) (lefts : List (List ℕ)) → StepsCalls n size start count s payloads made t lefts → length s.frames ≤ suc (length t.frames)
+  steps_least count s payloads made t lefts (none_to_step none empty same all) = let e = ap (λ (v : LineWriting). length v.frames) same in omega (arith, e)
+  steps_least count s payloads made t lefts (steps_top depth x calls is deep run few stop) =
       let low = calls_least depth s payloads (x ∷ calls) t lefts (omega (arith, deep)) run in omega (arith, deep, low)
 
-  finish_least : (s : LineWriting) (payloads : List (List ℕ)) (t : LineWriting) (lefts : List (List ℕ)) → FinishCalls n size start s payloads t lefts → length s.frames ≤ suc (length t.frames)
-  finish_least s payloads t lefts (none_to_finish none same all) = let e = ap (λ (v : LineWriting). length v.frames) same in omega (arith, e)
-  finish_least s payloads t lefts (finishes_top depth calls deep run is_gone) =
-      let low = calls_least depth s payloads calls t lefts (omega (arith, deep)) run in omega (arith, deep, low)
+  finish_least : (s : LineWriting) (payloads : List (List ℕ)) (made : List Exchange) (t : LineWriting) (lefts : List (List ℕ)) → FinishCalls n size start s payloads made t lefts → length s.frames ≤ suc (length t.frames)
+  finish_least s payloads made t lefts (none_to_finish none empty same all) = let e = ap (λ (v : LineWriting). length v.frames) same in omega (arith, e)
+  finish_least s payloads made t lefts (finishes_top depth deep run is_gone) =
+      let low = calls_least depth s payloads made t lefts (omega (arith, deep)) run in omega (arith, deep, low)
 
   pushed_long : (moment len : ℕ) (s u : LineWriting) → Pushing size s moment len pushed u → length u.frames ≡ suc (length s.frames)
   pushed_long moment len s u (inl (e, may, is)) = ap (λ (v : LineWriting). length v.frames) is
@@ -99,29 +99,29 @@ module _ (n size start : ℕ) where
   unclosed_long why s u (inl (e, few, is)) = absurd (let no : ⊥ = cc in no)
   unclosed_long why s u (inr (other, e, many, is)) = ap (λ (v : LineWriting). length v.frames) is
 
-  calls_spare : (command : Command) (s : LineWriting) (payloads : List (List ℕ)) (t : LineWriting) (lefts : List (List ℕ))
-      → LineCalls n size start command s payloads t lefts
+  calls_spare : (command : Command) (s : LineWriting) (payloads : List (List ℕ)) (made : List Exchange) (t : LineWriting) (lefts : List (List ℕ))
+      → LineCalls n size start command s payloads made t lefts
       → Spares command (length s.frames) (length t.frames)
-  calls_spare (begin_frame cpu moment payload) s payloads t lefts (begins_frame call all) =
+  calls_spare (begin_frame cpu moment payload) s payloads made t lefts (begins_frame is call all) =
       let long = pushed_long moment (length payload) s t (pushing_of n size start moment (length payload) pushed s t call) in omega (arith, long)
-  calls_spare (begin_frame cpu moment payload) s payloads t lefts (begins_none why call all) =
+  calls_spare (begin_frame cpu moment payload) s payloads made t lefts (begins_none why is call all) =
       let long = refused_long moment (length payload) why s t (pushing_of n size start moment (length payload) (refused why) s t call) in omega (arith, long)
-  calls_spare (step_frame cpu count) s payloads t lefts calls = steps_least count s payloads t lefts calls
-  calls_spare (finish_frame cpu) s payloads t lefts calls = finish_least s payloads t lefts calls
-  calls_spare (write cpu moment payload) s payloads t lefts (writes_frame between call rest) =
+  calls_spare (step_frame cpu count) s payloads made t lefts calls = steps_least count s payloads made t lefts calls
+  calls_spare (finish_frame cpu) s payloads made t lefts calls = finish_least s payloads made t lefts calls
+  calls_spare (write cpu moment payload) s payloads made t lefts (writes_frame between finishing cut call rest) =
       let long = pushed_long moment (length payload) s between (pushing_of n size start moment (length payload) pushed s between call) in
-      let least = finish_least between (payload ∷ payloads) t lefts rest in omega (arith, long, least)
-  calls_spare (write cpu moment payload) s payloads t lefts (writes_none why call all) =
+      let least = finish_least between (payload ∷ payloads) finishing t lefts rest in omega (arith, long, least)
+  calls_spare (write cpu moment payload) s payloads made t lefts (writes_none why is call all) =
       let long = refused_long moment (length payload) why s t (pushing_of n size start moment (length payload) (refused why) s t call) in omega (arith, long)
-  calls_spare (close cpu) s payloads t lefts (writes_frame between call rest) =
+  calls_spare (close cpu) s payloads made t lefts (writes_frame between finishing cut call rest) =
       let long = closed_long s between (closing_of n size start pushed s between call) in
-      let least = finish_least between ([] ∷ payloads) t lefts rest in omega (arith, long, least)
-  calls_spare (close cpu) s payloads t lefts (writes_none why call all) =
+      let least = finish_least between ([] ∷ payloads) finishing t lefts rest in omega (arith, long, least)
+  calls_spare (close cpu) s payloads made t lefts (writes_none why is call all) =
       let long = unclosed_long why s t (closing_of n size start (refused why) s t call) in omega (arith, long)
-  calls_spare (step_reader cpu count) s payloads t lefts calls = let e = ap (λ (v : LineWriting). length v.frames) calls.0 in omega (arith, e)
-  calls_spare (take_page cpu) s payloads t lefts calls = let e = ap (λ (v : LineWriting). length v.frames) calls.0 in omega (arith, e)
-  calls_spare (wish cpu) s payloads t lefts calls = let e = ap (λ (v : LineWriting). length v.frames) calls.0 in omega (arith, e)
-  calls_spare (deliver collector cpu fill) s payloads t lefts calls = let e = ap (λ (v : LineWriting). length v.frames) calls.0 in omega (arith, e)
+  calls_spare (step_reader cpu count) s payloads made t lefts calls = let e = ap (λ (v : LineWriting). length v.frames) calls.1 in omega (arith, e)
+  calls_spare (take_page cpu) s payloads made t lefts calls = let e = ap (λ (v : LineWriting). length v.frames) calls.1 in omega (arith, e)
+  calls_spare (wish cpu) s payloads made t lefts calls = let e = ap (λ (v : LineWriting). length v.frames) calls.1 in omega (arith, e)
+  calls_spare (deliver collector cpu fill) s payloads made t lefts calls = let e = ap (λ (v : LineWriting). length v.frames) calls.1 in omega (arith, e)
 
   stack_count : (p : LineState) (payloads : List (List ℕ)) (s : LineWriting) → IsBetweenLines n p payloads s → length (on_stack p) ≡ length s.frames
   stack_count p payloads s between = frames_counted p.frames p.finishing ∙ count_frames s.frames payloads p.frames p.finishing between.agrees.frames
@@ -228,7 +228,7 @@ module _ (script : Script) (cpu : ℕ) where
       are : AreEventsOf n r.lane.core own r.next.core
       are = run_has n size r.lane.core r.next.core r.exchanges own reported_run.1
 
-      calls : LineCalls n size start command (writer_of r.lane.core) r.lane.payloads (writer_of r.next.core) r.next.payloads
+      calls : (made : List Exchange) × LineCalls n size start command (writer_of r.lane.core) r.lane.payloads made (writer_of r.next.core) r.next.payloads
       calls = line_runs_are_calls n size start script.cpus script.collectors command r.lane r.next r.exchanges reached s.fit within r.run
 
       reported_on : AreEventsOfRun n start r.next.core (events ++ own)
@@ -248,7 +248,7 @@ module _ (script : Script) (cpu : ℕ) where
 
       here : IsOn cpu command → Goes command after events p r.lane
       here on =
-          let (others, q, part, between) = line_calls_make n size start command (writer_of r.lane.core) r.lane.payloads (writer_of r.next.core) r.next.payloads p s.between calls in
+          let (others, q, part, between) = line_calls_make n size start command (writer_of r.lane.core) r.lane.payloads calls.0 (writer_of r.next.core) r.next.payloads p s.between calls.1 in
           let leads = leads_line n size command p q others part in
           let same : history_events_of others ≡ history_events_of own =
           append_cancel_left r.lane.core.history (history_events_of others) (history_events_of own)
@@ -257,7 +257,7 @@ module _ (script : Script) (cpu : ℕ) where
           let last = stack_count n size start q r.next.payloads (writer_of r.next.core) between in
           let spare = subst (λ (k : ℕ). Spares command k (length (on_stack q))) (sym first)
           (subst (λ (k : ℕ). Spares command (length r.lane.core.frames) k) (sym last)
-          (calls_spare n size start command (writer_of r.lane.core) r.lane.payloads (writer_of r.next.core) r.next.payloads calls)) in
+          (calls_spare n size start command (writer_of r.lane.core) r.lane.payloads calls.0 (writer_of r.next.core) r.next.payloads calls.1)) in
           record {
             own = own;
             state = q;

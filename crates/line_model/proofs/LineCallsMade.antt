@@ -99,8 +99,8 @@ module _ (n size : ℕ) (p : LineState) (payloads : List (List ℕ)) (s : LineWr
 
 -- ---- the line
 
-module _ (n size start : ℕ) (s : LineWriting) (payloads : List (List ℕ)) (t : LineWriting) (lefts : List (List ℕ)) (p : LineState)
-    (between : IsBetweenLines n p payloads s) where
+module _ (n size start : ℕ) (s : LineWriting) (payloads : List (List ℕ)) (made : List Exchange) (t : LineWriting)
+    (lefts : List (List ℕ)) (p : LineState) (between : IsBetweenLines n p payloads s) where
   -- what a line has made
   abbrev MadePart : (LineState → List RingEvent → LineState → Type 0) → Type 0
   MadePart Part = (events : List RingEvent) × (q : LineState) × Part p events q × IsBetweenLines n q lefts t
@@ -115,15 +115,15 @@ module _ (n size start : ℕ) (s : LineWriting) (payloads : List (List ℕ)) (t 
   quiet same all = ([], p, record { acts_none = refl; window = refl; after_is = refl }, between_same same all)
 
   by_steps : (count cpu : ℕ)
-      → StepsCalls n size start count s payloads t lefts
+      → StepsCalls n size start count s payloads made t lefts
       → MadePart (LinePart n size (step_frame cpu count))
-  by_steps count cpu (none_to_step none same all) = (
+  by_steps count cpu (none_to_step none empty same all) = (
     [],
     p,
     record { top = none_part n size p payloads s between.agrees none; few = omega arith },
     between_same same all,
   )
-  by_steps count cpu (steps_top depth x calls some called few stop) =
+  by_steps count cpu (steps_top depth x calls is some called few stop) =
       let (events, q, part, agrees) =
       calls_step n size start depth count s payloads x calls t lefts p between.agrees between.for_records some
       called few in (
@@ -136,23 +136,23 @@ module _ (n size start : ℕ) (s : LineWriting) (payloads : List (List ℕ)) (t 
         },
       )
 
-  by_finish : FinishCalls n size start s payloads t lefts → MadePart (FinishPart n size)
-  by_finish (none_to_finish none same all) =
+  by_finish : FinishCalls n size start s payloads made t lefts → MadePart (FinishPart n size)
+  by_finish (none_to_finish none empty same all) =
       let count = none_counted n size p payloads s between.agrees none in (
         [],
         p,
         record { top = none_part n size p payloads s between.agrees none; is_gone = omega arith },
         between_same same all,
       )
-  by_finish (finishes_top depth calls some called low) =
+  by_finish (finishes_top depth some called low) =
       let (events, q, part, agrees) =
-      calls_finish n size start depth s payloads calls t lefts p between.agrees some called (omega arith) in (
+      calls_finish n size start depth s payloads made t lefts p between.agrees some called (omega arith) in (
         events,
         q,
         part,
         record {
           agrees = agrees;
-          for_records = calls_records n size start depth s payloads calls t lefts called between.for_records;
+          for_records = calls_records n size start depth s payloads made t lefts called between.for_records;
         },
       )
 
@@ -177,9 +177,9 @@ module _ (n size start : ℕ) (s : LineWriting) (payloads : List (List ℕ)) (t 
       refused_part (inl (e, may, is)) made = absurd (let both : refused why ≡ pushed = e in cc)
 
   by_begin : (cpu moment : ℕ) (payload : List ℕ)
-      → BeginCalls n size start (pushes moment (length payload)) payload s payloads t lefts
+      → BeginCalls n size start (pushes moment (length payload)) payload s payloads made t lefts
       → MadePart (LinePart n size (begin_frame cpu moment payload))
-  by_begin cpu moment payload (begins_frame call all) =
+  by_begin cpu moment payload (begins_frame is_one call all) =
       pushed_part (pushing_of n size start moment (length payload) pushed s t call)
       (pushes_make n size start cpu moment payload pushed s t payloads p between.agrees call)
     where
@@ -200,20 +200,20 @@ module _ (n size start : ℕ) (s : LineWriting) (payloads : List (List ℕ)) (t 
       pushed_part (inl (a, may, is)) (inr (why, e, part, whole, agrees)) =
           absurd (let both : pushed ≡ refused why = e in cc)
       pushed_part (inr (why, e, because, is)) made = absurd (let both : pushed ≡ refused why = e in cc)
-  by_begin cpu moment payload (begins_none why call all) =
+  by_begin cpu moment payload (begins_none why is_one call all) =
       let (part, whole, same) = refused_push cpu moment payload why call in ([], p, part, between_same same all)
 
   by_write : (cpu moment : ℕ) (payload : List ℕ)
-      → WholeCalls n size start (pushes moment (length payload)) payload s payloads t lefts
+      → WholeCalls n size start (pushes moment (length payload)) payload s payloads made t lefts
       → MadePart (LinePart n size (write cpu moment payload))
-  by_write cpu moment payload (writes_frame u call (none_to_finish none same all)) =
+  by_write cpu moment payload (writes_frame u calls cut call (none_to_finish none empty same all)) =
       absurd (no_push (pushing_of n size start moment (length payload) pushed s u call))
     where
       no_push : Pushing size s moment (length payload) pushed u → ⊥
       no_push (inl (a, may, is)) = let z =
           ap (λ (l : List Frame). length l) (sym none ∙ ap (λ (v : LineWriting). v.frames) is) in omega arith
       no_push (inr (why, e, because, is)) = absurd (let both : pushed ≡ refused why = e in cc)
-  by_write cpu moment payload (writes_frame u call (finishes_top depth calls some called low)) =
+  by_write cpu moment payload (writes_frame u calls cut call (finishes_top depth some called low)) =
       by_push (pushing_of n size start moment (length payload) pushed s u call)
     where
       by_push : Pushing size s moment (length payload) pushed u → MadePart (LinePart n size (write cpu moment payload))
@@ -235,20 +235,20 @@ module _ (n size start : ℕ) (s : LineWriting) (payloads : List (List ℕ)) (t 
             },
           )
       by_push (inr (why, e, because, is)) = absurd (let both : pushed ≡ refused why = e in cc)
-  by_write cpu moment payload (writes_none why call all) =
+  by_write cpu moment payload (writes_none why is_one call all) =
       let (part, whole, same) = refused_push cpu moment payload why call in ([], p, whole, between_same same all)
 
   by_close : (cpu : ℕ)
-      → WholeCalls n size start pushes_close [] s payloads t lefts
+      → WholeCalls n size start pushes_close [] s payloads made t lefts
       → MadePart (LinePart n size (close cpu))
-  by_close cpu (writes_frame u call (none_to_finish none same all)) =
+  by_close cpu (writes_frame u calls cut call (none_to_finish none empty same all)) =
       absurd (no_push (closing_of n size start pushed s u call))
     where
       no_push : Closing s pushed u → ⊥
       no_push (inl (a, few, is)) = let z =
           ap (λ (l : List Frame). length l) (sym none ∙ ap (λ (v : LineWriting). v.frames) is) in omega arith
       no_push (inr (why, e, because, is)) = absurd (let both : pushed ≡ refused why = e in cc)
-  by_close cpu (writes_frame u call (finishes_top depth calls some called low)) =
+  by_close cpu (writes_frame u calls cut call (finishes_top depth some called low)) =
       by_push (closing_of n size start pushed s u call)
     where
       by_push : Closing s pushed u → MadePart (LinePart n size (close cpu))
@@ -278,7 +278,7 @@ module _ (n size start : ℕ) (s : LineWriting) (payloads : List (List ℕ)) (t 
             },
           )
       by_push (inr (why, e, because, is)) = absurd (let both : pushed ≡ refused why = e in cc)
-  by_close cpu (writes_none why call all) = by_refusal (closing_of n size start (refused why) s t call)
+  by_close cpu (writes_none why is_one call all) = by_refusal (closing_of n size start (refused why) s t call)
     where
       by_refusal : Closing s (refused why) t → MadePart (LinePart n size (close cpu))
       by_refusal (inl (e, few, is)) = absurd (let both : refused why ≡ pushed = e in cc)
@@ -290,46 +290,48 @@ module _ (n size start : ℕ) (s : LineWriting) (payloads : List (List ℕ)) (t 
         between_same is all,
       )
 
-  by_line : (line : Command) → LineCalls n size start line s payloads t lefts → MadePart (LinePart n size line)
+  by_line : (line : Command) → LineCalls n size start line s payloads made t lefts → MadePart (LinePart n size line)
   by_line (begin_frame cpu moment payload) calls = by_begin cpu moment payload calls
   by_line (step_frame cpu count) calls = by_steps count cpu calls
   by_line (finish_frame cpu) calls = by_finish calls
   by_line (write cpu moment payload) calls = by_write cpu moment payload calls
   by_line (close cpu) calls = by_close cpu calls
-  by_line (step_reader cpu count) calls = quiet calls.0 calls.1
-  by_line (take_page cpu) calls = quiet calls.0 calls.1
-  by_line (wish cpu) calls = quiet calls.0 calls.1
-  by_line (deliver collector cpu fill) calls = quiet calls.0 calls.1
+  by_line (step_reader cpu count) calls = quiet calls.1 calls.2
+  by_line (take_page cpu) calls = quiet calls.1 calls.2
+  by_line (wish cpu) calls = quiet calls.1 calls.2
+  by_line (deliver collector cpu fill) calls = quiet calls.1 calls.2
 
 pub line_calls_make : LineCallsMake
-line_calls_make n size start line s payloads t lefts p between calls =
-    by_line n size start s payloads t lefts p between line calls
+line_calls_make n size start line s payloads made t lefts p between calls =
+    by_line n size start s payloads made t lefts p between line calls
 
 -- ---- lines
 
 pub lines_calls_make : LinesCallsMake
-lines_calls_make n size start [] s payloads t lefts p between (same, all) =
-    ([], p, (refl, refl), between_same n size start s payloads t lefts p between same all)
-lines_calls_make n size start (line ∷ lines) s payloads t lefts p between (u, middle, calls, more) =
-    let (front, q, part, here) = line_calls_make n size start line s payloads u middle p between calls in
-    let (behind, r, parts, there) = lines_calls_make n size start lines u middle t lefts q here more in
+lines_calls_make n size start [] s payloads made t lefts p between (none, same, all) =
+    ([], p, (refl, refl), between_same n size start s payloads made t lefts p between same all)
+lines_calls_make n size start (line ∷ lines) s payloads made t lefts p between
+    (own, others, cut, u, middle, calls, more) =
+    let (front, q, part, here) = line_calls_make n size start line s payloads own u middle p between calls in
+    let (behind, r, parts, there) = lines_calls_make n size start lines u middle others t lefts q here more in
     (front ++ behind, r, (front, behind, q, refl, part, parts), there)
 
 pub rest_calls_make : RestCallsMake
-rest_calls_make n size start zero s payloads t lefts p between (same, all) =
-    ([], p, (refl, refl), between_same n size start s payloads t lefts p between same all)
-rest_calls_make n size start (suc count) s payloads t lefts p between (u, middle, calls, more) =
-    let (front, q, part, here) = by_finish n size start s payloads u middle p between calls in
-    let (behind, r, parts, there) = rest_calls_make n size start count u middle t lefts q here more in
+rest_calls_make n size start zero s payloads made t lefts p between (none, same, all) =
+    ([], p, (refl, refl), between_same n size start s payloads made t lefts p between same all)
+rest_calls_make n size start (suc count) s payloads made t lefts p between
+    (own, others, cut, u, middle, calls, more) =
+    let (front, q, part, here) = by_finish n size start s payloads own u middle p between calls in
+    let (behind, r, parts, there) = rest_calls_make n size start count u middle others t lefts q here more in
     (front ++ behind, r, (front, behind, q, refl, part, parts), there)
 
 pub writer_makes_lines : WriterMakesLines
 writer_makes_lines n size start lines t some r none =
     let (by_lines, behind, parts, here) =
-    lines_calls_make n size start lines (first_writer start) [] r.behind r.payloads (first_state start)
+    lines_calls_make n size start lines (first_writer start) [] r.by_lines r.behind r.payloads (first_state start)
     (start_between n start some) r.calls in
     let (by_rest, last, finishes, there) =
-    rest_calls_make n size start r.count r.behind r.payloads t r.lefts behind here r.rest in
+    rest_calls_make n size start r.count r.behind r.payloads r.by_rest t r.lefts behind here r.rest in
     record {
       by_lines = by_lines;
       behind = behind;

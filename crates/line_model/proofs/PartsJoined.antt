@@ -1,5 +1,6 @@
 -- One more line, one more call, and the start.
 use Rattle.std.proofs.Common.{◌≡◌, ℕ, zero, suc, List, length, [], ◌∷◌, ◌++◌, refl, sym, ap, ◌∙◌, subst, arith, append_assoc, append-nil}
+use Rattle.trace_model.specs.Steps.{Exchange}
 use Rattle.trace_model.specs.Window.{RingEvent}
 use Rattle.world_model.specs.Lanes.{event_on_top, payloads_left}
 use Rattle.line_model.specs.Lines.{LineState, LinePart}
@@ -57,23 +58,45 @@ top_calls_go_on n size start depth s payloads (y ∷ calls) t lefts x u (some, i
 )
 
 pub lines_calls_go_on : LinesCallsGoOn
-lines_calls_go_on n size start [] line s payloads t lefts u others (same, all) calls = (
+lines_calls_go_on n size start [] line s payloads made t lefts more u others (none, same, all) calls = (
+  more,
+  [],
+  ap (λ (l : List Exchange). l ++ more) none ∙ sym (append-nil more),
   u,
   others,
-  subst (λ (v : LineWriting). LineCalls n size start line v payloads u others) same
-      (subst (λ (l : List (List ℕ)). LineCalls n size start line t l u others) all calls),
-  (refl, refl),
+  subst (λ (v : LineWriting). LineCalls n size start line v payloads more u others) same
+      (subst (λ (l : List (List ℕ)). LineCalls n size start line t l more u others) all calls),
+  (refl, refl, refl),
 )
-lines_calls_go_on n size start (first ∷ lines) line s payloads t lefts u others (between, middle, one, rest) calls =
-    (between, middle, one, lines_calls_go_on n size start lines line between middle t lefts u others rest calls)
+lines_calls_go_on n size start (first ∷ lines) line s payloads made t lefts more u others
+    (own, behind, cut, between, middle, one, rest) calls = (
+      own,
+      behind ++ more,
+      ap (λ (l : List Exchange). l ++ more) cut ∙ append_assoc own behind more,
+      between,
+      middle,
+      one,
+      lines_calls_go_on n size start lines line between middle behind t lefts more u others rest calls,
+    )
 
 pub rest_calls_go_on : RestCallsGoOn
-rest_calls_go_on n size start zero s payloads t lefts u others (same, all) calls = (
+rest_calls_go_on n size start zero s payloads made t lefts more u others (none, same, all) calls = (
+  more,
+  [],
+  ap (λ (l : List Exchange). l ++ more) none ∙ sym (append-nil more),
   u,
   others,
-  subst (λ (v : LineWriting). FinishCalls n size start v payloads u others) same
-      (subst (λ (l : List (List ℕ)). FinishCalls n size start t l u others) all calls),
-  (refl, refl),
+  subst (λ (v : LineWriting). FinishCalls n size start v payloads more u others) same
+      (subst (λ (l : List (List ℕ)). FinishCalls n size start t l more u others) all calls),
+  (refl, refl, refl),
 )
-rest_calls_go_on n size start (suc count) s payloads t lefts u others (between, middle, one, rest) calls =
-    (between, middle, one, rest_calls_go_on n size start count between middle t lefts u others rest calls)
+rest_calls_go_on n size start (suc count) s payloads made t lefts more u others
+    (own, behind, cut, between, middle, one, rest) calls = (
+      own,
+      behind ++ more,
+      ap (λ (l : List Exchange). l ++ more) cut ∙ append_assoc own behind more,
+      between,
+      middle,
+      one,
+      rest_calls_go_on n size start count between middle behind t lefts more u others rest calls,
+    )

@@ -6,6 +6,7 @@ use Rattle.std.proofs.lemmas.Bool.{eq-eqb, ne_eqb}
 use Rattle.std.proofs.lemmas.Option.{slice_get_within, slice_get-get_or}
 use mathlib.Core.Logic.{dite}
 use native.Mathlib.Decide.{ℕ_discrete}
+use Rattle.trace_model.specs.Steps.{Exchange}
 use Rattle.trace_model.specs.Window.{RingEvent}
 use Rattle.trace_model.proofs.collections.Elements.{some_is}
 use Rattle.text_model.specs.Script.{Command, begin_frame, step_frame, finish_frame, write, close, step_reader, take_page, wish, deliver, Script}
@@ -34,10 +35,12 @@ record Moved (script : Script) (command : Command) (cpu : ℕ) (lane : Lane) (af
   next_is : slice_get after.lanes cpu ≡ Some next
   fit : HasPayloads next
   called : ((writer_line cpu command ≡ true)
-      × LineCalls script.pages script.size script.start command (writer_of lane.core) lane.payloads
+      × (made : List Exchange)
+      × LineCalls script.pages script.size script.start command (writer_of lane.core) lane.payloads made
       (writer_of next.core) next.payloads)
       ⊎ ((writer_line cpu command ≡ false)
-      × NoCalls (writer_of lane.core) lane.payloads (writer_of next.core) next.payloads)
+      × (made : List Exchange)
+      × NoCalls (writer_of lane.core) lane.payloads made (writer_of next.core) next.payloads)
 
 module _ (script : Script) (line : ℕ) (before after : World) (kept : IsWorldKept script before) (cpu : ℕ) (lane : Lane)
     (at : slice_get before.lanes cpu ≡ Some lane) (fit : HasPayloads lane) where
@@ -49,7 +52,7 @@ module _ (script : Script) (line : ℕ) (before after : World) (kept : IsWorldKe
       → slice_get after.lanes cpu ≡ slice_get before.lanes cpu
       → writer_line cpu command ≡ false
       → Here command
-  elsewhere command same not = record { next = lane; next_is = same ∙ at; fit = fit; called = inr (not, (refl, refl)) }
+  elsewhere command same not = record { next = lane; next_is = same ∙ at; fit = fit; called = inr (not, [], (refl, refl, refl)) }
 
   module _ (command : Command) (of : ℕ) (r : RunsLine script line command of before after) where
     apart : cpu ≢ of → slice_get after.lanes cpu ≡ slice_get before.lanes cpu
@@ -68,7 +71,8 @@ module _ (script : Script) (line : ℕ) (before after : World) (kept : IsWorldKe
           ∙ get_set_here before.lanes of r.next (slice_get_within before.lanes of r.lane r.lane_is)
 
       own_calls : IsCommandWithin script.cpus script.collectors command
-          → LineCalls script.pages script.size script.start command (writer_of lane.core) lane.payloads
+          → (made : List Exchange)
+          × LineCalls script.pages script.size script.start command (writer_of lane.core) lane.payloads made
           (writer_of r.next.core) r.next.payloads
       own_calls within =
           line_runs_are_calls script.pages script.size script.start script.cpus script.collectors command lane r.next
@@ -86,16 +90,17 @@ module _ (script : Script) (line : ℕ) (before after : World) (kept : IsWorldKe
           next = r.next;
           next_is = next_at e;
           fit = own_fit e;
-          called = inl (is ∙ eq-eqb of cpu (sym e), own_calls e within);
+          called = let (made, calls) = own_calls e within in inl (is ∙ eq-eqb of cpu (sym e), made, calls);
         })
         (λ ne. elsewhere command (apart ne) (is ∙ ne_eqb of cpu (λ e. ne (sym e))))
 
     -- a line of the reader
-    by_reader : (e : cpu ≡ of → NoCalls (writer_of lane.core) lane.payloads (writer_of r.next.core) r.next.payloads)
+    by_reader : (cpu ≡ of
+        → (made : List Exchange) × NoCalls (writer_of lane.core) lane.payloads made (writer_of r.next.core) r.next.payloads)
         → writer_line cpu command ≡ false
         → Here command
     by_reader none not = dite (ℕ_discrete cpu of)
-        (λ e. record { next = r.next; next_is = next_at e; fit = own_fit e; called = inr (not, none e) })
+        (λ e. record { next = r.next; next_is = next_at e; fit = own_fit e; called = let (made, calls) = none e in inr (not, made, calls) })
         (λ ne. elsewhere command (apart ne) not)
 
   delivered : (collector of fill : ℕ)
@@ -132,14 +137,16 @@ module _ (script : Script) (cpu : ℕ) (command : Command) (lines : List Command
   line_made : ((q : LineState) → IsBetweenLines script.pages q next.payloads (writer_of next.core)
       → MadeLines script cpu lines q last)
       → ((writer_line cpu command ≡ true)
-      × LineCalls script.pages script.size script.start command (writer_of lane.core) lane.payloads
+      × (made : List Exchange)
+      × LineCalls script.pages script.size script.start command (writer_of lane.core) lane.payloads made
       (writer_of next.core) next.payloads)
       ⊎ ((writer_line cpu command ≡ false)
-      × NoCalls (writer_of lane.core) lane.payloads (writer_of next.core) next.payloads)
+      × (made : List Exchange)
+      × NoCalls (writer_of lane.core) lane.payloads made (writer_of next.core) next.payloads)
       → MadeLines script cpu (command ∷ lines) p last
-  line_made on (inl (is, calls)) =
+  line_made on (inl (is, made, calls)) =
       let (front, q, part, there) =
-      line_calls_make script.pages script.size script.start command (writer_of lane.core) lane.payloads
+      line_calls_make script.pages script.size script.start command (writer_of lane.core) lane.payloads made
       (writer_of next.core) next.payloads p here calls in
       let m = on q there in
       record {
@@ -151,7 +158,7 @@ module _ (script : Script) (cpu : ℕ) (command : Command) (lines : List Command
             (front, m.events, q, refl, part, m.parts);
         between = m.between;
       }
-  line_made on (inr (not, (same, all))) =
+  line_made on (inr (not, made, (none, same, all))) =
       let m = on p
       (subst (λ (w : LineWriting). IsBetweenLines script.pages p next.payloads w) (sym same)
       (subst (λ (l : List (List ℕ)). IsBetweenLines script.pages p l (writer_of lane.core)) (sym all) here)) in

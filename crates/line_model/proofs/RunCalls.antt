@@ -65,24 +65,32 @@ module _ (n size start : ℕ) where
     steps_calls : (count : ℕ) (xs : List Exchange)
         → 1 ≤ count
         → StepsFrame n size count before xs after
-        → StepsCalls n size start count (writer_of before.core) before.payloads (writer_of after.core) after.payloads
-    steps_calls count xs one (lacks_to_step h) = let (same, all) = stays_calls h.stays in none_to_step h.none same all
+        → (made : List Exchange)
+        × StepsCalls n size start count (writer_of before.core) before.payloads made (writer_of after.core) after.payloads
+    steps_calls count xs one (lacks_to_step h) =
+        let (same, all) = stays_calls h.stays in ([], none_to_step h.none refl same all)
     steps_calls count [] one (steps_on some same (few, inl all)) = absurd (let none : 0 ≡ count = all in omega arith)
     steps_calls count [] one (steps_on some same (few, inr gone)) =
         absurd (let z = ap (λ (l : Lane). length l.core.frames) same in omega arith)
     steps_calls count (x ∷ xs) one (steps_on some run (few, inl all)) =
-        steps_top (length before.core.frames - 1) x xs (deep some) (top_calls (x ∷ xs) some run) few (inl all)
-    steps_calls count (x ∷ xs) one (steps_on some run (few, inr gone)) =
-        steps_top (length before.core.frames - 1) x xs (deep some) (top_calls (x ∷ xs) some run) few
-        (inr (let d = deep some in omega arith))
+        (_, steps_top (length before.core.frames - 1) x xs refl (deep some) (top_calls (x ∷ xs) some run) few (inl all))
+    steps_calls count (x ∷ xs) one (steps_on some run (few, inr gone)) = (
+      _,
+      steps_top (length before.core.frames - 1) x xs refl (deep some) (top_calls (x ∷ xs) some run) few
+          (inr (let d = deep some in omega arith)),
+    )
 
     finish_calls : (xs : List Exchange)
         → FinishesFrame n size before xs after
-        → FinishCalls n size start (writer_of before.core) before.payloads (writer_of after.core) after.payloads
-    finish_calls xs (lacks_to_finish h) = let (same, all) = stays_calls h.stays in none_to_finish h.none same all
-    finish_calls xs (finishes some run gone) =
-        finishes_top (length before.core.frames - 1) xs (deep some) (top_calls xs some run)
-        (let d = deep some in omega arith)
+        → (made : List Exchange)
+        × FinishCalls n size start (writer_of before.core) before.payloads made (writer_of after.core) after.payloads
+    finish_calls xs (lacks_to_finish h) =
+        let (same, all) = stays_calls h.stays in ([], none_to_finish h.none refl same all)
+    finish_calls xs (finishes some run gone) = (
+      xs,
+      finishes_top (length before.core.frames - 1) (deep some) (top_calls xs some run)
+          (let d = deep some in omega arith),
+    )
 
   -- ---- a push
 
@@ -124,31 +132,38 @@ module _ (n size start : ℕ) where
         (reached_further n size start before.core event x.answer p.core reached p.step)
 
     begin_calls : IsAnswer x.answer
-        → BeginCalls n size start event payload (writer_of before.core) before.payloads
+        → (made : List Exchange)
+        × BeginCalls n size start event payload (writer_of before.core) before.payloads made
         (writer_of between.core) between.payloads
-    begin_calls (is_pushed e) = begins_frame (push_answered pushed e) (push_payloads pushed e)
-    begin_calls (is_refused why e) = begins_none why (push_answered (refused why) e) (push_payloads (refused why) e)
+    begin_calls (is_pushed e) = (_, begins_frame refl (push_answered pushed e) (push_payloads pushed e))
+    begin_calls (is_refused why e) =
+        (_, begins_none why refl (push_answered (refused why) e) (push_payloads (refused why) e))
 
     whole_calls : (after : Lane) (rest : List Exchange)
         → FinishesPushed n size x.answer between rest after
         → IsAnswer x.answer
-        → WholeCalls n size start event payload (writer_of before.core) before.payloads
+        → (made : List Exchange)
+        × WholeCalls n size start event payload (writer_of before.core) before.payloads made
         (writer_of after.core) after.payloads
     whole_calls after rest f (is_pushed e) =
         let own : FinishesFrame n size between rest after =
         subst (λ (a : Answer). FinishesPushed n size a between rest after) e f in
-        writes_frame (writer_of between.core) (push_answered pushed e)
-        (subst (λ (l : List (List ℕ)). FinishCalls n size start (writer_of between.core) l
-        (writer_of after.core) after.payloads) (push_payloads pushed e)
-        (finish_calls between after push_reached rest own))
+        let (finishing, finished) = finish_calls between after push_reached rest own in (
+          _,
+          writes_frame (writer_of between.core) finishing refl (push_answered pushed e)
+              (subst (λ (l : List (List ℕ)). FinishCalls n size start (writer_of between.core) l finishing
+              (writer_of after.core) after.payloads) (push_payloads pushed e) finished),
+        )
     whole_calls after rest f (is_refused why e) =
         let (none, same) : (rest ≡ []) × (after ≡ between) =
-        subst (λ (a : Answer). FinishesPushed n size a between rest after) e f in
-        writes_none why
-        (subst (λ (l : Lane). IsWriterCall n size start
-        (writer_of before.core) record { event = event; answer = refused why } (writer_of l.core)) (sym same)
-        (push_answered (refused why) e))
-        (ap (λ (l : Lane). l.payloads) same ∙ push_payloads (refused why) e)
+        subst (λ (a : Answer). FinishesPushed n size a between rest after) e f in (
+          _,
+          writes_none why refl
+              (subst (λ (l : Lane). IsWriterCall n size start
+              (writer_of before.core) record { event = event; answer = refused why } (writer_of l.core)) (sym same)
+              (push_answered (refused why) e))
+              (ap (λ (l : Lane). l.payloads) same ∙ push_payloads (refused why) e),
+        )
 
   record_answer : (moment len : ℕ) (answer : Answer) (s u : LineWriting)
       → Pushing size s moment len answer u
@@ -180,30 +195,30 @@ module _ (n size start : ℕ) where
   behind_stays : (before : Lane) (core : Core)
       → writer_of core ≡ writer_of before.core
       → length before.payloads ≡ length before.core.frames
-      → NoCalls (writer_of before.core) before.payloads (writer_of core) (payloads_left core.frames before.payloads)
+      → NoCalls (writer_of before.core) before.payloads [] (writer_of core) (payloads_left core.frames before.payloads)
   behind_stays before core same many =
-      (same, all_left core.frames before.payloads (many ∙ ap (λ (w : LineWriting). length w.frames) (sym same)))
+      (refl, same, all_left core.frames before.payloads (many ∙ ap (λ (w : LineWriting). length w.frames) (sym same)))
 
   reader_calls : (before after : Lane) (xs : List Exchange)
       → length before.payloads ≡ length before.core.frames
       → ReaderRun n size before xs after
-      → NoCalls (writer_of before.core) before.payloads (writer_of after.core) after.payloads
+      → NoCalls (writer_of before.core) before.payloads [] (writer_of after.core) after.payloads
   reader_calls before after [] many same =
-      (ap (λ (l : Lane). writer_of l.core) (sym same), ap (λ (l : Lane). l.payloads) (sym same))
+      (refl, ap (λ (l : Lane). writer_of l.core) (sym same), ap (λ (l : Lane). l.payloads) (sym same))
   reader_calls before after (x ∷ xs) many (event, more, core, step, run) =
-      let (same, all) = behind_stays before core (reader_stays before.core reads x.answer core tt step) many in
-      let (later, others) =
+      let (none, same, all) = behind_stays before core (reader_stays before.core reads x.answer core tt step) many in
+      let (nothing, later, others) =
       reader_calls (lane_behind before core) after xs
       (ap length all ∙ many ∙ ap (λ (w : LineWriting). length w.frames) (sym same)) run in
-      (later ∙ same, others ∙ all)
+      (refl, later ∙ same, others ∙ all)
 
   wish_calls : (before after : Lane) (xs : List Exchange)
       → length before.payloads ≡ length before.core.frames
       → Wishes n size before xs after
-      → NoCalls (writer_of before.core) before.payloads (writer_of after.core) after.payloads
+      → NoCalls (writer_of before.core) before.payloads [] (writer_of after.core) after.payloads
   wish_calls before after xs many w =
-      let (same, all) = behind_stays before w.core (reader_stays before.core wishes w.answer w.core tt w.step) many in
-      (ap (λ (l : Lane). writer_of l.core) w.after_is ∙ same, ap (λ (l : Lane). l.payloads) w.after_is ∙ all)
+      let (none, same, all) = behind_stays before w.core (reader_stays before.core wishes w.answer w.core tt w.step) many in
+      (refl, ap (λ (l : Lane). writer_of l.core) w.after_is ∙ same, ap (λ (l : Lane). l.payloads) w.after_is ∙ all)
 
 pub line_runs_are_calls : LineRunsAreCalls
 line_runs_are_calls n size start cpus collectors (begin_frame cpu moment payload) before after xs reached fit within
@@ -228,10 +243,10 @@ line_runs_are_calls n size start cpus collectors (close cpu) before after xs rea
     (closing_of n size start w.push.answer (writer_of before.core) (writer_of w.between.core)
     (push_call n size start pushes_close [] before w.between w.push reached w.pushes)))
 line_runs_are_calls n size start cpus collectors (step_reader cpu count) before after xs reached fit within run =
-    reader_calls n size start before after xs (as_many before.core.frames before.payloads fit) run.0
+    ([], reader_calls n size start before after xs (as_many before.core.frames before.payloads fit) run.0)
 line_runs_are_calls n size start cpus collectors (take_page cpu) before after xs reached fit within run =
-    reader_calls n size start before after xs (as_many before.core.frames before.payloads fit) run.0
+    ([], reader_calls n size start before after xs (as_many before.core.frames before.payloads fit) run.0)
 line_runs_are_calls n size start cpus collectors (wish cpu) before after xs reached fit within run =
-    wish_calls n size start before after xs (as_many before.core.frames before.payloads fit) run
+    ([], wish_calls n size start before after xs (as_many before.core.frames before.payloads fit) run)
 line_runs_are_calls n size start cpus collectors (deliver collector cpu fill) before after xs reached fit within run =
-    (ap (λ (l : Lane). writer_of l.core) run.1, ap (λ (l : Lane). l.payloads) run.1)
+    ([], (refl, ap (λ (l : Lane). writer_of l.core) run.1, ap (λ (l : Lane). l.payloads) run.1))

@@ -61,63 +61,67 @@ module _ (n size start : ℕ) where
   top_formed depth s payloads (x ∷ calls) t lefts (count, e, u, call, rest) formed =
       top_formed depth u (payloads_left u.frames payloads) calls t lefts rest (call_formed s x u call)
 
-  finish_formed : (s : LineWriting) (payloads : List (List ℕ)) (t : LineWriting) (lefts : List (List ℕ))
-      → FinishCalls n size start s payloads t lefts
+  finish_formed : (s : LineWriting) (payloads : List (List ℕ)) (made : List Exchange) (t : LineWriting)
+      (lefts : List (List ℕ))
+      → FinishCalls n size start s payloads made t lefts
       → Formed s
       → Formed t
-  finish_formed s payloads t lefts (none_to_finish none same all) formed = same_formed s t same formed
-  finish_formed s payloads t lefts (finishes_top depth calls some called low) formed =
-      top_formed depth s payloads calls t lefts called formed
+  finish_formed s payloads made t lefts (none_to_finish none empty same all) formed = same_formed s t same formed
+  finish_formed s payloads made t lefts (finishes_top depth some called low) formed =
+      top_formed depth s payloads made t lefts called formed
 
-  module _ (s : LineWriting) (payloads : List (List ℕ)) (t : LineWriting) (lefts : List (List ℕ)) where
-    steps_formed : (count : ℕ) → StepsCalls n size start count s payloads t lefts → Formed s → Formed t
-    steps_formed count (none_to_step none same all) formed = same_formed s t same formed
-    steps_formed count (steps_top depth x calls some called few stop) formed =
+  module _ (s : LineWriting) (payloads : List (List ℕ)) (made : List Exchange) (t : LineWriting)
+      (lefts : List (List ℕ)) where
+    steps_formed : (count : ℕ) → StepsCalls n size start count s payloads made t lefts → Formed s → Formed t
+    steps_formed count (none_to_step none empty same all) formed = same_formed s t same formed
+    steps_formed count (steps_top depth x calls is some called few stop) formed =
         top_formed depth s payloads (x ∷ calls) t lefts called formed
 
-    line_formed : (line : Command) → LineCalls n size start line s payloads t lefts → Formed s → Formed t
-    line_formed (begin_frame cpu moment payload) (begins_frame call all) formed = call_formed s _ t call
-    line_formed (begin_frame cpu moment payload) (begins_none why call all) formed = call_formed s _ t call
+    line_formed : (line : Command) → LineCalls n size start line s payloads made t lefts → Formed s → Formed t
+    line_formed (begin_frame cpu moment payload) (begins_frame is call all) formed = call_formed s _ t call
+    line_formed (begin_frame cpu moment payload) (begins_none why is call all) formed = call_formed s _ t call
     line_formed (step_frame cpu count) calls formed = steps_formed count calls formed
-    line_formed (finish_frame cpu) calls formed = finish_formed s payloads t lefts calls formed
-    line_formed (write cpu moment payload) (writes_none why call all) formed = call_formed s _ t call
-    line_formed (close cpu) (writes_none why call all) formed = call_formed s _ t call
-    line_formed (step_reader cpu count) (same, all) formed = same_formed s t same formed
-    line_formed (take_page cpu) (same, all) formed = same_formed s t same formed
-    line_formed (wish cpu) (same, all) formed = same_formed s t same formed
-    line_formed (deliver collector cpu fill) (same, all) formed = same_formed s t same formed
-    line_formed (write cpu moment payload) (writes_frame u call f) formed =
-        finish_formed u (payload ∷ payloads) t lefts f (call_formed s _ u call)
-    line_formed (close cpu) (writes_frame u call f) formed =
-        finish_formed u ([] ∷ payloads) t lefts f (call_formed s _ u call)
+    line_formed (finish_frame cpu) calls formed = finish_formed s payloads made t lefts calls formed
+    line_formed (write cpu moment payload) (writes_none why is call all) formed = call_formed s _ t call
+    line_formed (close cpu) (writes_none why is call all) formed = call_formed s _ t call
+    line_formed (step_reader cpu count) (none, same, all) formed = same_formed s t same formed
+    line_formed (take_page cpu) (none, same, all) formed = same_formed s t same formed
+    line_formed (wish cpu) (none, same, all) formed = same_formed s t same formed
+    line_formed (deliver collector cpu fill) (none, same, all) formed = same_formed s t same formed
+    line_formed (write cpu moment payload) (writes_frame u finishing cut call f) formed =
+        finish_formed u (payload ∷ payloads) finishing t lefts f (call_formed s _ u call)
+    line_formed (close cpu) (writes_frame u finishing cut call f) formed =
+        finish_formed u ([] ∷ payloads) finishing t lefts f (call_formed s _ u call)
 
-  lines_formed : (lines : List Command) (s : LineWriting) (payloads : List (List ℕ)) (t : LineWriting) (lefts : List (List ℕ))
-      → LinesCalls n size start lines s payloads t lefts
+  lines_formed : (lines : List Command) (s : LineWriting) (payloads : List (List ℕ)) (made : List Exchange)
+      (t : LineWriting) (lefts : List (List ℕ))
+      → LinesCalls n size start lines s payloads made t lefts
       → Formed s
       → Formed t
-  lines_formed [] s payloads t lefts (same, all) formed = same_formed s t same formed
-  lines_formed (line ∷ lines) s payloads t lefts (u, middle, calls, rest) formed =
-      lines_formed lines u middle t lefts rest (line_formed s payloads u middle line calls formed)
+  lines_formed [] s payloads made t lefts (none, same, all) formed = same_formed s t same formed
+  lines_formed (line ∷ lines) s payloads made t lefts (own, others, cut, u, middle, calls, rest) formed =
+      lines_formed lines u middle others t lefts rest (line_formed s payloads own u middle line calls formed)
 
-  rest_formed : (count : ℕ) (s : LineWriting) (payloads : List (List ℕ)) (t : LineWriting) (lefts : List (List ℕ))
-      → RestCalls n size start count s payloads t lefts
+  rest_formed : (count : ℕ) (s : LineWriting) (payloads : List (List ℕ)) (made : List Exchange) (t : LineWriting)
+      (lefts : List (List ℕ))
+      → RestCalls n size start count s payloads made t lefts
       → Formed s
       → Formed t
-  rest_formed zero s payloads t lefts (same, all) formed = same_formed s t same formed
-  rest_formed (suc count) s payloads t lefts (u, middle, calls, rest) formed =
-      rest_formed count u middle t lefts rest (finish_formed s payloads u middle calls formed)
+  rest_formed zero s payloads made t lefts (none, same, all) formed = same_formed s t same formed
+  rest_formed (suc count) s payloads made t lefts (own, others, cut, u, middle, calls, rest) formed =
+      rest_formed count u middle others t lefts rest (finish_formed s payloads own u middle calls formed)
 
 pub writers_form_histories : WritersFormHistories
-writers_form_histories n size start count lines s payloads t lefts calls rest =
-    let formed = lines_formed n size start lines (first_writer start) [] s payloads calls (none_formed size) in
-    (formed, rest_formed n size start count s payloads t lefts rest formed)
+writers_form_histories n size start count lines made s payloads more t lefts calls rest =
+    let formed = lines_formed n size start lines (first_writer start) [] made s payloads calls (none_formed size) in
+    (formed, rest_formed n size start count s payloads more t lefts rest formed)
 
 pub writers_commit_whole_lines : WritersCommitWholeLines
-writers_commit_whole_lines n size start lines s payloads two whole room calls =
+writers_commit_whole_lines n size start lines made s payloads two whole room calls =
     let (is_history, packed) =
-    lines_formed n size start lines (first_writer start) [] s payloads calls (none_formed size) in
+    lines_formed n size start lines (first_writer start) [] made s payloads calls (none_formed size) in
     let (events, q, parts, there) =
-    lines_calls_make n size start lines (first_writer start) [] s payloads (first_state start)
+    lines_calls_make n size start lines (first_writer start) [] made s payloads (first_state start)
     (start_between n start (omega arith)) calls in
     whole_lines_have_committed n size start lines s.history two whole room is_history packed
     record { events = events; after = q; parts = parts; history_is = sym there.agrees.history }

@@ -90,26 +90,26 @@ StartIsBetweenLines = (n start : ℕ)
 
 -- The calls of a line make its part.
 abbrev pub LineCallsMake : Type 0
-LineCallsMake = (n size start : ℕ) (line : Command) (s : LineWriting) (payloads : List (List ℕ)) (t : LineWriting)
-    (lefts : List (List ℕ)) (p : LineState)
+LineCallsMake = (n size start : ℕ) (line : Command) (s : LineWriting) (payloads : List (List ℕ)) (made : List Exchange)
+    (t : LineWriting) (lefts : List (List ℕ)) (p : LineState)
     → IsBetweenLines n p payloads s
-    → LineCalls n size start line s payloads t lefts
+    → LineCalls n size start line s payloads made t lefts
     → (events : List RingEvent) × (q : LineState) × LinePart n size line p events q × IsBetweenLines n q lefts t
 
 -- The calls of lines make their parts.
 abbrev pub LinesCallsMake : Type 0
 LinesCallsMake = (n size start : ℕ) (lines : List Command) (s : LineWriting) (payloads : List (List ℕ))
-    (t : LineWriting) (lefts : List (List ℕ)) (p : LineState)
+    (made : List Exchange) (t : LineWriting) (lefts : List (List ℕ)) (p : LineState)
     → IsBetweenLines n p payloads s
-    → LinesCalls n size start lines s payloads t lefts
+    → LinesCalls n size start lines s payloads made t lefts
     → (events : List RingEvent) × (q : LineState) × LineParts n size lines p events q × IsBetweenLines n q lefts t
 
 -- The frames that are left at the end are finished by parts as of `f`.
 abbrev pub RestCallsMake : Type 0
-RestCallsMake = (n size start count : ℕ) (s : LineWriting) (payloads : List (List ℕ)) (t : LineWriting)
-    (lefts : List (List ℕ)) (p : LineState)
+RestCallsMake = (n size start count : ℕ) (s : LineWriting) (payloads : List (List ℕ)) (made : List Exchange)
+    (t : LineWriting) (lefts : List (List ℕ)) (p : LineState)
     → IsBetweenLines n p payloads s
-    → RestCalls n size start count s payloads t lefts
+    → RestCalls n size start count s payloads made t lefts
     → (events : List RingEvent) × (q : LineState) × FinishParts n size count p events q × IsBetweenLines n q lefts t
 
 -- One more line after others.
@@ -131,17 +131,18 @@ TopCallsGoOn = (n size start depth : ℕ) (s : LineWriting) (payloads : List (Li
 
 abbrev pub LinesCallsGoOn : Type 0
 LinesCallsGoOn = (n size start : ℕ) (lines : List Command) (line : Command) (s : LineWriting) (payloads : List (List ℕ))
-    (t : LineWriting) (lefts : List (List ℕ)) (u : LineWriting) (others : List (List ℕ))
-    → LinesCalls n size start lines s payloads t lefts
-    → LineCalls n size start line t lefts u others
-    → LinesCalls n size start (lines ++ line ∷ []) s payloads u others
+    (made : List Exchange) (t : LineWriting) (lefts : List (List ℕ)) (more : List Exchange) (u : LineWriting)
+    (others : List (List ℕ))
+    → LinesCalls n size start lines s payloads made t lefts
+    → LineCalls n size start line t lefts more u others
+    → LinesCalls n size start (lines ++ line ∷ []) s payloads (made ++ more) u others
 
 abbrev pub RestCallsGoOn : Type 0
-RestCallsGoOn = (n size start count : ℕ) (s : LineWriting) (payloads : List (List ℕ)) (t : LineWriting)
-    (lefts : List (List ℕ)) (u : LineWriting) (others : List (List ℕ))
-    → RestCalls n size start count s payloads t lefts
-    → FinishCalls n size start t lefts u others
-    → RestCalls n size start (suc count) s payloads u others
+RestCallsGoOn = (n size start count : ℕ) (s : LineWriting) (payloads : List (List ℕ)) (made : List Exchange)
+    (t : LineWriting) (lefts : List (List ℕ)) (more : List Exchange) (u : LineWriting) (others : List (List ℕ))
+    → RestCalls n size start count s payloads made t lefts
+    → FinishCalls n size start t lefts more u others
+    → RestCalls n size start (suc count) s payloads (made ++ more) u others
 
 -- From a new ring, the calls of lines, and then calls that finish the frames which are left until the stack is empty,
 -- make the history of these lines.

@@ -21,7 +21,8 @@ LineRunsAreCalls = (n size start cpus collectors : ℕ) (line : Command) (before
     → HasPayloads before
     → IsCommandWithin cpus collectors line
     → LineRun n size line before exchanges after
-    → LineCalls n size start line (writer_of before.core) before.payloads (writer_of after.core) after.payloads
+    → (made : List Exchange)
+    × LineCalls n size start line (writer_of before.core) before.payloads made (writer_of after.core) after.payloads
 
 -- the commands of lines
 abbrev pub commands_of : List (ℕ × Command) → List Command

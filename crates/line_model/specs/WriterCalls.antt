@@ -1,6 +1,6 @@
 -- The calls of a writer for its lines, whatever the reader does between them.
 -- docs/FORMATS.md, "Writer frames".
-use Rattle.std.specs.Prelude.{◌≡◌, ℕ, zero, suc, ◌+◌, ◌≤◌, ◌⊎◌, List, [], ◌∷◌, length}
+use Rattle.std.specs.Prelude.{◌≡◌, ℕ, zero, suc, ◌+◌, ◌≤◌, ◌⊎◌, List, [], ◌∷◌, ◌++◌, length}
 use Rattle.trace_model.specs.History.{HistoryEvent}
 use Rattle.trace_model.specs.Frames.{Frame, Refusal}
 use Rattle.trace_model.specs.Ring.{Core}
@@ -47,102 +47,121 @@ TopCalls n size start depth before payloads (x ∷ calls) after lefts =
 
 -- ---- the calls of a line
 
+-- In what follows `made` are the exchanges of the calls, in order.
+
 -- `s K`: K calls for the top frame, or fewer if it is popped before that; none if there is no frame
-pub data StepsCalls (n size start count : ℕ) (before : LineWriting) (payloads : List (List ℕ)) (after : LineWriting)
-    (lefts : List (List ℕ))
+pub data StepsCalls (n size start count : ℕ) (before : LineWriting) (payloads : List (List ℕ)) (made : List Exchange)
+    (after : LineWriting) (lefts : List (List ℕ))
     : Type 0 where
   none_to_step : before.frames ≡ []
+      → made ≡ []
       → after ≡ before
       → lefts ≡ payloads
-      → StepsCalls n size start count before payloads after lefts
+      → StepsCalls n size start count before payloads made after lefts
   steps_top : (depth : ℕ) (x : Exchange) (calls : List Exchange)
+      → made ≡ x ∷ calls
       → length before.frames ≡ suc depth
       → TopCalls n size start depth before payloads (x ∷ calls) after lefts
       → suc (length calls) ≤ count
       → (suc (length calls) ≡ count) ⊎ (length after.frames ≤ depth)
-      → StepsCalls n size start count before payloads after lefts
+      → StepsCalls n size start count before payloads made after lefts
 
 -- `f`: calls for the top frame until it is popped; none if there is no frame
-pub data FinishCalls (n size start : ℕ) (before : LineWriting) (payloads : List (List ℕ)) (after : LineWriting)
-    (lefts : List (List ℕ))
+pub data FinishCalls (n size start : ℕ) (before : LineWriting) (payloads : List (List ℕ)) (made : List Exchange)
+    (after : LineWriting) (lefts : List (List ℕ))
     : Type 0 where
   none_to_finish : before.frames ≡ []
+      → made ≡ []
       → after ≡ before
       → lefts ≡ payloads
-      → FinishCalls n size start before payloads after lefts
-  finishes_top : (depth : ℕ) (calls : List Exchange)
+      → FinishCalls n size start before payloads made after lefts
+  finishes_top : (depth : ℕ)
       → length before.frames ≡ suc depth
-      → TopCalls n size start depth before payloads calls after lefts
+      → TopCalls n size start depth before payloads made after lefts
       → length after.frames ≤ depth
-      → FinishCalls n size start before payloads after lefts
+      → FinishCalls n size start before payloads made after lefts
 
 -- `b`: the push of a frame with this payload; or its refusal
 pub data BeginCalls (n size start : ℕ) (event : Event) (payload : List ℕ) (before : LineWriting)
-    (payloads : List (List ℕ)) (after : LineWriting) (lefts : List (List ℕ))
+    (payloads : List (List ℕ)) (made : List Exchange) (after : LineWriting) (lefts : List (List ℕ))
     : Type 0 where
-  begins_frame :
-      IsWriterCall n size start before record { event = event; answer = pushed } after
+  begins_frame : made ≡ record { event = event; answer = pushed } ∷ []
+      → IsWriterCall n size start before record { event = event; answer = pushed } after
       → lefts ≡ payload ∷ payloads
-      → BeginCalls n size start event payload before payloads after lefts
+      → BeginCalls n size start event payload before payloads made after lefts
   begins_none : (why : Refusal)
+      → made ≡ record { event = event; answer = refused why } ∷ []
       → IsWriterCall n size start before record { event = event; answer = refused why } after
       → lefts ≡ payloads
-      → BeginCalls n size start event payload before payloads after lefts
+      → BeginCalls n size start event payload before payloads made after lefts
 
 -- `w` and `c`: the push and then as `f`; or its refusal
 pub data WholeCalls (n size start : ℕ) (event : Event) (payload : List ℕ) (before : LineWriting)
-    (payloads : List (List ℕ)) (after : LineWriting) (lefts : List (List ℕ))
+    (payloads : List (List ℕ)) (made : List Exchange) (after : LineWriting) (lefts : List (List ℕ))
     : Type 0 where
-  writes_frame : (between : LineWriting)
+  writes_frame : (between : LineWriting) (finishing : List Exchange)
+      → made ≡ record { event = event; answer = pushed } ∷ finishing
       → IsWriterCall n size start before record { event = event; answer = pushed } between
-      → FinishCalls n size start between (payload ∷ payloads) after lefts
-      → WholeCalls n size start event payload before payloads after lefts
+      → FinishCalls n size start between (payload ∷ payloads) finishing after lefts
+      → WholeCalls n size start event payload before payloads made after lefts
   writes_none : (why : Refusal)
+      → made ≡ record { event = event; answer = refused why } ∷ []
       → IsWriterCall n size start before record { event = event; answer = refused why } after
       → lefts ≡ payloads
-      → WholeCalls n size start event payload before payloads after lefts
+      → WholeCalls n size start event payload before payloads made after lefts
 
 -- nothing is called
-abbrev pub NoCalls : LineWriting → List (List ℕ) → LineWriting → List (List ℕ) → Type 0
-NoCalls before payloads after lefts = (after ≡ before) × (lefts ≡ payloads)
+abbrev pub NoCalls : LineWriting → List (List ℕ) → List Exchange → LineWriting → List (List ℕ) → Type 0
+NoCalls before payloads made after lefts = (made ≡ []) × (after ≡ before) × (lefts ≡ payloads)
 
 -- the calls of one line; for a line of the reader or of a collector there are none
-abbrev pub LineCalls : (n size start : ℕ) → Command → LineWriting → List (List ℕ) → LineWriting → List (List ℕ) → Type 0
-LineCalls n size start (begin_frame cpu moment payload) before payloads after lefts =
-    BeginCalls n size start (pushes moment (length payload)) payload before payloads after lefts
-LineCalls n size start (step_frame cpu count) before payloads after lefts =
-    StepsCalls n size start count before payloads after lefts
-LineCalls n size start (finish_frame cpu) before payloads after lefts =
-    FinishCalls n size start before payloads after lefts
-LineCalls n size start (write cpu moment payload) before payloads after lefts =
-    WholeCalls n size start (pushes moment (length payload)) payload before payloads after lefts
-LineCalls n size start (close cpu) before payloads after lefts =
-    WholeCalls n size start pushes_close [] before payloads after lefts
-LineCalls n size start _ before payloads after lefts = NoCalls before payloads after lefts
+abbrev pub LineCalls : (n size start : ℕ) → Command → LineWriting → List (List ℕ) → List Exchange → LineWriting
+    → List (List ℕ) → Type 0
+LineCalls n size start (begin_frame cpu moment payload) before payloads made after lefts =
+    BeginCalls n size start (pushes moment (length payload)) payload before payloads made after lefts
+LineCalls n size start (step_frame cpu count) before payloads made after lefts =
+    StepsCalls n size start count before payloads made after lefts
+LineCalls n size start (finish_frame cpu) before payloads made after lefts =
+    FinishCalls n size start before payloads made after lefts
+LineCalls n size start (write cpu moment payload) before payloads made after lefts =
+    WholeCalls n size start (pushes moment (length payload)) payload before payloads made after lefts
+LineCalls n size start (close cpu) before payloads made after lefts =
+    WholeCalls n size start pushes_close [] before payloads made after lefts
+LineCalls n size start _ before payloads made after lefts = NoCalls before payloads made after lefts
 
 -- the calls of lines, one line after the other
-abbrev pub LinesCalls : (n size start : ℕ) → List Command → LineWriting → List (List ℕ)
+abbrev pub LinesCalls : (n size start : ℕ) → List Command → LineWriting → List (List ℕ) → List Exchange
     → LineWriting → List (List ℕ) → Type 0
-LinesCalls n size start [] before payloads after lefts = NoCalls before payloads after lefts
-LinesCalls n size start (line ∷ lines) before payloads after lefts =
-    (between : LineWriting) × (middle : List (List ℕ))
-    × LineCalls n size start line before payloads between middle
-    × LinesCalls n size start lines between middle after lefts
+LinesCalls n size start [] before payloads made after lefts = NoCalls before payloads made after lefts
+LinesCalls n size start (line ∷ lines) before payloads made after lefts =
+    (own others : List Exchange) × (made ≡ own ++ others)
+    × (between : LineWriting) × (middle : List (List ℕ))
+    × LineCalls n size start line before payloads own between middle
+    × LinesCalls n size start lines between middle others after lefts
 
 -- the frames on the stack are finished, the top one first, this number of them
-abbrev pub RestCalls : (n size start count : ℕ) → LineWriting → List (List ℕ) → LineWriting → List (List ℕ) → Type 0
-RestCalls n size start zero before payloads after lefts = NoCalls before payloads after lefts
-RestCalls n size start (suc count) before payloads after lefts =
-    (between : LineWriting) × (middle : List (List ℕ))
-    × FinishCalls n size start before payloads between middle
-    × RestCalls n size start count between middle after lefts
+abbrev pub RestCalls : (n size start count : ℕ) → LineWriting → List (List ℕ) → List Exchange → LineWriting
+    → List (List ℕ) → Type 0
+RestCalls n size start zero before payloads made after lefts = NoCalls before payloads made after lefts
+RestCalls n size start (suc count) before payloads made after lefts =
+    (own others : List Exchange) × (made ≡ own ++ others)
+    × (between : LineWriting) × (middle : List (List ℕ))
+    × FinishCalls n size start before payloads own between middle
+    × RestCalls n size start count between middle others after lefts
 
 -- From the writer of a new ring to this one: the calls of the lines, one line after the other, and then those that
 -- finish the frames which are left.
 pub record IsReachedByLines (n size start : ℕ) (lines : List Command) (last : LineWriting) : Type 0 where
   pub behind : LineWriting
   pub payloads : List (List ℕ)
-  pub calls : LinesCalls n size start lines (first_writer start) [] behind payloads
+  pub by_lines : List Exchange
+  pub calls : LinesCalls n size start lines (first_writer start) [] by_lines behind payloads
   pub count : ℕ
   pub lefts : List (List ℕ)
-  pub rest : RestCalls n size start count behind payloads last lefts
+  pub by_rest : List Exchange
+  pub rest : RestCalls n size start count behind payloads by_rest last lefts
+
+-- the exchanges of all these calls, in order
+abbrev pub exchanges_to : {n size start : ℕ} {lines : List Command} {last : LineWriting}
+    → IsReachedByLines n size start lines last → List Exchange
+exchanges_to reached = reached.by_lines ++ reached.by_rest

@@ -6,5 +6,7 @@ pub mod TopCalls
 pub mod LineRuns
 pub mod WrittenWhole
 pub mod LinesMade
+-- what the gate is asked
+pub mod Passed
 -- which lines are a CPU's
 pub mod LineIndexesFound

@@ -6,11 +6,12 @@ use Rattle.std.proofs.lemmas.List.{take_all}
 use Rattle.std.proofs.lemmas.Option.{slice_get_within, get_or_from_slice_get}
 use Rattle.trace_model.specs.declared.limits.TheConstants.{MIN_PAGES}
 use Rattle.trace_model.specs.Packing.{IsPacked}
+use Rattle.trace_model.specs.Steps.{Exchange}
 use Rattle.trace_model.proofs.collections.Elements.{some_is}
 use Rattle.text_model.specs.Script.{Command, finish_frame}
 use Rattle.line_model.specs.Lines.{writer_lines, IsMadeByLines}
 use Rattle.line_model.specs.ReplayedLines.{commands_of}
-use Rattle.line_model.specs.WriterCalls.{LineWriting, first_writer, LineCalls, LinesCalls, RestCalls, FinishCalls, IsReachedByLines}
+use Rattle.line_model.specs.WriterCalls.{LineWriting, first_writer, LineCalls, LinesCalls, RestCalls, FinishCalls, IsReachedByLines, exchanges_to}
 use Rattle.line_model.proofs.PartsJoined.{lines_calls_go_on, rest_calls_go_on}
 use Rattle.line_model.proofs.LineCallsMade.{writer_makes_lines}
 use Rattle.line_model.proofs.WrittenLines.{whole_lines_commit}
@@ -19,10 +20,10 @@ use Rattle.ring_steps.specs.NewRings.{first_writing}
 use Rattle.ring_shared.specs.Value.{WriterValue}
 use Rattle.ring_shared.proofs.WholeAppends.{writers_have_histories}
 use Rattle.line_writer.specs.declared.writer.LineWriter.{LineWriter}
-use Rattle.line_writer.specs.LineWriters.{writer_in, payloads_of, MakesLine, MakesLines, MakesRest, FinishesRest}
+use Rattle.line_writer.specs.LineWriters.{writer_in, made_in, payloads_of, IsLineWriter, MakesLine, MakesLines, MakesRest, FinishesRest}
 use Rattle.line_writer.specs.Obeying.{IsLineAt, HasObeyed}
 use Rattle.ring_shared.specs.Calls.{IsWriter}
-use Rattle.line_writer.proofs.LineRuns.{same_then}
+use Rattle.line_writer.proofs.LineRuns.{same_then, made_then, made_none}
 
 -- ---- one more
 
@@ -36,10 +37,13 @@ module _ (old now next : LineWriter) where
       record {
         is = m.is;
         same = same_then old.writer now.writer next.writer first.same m.same;
+        exchanges = first.exchanges ++ m.exchanges;
+        has_made = made_then old now next first.exchanges m.exchanges first.has_made m.has_made;
         made = lines_calls_go_on s.pages s.size s.start lines line (writer_in old.writer.part) (payloads_of old)
-            (writer_in now.writer.part) (payloads_of now) (writer_in next.writer.part) (payloads_of next) first.made
+            first.exchanges (writer_in now.writer.part) (payloads_of now) m.exchanges (writer_in next.writer.part)
+            (payloads_of next) first.made
             (subst (λ (shape : Shape). LineCalls shape.pages shape.size shape.start line (writer_in now.writer.part)
-            (payloads_of now) (writer_in next.writer.part) (payloads_of next)) first.same.0 m.made);
+            (payloads_of now) m.exchanges (writer_in next.writer.part) (payloads_of next)) first.same.0 m.made);
       }
 
   pub rest_more : (count cpu : ℕ)
@@ -51,11 +55,24 @@ module _ (old now next : LineWriter) where
       record {
         is = m.is;
         same = same_then old.writer now.writer next.writer first.same m.same;
+        exchanges = first.exchanges ++ m.exchanges;
+        has_made = made_then old now next first.exchanges m.exchanges first.has_made m.has_made;
         made = rest_calls_go_on s.pages s.size s.start count (writer_in old.writer.part) (payloads_of old)
-            (writer_in now.writer.part) (payloads_of now) (writer_in next.writer.part) (payloads_of next) first.made
+            first.exchanges (writer_in now.writer.part) (payloads_of now) m.exchanges (writer_in next.writer.part)
+            (payloads_of next) first.made
             (subst (λ (shape : Shape). FinishCalls shape.pages shape.size shape.start (writer_in now.writer.part)
-            (payloads_of now) (writer_in next.writer.part) (payloads_of next)) first.same.0 m.made);
+            (payloads_of now) m.exchanges (writer_in next.writer.part) (payloads_of next)) first.same.0 m.made);
       }
+
+-- ---- none
+
+pub lines_none : (old : LineWriter) → IsLineWriter old → MakesLines [] old old
+lines_none old is =
+    record { is = is; same = (refl, refl); exchanges = []; made = (refl, refl, refl); has_made = made_none old }
+
+pub rest_none : (old : LineWriter) → IsLineWriter old → MakesRest 0 old old
+rest_none old is =
+    record { is = is; same = (refl, refl); exchanges = []; made = (refl, refl, refl); has_made = made_none old }
 
 -- ---- the line at a line_index
 
@@ -153,21 +170,22 @@ module _ (cpu : ℕ) (commands : List (ℕ × Command)) (before : WriterValue) (
   start_is : writer_in first.writer.part ≡ first_writer shape.start
   start_is = ap (λ (v : WriterValue). writer_in v.part) first_is ∙ ap writer_in new
 
-  calls : LinesCalls shape.pages shape.size shape.start lines (first_writer shape.start) [] (writer_in mid.writer.part)
-      (payloads_of mid)
+  calls : LinesCalls shape.pages shape.size shape.start lines (first_writer shape.start) [] lines_are.exchanges
+      (writer_in mid.writer.part) (payloads_of mid)
   calls =
-      subst (λ (w : LineWriting). LinesCalls shape.pages shape.size shape.start lines w [] (writer_in mid.writer.part)
-      (payloads_of mid)) start_is
+      subst (λ (w : LineWriting). LinesCalls shape.pages shape.size shape.start lines w [] lines_are.exchanges
+      (writer_in mid.writer.part) (payloads_of mid)) start_is
       (subst (λ (l : List (List ℕ)). LinesCalls shape.pages shape.size shape.start lines (writer_in first.writer.part) l
-      (writer_in mid.writer.part) (payloads_of mid)) none
+      lines_are.exchanges (writer_in mid.writer.part) (payloads_of mid)) none
       (subst (λ (s : Shape). LinesCalls s.pages s.size s.start lines (writer_in first.writer.part) (payloads_of first)
-      (writer_in mid.writer.part) (payloads_of mid)) shape_is lines_are.made))
+      lines_are.exchanges (writer_in mid.writer.part) (payloads_of mid)) shape_is lines_are.made))
 
   rest_calls : RestCalls shape.pages shape.size shape.start rest.count (writer_in mid.writer.part) (payloads_of mid)
-      (writer_in last.writer.part) (payloads_of last)
+      rest.makes.exchanges (writer_in last.writer.part) (payloads_of last)
   rest_calls =
       subst (λ (s : Shape). RestCalls s.pages s.size s.start rest.count (writer_in mid.writer.part) (payloads_of mid)
-      (writer_in last.writer.part) (payloads_of last)) (lines_are.same.0 ∙ shape_is) rest.makes.made
+      rest.makes.exchanges (writer_in last.writer.part) (payloads_of last)) (lines_are.same.0 ∙ shape_is)
+      rest.makes.made
 
   last_shape : last.writer.shape ≡ shape
   last_shape = rest.makes.same.0 ∙ lines_are.same.0 ∙ shape_is
@@ -177,15 +195,24 @@ module _ (cpu : ℕ) (commands : List (ℕ × Command)) (before : WriterValue) (
   enough =
       subst (λ (s : Shape). MIN_PAGES ≤ s.pages) last_shape rest.makes.is.writer.reached.may_start.some_pages
 
-  reached : IsReachedByLines shape.pages shape.size shape.start lines (writer_in last.writer.part)
+  abbrev reached : IsReachedByLines shape.pages shape.size shape.start lines (writer_in last.writer.part)
   reached = record {
     behind = writer_in mid.writer.part;
     payloads = payloads_of mid;
+    by_lines = lines_are.exchanges;
     calls = calls;
     count = rest.count;
     lefts = payloads_of last;
+    by_rest = rest.makes.exchanges;
     rest = rest_calls;
   }
+
+  -- a new ring's writer has made nothing
+  all_made : made_in last.writer.part ≡ exchanges_to reached
+  all_made =
+      made_then first mid last lines_are.exchanges rest.makes.exchanges lines_are.has_made rest.makes.has_made
+      ∙ ap (λ (l : List Exchange). l ++ (lines_are.exchanges ++ rest.makes.exchanges))
+      (ap (λ (v : WriterValue). made_in v.part) first_is ∙ ap made_in new)
 
   made : IsMadeByLines shape.pages shape.size shape.start lines last.writer.part.history
   made =
@@ -200,6 +227,7 @@ module _ (cpu : ℕ) (commands : List (ℕ × Command)) (before : WriterValue) (
         same = (last_shape, rest.makes.same.1 ∙ lines_are.same.1 ∙ ap (λ (v : WriterValue). v.table) first_is);
         at_rest = rest.none;
         calls = reached;
+        has_made = all_made;
         made = made;
         committed = λ whole room.
             whole_lines_commit shape.pages shape.size shape.start lines last.writer.part.history enough whole room

@@ -1,7 +1,7 @@
 -- A frame that is pushed is on top with its payload; one that is refused changes nothing.
-use Rattle.std.proofs.Common.{◌≡◌, ◌≢◌, ℕ, ◌<◌, ◌≤◌, true, false, List, [], ◌∷◌, length, map, reverse, take, refl, sym, ap, ◌∙◌, subst, inl, inr, arith, Bor}
+use Rattle.std.proofs.Common.{◌≡◌, ◌≢◌, ℕ, ◌<◌, ◌≤◌, true, false, List, [], ◌∷◌, ◌++◌, length, map, reverse, take, refl, sym, ap, ◌∙◌, subst, inl, inr, arith, Bor}
 use Rattle.std.specs.Prelude.{slice_set}
-use Rattle.std.proofs.lemmas.List.{length-set}
+use Rattle.std.proofs.lemmas.List.{length-set, map-append}
 use Rattle.trace_model.specs.declared.limits.TheConstants.{MAX_FRAMES}
 use Rattle.trace_model.specs.Frames.{Frame, Refusal}
 use Rattle.trace_model.specs.Steps as model
@@ -15,11 +15,11 @@ use Rattle.ring_frames.specs.declared.answer.Answer.TheVariants as answer
 use Rattle.ring_frames.specs.Answers.{IsAnswerOf}
 use Rattle.ring_frames.proofs.Reported.{reported_pushed}
 use Rattle.ring_steps.specs.declared.rule.Shape.{Shape}
-use Rattle.ring_steps.specs.Views.{Writing}
+use Rattle.ring_steps.specs.Views.{Writing, writing_of, writing_made}
 use Rattle.ring_shared.specs.Value.{WriterValue}
 use Rattle.ring_shared.specs.Calls.{IsCall, MakesSome}
 use Rattle.line_writer.specs.declared.writer.LineWriter.{LineWriter}
-use Rattle.line_writer.specs.LineWriters.{writer_in, payloads_of, IsLineWriter, Pushes}
+use Rattle.line_writer.specs.LineWriters.{writer_in, made_in, payloads_of, IsLineWriter, Pushes}
 use Rattle.line_writer.proofs.FramePayloads.{pushed_first}
 
 -- a call, as far as lines are concerned
@@ -36,6 +36,15 @@ call_of shape before event result after c = record {
   after_is = ap writer_in c.after_is;
 }
 
+-- and the one that the writer has made more
+pub logged : (shape : Shape) (before : Writing) (event : Event) (result : Answer) (after : Writing)
+    → (c : IsCall shape before event result after)
+    → made_in after ≡ made_in before ++ record { event = event; answer = c.answer } ∷ []
+logged shape before event result after c =
+    sym (ap made_in c.after_is)
+    ∙ map-append (λ made. made.exchange) before.made
+    (writing_made record { event = event; answer = c.answer } (writing_of [] c.next) ∷ [])
+
 -- ---- what a push makes of the frames
 
 pub data IsPushOutcome (payload : List ℕ) (before : LineWriting) (reported : model.Answer) (after : LineWriting) : Type 0 where
@@ -44,6 +53,7 @@ pub data IsPushOutcome (payload : List ℕ) (before : LineWriting) (reported : m
       → after.frames ≡ frame ∷ before.frames
       → FitsKind frame.kind payload
       → length before.frames < MAX_FRAMES
+      → after.done ≡ before.done
       → IsPushOutcome payload before reported after
   fails : (why : Refusal) → reported ≡ refused why → after ≡ before → IsPushOutcome payload before reported after
 
@@ -53,12 +63,14 @@ of_record : (size moment : ℕ) (payload : List ℕ) (before : LineWriting) (rep
 of_record size moment payload before reported after (inl (e, may, is)) =
     stands _ e (ap (λ (w : LineWriting). w.frames) is) refl
     (let few : MAX_FRAMES ≤ length before.frames → ⊥ = λ many. may (inl many) in omega arith)
+    (ap (λ (w : LineWriting). w.done) is)
 of_record size moment payload before reported after (inr (why, e, because, is)) = fails why e is
 
 of_close : (before : LineWriting) (reported : model.Answer) (after : LineWriting)
     → Closing before reported after
     → IsPushOutcome [] before reported after
-of_close before reported after (inl (e, few, is)) = stands _ e (ap (λ (w : LineWriting). w.frames) is) refl few
+of_close before reported after (inl (e, few, is)) =
+    stands _ e (ap (λ (w : LineWriting). w.frames) is) refl few (ap (λ (w : LineWriting). w.done) is)
 of_close before reported after (inr (why, e, many, is)) = fails why e is
 
 module _ (shape : Shape) (before : Writing) (result : Answer) (after : Writing) where
@@ -96,11 +108,18 @@ module _ (old : LineWriter) (is : IsLineWriter old) (v : WriterValue) (event : E
       (writer_in old.writer.part) record { event = event; answer = a } (writer_in v.part)) e
       (call_of old.writer.shape old.writer.part event result v.part makes.call)
 
+  log : (reported : model.Answer)
+      → makes.call.answer ≡ reported
+      → made_in v.part ≡ made_in old.writer.part ++ record { event = event; answer = reported } ∷ []
+  log reported e =
+      subst (λ (a : model.Answer). made_in v.part ≡ made_in old.writer.part ++ record { event = event; answer = a } ∷ []) e
+      (logged old.writer.shape old.writer.part event result v.part makes.call)
+
   -- it is refused
   behind_refused : IsPushOutcome payload (writer_in old.writer.part) makes.call.answer (writer_in v.part)
       → result ≢ answer.Pushed
       → Pushes event payload old false record { writer = v; payloads = old.payloads }
-  behind_refused (stands frame e top fits few) not =
+  behind_refused (stands frame e top fits few done) not =
       absurd (reported_pushed old.writer.shape.size result makes.call.answer makes.call.reports e not)
   behind_refused (fails why e same) not =
       let new : LineWriter = record { writer = v; payloads = old.payloads } in
@@ -115,8 +134,9 @@ module _ (old : LineWriter) (is : IsLineWriter old) (v : WriterValue) (event : E
               (subst (λ (l : List Frame). FitFrames l (payloads_of old)) (sym frames) is.fit);
         };
         same = (makes.shape_is, makes.table_is);
+        done_is = ap (λ (w : LineWriting). w.done) same;
         has_pushed = λ e. absurd (cc);
-        has_refused = λ z. (why, call (refused why) e, payloads);
+        has_refused = λ z. (why, call (refused why) e, log (refused why) e, payloads);
       }
 
   pub refused_push : result ≢ answer.Pushed
@@ -127,7 +147,7 @@ module _ (old : LineWriter) (is : IsLineWriter old) (v : WriterValue) (event : E
   room_behind : IsPushOutcome payload (writer_in old.writer.part) makes.call.answer (writer_in v.part)
       → result ≡ answer.Pushed
       → length old.writer.part.frames < length old.payloads
-  room_behind (stands frame e top fits few) pushed_is = let room = is.room in omega arith
+  room_behind (stands frame e top fits few done) pushed_is = let room = is.room in omega arith
   room_behind (fails why e same) pushed_is =
       let reported = pushed_reported old.writer.shape.size result makes.call.answer makes.call.reports pushed_is in
       absurd (let both : pushed ≡ refused why = sym reported ∙ e in cc)
@@ -143,7 +163,7 @@ module _ (old : LineWriter) (is : IsLineWriter old) (v : WriterValue) (event : E
     behind_pushed (fails why e same) pushed_is =
         let reported = pushed_reported old.writer.shape.size result makes.call.answer makes.call.reports pushed_is in
         absurd (let both : pushed ≡ refused why = sym reported ∙ e in cc)
-    behind_pushed (stands frame e top fits few) pushed_is =
+    behind_pushed (stands frame e top fits few done) pushed_is =
         let depth : ℕ = length old.writer.part.frames in
         let items : List (Bor (List ℕ)) = slice_set old.payloads depth item in
         let new : LineWriter = record { writer = v; payloads = items } in
@@ -160,7 +180,8 @@ module _ (old : LineWriter) (is : IsLineWriter old) (v : WriterValue) (event : E
                 (subst (λ (l : List Frame). FitFrames l (payload ∷ payloads_of old)) (sym top) (fits, is.fit));
           };
           same = (makes.shape_is, makes.table_is);
-          has_pushed = λ z. (call pushed e, payloads);
+          done_is = done;
+          has_pushed = λ z. (call pushed e, log pushed e, payloads);
           has_refused = λ z. absurd (cc);
         }
 

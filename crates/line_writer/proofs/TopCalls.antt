@@ -44,7 +44,7 @@ use Rattle.line_writer.specs.declared.writer.LineWriter.{LineWriter}
 use Rattle.line_writer.specs.Distance.{stage_of, stage_on_top, distance}
 use Rattle.line_writer.specs.LineWriters.{writer_in, payloads_of, IsLineWriter, CallsTop}
 use Rattle.line_writer.proofs.FramePayloads.{fewer_left, first_is}
-use Rattle.line_writer.proofs.PushedFrames.{call_of}
+use Rattle.line_writer.proofs.PushedFrames.{call_of, logged}
 
 -- ---- frames
 
@@ -87,6 +87,7 @@ module _ (old : LineWriter) (is : IsLineWriter old) (v : WriterValue) (event : E
         x = x;
         event_is = event_is;
         call = call_of old.writer.shape old.writer.part event result v.part c;
+        has_made = logged old.writer.shape old.writer.part event result v.part c;
         lefts_are = lefts;
         closer = closer;
       }

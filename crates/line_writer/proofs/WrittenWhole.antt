@@ -1,6 +1,6 @@
 -- A record that is written whole: the calls that this is made of are those of its line.
 use Rattle.std.specs.Prelude.{Result, Ok, Err, None}
-use Rattle.std.proofs.Common.{◌≡◌, ℕ, ◌-◌, ◌⊎◌, inl, inr, false, List, [], ◌∷◌, ◌++◌, length, map, reverse, take, drop, refl, sym, ap, ◌∙◌, subst, arith, Bor}
+use Rattle.std.proofs.Common.{◌≡◌, ℕ, ◌-◌, ◌⊎◌, inl, inr, false, List, [], ◌∷◌, ◌++◌, length, map, reverse, take, drop, refl, sym, ap, ◌∙◌, subst, arith, Bor, append_assoc, append-nil}
 use Rattle.trace_model.specs.Words.{padded}
 use Rattle.trace_model.specs.Frames.{Kind, for_record, FrameState, waiting, reserved, left, Frame}
 use Rattle.trace_model.specs.Steps.{Event, pushes, steps, ends, Exchange}
@@ -25,8 +25,8 @@ use Rattle.ring_shared.proofs.Finishes.{IsStillReserving, reserving_first, reser
 use Rattle.ring_shared.proofs.WholeWrites.{HasBegun, has_begun, HasTopRecord, reserved_so, left_full, leaves_below}
 use Rattle.ring_shared.proofs.WholeAppends.{refused_writes_keep_frames}
 use Rattle.line_writer.specs.declared.writer.LineWriter.{LineWriter}
-use Rattle.line_writer.specs.LineWriters.{writer_in, payloads_of, IsLineWriter, WritesWhole}
-use Rattle.line_writer.proofs.PushedFrames.{call_of, record_answered, refused_push}
+use Rattle.line_writer.specs.LineWriters.{writer_in, made_in, payloads_of, IsLineWriter, WritesWhole}
+use Rattle.line_writer.proofs.PushedFrames.{call_of, logged, record_answered, refused_push}
 use Rattle.line_writer.proofs.LineRuns.{not_written}
 
 -- ---- a frame whose record isn't reserved makes a step
@@ -59,14 +59,16 @@ module _ (shape : Shape) (below : List Frame) (payload : List ℕ) (payloads : L
   record IsOnStack (from now : Writing) : Type 0 where
     calls : List Exchange
     run : Calls from calls now (payload ∷ payloads)
+    has_made : made_in now ≡ made_in from ++ calls
 
   -- it is popped
   pub record IsPopped (from now : Writing) : Type 0 where
     pub calls : List Exchange
     pub run : Calls from calls now payloads
+    pub has_made : made_in now ≡ made_in from ++ calls
 
   stands_first : (from : Writing) → IsOnStack from from
-  stands_first from = record { calls = []; run = (refl, refl) }
+  stands_first from = record { calls = []; run = (refl, refl); has_made = sym (append-nil (made_in from)) }
 
   -- one call more
   module _ (from now next : Writing) (event : Event) (result : Answer) (frame : Frame) (s : IsOnStack from now)
@@ -83,6 +85,12 @@ module _ (shape : Shape) (below : List Frame) (payload : List ℕ) (payloads : L
         (event_is ∙ ap (λ (l : List Frame). event_on_top l (payload ∷ payloads)) (sym top))
         (call_of shape now event result next call)
 
+    log : made_in next ≡ made_in from ++ more
+    log =
+        logged shape now event result next call
+        ∙ ap (λ (l : List Exchange). l ++ record { event = event; answer = call.answer } ∷ []) s.has_made
+        ∙ append_assoc (made_in from) s.calls (record { event = event; answer = call.answer } ∷ [])
+
     lefts_are : (gone : ℕ) (lefts : List (List ℕ))
         → length (payload ∷ payloads) - length next.frames ≡ gone
         → drop gone (payload ∷ payloads) ≡ lefts
@@ -94,12 +102,12 @@ module _ (shape : Shape) (below : List Frame) (payload : List ℕ) (payloads : L
     stands_then : (other : Frame) → next.frames ≡ other ∷ below → IsOnStack from next
     stands_then other there =
         let long = ap (λ (l : List Frame). length l) there in
-        record { calls = more; run = lefts_are 0 (payload ∷ payloads) (omega (arith, long, many)) refl }
+        record { calls = more; run = lefts_are 0 (payload ∷ payloads) (omega (arith, long, many)) refl; has_made = log }
 
     popped_then : next.frames ≡ below → IsPopped from next
     popped_then there =
         let long = ap (λ (l : List Frame). length l) there in
-        record { calls = more; run = lefts_are 1 payloads (omega (arith, long, many)) refl }
+        record { calls = more; run = lefts_are 1 payloads (omega (arith, long, many)) refl; has_made = log }
 
   -- ---- until its record is reserved
 
@@ -260,6 +268,7 @@ module _ (old : LineWriter) (is : IsLineWriter old) (v : WriterValue) (moment : 
       ap (λ (l : List Frame). reverse (map (λ (b : Bor (List ℕ)). b.now) (take (length l) old.payloads))) frames in
       let b : HasBegun moment (length payload) before pushed =
       begun s before moment payload v.part (payloads_of old) many pushed push in
+      let x : Exchange = record { event = pushes moment (length payload); answer = model.pushed } in
       record {
         is = record {
           writer = writer;
@@ -268,11 +277,17 @@ module _ (old : LineWriter) (is : IsLineWriter old) (v : WriterValue) (moment : 
               (subst (λ (l : List Frame). FitFrames l (payloads_of old)) (sym frames) is.fit);
         };
         same = same;
-        made = writes_frame (writer_in pushed)
+        exchanges = x ∷ popped.calls;
+        has_made = popped.has_made
+            ∙ ap (λ (l : List Exchange). l ++ popped.calls) (subst (λ (a : model.Answer). made_in pushed
+            ≡ made_in before ++ record { event = pushes moment (length payload); answer = a } ∷ []) push.reports
+            (logged s before (pushes moment (length payload)) Pushed pushed push))
+            ∙ append_assoc (made_in before) (x ∷ []) popped.calls;
+        made = writes_frame (writer_in pushed) popped.calls refl
             (subst (λ (a : model.Answer). IsWriterCall s.pages s.size s.start (writer_in before)
             record { event = pushes moment (length payload); answer = a } (writer_in pushed)) push.reports
             (call_of s before (pushes moment (length payload)) Pushed pushed push))
-            (finishes_top (length before.frames) popped.calls (ap (λ (l : List Frame). length l) b.top)
+            (finishes_top (length before.frames) (ap (λ (l : List Frame). length l) b.top)
             (subst (λ (l : List (List ℕ)). TopCalls s.pages s.size s.start (length before.frames) (writer_in pushed)
             (payload ∷ payloads_of old) popped.calls (writer_in v.part) l) (sym lefts) popped.run)
             (let low = ap (λ (l : List Frame). length l) frames in omega arith));

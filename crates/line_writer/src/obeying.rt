@@ -1,11 +1,11 @@
 //! A CPU's writer lines, obeyed one after the other.
-ghost use Rattle.std.specs.Prelude.{◌≡◌, ℕ, false, OnOk, IfErr};
+ghost use Rattle.std.specs.Prelude.{◌≡◌, ℕ, OnOk};
 ghost use Rattle.text_model.specs.ScriptLimits.{IsCommandWithin};
 ghost use Rattle.line_model.specs.Lines.{writer_lines};
 ghost use Rattle.line_model.specs.ReplayedLines.{commands_of};
 ghost use Rattle.trace_script.specs.ScriptTypes.{shown_command};
 ghost use Rattle.ring_steps.specs.NewRings.{first_writing};
-ghost use Rattle.line_writer.specs.declared.gate.Who.TheVariants as who;
+ghost use Rattle.line_writer.specs.Asking.{Asks};
 ghost use Rattle.line_writer.specs.LineWriters.{IsLineWriter, MakesLine, MakesLines};
 ghost use Rattle.line_writer.specs.Obeying.{AreLinesOf, ObeysLines};
 
@@ -26,7 +26,7 @@ fn obey_line<'a, G: Gate>(
     requires is { IsLineWriter writer.old }
     requires within { (cpus collectors : ℕ) × IsCommandWithin cpus collectors (shown_command command) }
     ensures line { OnOk result (MakesLine (shown_command command.entry) writer.old writer.new) }
-    ensures shut { IfErr result (λ fill. G.answers gate.now who.Writer cpu.0 fill.0 false) }
+    ensures gate { Asks G.answers gate.now cpu.0 writer.old writer.new result }
 {
     match command {
         Command::Begin {
@@ -64,7 +64,7 @@ fn obey_indexed<'a, G: Gate>(
     requires indexes { AreLinesOf cpu.0 script.now.commands indexes.now }
     ensures lines { OnOk result (MakesLines (writer_lines cpu.0 (commands_of script.now.commands))
         writer.old writer.new) }
-    ensures shut { IfErr result (λ fill. G.answers gate.now who.Writer cpu.0 fill.0 false) }
+    ensures gate { Asks G.answers gate.now cpu.0 writer.old writer.new result }
 {
     let commands = script.commands();
     for index in 0..indexes.len() {

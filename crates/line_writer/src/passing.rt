@@ -4,16 +4,19 @@ use crate::writer::LineWriter;
 use trace_model::{CpuId, FillNo};
 
 impl<'a> LineWriter<'a> {
-    ghost use Rattle.std.specs.Prelude.{◌≢◌, ◌≤◌, false, [], OnOk, IfErr};
+    ghost use Rattle.std.specs.Prelude.{◌≡◌, ◌≢◌, ◌≤◌, [], OnOk};
     ghost use Rattle.text_model.specs.Script.{begin_frame, step_frame, finish_frame, write, close};
-    ghost use Rattle.line_writer.specs.declared.gate.Who.TheVariants as who;
+    ghost use Rattle.ring_shared.specs.Calls.{IsWriter};
+    ghost use Rattle.line_writer.specs.Asking.{Asks, HasAsked};
     ghost use Rattle.line_writer.specs.LineWriters.{IsLineWriter, CallsTop, MakesLine, FinishesRest};
 
     /// Asks the gate for each fill from the one with the number `done` on that is closed. The gate gets one more than
     /// the number of that fill. What it got where it is shut is answered.
     #[inline(always)]
     fn pass_closed<G: Gate>(&self, gate: &G, cpu: CpuId, done: u64) -> Result<(), FillNo>
-        ensures { IfErr result (λ fill. G.answers gate.now who.Writer cpu.0 fill.0 false) }
+        requires is { IsWriter self.now.writer }
+        requires forward { done ≤ self.now.writer.part.done }
+        ensures { HasAsked G.answers gate.now cpu.0 done self.now.writer.part.done result }
     {
         for closed in done..self.writer.done() {
             let fill = FillNo(closed + 1);
@@ -29,7 +32,7 @@ impl<'a> LineWriter<'a> {
         requires is { IsLineWriter self.old }
         requires top { self.old.writer.part.frames ≢ [] }
         ensures calls { CallsTop self.old self.new }
-        ensures shut { IfErr result (λ fill. G.answers gate.now who.Writer cpu.0 fill.0 false) }
+        ensures gate { Asks G.answers gate.now cpu.0 self.old self.new result }
     {
         let done = self.writer.done();
         self.call_top();
@@ -41,7 +44,7 @@ impl<'a> LineWriter<'a> {
         requires is { IsLineWriter self.old }
         requires some { 1 ≤ count }
         ensures line { OnOk result (MakesLine (step_frame cpu.0 count) self.old self.new) }
-        ensures shut { IfErr result (λ fill. G.answers gate.now who.Writer cpu.0 fill.0 false) }
+        ensures gate { Asks G.answers gate.now cpu.0 self.old self.new result }
     {
         let depth = self.depth();
         if depth == 0 {
@@ -59,7 +62,7 @@ impl<'a> LineWriter<'a> {
     pub(crate) fn finish<G: Gate>(&mut self, gate: &G, cpu: CpuId) -> Result<(), FillNo>
         requires { IsLineWriter self.old }
         ensures line { OnOk result (MakesLine (finish_frame cpu.0) self.old self.new) }
-        ensures shut { IfErr result (λ fill. G.answers gate.now who.Writer cpu.0 fill.0 false) }
+        ensures gate { Asks G.answers gate.now cpu.0 self.old self.new result }
     {
         let depth = self.depth();
         if depth == 0 {
@@ -76,7 +79,8 @@ impl<'a> LineWriter<'a> {
     /// A line `b`: a frame is pushed.
     pub(crate) fn begin(&mut self, cpu: CpuId, moment: u64, payload: &'a [u8])
         requires { IsLineWriter self.old }
-        ensures { MakesLine (begin_frame cpu.0 moment payload.now) self.old self.new }
+        ensures line { MakesLine (begin_frame cpu.0 moment payload.now) self.old self.new }
+        ensures done { self.new.writer.part.done ≡ self.old.writer.part.done }
     {
         let _cpu = cpu;
         let _pushed = self.push(moment, payload);
@@ -93,7 +97,7 @@ impl<'a> LineWriter<'a> {
     ) -> Result<(), FillNo>
         requires { IsLineWriter self.old }
         ensures line { OnOk result (MakesLine (write cpu.0 moment payload.now) self.old self.new) }
-        ensures shut { IfErr result (λ fill. G.answers gate.now who.Writer cpu.0 fill.0 false) }
+        ensures gate { Asks G.answers gate.now cpu.0 self.old self.new result }
     {
         let done = self.writer.done();
         self.write_whole(moment, payload);
@@ -104,7 +108,7 @@ impl<'a> LineWriter<'a> {
     pub(crate) fn close<G: Gate>(&mut self, gate: &G, cpu: CpuId) -> Result<(), FillNo>
         requires { IsLineWriter self.old }
         ensures line { OnOk result (MakesLine (close cpu.0) self.old self.new) }
-        ensures shut { IfErr result (λ fill. G.answers gate.now who.Writer cpu.0 fill.0 false) }
+        ensures gate { Asks G.answers gate.now cpu.0 self.old self.new result }
     {
         if !self.push_close() {
             return Ok(());
@@ -116,7 +120,7 @@ impl<'a> LineWriter<'a> {
     pub(crate) fn finish_rest<G: Gate>(&mut self, gate: &G, cpu: CpuId) -> Result<(), FillNo>
         requires { IsLineWriter self.old }
         ensures rest { OnOk result (FinishesRest self.old self.new) }
-        ensures shut { IfErr result (λ fill. G.answers gate.now who.Writer cpu.0 fill.0 false) }
+        ensures gate { Asks G.answers gate.now cpu.0 self.old self.new result }
     {
         while self.depth() > 0 {
             self.finish(gate, cpu)?;

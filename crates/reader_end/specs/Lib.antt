@@ -1,3 +1,4 @@
+pub mod TakesMade
 pub mod Value
 pub mod Takes
 pub mod Ledgers

@@ -55,13 +55,14 @@ pub enum Found {
     Moving,
 }
 
-/// The body for the next take: the one that is there, or a new one.
+/// The body for the next take: the one that is there, for which no memory is asked; or a new one.
 fn next_body(alloc: Global, size: usize, body: Option<Body>) -> Result<Body, NoMemory>
     requires small { MIN_SIZE ≤ size }
     requires large { size ≤ MAX_SIZE }
     requires words { size % 4 ≡ 0 }
     requires fits { IfSome body (λ back. length back ≡ size) }
-    ensures { IfOk result (λ body. length body ≡ size) }
+    ensures size { IfOk result (λ body. length body ≡ size) }
+    ensures kept { IfSome body (λ back. result ≡ Ok back) }
 {
     match body {
         Some(body) => Ok(body),
@@ -73,15 +74,16 @@ impl ReaderEnd {
     ghost use Rattle.std.specs.Prelude.{◌≡◌, ◌≢◌, ◌<◌, ◌≤◌, ◌%◌, ◌++◌, ◌↔◌, List, [], ◌∷◌, Some, MatchOption, IfOk, IsTrue};
     ghost use Rattle.trace_model.specs.declared.limits.TheConstants.{MAX_CPUS, MIN_SIZE, MAX_SIZE};
     ghost use Rattle.page_numbers.specs.Parcels.{ParcelValue};
+    ghost use Rattle.ring_steps.specs.NewRings.{first_reading};
     ghost use Rattle.ring_shared.specs.Calls.{IsWriter};
     ghost use Rattle.ring_shared.specs.Takes.{IsReader, SameRing};
     ghost use Rattle.reader_end.specs.Takes.{IsFound};
 
-    /// The end of a reader that has taken nothing, of this CPU's ring, whose pages have `size` bytes of data.
+    /// The end of a new ring's reader, of this CPU's ring, whose pages have `size` bytes of data.
     pub fn new(alloc: Global, cpu: CpuId, size: usize, reader: Reader) -> ReaderEnd
         requires known { cpu.0 < MAX_CPUS }
         requires reader { IsReader reader }
-        requires nothing { reader.part.reader.taken ≡ [] }
+        requires new { reader.part ≡ first_reading reader.shape }
         requires size { reader.shape.size ≡ size }
         requires small { MIN_SIZE ≤ size }
         requires large { size ≤ MAX_SIZE }
@@ -102,7 +104,7 @@ impl ReaderEnd {
     }
 
     /// Takes the oldest page that is closed and unread, if there is one, and keeps its records as one parcel more, in
-    /// as many bytes as they take. If memory is refused, the end is dropped whole.
+    /// as many bytes as they take. Its body is kept for the next take. If memory is refused, the end is dropped whole.
     pub fn take(self, alloc: Global) -> Result<(ReaderEnd, Found), NoMemory>
         ensures same { IfOk result (λ r. SameRing self.reader r.0.reader) }
         ensures cpu { IfOk result (λ r. r.0.cpu ≡ self.cpu) }

@@ -1,7 +1,7 @@
 //! The two ends of a ring, joined after a run.
 ghost use Rattle.std.specs.Prelude.{◌≡◌, [], Some};
 ghost use Rattle.ring_shared.specs.Calls.{IsWriter};
-ghost use Rattle.ring_shared.specs.Settling.{IsSettled};
+ghost use Rattle.ring_shared.specs.Settling.{AreEndsOf, IsSettled};
 ghost use Rattle.reader_end.specs.Ledgers.{IsLedger};
 
 use crate::end::ReaderEnd;
@@ -16,7 +16,8 @@ pub fn settle(alloc: Global, writer: Writer, end: ReaderEnd) -> Ledger
     requires one_ring { end.reader.table ≡ writer.table }
     requires at_rest { writer.part.frames ≡ [] }
     requires all_read { end.reader.empty_at ≡ Some writer.part.done }
-    ensures ledger { IsLedger end.cpu writer.shape writer.part result }
+    ensures ledger { IsLedger end.cpu writer.shape result }
+    ensures ends { AreEndsOf writer.part end.reader.part result.settled }
     ensures settled { IsSettled writer.shape writer.part end.reader.part result.settled }
     ensures taken { result.taken.items ≡ end.taken }
 {

@@ -1,6 +1,6 @@
 mod LeastFaults
-mod Flat
+pub mod Flat
 mod EqualRecords
-mod Sums
+pub mod Sums
 mod Answered
 mod Rising

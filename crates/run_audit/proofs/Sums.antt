@@ -39,7 +39,7 @@ taken_agree kept taken audited agree = below_agrees taken kept (is_sum kept take
 -- ---- the headline
 
 module _ (n size start : ℕ) (cores : ℕ → Core) (ledgers : List Ledger) (rings : AreOfRings n size start cores ledgers) where
-  own : AreOwn ledgers
+  pub own : AreOwn ledgers
   own cpu ledger at k parcel there =
       let (t, here, is) = get_from_map (parcel_of cpu) (cores cpu).reader.taken k parcel (subst (λ (l : List Parcel). slice_get l k ≡ Some parcel) (rings cpu ledger at).1 there) in
       sym (ap (λ (p : Parcel). p.cpu) is)

@@ -2,14 +2,14 @@
 ghost use Rattle.std.specs.Prelude.{◌≡◌, List, false, IfOk, IfSome};
 ghost use Rattle.std.specs.List.{AllZip};
 ghost use Rattle.std.specs.Thread.{IsSync};
-ghost use Rattle.command_io.specs.CommandRun.{IsCommandRun, source_run, sink_run};
+ghost use Rattle.command_io.specs.CommandRun.{IsCommandRun, WritesOutput, source_run, sink_run};
 ghost use Rattle.command_io.specs.Output.{bytes_of, status_of};
 ghost use Rattle.run_audit.specs.Audit.{taken_in};
 ghost use Rattle.run_text.specs.Printing.{AuditedShown, IsAuditedPrintOf, printed_run};
 ghost use Rattle.threaded_run.specs.Runs.{IsRan};
-ghost use Rattle.run_command.specs.Runs.{IsRunOutput, RunGives};
+ghost use Rattle.run_command.specs.Runs.{IsRunOutput, RunGives, HeadlineGives};
 
-use command_io::{Command, Output, Sink, Source, carry_out};
+use command_io::{Command, DONE, Output, Sink, Source, carry_out};
 use line_writer::OpenGate;
 use replay_command::{fault_line, read_text};
 use run_text::put_run;
@@ -111,7 +111,11 @@ pub fn run_to<Rt: Threads + Wait + Sync, R: Source, W: Sink>(
 ) -> u8
     requires sound_reader { R.failed reader.old ≡ false }
     requires sound_writer { W.failed writer.old ≡ false }
-    ensures { IsCommandRun RunGives
+    // What is printed above a line `audit yes` is exactly the committed records of the fills that were taken, under
+    // their numbers, and exactly the numbers that were overwritten unread before them.
+    ensures headline { result ≡ DONE → WritesOutput HeadlineGives
+        (R.remaining reader.old) (R.remaining reader.new) (W.contents writer.old) (W.contents writer.new) result }
+    ensures output { IsCommandRun RunGives
         (source_run R.remaining R.count R.failed reader.old reader.new)
         (sink_run W.contents W.failed writer.old writer.new) result }
 {

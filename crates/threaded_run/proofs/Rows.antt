@@ -1,12 +1,13 @@
 -- Threads and ledgers of CPUs in a row, one more after the others.
-use Rattle.std.specs.Prelude.{Result, Ok, Err, Vec, vec_len, IfOk, IfErr}
+use Rattle.std.specs.Prelude.{Result, Ok, Err, Bool, Vec, vec_len, IfOk, IfErr}
 use Rattle.std.specs.declared.alloc.Global.{Global}
 use Rattle.std.proofs.Common.{◌≡◌, ℕ, suc, ◌+◌, List, [], ◌∷◌, ◌++◌, length, subst, sym, inl, inr, arith}
 use Rattle.text_model.specs.Script.{Script}
 use Rattle.trace_script.specs.declared.replay_fault.ReplayFault.{ReplayFault}
 use Rattle.trace_script.specs.declared.replay_fault.ReplayFault.TheVariants.{NoMemory}
 use Rattle.run_audit.specs.declared.ledger.Ledger.{Ledger}
-use Rattle.threaded_run.specs.Runs.{IsRunLedger}
+use Rattle.line_writer.specs.declared.gate.Who.{Who}
+use Rattle.threaded_run.specs.Asked.{IsPassedLedger}
 use Rattle.threaded_run.specs.Threads.{RunningValue, IsRunningAt, AreRunning, AreRunLedgers}
 use Rattle.threaded_run.specs.Joining.{IsOneMore, IsFirstFault}
 
@@ -21,14 +22,16 @@ running_more script gate cpu at [] r are e is =
 running_more script gate cpu at (first ∷ rs) r are e is =
     (are.0, running_more script gate (suc cpu) at rs r are.1 (omega arith) is)
 
-ledgers_more : (script : Script) (cpu at : ℕ) (ls : List Ledger) (l : Ledger)
-    → AreRunLedgers script cpu ls
+ledgers_more : {Gate : Type 0} (answers : Gate → Who → (cpu fill : ℕ) → Bool → Type 0) (gate : Gate) (script : Script)
+    (cpu at : ℕ) (ls : List Ledger) (l : Ledger)
+    → AreRunLedgers answers gate script cpu ls
     → at ≡ cpu + length ls
-    → IsRunLedger script at l
-    → AreRunLedgers script cpu (ls ++ l ∷ [])
-ledgers_more script cpu at [] l are e is = (subst (λ (k : ℕ). IsRunLedger script k l) (omega arith) is, tt)
-ledgers_more script cpu at (first ∷ ls) l are e is =
-    (are.0, ledgers_more script (suc cpu) at ls l are.1 (omega arith) is)
+    → IsPassedLedger answers gate script at l
+    → AreRunLedgers answers gate script cpu (ls ++ l ∷ [])
+ledgers_more answers gate script cpu at [] l are e is =
+    (subst (λ (k : ℕ). IsPassedLedger answers gate script k l) (omega arith) is, tt)
+ledgers_more answers gate script cpu at (first ∷ ls) l are e is =
+    (are.0, ledgers_more answers gate script (suc cpu) at ls l are.1 (omega arith) is)
 
 -- one more thread is started
 pub running_pushed : {Gate : Type 0} (script : Script) (gate : Gate) (at : ℕ) (rs new : List (RunningValue Gate))
@@ -53,17 +56,20 @@ running_next {Gate} script gate at next xs rest r are e n =
     (here.0, subst (λ (k : ℕ). AreRunning script gate k rest) (omega arith) here.1)
 
 -- and one more ledger is joined
-pub ledger_pushed : {Gate : Type 0} (script : Script) (gate : Gate) (at : ℕ) (r : RunningValue Gate)
-    (ls new : List Ledger) (l : Ledger)
+pub ledger_pushed : {Gate : Type 0} (answers : Gate → Who → (cpu fill : ℕ) → Bool → Type 0) (script : Script)
+    (gate : Gate) (at : ℕ) (r : RunningValue Gate) (ls new : List Ledger) (l : Ledger)
     → IsRunningAt script gate at r
-    → IsRunLedger r.script r.cpu l
-    → AreRunLedgers script 0 ls
+    → IsPassedLedger answers gate r.script r.cpu l
+    → AreRunLedgers answers gate script 0 ls
     → at ≡ length ls
     → new ≡ ls ++ l ∷ []
-    → AreRunLedgers script 0 new
-ledger_pushed script gate at r ls new l (cpu_is, script_is, gate_is) is are e more =
-    let here : IsRunLedger script at l = subst (λ (s : Script). IsRunLedger s at l) script_is (subst (λ (k : ℕ). IsRunLedger r.script k l) cpu_is is) in
-    subst (λ (xs : List Ledger). AreRunLedgers script 0 xs) (sym more) (ledgers_more script 0 at ls l are (omega arith) here)
+    → AreRunLedgers answers gate script 0 new
+ledger_pushed answers script gate at r ls new l (cpu_is, script_is, gate_is) is are e more =
+    let here : IsPassedLedger answers gate script at l =
+    subst (λ (s : Script). IsPassedLedger answers gate s at l) script_is
+    (subst (λ (k : ℕ). IsPassedLedger answers gate r.script k l) cpu_is is) in
+    subst (λ (xs : List Ledger). AreRunLedgers answers gate script 0 xs) (sym more)
+    (ledgers_more answers gate script 0 at ls l are (omega arith) here)
 
 -- ---- results
 

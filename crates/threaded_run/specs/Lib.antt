@@ -1,4 +1,5 @@
 pub mod Runs
+pub mod Asked
 pub mod Taking
 pub mod Threads
 pub mod Joining

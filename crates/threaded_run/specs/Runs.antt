@@ -1,20 +1,23 @@
 -- What a threaded run leaves.
-use Rattle.std.specs.Prelude.{◌≡◌, ℕ, ◌+◌, ◌<◌, ◌≤◌, List, [], length, Some, vec_len}
+use Rattle.std.specs.Prelude.{◌≡◌, ℕ, ◌+◌, ◌<◌, ◌≤◌, Bool, List, [], filter, length, Some, vec_len}
 use Rattle.std.specs.List.{slice_get}
 use Rattle.trace_model.specs.declared.limits.TheConstants.{LINK_FILLS}
 use Rattle.trace_model.specs.History.{HistoryEvent, IsHistory, committed_records}
 use Rattle.trace_model.specs.Packing.{IsPacked}
-use Rattle.trace_model.specs.Ring.{Core}
+use Rattle.trace_model.specs.Ring.{Core, IsStart, TakenFill}
+use Rattle.trace_model.specs.Steps.{Event, Exchange, Run}
 use Rattle.text_model.specs.Script.{Command, Script}
 use Rattle.line_model.specs.Lines.{writer_lines, IsMadeByLines}
-use Rattle.line_model.specs.WriterCalls.{LineWriting, IsReachedByLines}
+use Rattle.line_model.specs.WriterCalls.{LineWriting, IsReachedByLines, exchanges_to}
 use Rattle.line_model.specs.WrittenRecords.{AllWriteOrClose, records_of_lines}
 use Rattle.line_model.specs.ReplayedLines.{commands_of}
 use Rattle.ring_steps.specs.declared.rule.Shape.{Shape}
-use Rattle.ring_steps.specs.Views.{Writing}
+use Rattle.ring_steps.specs.Made.{is_by_reader, is_by_writer}
+use Rattle.line_writer.specs.LineWriters.{made_in}
 use Rattle.run_audit.specs.declared.ledger.Ledger.{Ledger}
 use Rattle.run_audit.specs.Headline.{AreOfRings}
-use Rattle.reader_end.specs.Ledgers.{IsLedger}
+use Rattle.reader_end.specs.TakesMade.{AreTakes}
+use Rattle.reader_end.specs.Ledgers.{writer_in, reader_in, IsLedger}
 use Rattle.threaded_run.specs.declared.running.Ran.{Ran}
 
 -- the shape of the rings of a script
@@ -42,17 +45,36 @@ pub record IsRunHistory (script : Script) (cpu : ℕ) (history : List HistoryEve
       → script.start + length (lines_of script cpu) + script.pages ≤ LINK_FILLS
       → committed_records history ≡ records_of_lines script.size 0 (lines_of script cpu)
 
+-- those of these exchanges whose events are such ones
+abbrev pub exchanges_by : (Event → Bool) → List Exchange → List Exchange
+exchanges_by is exchanges = filter (λ x. is x.event) exchanges
+
+-- One run of the model, from a new ring to this state: what its writer asks, with the answers, are the calls of these
+-- lines and then those that finish the frames which are left; what its reader asks are takes, which are answered these
+-- pages.
+pub record IsOneRunOf (script : Script) (calls : List Exchange) (taken : List TakenFill) (last : Core) : Type 0 where
+  pub from : Core
+  pub exchanges : List Exchange
+  pub is_new : IsStart script.pages script.start from
+  pub run : Run script.pages script.size from exchanges last
+  pub by_lines : exchanges_by is_by_writer exchanges ≡ calls
+  pub by_takes : AreTakes (exchanges_by is_by_reader exchanges) taken
+
 -- The ledger of a CPU: its ring has a history of that CPU's lines, the parcels are what the ring's reader took, all of
 -- it and in order, and the ring is settled. So they and then the page that is left cut the committed records of the
--- history.
+-- history. What its writer made are exactly the calls of the lines, and those that finish the frames which are left: the
+-- one run of the ring's two ends is a run of these calls and of takes.
 pub record IsRunLedger (script : Script) (cpu : ℕ) (ledger : Ledger) : Type 0 where
-  pub writing : Writing
-  pub history : IsRunHistory script cpu writing.history
-  pub is_ledger : IsLedger cpu (shape_of script) writing ledger
+  pub history : IsRunHistory script cpu (writer_in ledger).history
+  pub is_ledger : IsLedger cpu (shape_of script) ledger
+  pub has_made : made_in (writer_in ledger) ≡ exchanges_to history.calls
+  pub one_run : IsOneRunOf script (exchanges_to history.calls) (reader_in ledger).reader.taken
+      is_ledger.settled.one_run.last
+  pub same_run : one_run.exchanges ≡ is_ledger.settled.one_run.exchanges
 
--- the state of the ring when it was settled
+-- the state of the ring when it was settled, in which that run ends
 abbrev pub ring_of : {script : Script} {cpu : ℕ} {ledger : Ledger} → IsRunLedger script cpu ledger → Core
-ring_of run = run.is_ledger.settled.parts.core
+ring_of run = run.is_ledger.settled.one_run.last
 
 -- A run leaves as many collectors as its script has, and a ledger for each CPU, in their order. The ledgers are those
 -- of rings, whose last states are these: so the headline holds of each collector that is audited against them.

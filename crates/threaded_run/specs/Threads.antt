@@ -4,13 +4,18 @@ use Rattle.std.specs.List.{slice_get}
 use Rattle.text_model.specs.Script.{Script}
 use Rattle.trace_script.specs.declared.replay_fault.ReplayFault.{ReplayFault}
 use Rattle.trace_script.specs.declared.replay_fault.ReplayFault.TheVariants.{GateShut}
+use Rattle.line_model.specs.WriterCalls.{exchanges_to}
+use Rattle.page_numbers.specs.Parcels.{as_parcels}
 use Rattle.ring_shared.specs.Value.{WriterValue}
 use Rattle.ring_shared.specs.Calls.{IsWriter}
 use Rattle.run_audit.specs.declared.ledger.Ledger.{Ledger}
 use Rattle.line_writer.specs.declared.gate.Who.{Who}
+use Rattle.line_writer.specs.LineWriters.{made_in}
+use Rattle.line_writer.specs.Asking.{HavePassed}
 use Rattle.line_writer.specs.Obeying.{AreLinesOf}
 use Rattle.reader_end.specs.Value.{ReaderEndValue}
-use Rattle.threaded_run.specs.Runs.{shape_of, IsRunHistory, IsRunLedger}
+use Rattle.threaded_run.specs.Runs.{shape_of, IsRunHistory}
+use Rattle.threaded_run.specs.Asked.{HaveReadersPassed, IsPassedLedger}
 
 -- For each CPU of the script, these are the indexes of its writer's lines.
 pub record AreIndexes (script : Script) (indexes : List (List ℕ)) : Type 0 where
@@ -36,6 +41,8 @@ pub record IsJoined (script : Script) (cpu : ℕ) (ends : WriterValue × ReaderE
   pub shape_is : ends.0.shape ≡ shape_of script
   pub at_rest : ends.0.part.frames ≡ []
   pub history : IsRunHistory script cpu ends.0.part.history
+  pub has_made : made_in ends.0.part ≡ exchanges_to history.calls
+  pub known : cpu < script.cpus
   pub cpu_is : ends.1.cpu ≡ cpu
   pub one_ring : ends.1.reader.table ≡ ends.0.table
 
@@ -50,6 +57,14 @@ AreRunning script gate cpu (threads ∷ others) =
     IsRunningAt script gate cpu threads × AreRunning script gate (suc cpu) others
 
 -- and these are their ledgers
-abbrev pub AreRunLedgers : Script → (cpu : ℕ) → List Ledger → Type 0
-AreRunLedgers script cpu [] = Unit {0}
-AreRunLedgers script cpu (ledger ∷ ledgers) = IsRunLedger script cpu ledger × AreRunLedgers script (suc cpu) ledgers
+abbrev pub AreRunLedgers : {Gate : Type 0} (answers : Gate → Who → (cpu fill : ℕ) → Bool → Type 0) → Gate
+    → Script → (cpu : ℕ) → List Ledger → Type 0
+AreRunLedgers answers gate script cpu [] = Unit {0}
+AreRunLedgers answers gate script cpu (ledger ∷ ledgers) =
+    IsPassedLedger answers gate script cpu ledger × AreRunLedgers answers gate script (suc cpu) ledgers
+
+-- both ends were let pass wherever they asked, from the first fill on
+abbrev pub ArePassedEnds : {Gate : Type 0} (answers : Gate → Who → (cpu fill : ℕ) → Bool → Type 0) → Gate
+    → Script → (cpu : ℕ) → WriterValue × ReaderEndValue → Type 0
+ArePassedEnds answers gate script cpu ends = HavePassed answers gate cpu script.start ends.0.part.done
+    × HaveReadersPassed answers gate cpu (as_parcels ends.1.taken)

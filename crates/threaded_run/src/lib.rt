@@ -8,6 +8,7 @@
 
 mod collecting;
 mod joining;
+pub mod laws;
 mod reading;
 mod rings;
 mod running;

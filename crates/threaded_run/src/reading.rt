@@ -1,12 +1,11 @@
 //! A reader's thread.
-ghost use Rattle.std.specs.Prelude.{◌≡◌, ◌≢◌, [], IfErr};
-ghost use Rattle.threaded_run.specs.Taking.{IsStop, HasTaken};
+ghost use Rattle.std.specs.Prelude.{◌≡◌, ◌≢◌, [], OnOk, IfErr};
+ghost use Rattle.page_numbers.specs.Parcels.{as_parcels};
+ghost use Rattle.threaded_run.specs.Taking.{IsStop, IsPassedLast, HasTaken};
 
-use crate::sharing::share;
-use crossbeam_channel::Sender;
+use crate::sharing::PassesOn;
 use crossbeam_utils::Backoff;
-use line_writer::{Gate, Who};
-use page_numbers::Parcel;
+use line_writer::Gate;
 use reader_end::{Found, ReaderEnd};
 use std::alloc::Global;
 use std::snapshot::Snapshot;
@@ -46,40 +45,39 @@ impl<'a, G: Gate> Promise<Result<ReaderEnd, Stop>> for Takes<'a, G> {
     ghost kept_by = { λ p r. HasTaken G.answers p.gate.now p.cpu.0 p.was.value r };
 }
 
-/// Shares the page that was taken last, and asks the gate.
-fn pass_on<R: Wait, G: Gate>(
+/// Passes on the page that was taken last.
+pub(crate) fn pass_on<R: Wait, P: PassesOn>(
     rt: &R,
     end: &ReaderEnd,
     cpu: CpuId,
-    gate: &G,
-    collectors: &[Sender<Parcel>],
+    passing: &P,
 ) -> Result<(), Stop>
     requires { end.now.taken ≢ [] }
-    ensures { IfErr result (IsStop G.answers gate.now cpu.0) }
+    ensures passed { OnOk result (IsPassedLast P.answers passing.now cpu.0 (as_parcels end.now.taken)) }
+    ensures shut { IfErr result (IsStop P.answers passing.now cpu.0 end.now) }
 {
     let Some(parcel) = end.last() else {
         unreachable!()
     };
-    share(rt, parcel, collectors)?;
-    let fill = parcel.fill();
-    if gate.pass(Who::Reader, cpu, fill) {
+    let passes = passing.pass_on(rt, cpu, parcel)?;
+    if passes {
         return Ok(());
     }
-    Err(Stop::Shut(fill))
+    Err(Stop::Shut(parcel.fill()))
 }
 
 /// Takes pages, and passes each one on, until the writer's thread was over before a take that found nothing. If there
 /// is nothing to take, it gives way to other threads.
-pub(crate) fn take_pages<R: Wait, G: Gate>(
+#[tactic(auto, using(crate::proofs::Readers::takes_none, crate::proofs::Readers::stop_since))]
+pub(crate) fn take_pages<R: Wait, P: PassesOn>(
     rt: &R,
     alloc: Global,
     end: ReaderEnd,
     cpu: CpuId,
-    gate: &G,
+    passing: &P,
     over: &AtomicBool,
-    collectors: &[Sender<Parcel>],
 ) -> Result<ReaderEnd, Stop>
-    ensures { HasTaken G.answers gate.now cpu.0 end result }
+    ensures { HasTaken P.answers passing.now cpu.0 end result }
 {
     let mut end = end;
     let backoff = Backoff::new();
@@ -87,13 +85,13 @@ pub(crate) fn take_pages<R: Wait, G: Gate>(
         let was_over = over.load(Ordering::SeqCst);
         let (next, found) = end.take(alloc)?;
         end = next;
-        match found {
-            Found::Page => {
-                pass_on(rt, &end, cpu, gate, collectors)?;
-                backoff.reset();
-            }
-            Found::Empty if was_over => break,
-            Found::Empty | Found::Moving => backoff.snooze(),
+        if found == Found::Page {
+            pass_on(rt, &end, cpu, passing)?;
+            backoff.reset();
+        } else if found == Found::Empty && was_over {
+            break;
+        } else {
+            backoff.snooze();
         }
     }
     Ok(end)

@@ -60,13 +60,17 @@ fn complete_rings<R: Threads + Wait, G: Gate>(
     threads: Vec<Running<'_, G>>,
 ) -> Result<Vec<Ledger>, ReplayFault>
     requires running { AreRunning job.now.script.now job.now.gate.now 0 threads.items }
-    ensures ledgers { IfOk result (λ ledgers. AreRunLedgers job.now.script.now 0 ledgers.items) }
+    ensures ledgers { IfOk result
+        (λ ledgers. AreRunLedgers G.answers job.now.gate.now job.now.script.now 0 ledgers.items) }
     ensures count { IfOk result (λ ledgers. vec_len ledgers ≡ vec_len threads.entry) }
     ensures shut { IfErr result (IsByGate G.answers job.now.gate.now job.now.script.now.cpus) }
 {
     let mut ledgers = Ok(Vec::new(alloc));
     for running in threads {
-        ledgers = with_next(ledgers, complete(rt, alloc, running, job.collectors));
+        ledgers = with_next(
+            ledgers,
+            complete(rt, alloc, running, job.gate, job.collectors),
+        );
     }
     ledgers
 }
@@ -82,7 +86,8 @@ fn run_rings_in<'s, E, R: Threads + Wait + Sync, G: Gate>(
 ) -> Result<Vec<Ledger>, ReplayFault>
     requires indexes { AreIndexes job.now.script.now indexes.now }
     requires over { length over.now ≡ job.now.script.now.cpus }
-    ensures ledgers { IfOk result (λ ledgers. AreRunLedgers job.now.script.now 0 ledgers.items) }
+    ensures ledgers { IfOk result
+        (λ ledgers. AreRunLedgers G.answers job.now.gate.now job.now.script.now 0 ledgers.items) }
     ensures count { IfOk result (λ ledgers. vec_len ledgers ≡ job.now.script.now.cpus) }
     ensures shut { IfErr result (IsByGate G.answers job.now.gate.now job.now.script.now.cpus) }
 {
@@ -105,7 +110,7 @@ pub(crate) fn run_rings<R: Threads + Wait + Sync, G: Gate>(
 ) -> Result<Vec<Ledger>, ReplayFault>
     requires indexes { AreIndexes script.now indexes.now }
     requires over { length over.now ≡ script.now.cpus }
-    ensures ledgers { IfOk result (λ ledgers. AreRunLedgers script.now 0 ledgers.items) }
+    ensures ledgers { IfOk result (λ ledgers. AreRunLedgers G.answers gate.now script.now 0 ledgers.items) }
     ensures count { IfOk result (λ ledgers. vec_len ledgers ≡ script.now.cpus) }
     ensures shut { IfErr result (IsByGate G.answers gate.now script.now.cpus) }
 {
@@ -114,7 +119,7 @@ pub(crate) fn run_rings<R: Threads + Wait + Sync, G: Gate>(
         rt,
         |scope| -> Result<Vec<Ledger>, ReplayFault>
             requires { AreIndexes script.now indexes.now × (length over.now ≡ script.now.cpus) }
-            ensures { IfOk result (λ ledgers. AreRunLedgers script.entry.now 0 ledgers.items)
+            ensures { IfOk result (λ ledgers. AreRunLedgers G.answers gate.entry.now script.entry.now 0 ledgers.items)
                 × IfOk result (λ ledgers. vec_len ledgers ≡ script.entry.now.cpus)
                 × IfErr result (IsByGate G.answers gate.entry.now script.entry.now.cpus) }
         {

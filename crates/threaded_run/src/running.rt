@@ -3,6 +3,7 @@ ghost use Rattle.std.specs.Prelude.{◌≡◌, ◌≢◌, ℕ, ◌<◌, ◌≤�
 ghost use Rattle.trace_script.specs.declared.replay_fault.ReplayFault.TheVariants.{GateShut};
 ghost use Rattle.line_writer.specs.declared.gate.Who.{Who as WhoSeen};
 ghost use Rattle.threaded_run.specs.Runs.{IsRan};
+ghost use Rattle.threaded_run.specs.Asked.{HaveAllPassed};
 ghost use Rattle.threaded_run.specs.Threads.{AreIndexes, AreRunLedgers, IsByGate};
 
 use crate::collecting::{Collecting, join_collectors, start_collectors};
@@ -60,7 +61,7 @@ fn run_all<'s, E, R: Threads + Wait + Sync, G: Gate>(
     requires no_threads { vec_len threads.old ≡ 0 }
     requires room_for_threads { script.now.collectors ≤ vec_capacity threads.old }
     ensures collectors { OnOk result (vec_len threads.new ≡ script.now.collectors) }
-    ensures ledgers { IfOk result (λ ledgers. AreRunLedgers script.now 0 ledgers.items) }
+    ensures ledgers { IfOk result (λ ledgers. AreRunLedgers G.answers gate.now script.now 0 ledgers.items) }
     ensures cpus { IfOk result (λ ledgers. vec_len ledgers ≡ script.now.cpus) }
     ensures shut { IfErr result (IsByGate G.answers gate.now script.now.cpus) }
 {
@@ -82,6 +83,7 @@ fn run_with<'s, E, R: Threads + Wait + Sync, G: Gate>(
     requires indexes { AreIndexes script.now indexes.now }
     requires over { length over.now ≡ script.now.cpus }
     ensures ran { IfOk result (IsRan script.now) }
+    ensures passed { IfOk result (HaveAllPassed G.answers gate.now script.now) }
     ensures shut { IfErr result (IsByGate G.answers gate.now script.now.cpus) }
 {
     let count = script.collectors();
@@ -124,6 +126,8 @@ pub fn run<R: Threads + Wait + Sync, G: Gate>(
 ) -> Result<Ran, ReplayFault>
     // The collectors and the ledgers are as many as the script says; each ledger is that of its CPU's lines.
     ensures ran { IfOk result (IsRan script.now) }
+    // Each writer asked the gate for each fill that it closed, and each reader for each page that it took.
+    ensures passed { IfOk result (HaveAllPassed G.answers gate.now script.now) }
     // The gate is blamed only if it may answer false to a thread of one of the script's CPUs.
     ensures shut { IfErr result (λ fault. fault ≡ GateShut → (who : WhoSeen) × (cpu fill : ℕ)
         × (cpu < script.now.cpus) × G.answers gate.now who cpu fill false) }
@@ -138,6 +142,7 @@ pub fn run<R: Threads + Wait + Sync, G: Gate>(
         |scope| -> Result<Ran, ReplayFault>
             requires { AreIndexes script.now indexes.now × (length over.now ≡ script.now.cpus) }
             ensures { IfOk result (IsRan script.entry.now)
+                × IfOk result (HaveAllPassed G.answers gate.entry.now script.entry.now)
                 × IfErr result (IsByGate G.answers gate.entry.now script.entry.now.cpus) }
         { run_with(rt, scope, alloc, script, gate, indexes, over) },
     )

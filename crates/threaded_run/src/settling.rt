@@ -1,44 +1,40 @@
 //! The two ends of a ring after their threads.
-ghost use Rattle.std.specs.Prelude.{◌≡◌, ◌≢◌, [], IfOk};
+ghost use Rattle.std.specs.Prelude.{◌≡◌, [], IfOk, IfErr};
+ghost use Rattle.page_numbers.specs.Parcels.{as_parcels};
 ghost use Rattle.ring_shared.specs.Calls.{IsWriter};
-ghost use Rattle.reader_end.specs.Ledgers.{IsLedger};
+ghost use Rattle.run_audit.specs.Audit.{taken_of};
+ghost use Rattle.reader_end.specs.Ledgers.{writer_in, IsLedger};
+ghost use Rattle.threaded_run.specs.Asked.{HaveReadersPassed};
+ghost use Rattle.threaded_run.specs.Taking.{IsStop};
 
-use crate::sharing::share;
-use crossbeam_channel::Sender;
-use page_numbers::Parcel;
+use crate::reading::{Stop, pass_on};
+use crate::sharing::PassesOn;
 use reader_end::{Found, ReaderEnd, settle};
 use ring_shared::Writer;
 use run_audit::Ledger;
 use std::alloc::Global;
 use std::sync::Wait;
-use trace_model::NoMemory;
+use trace_model::CpuId;
 
-/// Shares the page that was taken last.
-fn share_last<R: Wait>(
-    rt: &R,
-    end: &ReaderEnd,
-    collectors: &[Sender<Parcel>],
-) -> Result<(), NoMemory>
-    requires { end.now.taken ≢ [] }
-{
-    let Some(parcel) = end.last() else {
-        unreachable!()
-    };
-    share(rt, parcel, collectors)
-}
-
-/// Takes and shares each page that is still closed and unread, and settles the ends.
-pub(crate) fn settle_ends<R: Wait>(
+/// Takes each page that is still closed and unread, and passes it on, as the reader's thread does; then settles the
+/// ends.
+#[tactic(auto, using(crate::proofs::Readers::takes_none, crate::proofs::Readers::stop_since))]
+pub(crate) fn settle_ends<R: Wait, P: PassesOn>(
     rt: &R,
     alloc: Global,
     writer: Writer,
     end: ReaderEnd,
-    collectors: &[Sender<Parcel>],
-) -> Result<Ledger, NoMemory>
+    cpu: CpuId,
+    passing: &P,
+) -> Result<Ledger, Stop>
     requires writer { IsWriter writer }
     requires at_rest { writer.part.frames ≡ [] }
     requires one_ring { end.reader.table ≡ writer.table }
-    ensures { IfOk result (IsLedger end.cpu writer.shape writer.part) }
+    ensures ledger { IfOk result (IsLedger end.cpu writer.shape) }
+    ensures writer { IfOk result (λ ledger. writer_in ledger ≡ writer.part) }
+    ensures passed { IfOk result (λ ledger. HaveReadersPassed P.answers passing.now cpu.0 (as_parcels end.taken)
+        → HaveReadersPassed P.answers passing.now cpu.0 (taken_of ledger)) }
+    ensures shut { IfErr result (IsStop P.answers passing.now cpu.0 end) }
 {
     let mut end = end;
     for _ in rt.forever() {
@@ -48,7 +44,7 @@ pub(crate) fn settle_ends<R: Wait>(
         let (next, found) = end.take(alloc)?;
         end = next;
         if found == Found::Page {
-            share_last(rt, &end, collectors)?;
+            pass_on(rt, &end, cpu, passing)?;
         }
     }
     unreachable!()

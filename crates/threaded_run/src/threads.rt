@@ -4,13 +4,14 @@ ghost use Rattle.trace_model.specs.declared.numbers.FillNo.{FillNo as FillSeen};
 ghost use Rattle.ring_steps.specs.NewRings.{first_writing};
 ghost use Rattle.trace_script.specs.declared.replay_fault.ReplayFault.TheVariants.{GateShut};
 ghost use Rattle.line_writer.specs.Obeying.{AreLinesOf, ObeysLines};
-ghost use Rattle.threaded_run.specs.Runs.{IsRunLedger};
+ghost use Rattle.threaded_run.specs.Asked.{IsPassedLedger};
 ghost use Rattle.threaded_run.specs.Taking.{HasTaken};
 ghost use Rattle.threaded_run.specs.declared.reading.Stop.TheVariants.{Shut};
-ghost use Rattle.threaded_run.specs.Threads.{IsJoined, IsByGate};
+ghost use Rattle.threaded_run.specs.Threads.{IsJoined, ArePassedEnds, IsByGate};
 
 use crate::reading::{Stop, Takes, take_pages};
 use crate::settling::settle_ends;
+use crate::sharing::Passing;
 use crate::writing::{Writes, write_lines};
 use crossbeam_channel::Sender;
 use line_writer::{Gate, LineIndexes, WriterEnd};
@@ -44,7 +45,7 @@ pub(crate) struct Running<'a, G: Gate> {
 }
 
 impl<'a, G: Gate> Model for Running<'a, G> {
-    ghost use Rattle.std.specs.Prelude.{◌≡◌, ◌<◌};
+    ghost use Rattle.std.specs.Prelude.{◌≡◌, ◌<◌, []};
     ghost use Rattle.ring_shared.specs.NewEnds.{AreNewEnds};
     ghost use Rattle.threaded_run.specs.Runs.{shape_of};
     ghost use Rattle.threaded_run.specs.Threads.{RunningValue};
@@ -62,6 +63,7 @@ impl<'a, G: Gate> Model for Running<'a, G> {
         × (r.writer.promise.cpu.0 ≡ r.cpu.0)
         × (r.reader.promise.cpu.0 ≡ r.cpu.0)
         × (r.reader.promise.was.value.cpu ≡ r.cpu.0)
+        × (r.reader.promise.was.value.taken ≡ [])
         × (r.reader.promise.gate.now ≡ r.writer.promise.gate.now)
         × (r.cpu.0 < r.writer.promise.script.now.cpus) };
 }
@@ -101,6 +103,22 @@ fn start_writer<'s, E, G: Gate>(
     }
 }
 
+/// What a reader's thread does: its pages go to the collectors, and then it asks the gate.
+fn read_pages<R: Wait, G: Gate>(
+    rt: &R,
+    alloc: Global,
+    end: ReaderEnd,
+    cpu: CpuId,
+    gate: &G,
+    over: &AtomicBool,
+    collectors: &[Sender<Parcel>],
+) -> Result<ReaderEnd, Stop>
+    ensures { HasTaken G.answers gate.now cpu.0 end result }
+{
+    let passing = Passing { gate, collectors };
+    take_pages(rt, alloc, end, cpu, &passing, over)
+}
+
 /// Starts a reader's thread.
 fn start_reader<'s, E, R: Wait + Sync, G: Gate>(
     rt: &'s R,
@@ -125,7 +143,7 @@ fn start_reader<'s, E, R: Wait + Sync, G: Gate>(
     };
     let reads = move || -> Result<ReaderEnd, Stop>
         ensures { HasTaken G.answers gate.entry.now cpu.0 end result }
-    { take_pages(rt, alloc, end, cpu, gate, over, collectors) };
+    { read_pages(rt, alloc, end, cpu, gate, over, collectors) };
     match scope.spawn_with(promise, reads) {
         Ok(handle) => Ok(handle),
         Err(_) => Err(ReplayFault::NoThread),
@@ -186,6 +204,7 @@ fn join<R: Threads, G: Gate>(
     running: Running<'_, G>,
 ) -> Result<(Writer, ReaderEnd), ReplayFault>
     ensures joined { IfOk result (IsJoined running.entry.script running.entry.cpu) }
+    ensures passed { IfOk result (ArePassedEnds G.answers running.entry.gate running.entry.script running.entry.cpu) }
     ensures shut { IfErr result (IsByGate G.answers running.entry.gate running.entry.script.cpus) }
 {
     let Running { writer, reader, .. } = running;
@@ -206,12 +225,24 @@ pub(crate) fn complete<R: Threads + Wait, G: Gate>(
     rt: &R,
     alloc: Global,
     running: Running<'_, G>,
+    gate: &G,
     collectors: &[Sender<Parcel>],
 ) -> Result<Ledger, ReplayFault>
-    ensures ledger { IfOk result (IsRunLedger running.entry.script running.entry.cpu) }
-    ensures shut { IfErr result (IsByGate G.answers running.entry.gate running.entry.script.cpus) }
+    requires gate { running.gate ≡ gate.now }
+    ensures ledger { IfOk result (IsPassedLedger G.answers gate.now running.entry.script running.entry.cpu) }
+    ensures shut { IfErr result (IsByGate G.answers gate.now running.entry.script.cpus) }
 {
+    let cpu = running.cpu;
     let (writer, reader) = join(rt, running)?;
-    let ledger = settle_ends(rt, alloc, writer, reader, collectors)?;
-    Ok(ledger)
+    match settle_ends(
+        rt,
+        alloc,
+        writer,
+        reader,
+        cpu,
+        &Passing { gate, collectors },
+    ) {
+        Ok(ledger) => Ok(ledger),
+        Err(stop) => Err(fault_of(stop)),
+    }
 }

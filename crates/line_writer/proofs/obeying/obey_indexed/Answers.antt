@@ -1,3 +1,4 @@
+use Rattle.std.proofs.lemmas.Result.{err_from_is_err_and}
 use Rattle.std.proofs.Common.{◌≡◌, ℕ, ◌<◌, List, length, get_or, Some, sym, subst, arith}
 use Rattle.std.specs.List.{slice_get, AllZip}
 use Rattle.text_model.specs.Script.{Command}
@@ -6,7 +7,8 @@ use Rattle.trace_script.specs.ScriptTypes.{shown_line}
 use Rattle.line_model.specs.Lines.{writer_lines}
 use Rattle.line_model.specs.ReplayedLines.{commands_of}
 use Rattle.line_writer.specs.Obeying.{IsLineAt}
-use Rattle.line_writer.proofs.LinesMade.{IsNextLine, next_line, is_index, one_line, all_lines, element}
+use Rattle.line_writer.proofs.LinesMade.{IsNextLine, next_line, is_index, lines_none, one_line, all_lines, element}
+use Rattle.line_writer.proofs.Passed.{asks_none, asks_then}
 use Rattle.line_writer.proofs.obeying.obey_indexed.Goals as goal
 
 -- the line of the line_index that is read
@@ -37,18 +39,33 @@ obey_line-requires-clause-within g c κs within = (
       c.commands-commands.ensures.commands c.line.ensures),
 )
 
+pub loop-index-init : goal.loop-index-init
+loop-index-init g c = record {
+  lines = lines_none c.args.writer.now c.requires.is;
+  asks = asks_none g.G.Gate.answers c.args.gate.now c.args.cpu.0 c.args.writer.now c.requires.is;
+}
+
 pub loop-index-preserved : goal.loop-index-preserved
-loop-index-preserved g c =
-    one_line c.args.script.now.commands c.commands-commands.result.now
-    (writer_lines c.args.cpu.0 (commands_of c.args.script.now.commands)) c.loop-index.index
-    c.get-line_index.result (shown_line c.line.result)
-    c.args.writer.now c.loop-index.writer c.obey_line.new.writer c.commands-commands.ensures.commands
-    (line_of c.args.script.now.commands c.args.indexes.now (writer_lines c.args.cpu.0 (commands_of c.args.script.now.commands)) c.loop-index.index
-    c.get-line_index.result c.requires.indexes (omega (arith, c.len-index-end.ensures)) c.get-line_index.ensures)
-    c.line.ensures c.loop-index.invariant c.in_ok-obey_line.ensures.line
+loop-index-preserved g c = record {
+  lines = one_line c.args.script.now.commands c.commands-commands.result.now
+      (writer_lines c.args.cpu.0 (commands_of c.args.script.now.commands)) c.loop-index.index
+      c.get-line_index.result (shown_line c.line.result)
+      c.args.writer.now c.loop-index.writer c.obey_line.new.writer c.commands-commands.ensures.commands
+      (line_of c.args.script.now.commands c.args.indexes.now (writer_lines c.args.cpu.0 (commands_of c.args.script.now.commands)) c.loop-index.index
+      c.get-line_index.result c.requires.indexes (omega (arith, c.len-index-end.ensures)) c.get-line_index.ensures)
+      c.line.ensures c.loop-index.invariant.lines c.in_ok-obey_line.ensures.line;
+  asks = asks_then g.G.Gate.answers c.args.gate.now c.args.cpu.0 c.args.writer.now c.loop-index.writer c.obey_line.new.writer _
+      c.loop-index.invariant.asks c.in_ok-obey_line.ensures.gate;
+}
+
+pub returns-in_err-obey_line-clause-gate : goal.returns-in_err-obey_line-clause-gate
+returns-in_err-obey_line-clause-gate g c =
+    let p = err_from_is_err_and c.from_residual.result c.from_residual.ensures.1 in
+    rw (p.1, p.2) (asks_then g.G.Gate.answers c.args.gate.now c.args.cpu.0 c.args.writer.now c.loop-index.writer c.obey_line.new.writer _
+    c.loop-index.invariant.asks c.in_err-obey_line.ensures.gate)
 
 pub returns-clause-lines : goal.returns-clause-lines
 returns-clause-lines g c =
     all_lines c.args.script.now.commands c.args.indexes.now
     (writer_lines c.args.cpu.0 (commands_of c.args.script.now.commands)) c.loop-index.index c.args.writer.now
-    c.loop-index.writer c.requires.indexes (omega (arith, c.len-index-end.ensures)) c.loop-index.invariant
+    c.loop-index.writer c.requires.indexes (omega (arith, c.len-index-end.ensures)) c.loop-index.invariant.lines

@@ -4,7 +4,7 @@ use Rattle.std.proofs.Common.{◌≡◌, ◌+◌, ◌-◌, subst, arith}
 use Rattle.std.specs.Vec.Iter.{into_iter_items, into_iter_len}
 use Rattle.text_model.specs.Script.{Script}
 use Rattle.run_audit.specs.declared.ledger.Ledger.{Ledger}
-use Rattle.threaded_run.specs.Runs.{IsRunLedger}
+use Rattle.threaded_run.specs.Asked.{IsPassedLedger}
 use Rattle.threaded_run.specs.Threads.{AreRunLedgers, IsByGate}
 use Rattle.threaded_run.proofs.Rows.{running_next, ledger_pushed, joined_on}
 use Rattle.threaded_run.proofs.rings.complete_rings.Goals as goal
@@ -22,19 +22,18 @@ loop-running-preserved g c =
     (into_iter_items c.loop-running.running-iterator) (into_iter_items c.next.new.self) threads was.running step.0
     (omega (arith, was.left, step.1)) in
     let joined = joined_on
-    (λ (all : Vec Ledger Global). AreRunLedgers job.script.now 0 all.items × (vec_len all + left ≡ total))
-    (λ (all : Vec Ledger Global). AreRunLedgers job.script.now 0 all.items × (vec_len all + after ≡ total))
-    (IsRunLedger threads.script threads.cpu)
+    (λ (all : Vec Ledger Global). AreRunLedgers g.G.Gate.answers job.gate.now job.script.now 0 all.items × (vec_len all + left ≡ total))
+    (λ (all : Vec Ledger Global). AreRunLedgers g.G.Gate.answers job.gate.now job.script.now 0 all.items × (vec_len all + after ≡ total))
+    (IsPassedLedger g.G.Gate.answers job.gate.now threads.script threads.cpu)
     (IsByGate g.G.Gate.answers job.gate.now job.script.now.cpus)
     c.loop-running.ledgers c.complete.result c.with_next-ledgers.result
     c.with_next-ledgers.ensures.more c.with_next-ledgers.ensures.fault
     was.ledgers was.shut c.complete.ensures.ledger
-    (subst (λ gate. IfErr c.complete.result (IsByGate g.G.Gate.answers gate job.script.now.cpus)) next.0.2
-    (subst (λ (s : Script). IfErr c.complete.result (IsByGate g.G.Gate.answers threads.gate s.cpus)) next.0.1
-    c.complete.ensures.shut))
+    (subst (λ (s : Script). IfErr c.complete.result (IsByGate g.G.Gate.answers job.gate.now s.cpus)) next.0.1
+    c.complete.ensures.shut)
     (λ e. absurd (cc))
     (λ all one more (are, count) is items len. (
-      ledger_pushed job.script.now job.gate.now (total - left) threads all.items more.items one next.0 is are
+      ledger_pushed g.G.Gate.answers job.script.now job.gate.now (total - left) threads all.items more.items one next.0 is are
           (omega (arith, count, all.ok.0)) items,
       omega (arith, count, len, step.1),
     )) in record {

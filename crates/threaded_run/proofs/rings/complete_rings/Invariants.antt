@@ -8,7 +8,7 @@ invariant-loop-running g l = record {
   left : into_iter_len l.running-iterator ≤ vec_len l.fn.threads;
   running : AreRunning l.job.script.now l.job.gate.now (vec_len l.fn.threads - into_iter_len l.running-iterator)
       (into_iter_items l.running-iterator);
-  ledgers : IfOk l.ledgers (λ ledgers. AreRunLedgers l.job.script.now 0 ledgers.items
+  ledgers : IfOk l.ledgers (λ ledgers. AreRunLedgers g.G.Gate.answers l.job.gate.now l.job.script.now 0 ledgers.items
       × (vec_len ledgers + into_iter_len l.running-iterator ≡ vec_len l.fn.threads));
   shut : IfErr l.ledgers (IsByGate g.G.Gate.answers l.job.gate.now l.job.script.now.cpus);
 }

@@ -1,5 +1,5 @@
 use Rattle.std.proofs.Common.{◌≡◌}
-use Rattle.ring_shared.specs.Takes.{SameRing}
+use Rattle.threaded_run.specs.Taking.{TakesOn}
 use Rattle.threaded_run.proofs.settling.settle_ends.Given as goal
 
 abbrev pub invariant-loop : goal.invariant-loop
@@ -7,6 +7,5 @@ invariant-loop g l = record {
   can : (goal.iterator-loop g).can_next l.iterator';
   finite : (goal.iterator-loop g).is_finite l.iterator';
   writer : l.writer ≡ l.fn.writer;
-  cpu : l.end.cpu ≡ l.fn.end.cpu;
-  same : SameRing l.fn.end.reader l.end.reader;
+  on : TakesOn g.P.PassesOn.answers l.passing l.cpu.0 l.fn.end l.end;
 }

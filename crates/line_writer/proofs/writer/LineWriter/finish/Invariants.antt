@@ -1,4 +1,5 @@
-use Rattle.std.proofs.Common.{◌≡◌, ℕ, length}
+use Rattle.std.proofs.Common.{◌≡◌, ℕ, Ok, length}
+use Rattle.line_writer.specs.Asking.{Asks}
 use Rattle.line_writer.specs.Distance.{distance}
 use Rattle.line_writer.specs.Runs.{HasMadeCalls}
 use Rattle.line_writer.proofs.writer.LineWriter.finish.Given as goal
@@ -7,6 +8,7 @@ abbrev pub invariant-loop-self : goal.invariant-loop-self
 invariant-loop-self g l = record {
   deep : length l.self.writer.part.frames ≡ l.depth;
   part_way : (count : ℕ) × HasMadeCalls l.depth count l.fn.self l.self;
+  asks : Asks g.G.Gate.answers l.gate l.cpu.0 l.fn.self l.self (Ok tt);
 }
 
 abbrev pub decreases-loop-self : goal.decreases-loop-self

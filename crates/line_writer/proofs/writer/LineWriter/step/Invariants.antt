@@ -1,4 +1,5 @@
-use Rattle.std.proofs.Common.{◌≤◌, ◌-◌}
+use Rattle.std.proofs.Common.{◌≤◌, ◌-◌, Ok}
+use Rattle.line_writer.specs.Asking.{Asks}
 use Rattle.line_writer.specs.Runs.{HasMadeCalls}
 use Rattle.line_writer.proofs.writer.LineWriter.step.Given as goal
 
@@ -6,6 +7,7 @@ abbrev pub invariant-loop-made : goal.invariant-loop-made
 invariant-loop-made g l = record {
   few : l.made ≤ l.count;
   part_way : HasMadeCalls l.depth l.made l.fn.self l.self;
+  asks : Asks g.G.Gate.answers l.gate l.cpu.0 l.fn.self l.self (Ok tt);
 }
 
 abbrev pub decreases-loop-made : goal.decreases-loop-made

@@ -1,0 +1,127 @@
+-- What a reader takes on, and where the gate lets it pass meanwhile.
+use Rattle.std.specs.Prelude.{Bool, true, Contains, Some, Result, Ok, Err}
+use Rattle.std.specs.List.{slice_get}
+use Rattle.std.proofs.Common.{◌≡◌, ℕ, zero, suc, List, [], ◌∷◌, ◌++◌, length, refl, sym, ap, ◌∙◌, subst, ⊎_elim, arith, length-append}
+use Rattle.std.proofs.lemmas.List.Elements.{Contains-append_cases, Contains-append_right}
+use Rattle.std.proofs.lemmas.List.{map-append}
+use Rattle.trace_model.specs.Parcel.{Parcel}
+use Rattle.page_numbers.specs.Parcels.{ParcelValue, as_parcel, as_parcels}
+use Rattle.world_model.specs.World.{parcel_of}
+use Rattle.world_model.proofs.Lookups.{element_at, contains_at}
+use Rattle.ring_shared.specs.Value.{ReaderValue}
+use Rattle.ring_shared.specs.Takes.{SameRing}
+use Rattle.line_writer.specs.declared.gate.Who.{Who}
+use Rattle.line_writer.specs.declared.gate.Who.TheVariants as who
+use Rattle.reader_end.specs.Value.{ReaderEndValue}
+use Rattle.reader_end.specs.declared.end.Found.{Found}
+use Rattle.reader_end.specs.declared.end.Found.TheVariants.{Page, Empty, Moving}
+use Rattle.reader_end.specs.Takes.{IsFound}
+use Rattle.threaded_run.specs.declared.reading.Stop.{Stop}
+use Rattle.threaded_run.specs.declared.reading.Stop.TheVariants.{NoMemory, Shut}
+use Rattle.threaded_run.specs.Asked.{HaveReadersPassed}
+use Rattle.threaded_run.specs.Taking.{IsStop, IsPassedLast, TakesOn, HasTaken}
+
+-- the last ones of equal lists are equal
+last_same : (xs ys : List Parcel) (x y : Parcel) → xs ++ x ∷ [] ≡ ys ++ y ∷ [] → x ≡ y
+last_same [] [] x y e = cc
+last_same [] (b ∷ ys) x y e =
+    absurd (let long = ap (λ (l : List Parcel). length l) e in
+    let more = length-append ys (y ∷ []) in omega (arith, long, more))
+last_same (a ∷ xs) [] x y e =
+    absurd (let long = ap (λ (l : List Parcel). length l) e in
+    let more = length-append xs (x ∷ []) in omega (arith, long, more))
+last_same (a ∷ xs) (b ∷ ys) x y e = last_same xs ys x y cc
+
+only : (x y : Parcel) → Contains (x ∷ []) y → y ≡ x
+only x y has = let (k, at) = element_at (x ∷ []) y has in of_one k at
+  where
+    of_one : (k : ℕ) → slice_get (x ∷ []) k ≡ Some y → y ≡ x
+    of_one zero at = cc
+    of_one (suc k) at = absurd (cc)
+
+-- the parcel that was taken last is one of those that were taken
+pub last_taken : (taken earlier : List ParcelValue) (last : ParcelValue)
+    → taken ≡ earlier ++ last ∷ []
+    → Contains (as_parcels taken) (as_parcel last)
+last_taken taken earlier last is =
+    subst (λ (l : List Parcel). Contains l (as_parcel last))
+    (sym (ap as_parcels is ∙ map-append as_parcel earlier (last ∷ [])))
+    (Contains-append_right (as_parcels earlier) (as_parcel last ∷ []) (as_parcel last)
+    (contains_at (as_parcel last ∷ []) zero (as_parcel last) refl))
+
+pub same_ring : (a b c : ReaderValue) → SameRing a b → SameRing b c → SameRing a c
+same_ring a b c first then = (then.0 ∙ first.0, then.1 ∙ first.1)
+
+module _ {Gate : Type 0} (answers : Gate → Who → (cpu fill : ℕ) → Bool → Type 0) (gate : Gate) (cpu : ℕ) where
+  pub takes_none : (end : ReaderEndValue) → TakesOn answers gate cpu end end
+  takes_none end = record { cpu_is = refl; same = (refl, refl); passed = λ were. were }
+
+  -- the page that was taken last is passed, too
+  one_passed : (before after : List Parcel) (page : Parcel)
+      → after ≡ before ++ page ∷ []
+      → IsPassedLast answers gate cpu after
+      → HaveReadersPassed answers gate cpu before
+      → HaveReadersPassed answers gate cpu after
+  one_passed before after page is last were parcel has =
+      let same : last.last ≡ page = last_same last.earlier before last.last page (sym last.taken_are ∙ is) in
+      let at_page : answers gate who.Reader cpu page.fill true =
+      subst (λ (p : Parcel). answers gate who.Reader cpu p.fill true) same last.passed in
+      ⊎_elim (λ earlier. were parcel earlier)
+      (λ here. subst (λ (p : Parcel). answers gate who.Reader cpu p.fill true) (sym (only page parcel here)) at_page)
+      (Contains-append_cases before (page ∷ []) parcel (subst (λ (l : List Parcel). Contains l parcel) is has))
+
+  passed_more : (found : Found) (now next : ReaderEndValue)
+      → IsFound found now next
+      → (found ≡ Page → IsPassedLast answers gate cpu (as_parcels next.taken))
+      → HaveReadersPassed answers gate cpu (as_parcels now.taken)
+      → HaveReadersPassed answers gate cpu (as_parcels next.taken)
+  passed_more Page now next is last were =
+      one_passed (as_parcels now.taken) (as_parcels next.taken) (parcel_of now.cpu is.is.taken) is.one_more (last refl) were
+  passed_more Empty now next is last were =
+      subst (λ (l : List ParcelValue). HaveReadersPassed answers gate cpu (as_parcels l)) (sym is.taken_are) were
+  passed_more Moving now next is last were =
+      subst (λ (l : List ParcelValue). HaveReadersPassed answers gate cpu (as_parcels l)) (sym is.taken_are) were
+
+  -- one take more, after which a page was passed on
+  pub takes_more : (before now next : ReaderEndValue) (found : Found)
+      → TakesOn answers gate cpu before now
+      → next.cpu ≡ now.cpu
+      → SameRing now.reader next.reader
+      → IsFound found now next
+      → (found ≡ Page → IsPassedLast answers gate cpu (as_parcels next.taken))
+      → TakesOn answers gate cpu before next
+  takes_more before now next found on cpu_is same is last = record {
+    cpu_is = cpu_is ∙ on.cpu_is;
+    same = same_ring before.reader now.reader next.reader on.same same;
+    passed = λ were. passed_more found now next is last (on.passed were);
+  }
+
+  -- a stop is one since the start
+  pub stop_since : (before now : ReaderEndValue) (stop : Stop)
+      → SameRing before.reader now.reader
+      → IsStop answers gate cpu now stop
+      → IsStop answers gate cpu before stop
+  stop_since before now NoMemory same stop = tt
+  stop_since before now (Shut fill) same stop = record {
+    after = stop.after;
+    same = same_ring before.reader now.reader stop.after.reader same stop.same;
+    parcel = stop.parcel;
+    was_taken = stop.was_taken;
+    fill_is = stop.fill_is;
+    shut = stop.shut;
+  }
+
+-- what is known of the pages that are passed on to a gate behind something is known of that gate
+pub gate_behind : {Gate Other : Type 0} (answers : Gate → Who → (cpu fill : ℕ) → Bool → Type 0) (behind : Other → Gate) (passing : Other) (cpu : ℕ) (before : ReaderEndValue) (result : Result ReaderEndValue Stop)
+    → HasTaken (λ p. answers (behind p)) passing cpu before result
+    → HasTaken answers (behind passing) cpu before result
+gate_behind answers behind passing cpu before (Ok after) on = record { cpu_is = on.cpu_is; same = on.same; passed = on.passed }
+gate_behind answers behind passing cpu before (Err NoMemory) stop = tt
+gate_behind answers behind passing cpu before (Err (Shut fill)) stop = record {
+  after = stop.after;
+  same = stop.same;
+  parcel = stop.parcel;
+  was_taken = stop.was_taken;
+  fill_is = stop.fill_is;
+  shut = stop.shut;
+}
