@@ -1,5 +1,7 @@
 //! The collectors of a row, and the calls that an event makes.
+use crate::captures;
 use crate::event::{Event, Numbers};
+use capture::ReadFault;
 use collector::{AddFault, Added, Collector};
 use collector_text::put_collectors;
 use page_image::{Image, ImageFault, read_image};
@@ -28,7 +30,7 @@ pub enum Answer {
     Missing,
     /// Nothing is known of a number.
     Unknown,
-    /// A line with how many parcels each collector keeps, and below it their text.
+    /// A line, and below it others: how many parcels each collector keeps, and their text; or what a capture has.
     Shown(Vec<u8>),
 }
 
@@ -47,6 +49,12 @@ pub enum Refusal {
     /// The bytes are no parcel.
     #[error("{0:?}")]
     Parcel(ParcelFault),
+    /// There is no such CPU, or a page would have no byte.
+    #[error("no capture")]
+    NoCapture,
+    /// The capture can't be held.
+    #[error("{0:?}")]
+    Capture(ReadFault),
     /// There are two records of this CPU and number.
     #[error("Clash({0}, {1})")]
     Clash(u32, u64),
@@ -134,6 +142,9 @@ impl Collectors {
             Event::Parcel(bytes) => {
                 let first = Parcel::from_bytes(self.alloc, bytes)?;
                 Ok(parcel(self.alloc, first, bytes)?)
+            }
+            Event::Capture(cpu, size, bytes) => {
+                Ok(Answer::Shown(captures::read(self.alloc, *cpu, *size, bytes)?))
             }
             Event::Add(number, bytes) => self.add(*number, bytes),
             Event::Holds(number, bytes) => {

@@ -21,6 +21,8 @@ pub enum Event {
     Of(Numbers, Vec<u8>),
     /// Which parcel has these bytes, and which bytes are written of it?
     Parcel(Vec<u8>),
+    /// Which pages has this capture of a CPU, of so many bytes each?
+    Capture(CpuId, usize, Vec<u8>),
     /// The parcel with these bytes is added to a collector.
     Add(usize, Vec<u8>),
     /// Has a collector all that the parcel with these bytes has and misses?
@@ -40,7 +42,7 @@ fn number(words: &mut SplitWhitespace<'_>) -> Option<u64> {
     words.next()?.parse().ok()
 }
 
-/// The next word, as the number of a collector.
+/// The next word, as the number of a collector, or of bytes.
 fn place(words: &mut SplitWhitespace<'_>) -> Option<usize> {
     words.next()?.parse().ok()
 }
@@ -81,6 +83,7 @@ impl Event {
             Some("image") => Ok(bytes(alloc, words)?.map(Event::Image)),
             Some("parcel") => Ok(bytes(alloc, words)?.map(Event::Parcel)),
             Some("of") => Event::of_page(alloc, words),
+            Some("capture") => Event::of_capture(alloc, words),
             Some("add") => Event::of_parcel(alloc, true, words),
             Some("holds") => Event::of_parcel(alloc, false, words),
             Some(name) => Ok(Event::of_collectors(name, words)),
@@ -94,6 +97,20 @@ impl Event {
         let image = bytes(alloc, words)?;
         Ok(match (numbers, image) {
             (Some(numbers), Some(image)) => Some(Event::Of(numbers, image)),
+            _ => None,
+        })
+    }
+
+    /// An event of a capture.
+    fn of_capture(
+        alloc: Global,
+        mut words: SplitWhitespace<'_>,
+    ) -> Result<Option<Event>, NoMemory> {
+        let cpu = cpu(&mut words);
+        let size = place(&mut words);
+        let bytes = bytes(alloc, words)?;
+        Ok(match (cpu, size, bytes) {
+            (Some(cpu), Some(size), Some(bytes)) => Some(Event::Capture(cpu, size, bytes)),
             _ => None,
         })
     }

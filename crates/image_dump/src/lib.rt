@@ -6,3 +6,4 @@ pub mod laws;
 mod printer;
 
 pub use dump::dump_to;
+pub use printer::put_image_fault;

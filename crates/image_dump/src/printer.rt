@@ -90,8 +90,9 @@ fn put_word_fault(out: &mut Vec<u8>, fault: WordFault) -> Result<(), NoMemory>
     Ok(())
 }
 
-/// The fault of an image. The refusal of memory is none, and gives `NoMemory`.
-fn put_image_fault(out: &mut Vec<u8>, fault: ImageFault) -> Result<(), NoMemory>
+/// Puts the fault of an image. The refusal of memory is none, and gives `NoMemory`. On an error a part of that may be
+/// put.
+pub fn put_image_fault(out: &mut Vec<u8>, fault: ImageFault) -> Result<(), NoMemory>
     ensures text { OnOk result (out.new.items ≡ out.old.items ++ reader_fault_text fault) }
     ensures no_memory { OnOk result (fault ≢ ImageFault.NoMemory) }
 {

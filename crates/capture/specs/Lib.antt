@@ -1,0 +1,4 @@
+pub mod Pages
+pub mod Captures
+pub mod Rings
+pub mod Reading

@@ -1,0 +1,22 @@
+-- What was read of a source.
+use Rattle.std.specs.Prelude.{ℕ, List, Option}
+use Rattle.std.specs.Io.KnownBytes.{Consumes}
+use Rattle.capture.specs.Pages.{Page, AreCut, Fit}
+use Rattle.capture.specs.Captures.{IsCapture}
+use Rattle.capture.specs.declared.pages.Capture.{Capture}
+
+-- The source had `unread` before, and `left` after these bytes; they are a capture, and this is what is read of it.
+pub record IsRead (size : ℕ) (unread left : Option (List ℕ)) (capture : Capture) : Type 0 where
+  pub bytes : List ℕ
+  pub pages : List Page
+  pub taken : Consumes unread left bytes
+  pub cut : AreCut size bytes pages
+  pub capture_is : IsCapture capture pages
+
+-- The bytes that were read are pages whose numbers don't fit.
+pub record IsReadPast (size : ℕ) (unread left : Option (List ℕ)) : Type 0 where
+  pub bytes : List ℕ
+  pub pages : List Page
+  pub taken : Consumes unread left bytes
+  pub cut : AreCut size bytes pages
+  pub past : Fit pages → ⊥

@@ -1,0 +1,14 @@
+//! Captures: all that was read of a CPU's pages, as `per_cpu/cpuN/trace_pipe_raw` gives them, read as parcels.
+//!
+//! A page states how many records were lost before it, if the kernel knew and had room for their number; it has no
+//! number itself. So the numbers of a capture's records are counted: over its records, and over what its pages say was
+//! lost. They are exact up to the first loss of unknown number and the first page that can't be read. After these they
+//! are no higher than the true ones, and still rise.
+#![tactic(auto)]
+
+pub mod laws;
+mod pages;
+mod read;
+
+pub use pages::{Capture, CaptureFault, Damaged};
+pub use read::{ReadFault, read_capture};

@@ -1,0 +1,50 @@
+//! What is read of a capture, as text.
+use crate::calls::Refusal;
+use capture::{Capture, CaptureFault, ReadFault, read_capture};
+use capture_text::{put_damaged, put_unknown};
+use command_io::Std;
+use page_numbers::Parcel;
+use std::alloc::Global;
+use trace_model::{CpuId, MAX_CPUS, NoMemory};
+
+impl From<ReadFault> for Refusal {
+    fn from(fault: ReadFault) -> Refusal {
+        match fault {
+            ReadFault::Capture(CaptureFault::NoMemory) => Refusal::NoMemory,
+            fault => Refusal::Capture(fault),
+        }
+    }
+}
+
+/// Puts a line with what a parcel states, and the moments of its records.
+fn put_parcel(out: &mut String, parcel: &Parcel) -> Result<(), NoMemory> {
+    let (fill, first, missed) = (parcel.fill().0, parcel.first().0, parcel.missed());
+    write!(out, "fill {fill} first {first} missed {missed} moments")?;
+    for entry in parcel.records() {
+        write!(out, " {}", entry.moment.0)?;
+    }
+    out.push('\n')?;
+    Ok(())
+}
+
+/// What was read of a capture, whose pages have this many bytes.
+fn text_of(alloc: Global, capture: &Capture, size: u64) -> Result<Vec<u8>, NoMemory> {
+    let (pages, next) = (capture.pages, capture.next.0);
+    let mut out = format!(in alloc; "pages {pages} next {next}\n")?;
+    for parcel in &capture.parcels {
+        put_parcel(&mut out, parcel)?;
+    }
+    let mut text = out.into_bytes();
+    put_unknown(&mut text, capture)?;
+    put_damaged(&mut text, capture, size)?;
+    Ok(text)
+}
+
+/// The text of what is read of this capture of a CPU, whose pages have this many bytes.
+pub fn read(alloc: Global, cpu: CpuId, size: usize, bytes: &[u8]) -> Result<Vec<u8>, Refusal> {
+    if size == 0 || cpu.0 >= MAX_CPUS {
+        return Err(Refusal::NoCapture);
+    }
+    let capture = read_capture(alloc, cpu, size, &mut Std::new(bytes))?;
+    Ok(text_of(alloc, &capture, size as u64)?)
+}

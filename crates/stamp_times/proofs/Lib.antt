@@ -1,0 +1,4 @@
+mod Restored
+mod Puts
+mod Steps
+pub mod Stamps
