@@ -1,0 +1,4 @@
+pub mod Lines
+pub mod Names
+pub mod FirstBytes
+pub mod Counters

@@ -1,0 +1,42 @@
+-- Which event has a number, by the formats of events.
+use Rattle.std.specs.Prelude.{ℕ, ◌^◌, ◌==◌, List, [], ◌∷◌, codes, Option, Some, None, nat_lt, if◌then◌else◌}
+use Rattle.std.specs.Option.{option_and_then, option_map}
+use Rattle.trace_dat.specs.Contents.{EventFormat}
+use Rattle.kernel_texts.specs.declared.names.EventName.{EventName}
+use Rattle.kernel_texts.specs.Lines.{value_in, number_in}
+
+-- an event: its system and its own name
+pub record Event : Type 0 where
+  pub system : List ℕ
+  pub name : List ℕ
+
+-- an event without where it lies in memory
+abbrev pub event_seen : EventName → Event
+event_seen event = record { system = event.system.now; name = event.name.now }
+
+-- the number of the event that a format describes, if it fits 16 bits
+unfoldable pub id_in : List ℕ → Option ℕ
+id_in text =
+    option_and_then (λ digits. option_and_then (λ id. if nat_lt id (2 ^ 16) then Some id else None) (number_in digits))
+    (value_in (codes "ID: ") text)
+
+-- the event that a format describes, with its number: both have a line
+unfoldable pub described_in : EventFormat → Option (ℕ × Event)
+described_in format =
+    option_and_then (λ id. option_map (λ name. (id, record { system = format.system; name = name }))
+    (value_in (codes "name: ") format.text)) (id_in format.text)
+
+-- a described event, if its number is this
+abbrev pub event_under : ℕ → Option (ℕ × Event) → Option Event
+event_under id None = None
+event_under id (Some found) = if found.0 == id then Some found.1 else None
+
+-- the first of two
+abbrev pub first_of : Option Event → Option Event → Option Event
+first_of (Some event) other = Some event
+first_of None other = other
+
+-- The event of this number: what the last format of it describes.
+abbrev pub event_of : ℕ → List EventFormat → Option Event
+event_of id [] = None
+event_of id (format ∷ formats) = first_of (event_of id formats) (event_under id (described_in format))

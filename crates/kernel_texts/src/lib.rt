@@ -1,0 +1,12 @@
+//! Texts that the kernel prints of its trace, and the fields that every event has: which event a record is, by name,
+//! which process wrote it, and what the kernel counts of a CPU's ring.
+#![tactic(auto)]
+
+mod counters;
+mod lines;
+mod names;
+mod record;
+
+pub use counters::{Counters, ring_counters};
+pub use names::{EventName, event_names};
+pub use record::{CommonFields, common_fields};

@@ -1,0 +1,49 @@
+-- What a file of trace-cmd holds, as contracts see it.
+use Rattle.std.specs.Prelude.{ℕ, List, map}
+use Rattle.trace_dat.specs.declared.contents.Format.{Format}
+use Rattle.trace_dat.specs.declared.contents.CpuPages.{CpuPages}
+use Rattle.trace_dat.specs.declared.contents.Buffer.{Buffer}
+use Rattle.trace_dat.specs.declared.contents.TraceDat.{TraceDat}
+
+-- the text of an event's format, and the name of its system
+pub record EventFormat : Type 0 where
+  pub system : List ℕ
+  pub text : List ℕ
+
+-- the pages of a CPU, one after the other
+pub record Recorded : Type 0 where
+  pub cpu : ℕ
+  pub pages : List ℕ
+
+-- a trace buffer: the main one, without a name, or an instance
+pub record TraceBuffer : Type 0 where
+  pub name : List ℕ
+  pub page_size : ℕ
+  pub cpus : List Recorded
+
+-- what a file holds
+pub record Contents : Type 0 where
+  pub formats : List EventFormat
+  pub buffers : List TraceBuffer
+  pub counters : List (List ℕ)
+
+-- the same without where it lies in memory
+abbrev pub format_seen : Format → EventFormat
+format_seen format = record { system = format.system.now; text = format.text.now }
+
+abbrev pub recorded_seen : CpuPages → Recorded
+recorded_seen pages = record { cpu = pages.cpu; pages = pages.pages.now }
+
+abbrev pub buffer_seen : Buffer → TraceBuffer
+buffer_seen buffer = record {
+  name = buffer.name.now;
+  page_size = buffer.page_size;
+  cpus = map recorded_seen buffer.cpus.items;
+}
+
+abbrev pub contents_seen : TraceDat → Contents
+contents_seen dat = record {
+  formats = map format_seen dat.formats.items;
+  buffers = map buffer_seen dat.buffers.items;
+  counters = map (λ text. text.now) dat.counters.items;
+}

@@ -1,0 +1,10 @@
+pub mod Parts
+pub mod Fields
+pub mod Contents
+pub mod Formats
+pub mod Entries
+pub mod Buffers
+pub mod Sections
+pub mod Versions
+pub mod Spelling
+pub mod Laws

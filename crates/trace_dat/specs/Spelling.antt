@@ -1,0 +1,181 @@
+-- How a file is spelled: the bytes of each part. In version 6 they are one after the other, in version 7 most of them
+-- in sections, to which pointers lead.
+use Rattle.std.specs.Prelude.{◌≡◌, ◌≢◌, ℕ, ◌+◌, ◌%◌, ◌<◌, ◌≤◌, List, [], ◌∷◌, ◌++◌, length, take, drop, map, flat_map, codes, slice_index, Option, Some, None, Ok, unwrap_or}
+use Rattle.std.specs.List.{AllByRecursion}
+use Rattle.std.specs.Int.{Width, w16, w32, w64, to_le_bytes}
+use Rattle.trace_dat.specs.declared.entries.TheConstants.{DONE, OPTIONS}
+use Rattle.trace_dat.specs.Fields.{each_of}
+use Rattle.trace_dat.specs.Contents.{EventFormat, Recorded, TraceBuffer, Contents}
+use Rattle.trace_dat.specs.Formats.{ring_system}
+use Rattle.trace_dat.specs.Entries.{FileOption}
+use Rattle.trace_dat.specs.Buffers.{ranges_word, instance_of, buffer_of, counters_of}
+use Rattle.trace_dat.specs.Sections.{formats_of}
+use Rattle.trace_dat.specs.Versions.{ended, page_title, record_title, options_word, plain_word, magic, machine}
+
+-- each of these numbers is a byte
+abbrev pub IsBytes : List ℕ → Type 0
+IsBytes bytes = (i : ℕ) → slice_index bytes i < 256
+
+-- a number of some width, and as many bytes
+abbrev pub block : Width → List ℕ → List ℕ
+block w body = to_le_bytes w (length body) ++ body
+
+-- the texts of formats: their number, and a block for each
+abbrev pub formats_bytes : List (List ℕ) → List ℕ
+formats_bytes texts = to_le_bytes w32 (length texts) ++ flat_map (block w64) texts
+
+-- a system of events, and the texts of their formats
+pub record System : Type 0 where
+  pub name : List ℕ
+  pub texts : List (List ℕ)
+
+abbrev pub system_bytes : System → List ℕ
+system_bytes system = ended system.name ++ formats_bytes system.texts
+
+-- systems: their number and each of them
+abbrev pub systems_bytes : List System → List ℕ
+systems_bytes systems = to_le_bytes w32 (length systems) ++ flat_map system_bytes systems
+
+-- what is between the size of the pages and the number of the CPUs
+pub record SixTexts : Type 0 where
+  pub page_layout : List ℕ
+  pub record_layout : List ℕ
+  pub ring : List (List ℕ)
+  pub systems : List System
+  pub symbols : List ℕ
+  pub prints : List ℕ
+  pub tasks : List ℕ
+
+-- its bytes
+abbrev pub six_bytes : SixTexts → List ℕ
+six_bytes texts =
+    (page_title ++ block w64 texts.page_layout)
+    ++ ((record_title ++ block w64 texts.record_layout)
+    ++ (formats_bytes texts.ring ++ (systems_bytes texts.systems
+    ++ (block w32 texts.symbols ++ (block w32 texts.prints ++ block w64 texts.tasks)))))
+
+-- the formats that these texts are
+abbrev pub named_formats : List ℕ → List (List ℕ) → List EventFormat
+named_formats system texts = map (λ text. record { system = system; text = text }) texts
+
+-- the formats of the systems
+abbrev pub systems_formats : List System → List EventFormat
+systems_formats systems = flat_map (λ system. named_formats system.name system.texts) systems
+
+-- all of them, those of the ring's own events first
+abbrev pub six_formats : SixTexts → List EventFormat
+six_formats texts = named_formats ring_system texts.ring ++ systems_formats texts.systems
+
+-- ---- options
+
+-- an option: its identifier and its body
+abbrev pub option_bytes : FileOption → List ℕ
+option_bytes option = to_le_bytes w16 option.id ++ block w32 option.body.bytes
+
+-- options, and the identifier that ends them
+abbrev pub options_bytes : List FileOption → List ℕ
+options_bytes options = flat_map option_bytes options ++ to_le_bytes w16 DONE
+
+-- the word and the options, if there are any
+abbrev pub stated_bytes : Option (List FileOption) → List ℕ
+stated_bytes None = []
+stated_bytes (Some options) = options_word ++ options_bytes options
+
+-- ---- pages
+
+-- an offset in the file, and how many bytes there are meant
+pub record Range : Type 0 where
+  pub offset : ℕ
+  pub size : ℕ
+
+abbrev pub range_bytes : Range → List ℕ
+range_bytes range = to_le_bytes w64 range.offset ++ to_le_bytes w64 range.size
+
+-- all bytes that a range means are in the file
+abbrev pub IsInside : List ℕ → Range → Type 0
+IsInside file range = range.offset + range.size ≤ length file
+
+-- the pages of CPUs, numbered from this one on: the bytes of the file that their ranges mean
+abbrev pub numbered_pages : List ℕ → ℕ → List Range → List Recorded
+numbered_pages file cpu [] = []
+numbered_pages file cpu (range ∷ ranges) =
+    record { cpu = cpu; pages = take range.size (drop range.offset file) } ∷ numbered_pages file (cpu + 1) ranges
+
+-- ---- the whole
+
+-- what a file of version 6 is made of
+pub record SixParts : Type 0 where
+  pub page_size : ℕ
+  pub texts : SixTexts
+  pub options : Option (List FileOption)
+  pub ranges : List Range
+
+-- its bytes, before those that the ranges mean
+abbrev pub six_file_bytes : SixParts → List ℕ
+six_file_bytes parts =
+    magic ++ (ended (codes "6") ++ (machine ++ (to_le_bytes w32 parts.page_size
+    ++ (six_bytes parts.texts ++ (to_le_bytes w32 (length parts.ranges)
+    ++ (stated_bytes parts.options ++ (ranges_word ++ flat_map range_bytes parts.ranges)))))))
+
+-- The file is made of these parts, and holds this: the formats, the pages of the CPUs as the main buffer, and the
+-- counters. The other buffers are those that its options name.
+pub record IsSix (file : List ℕ) (contents : Contents) : Type 0 where
+  pub parts : SixParts
+  pub rest : List ℕ
+  pub whole : file ≡ six_file_bytes parts ++ rest
+  pub inside : AllByRecursion (IsInside file) parts.ranges
+  pub formats : contents.formats ≡ six_formats parts.texts
+  pub instances : List TraceBuffer
+  pub named : each_of (instance_of file parts.page_size (length parts.ranges)) (unwrap_or parts.options [])
+      ≡ Ok instances
+  pub buffers : contents.buffers
+      ≡ record { name = []; page_size = parts.page_size; cpus = numbered_pages file 0 parts.ranges } ∷ instances
+  pub counters : contents.counters ≡ flat_map counters_of (unwrap_or parts.options [])
+
+-- ---- version 7
+
+-- At this offset in the file is a section with this identifier and this body. After the identifier are its flags, which
+-- aren't odd, the number of its description, and the body.
+pub record HasSection (file : List ℕ) (offset id : ℕ) (body : List ℕ) : Type 0 where
+  pub flags : ℕ
+  pub description : ℕ
+  pub rest : List ℕ
+  pub inside : offset ≤ length file
+  pub plain : flags % 2 ≢ 1
+  pub whole : drop offset file
+      ≡ (to_le_bytes w16 id ++ (to_le_bytes w16 flags ++ (to_le_bytes w32 description ++ block w64 body))) ++ rest
+
+-- At this offset is a section of these options, and these are the bytes in which the next section is pointed to.
+pub record HasOptions (file : List ℕ) (offset : ℕ) (options : List FileOption) (next : List ℕ) : Type 0 where
+  pub body : List ℕ
+  pub rest : List ℕ
+  pub section : HasSection file offset OPTIONS body
+  pub whole : body ≡ (options_bytes options ++ block w32 next) ++ rest
+
+-- a section of options: its offset, the options, and the bytes in which the next section is pointed to
+pub record Linked : Type 0 where
+  pub offset : ℕ
+  pub options : List FileOption
+  pub next : List ℕ
+
+-- These bytes point to the first of the sections, which is no earlier than this offset, and each section to the one
+-- after it, which begins later; the last one points nowhere, by an offset of 0.
+abbrev pub IsChain : List ℕ → ℕ → List ℕ → List Linked → Type 0
+IsChain file least bytes [] = (rest : List ℕ) × (bytes ≡ to_le_bytes w64 0 ++ rest)
+IsChain file least bytes (link ∷ links) =
+    (rest : List ℕ) × (bytes ≡ to_le_bytes w64 link.offset ++ rest) × (link.offset ≢ 0) × (least ≤ link.offset)
+    × HasOptions file link.offset link.options link.next × IsChain file (link.offset + 1) link.next links
+
+-- The file begins as version 7 does, without compression, and its options are those of a chain of sections. By them it
+-- holds this: the formats, the buffers and the counters.
+pub record IsSeven (file : List ℕ) (contents : Contents) : Type 0 where
+  pub page_size : ℕ
+  pub release : List ℕ
+  pub pointer : List ℕ
+  pub links : List Linked
+  pub whole : file
+      ≡ magic ++ (ended (codes "7") ++ (machine ++ (to_le_bytes w32 page_size ++ (plain_word ++ (ended release ++ pointer)))))
+  pub chain : IsChain file 0 pointer links
+  pub formats : each_of (formats_of file) (flat_map (λ link. link.options) links) ≡ Ok contents.formats
+  pub buffers : each_of (buffer_of file) (flat_map (λ link. link.options) links) ≡ Ok contents.buffers
+  pub counters : contents.counters ≡ flat_map counters_of (flat_map (λ link. link.options) links)

@@ -1,0 +1,119 @@
+-- A whole file, in either version.
+use Rattle.std.specs.Prelude.{ℕ, List, [], ◌∷◌, ◌++◌, length, flat_map, Ok, codes, nat_eq, if◌then◌else◌}
+use Rattle.std.specs.List.{starts_with}
+use Rattle.std.specs.Int.{w32, w64}
+use Rattle.trace_dat.specs.declared.fault.Cause.TheVariants.{NotTraceDat, BadVersion, OtherMachine, Compressed, Misplaced}
+use Rattle.trace_dat.specs.declared.read.Version.{Version}
+use Rattle.trace_dat.specs.declared.read.Version.TheVariants.{Six, Seven}
+use Rattle.trace_dat.specs.Parts.{FilePart}
+use Rattle.trace_dat.specs.Fields.{Reading, ◌>>=◌, fault_at, behind, number_at, block_at, text_at, expected_at, each_of}
+use Rattle.trace_dat.specs.Contents.{EventFormat, Contents}
+use Rattle.trace_dat.specs.Formats.{ring_system, formats_at, systems_at}
+use Rattle.trace_dat.specs.Entries.{FileOption, options_at}
+use Rattle.trace_dat.specs.Buffers.{buffer_at, instance_of, buffer_of, counters_of}
+use Rattle.trace_dat.specs.Sections.{chained_options_at, formats_of}
+
+-- a word and the zero byte that ends it
+abbrev pub ended : List ℕ → List ℕ
+ended word = word ++ 0 ∷ []
+
+-- ---- version 6
+
+-- a title, and a block that isn't read
+unfoldable pub titled_at : List ℕ → FilePart → Reading FilePart
+titled_at title part = do
+  text ← expected_at title Misplaced part
+  block ← block_at w64 text
+  Ok block.1
+
+-- the titles of the layouts of a page and of a record
+abbrev pub page_title : List ℕ
+page_title = ended (codes "header_page")
+
+abbrev pub record_title : List ℕ
+record_title = ended (codes "header_event")
+
+-- the layouts of a page and of a record, which aren't read, and the formats of the events
+unfoldable pub all_formats_at : FilePart → Reading (List EventFormat × FilePart)
+all_formats_at part = do
+  page ← titled_at page_title part
+  word ← titled_at record_title page
+  ring ← formats_at ring_system word
+  systems ← systems_at ring.1
+  Ok (ring.0 ++ systems.0, systems.1)
+
+-- the kernel's symbols, its texts for printing, and the names of tasks, none of which is read
+unfoldable pub tables_at : FilePart → Reading FilePart
+tables_at part = do
+  symbols ← block_at w32 part
+  texts ← block_at w32 symbols.1
+  tasks ← block_at w64 texts.1
+  Ok tasks.1
+
+-- the word before the options
+abbrev pub options_word : List ℕ
+options_word = ended (codes "options  ")
+
+-- the options, if their word is here
+unfoldable pub stated_options_at : FilePart → Reading (List FileOption × FilePart)
+stated_options_at part =
+    if starts_with nat_eq part.bytes options_word then options_at (behind (length options_word) part) else Ok ([], part)
+
+-- what a file of version 6 holds, from after the size of its pages on
+unfoldable pub version_six : List ℕ → ℕ → FilePart → Reading Contents
+version_six file page_size part = do
+  formats ← all_formats_at part
+  tables ← tables_at formats.1
+  count ← number_at w32 tables
+  options ← stated_options_at count.1
+  main ← buffer_at file page_size count.0 [] options.1
+  instances ← each_of (instance_of file page_size count.0) options.0
+  Ok (record { formats = formats.0; buffers = main ++ instances; counters = flat_map counters_of options.0 })
+
+-- ---- version 7
+
+-- how a file says that it isn't compressed
+abbrev pub plain_word : List ℕ
+plain_word = ended (codes "none")
+
+-- what a file of version 7 holds, from after the size of its pages on: how it is compressed, in two texts, and the
+-- options, which say where all else is
+unfoldable pub version_seven : List ℕ → FilePart → Reading Contents
+version_seven file part = do
+  plain ← expected_at plain_word Compressed part
+  release ← text_at plain
+  options ← chained_options_at file release.1
+  formats ← each_of (formats_of file) options
+  buffers ← each_of (buffer_of file) options
+  Ok (record { formats = formats; buffers = buffers; counters = flat_map counters_of options })
+
+-- ---- both
+
+-- how a file begins
+abbrev pub magic : List ℕ
+magic = 23 ∷ 8 ∷ 68 ∷ codes "tracing"
+
+-- the version
+unfoldable pub version_at : FilePart → Reading (Version × FilePart)
+version_at part =
+    if starts_with nat_eq part.bytes (ended (codes "6")) then Ok (Six, behind 2 part)
+    else (if starts_with nat_eq part.bytes (ended (codes "7")) then Ok (Seven, behind 2 part)
+    else fault_at BadVersion part)
+
+-- a little-endian machine, and words of eight bytes
+abbrev pub machine : List ℕ
+machine = 0 ∷ 8 ∷ []
+
+-- what a file of this version holds
+abbrev pub contents_of : Version → List ℕ → ℕ → FilePart → Reading Contents
+contents_of Six file page_size part = version_six file page_size part
+contents_of Seven file page_size part = version_seven file part
+
+-- What a file holds, or its first fault.
+unfoldable pub reading_of : List ℕ → Reading Contents
+reading_of file = do
+  version ← expected_at magic NotTraceDat (record { at = 0; bytes = file })
+  number ← version_at version
+  words ← expected_at machine OtherMachine number.1
+  page_size ← number_at w32 words
+  contents_of number.0 file page_size.0 page_size.1

@@ -1,0 +1,41 @@
+//! What a file of trace-cmd holds.
+
+/// The format of an event, as the kernel prints it, and the event's system.
+#[derive(Clone, Copy, Debug)]
+pub struct Format<'a> {
+    /// The name of the system, as `sched`. The ring's own events, as `print`, are of the system `ftrace`.
+    pub system: &'a [u8],
+    /// The text of the event's file `format`.
+    pub text: &'a [u8],
+}
+
+/// What was recorded of a CPU's ring.
+#[derive(Clone, Copy, Debug)]
+pub struct CpuPages<'a> {
+    /// The number of the CPU.
+    pub cpu: u32,
+    /// Its pages, one after the other.
+    pub pages: &'a [u8],
+}
+
+/// A trace buffer: the main one, whose name is empty, or an instance.
+#[derive(Debug, Drop)]
+pub struct Buffer<'a> {
+    /// The instance's name.
+    pub name: &'a [u8],
+    /// The size of a page, in bytes.
+    pub page_size: u32,
+    /// The pages of each CPU, in the order of the file.
+    pub cpus: Vec<CpuPages<'a>>,
+}
+
+/// What a file of trace-cmd holds.
+#[derive(Debug, Drop)]
+pub struct TraceDat<'a> {
+    /// The formats of the events, in the order of the file.
+    pub formats: Vec<Format<'a>>,
+    /// The trace buffers, in the order of the file.
+    pub buffers: Vec<Buffer<'a>>,
+    /// The counters of rings, a text for each CPU, in the order of the file.
+    pub counters: Vec<&'a [u8]>,
+}

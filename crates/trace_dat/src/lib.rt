@@ -1,0 +1,16 @@
+//! The files of trace-cmd, `trace.dat`, in versions 6 and 7.
+#![tactic(auto)]
+
+mod buffers;
+mod contents;
+mod entries;
+mod fault;
+mod formats;
+pub mod laws;
+mod part;
+mod read;
+mod sections;
+
+pub use contents::{Buffer, CpuPages, Format, TraceDat};
+pub use fault::{Cause, Fault, ReadError};
+pub use read::read_trace_dat;

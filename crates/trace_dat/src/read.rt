@@ -1,0 +1,163 @@
+//! A whole file, in either version.
+ghost use Rattle.std.specs.Prelude.{◌≡◌, map};
+ghost use Rattle.trace_dat.specs.Parts.{seen};
+ghost use Rattle.trace_dat.specs.Fields.{Gives};
+ghost use Rattle.trace_dat.specs.Contents.{format_seen, contents_seen};
+ghost use Rattle.trace_dat.specs.Entries.{option_seen};
+ghost use Rattle.trace_dat.specs.Versions.{ended, titled_at, all_formats_at, tables_at, stated_options_at, version_six, version_seven, version_at, contents_of, reading_of};
+
+use crate::buffers::{Shape, counters, put_buffer, put_buffers, put_instances};
+use crate::contents::{Format, TraceDat};
+use crate::entries::{Entry, put_options};
+use crate::fault::{Cause, ReadError};
+use crate::formats::{RING_SYSTEM, put_formats, put_systems};
+use crate::part::Part;
+use crate::sections::{chained_options, formats};
+use std::alloc::Global;
+
+/// The versions of the file.
+#[derive(Clone, Copy, Debug, PartialEq, Eq)]
+pub(crate) enum Version {
+    /// Version 6: one part after the other.
+    Six,
+    /// Version 7: sections, of which options say where they are.
+    Seven,
+}
+
+/// How a file begins.
+const MAGIC: &[u8] = b"\x17\x08\x44tracing";
+/// A little-endian machine, and words of eight bytes.
+const MACHINE: &[u8] = b"\x00\x08";
+/// The titles of what is before the formats, in version 6.
+const PAGE_TITLE: &[u8] = b"header_page\0";
+
+const RECORD_TITLE: &[u8] = b"header_event\0";
+/// The word before the options, in version 6.
+const OPTIONS_WORD: &[u8] = b"options  \0";
+/// How a file of version 7 says that it isn't compressed.
+const PLAIN: &[u8] = b"none\0";
+
+/// What is after a title, which should be at the front, and its block.
+#[tactic(auto, unfolding(crate::specs::Versions::titled_at))]
+fn behind_titled<'a>(part: Part<'a>, title: &[u8]) -> Result<Part<'a>, ReadError>
+    ensures { Gives seen result (titled_at title.now (seen part.entry)) }
+{
+    let text = part.expected(title, Cause::Misplaced)?;
+    let (_, behind) = text.block64()?;
+    Ok(behind)
+}
+
+/// The formats of all events, and what is after them.
+#[tactic(auto, unfolding(crate::specs::Versions::all_formats_at))]
+fn all_formats<'a>(alloc: Global, part: Part<'a>) -> Result<(Vec<Format<'a>>, Part<'a>), ReadError>
+    ensures { Gives (λ x. (map format_seen x.0.items, seen x.1)) result (all_formats_at (seen part.entry)) }
+{
+    let page = behind_titled(part, PAGE_TITLE)?;
+    let record = behind_titled(page, RECORD_TITLE)?;
+    let mut formats = Vec::new(alloc);
+    let ring = put_formats(&mut formats, RING_SYSTEM, record)?;
+    let systems = put_systems(&mut formats, ring)?;
+    Ok((formats, systems))
+}
+
+/// What is after the kernel's symbols, its texts for printing, and the names of tasks.
+#[tactic(auto, unfolding(crate::specs::Versions::tables_at))]
+fn behind_tables<'a>(part: Part<'a>) -> Result<Part<'a>, ReadError>
+    ensures { Gives seen result (tables_at (seen part.entry)) }
+{
+    let (_symbols, behind) = part.block32()?;
+    let (_texts, behind) = behind.block32()?;
+    let (_tasks, behind) = behind.block64()?;
+    Ok(behind)
+}
+
+/// The options, if their word is at the front, and what is after them.
+#[tactic(auto, unfolding(crate::specs::Versions::stated_options_at))]
+fn stated_options<'a>(
+    alloc: Global,
+    part: Part<'a>,
+) -> Result<(Vec<Entry<'a>>, Part<'a>), ReadError>
+    ensures { Gives (λ x. (map option_seen x.0.items, seen x.1)) result (stated_options_at (seen part.entry)) }
+{
+    let mut options = Vec::new(alloc);
+    if !part.begins(OPTIONS_WORD) {
+        return Ok((options, part));
+    }
+    let behind = put_options(&mut options, part.behind(OPTIONS_WORD.len()))?;
+    Ok((options, behind))
+}
+
+/// What a file of version 6 holds, from after the size of its pages on.
+#[tactic(auto, unfolding(crate::specs::Versions::version_six))]
+fn read_six<'a>(
+    alloc: Global,
+    file: &'a [u8],
+    page_size: u32,
+    part: Part<'a>,
+) -> Result<TraceDat<'a>, ReadError>
+    ensures { Gives contents_seen result (version_six file.now page_size (seen part.entry)) }
+{
+    let (formats, behind) = all_formats(alloc, part)?;
+    let behind = behind_tables(behind)?;
+    let (cpus, behind) = behind.number32()?;
+    let (options, behind) = stated_options(alloc, behind)?;
+    let shape = Shape { page_size, cpus };
+    let mut buffers = Vec::new(alloc);
+    put_buffer(&mut buffers, alloc, file, shape, &[], behind)?;
+    put_instances(&mut buffers, alloc, file, shape, &options)?;
+    let counters = counters(alloc, &options)?;
+    Ok(TraceDat {
+        formats,
+        buffers,
+        counters,
+    })
+}
+
+/// What a file of version 7 holds, from after the size of its pages on.
+#[tactic(auto, unfolding(crate::specs::Versions::version_seven))]
+fn read_seven<'a>(alloc: Global, file: &'a [u8], part: Part<'a>) -> Result<TraceDat<'a>, ReadError>
+    ensures { Gives contents_seen result (version_seven file.now (seen part.entry)) }
+{
+    let plain = part.expected(PLAIN, Cause::Compressed)?;
+    let (_release, pointer) = plain.text()?;
+    let options = chained_options(alloc, file, pointer)?;
+    let formats = formats(alloc, file, &options)?;
+    let mut buffers = Vec::new(alloc);
+    put_buffers(&mut buffers, alloc, file, &options)?;
+    let counters = counters(alloc, &options)?;
+    Ok(TraceDat {
+        formats,
+        buffers,
+        counters,
+    })
+}
+
+/// The version at the front of a part, and what is after it.
+#[tactic(auto, unfolding(crate::specs::Versions::version_at))]
+fn version_of<'a>(part: Part<'a>) -> Result<(Version, Part<'a>), ReadError>
+    ensures { Gives (λ x. (x.0, seen x.1)) result (version_at (seen part.entry)) }
+{
+    if part.begins(b"6\0") {
+        Ok((Version::Six, part.behind(2)))
+    } else if part.begins(b"7\0") {
+        Ok((Version::Seven, part.behind(2)))
+    } else {
+        Err(part.fault(Cause::BadVersion))
+    }
+}
+
+/// What a file of trace-cmd holds, in version 6 or 7.
+#[tactic(auto, unfolding(crate::specs::Versions::reading_of))]
+pub fn read_trace_dat(alloc: Global, file: &[u8]) -> Result<TraceDat<'_>, ReadError>
+    ensures { Gives contents_seen result (reading_of file.now) }
+{
+    let whole = Part { at: 0, bytes: file };
+    let behind = whole.expected(MAGIC, Cause::NotTraceDat)?;
+    let (version, behind) = version_of(behind)?;
+    let behind = behind.expected(MACHINE, Cause::OtherMachine)?;
+    let (page_size, behind) = behind.number32()?;
+    match version {
+        Version::Six => read_six(alloc, file, page_size, behind),
+        Version::Seven => read_seven(alloc, file, behind),
+    }
+}

@@ -1,0 +1,204 @@
+"""A plain reader of the files of trace-cmd, to compare with `trace_dat_rows`: it steps through the bytes by offsets, as
+docs/FORMATS.md says, and tells what a file holds in the same words."""
+
+
+class Fault(Exception):
+    """The first thing that is wrong with a file, and its offset."""
+
+
+class Bytes:
+    """The bytes of a file from an offset on, up to an end."""
+
+    def __init__(self, file, at, end):
+        self.file, self.at, self.end = file, at, end
+
+    def take(self, length):
+        if self.end - self.at < length:
+            raise Fault("Cut", self.at)
+        self.at += length
+        return Bytes(self.file, self.at - length, self.at)
+
+    def value(self):
+        return self.file[self.at : self.end]
+
+    def number(self, length):
+        return int.from_bytes(self.take(length).value(), "little")
+
+    def block(self, length):
+        return self.take(self.number(length))
+
+    def text(self):
+        zero = self.file.find(0, self.at, self.end)
+        if zero < 0:
+            raise Fault("Cut", self.at)
+        text = self.file[self.at : zero]
+        self.at = zero + 1
+        return text
+
+    def expect(self, text, cause):
+        if not self.file[self.at : self.end].startswith(text):
+            raise Fault(cause, self.at)
+        self.at += len(text)
+
+    def pointed(self):
+        here = self.at
+        offset = self.number(8)
+        if offset > len(self.file):
+            raise Fault("OutsideFile", here)
+        return Bytes(self.file, offset, len(self.file))
+
+    def range(self):
+        here = self.at
+        there = self.pointed()
+        size = self.number(8)
+        if size > there.end - there.at:
+            raise Fault("OutsideFile", here)
+        return self.file[there.at : there.at + size]
+
+
+def formats(part, system):
+    return [(system, part.block(8).value()) for _ in range(part.number(4))]
+
+
+def systems(part):
+    found = []
+    for _ in range(part.number(4)):
+        found += formats(part, part.text())
+    return found
+
+
+def options(part):
+    found = []
+    while kind := part.number(2):
+        found.append((kind, part.block(4)))
+    return found
+
+
+def section(part, kind):
+    part.expect(kind.to_bytes(2, "little"), "Misplaced")
+    flags_at = part.at
+    if part.number(2) % 2:
+        raise Fault("Compressed", flags_at)
+    part.number(4)
+    return part.block(8)
+
+
+def ranges(part, name, page_size, count):
+    part.expect(b"flyrecord\0", "Misplaced")
+    return name, page_size, [(cpu, part.range()) for cpu in range(count)]
+
+
+def version_six(part, page_size):
+    for title in b"header_page\0", b"header_event\0":
+        part.expect(title, "Misplaced")
+        part.block(8)
+    found = formats(part, b"ftrace")
+    found += systems(part)
+    for length in 4, 4, 8:
+        part.block(length)
+    count = part.number(4)
+    chosen = []
+    if part.file[part.at : part.end].startswith(b"options  \0"):
+        part.take(10)
+        chosen = options(part)
+    buffers = [ranges(part, b"", page_size, count)]
+    for kind, body in chosen:
+        if kind == 3:
+            there = body.pointed()
+            buffers.append(ranges(there, body.text(), page_size, count))
+    return found, buffers, chosen
+
+
+def chain(pointer):
+    """The options of all sections."""
+    found, least = [], 0
+    while True:
+        here = Bytes(pointer.file, pointer.at, pointer.end)
+        if here.number(8) == 0:
+            return found
+        part = pointer.pointed()
+        if part.at < least:
+            raise Fault("Backward", here.at - 8)
+        least = part.at + 1
+        body = section(part, 0)
+        found += options(body)
+        pointer = body.block(4)
+
+
+def stated_buffer(part):
+    part.pointed()
+    name = part.text()
+    part.text()
+    page_size, count = part.number(4), part.number(4)
+    cpus = []
+    for _ in range(count):
+        cpu = part.number(4)
+        cpus.append((cpu, part.range()))
+    return name, page_size, cpus
+
+
+def version_seven(part):
+    part.expect(b"none\0", "Compressed")
+    part.text()
+    chosen = chain(part)
+    found = []
+    for kind, body in chosen:
+        if kind == 17:
+            found += formats(section(body.pointed(), 17), b"ftrace")
+        elif kind == 18:
+            found += systems(section(body.pointed(), 18))
+    return found, [stated_buffer(body) for kind, body in chosen if kind == 3], chosen
+
+
+def reading(file):
+    """The formats, the buffers and the counters of a file."""
+    part = Bytes(file, 0, len(file))
+    part.expect(b"\x17\x08Dtracing", "NotTraceDat")
+    version = file[part.at : part.at + 2]
+    if version not in (b"6\0", b"7\0"):
+        raise Fault("BadVersion", part.at)
+    part.at += 2
+    part.expect(b"\0\x08", "OtherMachine")
+    page_size = part.number(4)
+    found, buffers, chosen = version_six(part, page_size) if version == b"6\0" else version_seven(part)
+    return found, buffers, [body.value() for kind, body in chosen if kind == 2]
+
+
+def value(text, key):
+    """What is after a key in the first line that begins with it."""
+    for line in text.split(b"\n"):
+        if line.startswith(key):
+            return line[len(key) :]
+    return None
+
+
+def number(text, limit):
+    if text is None or not text or any(digit not in b"0123456789" for digit in text) or int(text) >= limit:
+        return None
+    return int(text)
+
+
+def spelled(text):
+    return text.hex() or "-"
+
+
+def answer(file):
+    """The lines that `trace_dat_rows` writes of a file."""
+    try:
+        found, buffers, counters = reading(file)
+    except Fault as fault:
+        return ["  fault %s %d" % fault.args]
+    lines = [f"  format {spelled(system)} {spelled(text)}" for system, text in found]
+    events = {}
+    for system, text in found:
+        kind, name = number(value(text, b"ID: "), 1 << 16), value(text, b"name: ")
+        if kind is not None and name is not None:
+            events[kind] = (system, name)
+    lines += [f"  event {kind} {spelled(events[kind][0])} {spelled(events[kind][1])}" for kind in sorted(events)]
+    for name, page_size, cpus in buffers:
+        lines.append(f"  buffer {spelled(name)} {page_size}")
+        lines += [f"  pages {cpu} {spelled(pages)}" for cpu, pages in cpus]
+    for text in counters:
+        stated = number(value(text, b"CPU: "), 1 << 64), number(value(text, b"overrun: "), 1 << 64)
+        lines.append(f"  counters {spelled(text)} " + ("none" if None in stated else "%d %d" % stated))
+    return lines
