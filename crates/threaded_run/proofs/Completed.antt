@@ -1,6 +1,6 @@
 -- What both threads of a ring leave, settled.
 use Rattle.std.specs.Prelude.{Bool}
-use Rattle.std.proofs.Common.{◌≡◌, ℕ, ◌<◌, refl, sym, ap, ◌∙◌, subst}
+use Rattle.std.proofs.Common.{◌≡◌, ℕ, ◌<◌, false, refl, sym, ap, ◌∙◌, subst}
 use Rattle.trace_script.specs.declared.replay_fault.ReplayFault.{ReplayFault}
 use Rattle.trace_script.specs.declared.replay_fault.ReplayFault.TheVariants.{GateShut}
 use Rattle.trace_model.specs.declared.numbers.FillNo.{FillNo}
@@ -19,7 +19,7 @@ use Rattle.threaded_run.specs.declared.reading.Stop.{Stop}
 use Rattle.threaded_run.specs.declared.reading.Stop.TheVariants.{Shut}
 use Rattle.threaded_run.specs.Runs.{shape_of}
 use Rattle.threaded_run.specs.Asked.{HaveReadersPassed, IsPassedLedger}
-use Rattle.threaded_run.specs.Taking.{IsShutToReader, IsStop}
+use Rattle.threaded_run.specs.Taking.{IsStop}
 use Rattle.threaded_run.specs.Threads.{RunningValue, IsJoined, ArePassedEnds, IsByGate}
 use Rattle.threaded_run.proofs.Ends.{HasLog}
 use Rattle.threaded_run.proofs.OneRuns.{one_run_of}
@@ -59,11 +59,10 @@ module _ {Gate : Type 0} (answers : Gate → Who → (cpu fill : ℕ) → Bool �
   -- the gate stopped the reader
   pub settled_by_gate : (stop : Stop) (fault : ReplayFault)
       → (fault ≡ GateShut → (fill : FillNo) × (stop ≡ Shut fill))
-      → IsStop answers gate own ends.1 stop
+      → IsStop answers gate own stop
       → IsByGate answers gate v.script.cpus fault
   settled_by_gate stop fault reported is shut =
       let (fill, e) = reported shut in
-      let at : IsShutToReader answers gate own ends.1 fill.0 =
-      subst (λ (s : Stop). IsStop answers gate own ends.1 s) e is in
+      let at : answers gate who.Reader own fill.0 false = subst (λ (s : Stop). IsStop answers gate own s) e is in
       let low : own < v.script.cpus = subst (λ (k : ℕ). k < v.script.cpus) (sym own_is) joined.known in
-      (who.Reader, own, fill.0, low, at.shut)
+      (who.Reader, own, fill.0, low, at)

@@ -29,7 +29,7 @@ use Rattle.threaded_run.specs.declared.reading.Stop.{Stop}
 use Rattle.threaded_run.specs.declared.reading.Stop.TheVariants.{Shut}
 use Rattle.threaded_run.specs.Runs.{shape_of, lines_of, IsRunHistory}
 use Rattle.threaded_run.specs.Asked.{HaveReadersPassed}
-use Rattle.threaded_run.specs.Taking.{IsShutToReader, IsStop, TakesOn}
+use Rattle.threaded_run.specs.Taking.{IsStop, TakesOn}
 use Rattle.threaded_run.specs.Threads.{RunningValue, IsByGate, IsJoined, ArePassedEnds}
 
 -- ---- the gate
@@ -62,18 +62,17 @@ writer_by_gate {Gate} answers v w cpu fill fault view own known shut _ = (
 
 -- and so was a reader's that is reported as ended by it
 pub reader_by_gate : {Gate : Type 0} (answers : Gate → Who → (cpu fill : ℕ) → Bool → Type 0) (v w : RunningValue Gate)
-    (gate : Gate) (cpu : ℕ) (before : ReaderEndValue) (stop : Stop) (fault : ReplayFault)
+    (gate : Gate) (cpu : ℕ) (stop : Stop) (fault : ReplayFault)
     → v ≡ w
     → cpu ≡ v.cpu
     → v.cpu < v.script.cpus
     → gate ≡ v.gate
     → (fault ≡ GateShut → (fill : FillNo) × (stop ≡ Shut fill))
-    → IsStop answers gate cpu before stop
+    → IsStop answers gate cpu stop
     → IsByGate answers w.gate w.script.cpus fault
-reader_by_gate {Gate} answers v w gate cpu before stop fault view own known same reported is shut =
+reader_by_gate {Gate} answers v w gate cpu stop fault view own known same reported is shut =
     let (fill, e) = reported shut in
-    let at : IsShutToReader answers gate cpu before fill.0 = subst (λ (s : Stop). IsStop answers gate cpu before s) e is in
-    let here : answers gate who.Reader cpu fill.0 false = at.shut in (
+    let here : answers gate who.Reader cpu fill.0 false = subst (λ (s : Stop). IsStop answers gate cpu s) e is in (
       who.Reader,
       cpu,
       fill.0,

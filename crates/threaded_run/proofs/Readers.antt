@@ -2,12 +2,11 @@
 use Rattle.std.specs.Prelude.{Bool, true, Contains, Some, Result, Ok, Err}
 use Rattle.std.specs.List.{slice_get}
 use Rattle.std.proofs.Common.{◌≡◌, ℕ, zero, suc, List, [], ◌∷◌, ◌++◌, length, refl, sym, ap, ◌∙◌, subst, ⊎_elim, arith, length-append}
-use Rattle.std.proofs.lemmas.List.Elements.{Contains-append_cases, Contains-append_right}
-use Rattle.std.proofs.lemmas.List.{map-append}
+use Rattle.std.proofs.lemmas.List.Elements.{Contains-append_cases}
 use Rattle.trace_model.specs.Parcel.{Parcel}
-use Rattle.page_numbers.specs.Parcels.{ParcelValue, as_parcel, as_parcels}
+use Rattle.page_numbers.specs.Parcels.{ParcelValue, as_parcels}
 use Rattle.world_model.specs.World.{parcel_of}
-use Rattle.world_model.proofs.Lookups.{element_at, contains_at}
+use Rattle.world_model.proofs.Lookups.{element_at}
 use Rattle.ring_shared.specs.Value.{ReaderValue}
 use Rattle.ring_shared.specs.Takes.{SameRing}
 use Rattle.line_writer.specs.declared.gate.Who.{Who}
@@ -19,7 +18,7 @@ use Rattle.reader_end.specs.Takes.{IsFound}
 use Rattle.threaded_run.specs.declared.reading.Stop.{Stop}
 use Rattle.threaded_run.specs.declared.reading.Stop.TheVariants.{NoMemory, Shut}
 use Rattle.threaded_run.specs.Asked.{HaveReadersPassed}
-use Rattle.threaded_run.specs.Taking.{IsStop, IsPassedLast, TakesOn, HasTaken}
+use Rattle.threaded_run.specs.Taking.{IsPassedLast, TakesOn, HasTaken}
 
 -- the last ones of equal lists are equal
 last_same : (xs ys : List Parcel) (x y : Parcel) → xs ++ x ∷ [] ≡ ys ++ y ∷ [] → x ≡ y
@@ -38,16 +37,6 @@ only x y has = let (k, at) = element_at (x ∷ []) y has in of_one k at
     of_one : (k : ℕ) → slice_get (x ∷ []) k ≡ Some y → y ≡ x
     of_one zero at = cc
     of_one (suc k) at = absurd (cc)
-
--- the parcel that was taken last is one of those that were taken
-pub last_taken : (taken earlier : List ParcelValue) (last : ParcelValue)
-    → taken ≡ earlier ++ last ∷ []
-    → Contains (as_parcels taken) (as_parcel last)
-last_taken taken earlier last is =
-    subst (λ (l : List Parcel). Contains l (as_parcel last))
-    (sym (ap as_parcels is ∙ map-append as_parcel earlier (last ∷ [])))
-    (Contains-append_right (as_parcels earlier) (as_parcel last ∷ []) (as_parcel last)
-    (contains_at (as_parcel last ∷ []) zero (as_parcel last) refl))
 
 pub same_ring : (a b c : ReaderValue) → SameRing a b → SameRing b c → SameRing a c
 same_ring a b c first then = (then.0 ∙ first.0, then.1 ∙ first.1)
@@ -96,32 +85,10 @@ module _ {Gate : Type 0} (answers : Gate → Who → (cpu fill : ℕ) → Bool �
     passed = λ were. passed_more found now next is last (on.passed were);
   }
 
-  -- a stop is one since the start
-  pub stop_since : (before now : ReaderEndValue) (stop : Stop)
-      → SameRing before.reader now.reader
-      → IsStop answers gate cpu now stop
-      → IsStop answers gate cpu before stop
-  stop_since before now NoMemory same stop = tt
-  stop_since before now (Shut fill) same stop = record {
-    after = stop.after;
-    same = same_ring before.reader now.reader stop.after.reader same stop.same;
-    parcel = stop.parcel;
-    was_taken = stop.was_taken;
-    fill_is = stop.fill_is;
-    shut = stop.shut;
-  }
-
 -- what is known of the pages that are passed on to a gate behind something is known of that gate
 pub gate_behind : {Gate Other : Type 0} (answers : Gate → Who → (cpu fill : ℕ) → Bool → Type 0) (behind : Other → Gate) (passing : Other) (cpu : ℕ) (before : ReaderEndValue) (result : Result ReaderEndValue Stop)
     → HasTaken (λ p. answers (behind p)) passing cpu before result
     → HasTaken answers (behind passing) cpu before result
 gate_behind answers behind passing cpu before (Ok after) on = record { cpu_is = on.cpu_is; same = on.same; passed = on.passed }
 gate_behind answers behind passing cpu before (Err NoMemory) stop = tt
-gate_behind answers behind passing cpu before (Err (Shut fill)) stop = record {
-  after = stop.after;
-  same = stop.same;
-  parcel = stop.parcel;
-  was_taken = stop.was_taken;
-  fill_is = stop.fill_is;
-  shut = stop.shut;
-}
+gate_behind answers behind passing cpu before (Err (Shut fill)) stop = stop

@@ -1,5 +1,5 @@
 -- What a reader's thread returns, and what the gate answers it.
-use Rattle.std.specs.Prelude.{◌≡◌, ℕ, Bool, true, false, List, [], ◌∷◌, ◌++◌, Contains, Result, Ok, Err}
+use Rattle.std.specs.Prelude.{◌≡◌, ℕ, Bool, true, false, List, [], ◌∷◌, ◌++◌, Result, Ok, Err}
 use Rattle.trace_model.specs.Parcel.{Parcel}
 use Rattle.page_numbers.specs.Parcels.{as_parcels}
 use Rattle.ring_shared.specs.Takes.{SameRing}
@@ -10,22 +10,11 @@ use Rattle.threaded_run.specs.declared.reading.Stop.{Stop}
 use Rattle.threaded_run.specs.declared.reading.Stop.TheVariants.{NoMemory, Shut}
 use Rattle.threaded_run.specs.Asked.{HaveReadersPassed}
 
--- The gate was shut to the reader at this fill, the page of which it had taken.
-pub record IsShutToReader {Gate : Type 0} (answers : Gate → Who → (cpu fill : ℕ) → Bool → Type 0) (gate : Gate)
-    (cpu : ℕ) (before : ReaderEndValue) (fill : ℕ)
-    : Type 0 where
-  pub after : ReaderEndValue
-  pub same : SameRing before.reader after.reader
-  pub parcel : Parcel
-  pub was_taken : Contains (as_parcels after.taken) parcel
-  pub fill_is : parcel.fill ≡ fill
-  pub shut : answers gate who.Reader cpu fill false
-
--- if the gate stopped the reader of this CPU, it was at a page that this took
+-- if the gate stopped the reader of this CPU, it may answer false to it at this fill
 abbrev pub IsStop : {Gate : Type 0} (answers : Gate → Who → (cpu fill : ℕ) → Bool → Type 0) → Gate
-    → (cpu : ℕ) → ReaderEndValue → Stop → Type 0
-IsStop answers gate cpu before NoMemory = Unit {0}
-IsStop answers gate cpu before (Shut fill) = IsShutToReader answers gate cpu before fill.0
+    → (cpu : ℕ) → Stop → Type 0
+IsStop answers gate cpu NoMemory = Unit {0}
+IsStop answers gate cpu (Shut fill) = answers gate who.Reader cpu fill.0 false
 
 -- The gate let the reader pass at the page that it took last.
 pub record IsPassedLast {Gate : Type 0} (answers : Gate → Who → (cpu fill : ℕ) → Bool → Type 0) (gate : Gate)
@@ -50,4 +39,4 @@ pub record TakesOn {Gate : Type 0} (answers : Gate → Who → (cpu fill : ℕ) 
 abbrev pub HasTaken : {Gate : Type 0} (answers : Gate → Who → (cpu fill : ℕ) → Bool → Type 0) → Gate
     → (cpu : ℕ) → ReaderEndValue → Result ReaderEndValue Stop → Type 0
 HasTaken answers gate cpu before (Ok after) = TakesOn answers gate cpu before after
-HasTaken answers gate cpu before (Err stop) = IsStop answers gate cpu before stop
+HasTaken answers gate cpu before (Err stop) = IsStop answers gate cpu stop

@@ -54,7 +54,7 @@ pub(crate) fn pass_on<R: Wait, P: PassesOn>(
 ) -> Result<(), Stop>
     requires { end.now.taken ≢ [] }
     ensures passed { OnOk result (IsPassedLast P.answers passing.now cpu.0 (as_parcels end.now.taken)) }
-    ensures shut { IfErr result (IsStop P.answers passing.now cpu.0 end.now) }
+    ensures shut { IfErr result (IsStop P.answers passing.now cpu.0) }
 {
     let Some(parcel) = end.last() else {
         unreachable!()
@@ -68,7 +68,7 @@ pub(crate) fn pass_on<R: Wait, P: PassesOn>(
 
 /// Takes pages, and passes each one on, until the writer's thread was over before a take that found nothing. If there
 /// is nothing to take, it gives way to other threads.
-#[tactic(auto, using(crate::proofs::Readers::takes_none, crate::proofs::Readers::stop_since))]
+#[tactic(auto, using(crate::proofs::Readers::takes_none))]
 pub(crate) fn take_pages<R: Wait, P: PassesOn>(
     rt: &R,
     alloc: Global,

@@ -18,7 +18,7 @@ use trace_model::CpuId;
 
 /// Takes each page that is still closed and unread, and passes it on, as the reader's thread does; then settles the
 /// ends.
-#[tactic(auto, using(crate::proofs::Readers::takes_none, crate::proofs::Readers::stop_since))]
+#[tactic(auto, using(crate::proofs::Readers::takes_none))]
 pub(crate) fn settle_ends<R: Wait, P: PassesOn>(
     rt: &R,
     alloc: Global,
@@ -34,7 +34,7 @@ pub(crate) fn settle_ends<R: Wait, P: PassesOn>(
     ensures writer { IfOk result (λ ledger. writer_in ledger ≡ writer.part) }
     ensures passed { IfOk result (λ ledger. HaveReadersPassed P.answers passing.now cpu.0 (as_parcels end.taken)
         → HaveReadersPassed P.answers passing.now cpu.0 (taken_of ledger)) }
-    ensures shut { IfErr result (IsStop P.answers passing.now cpu.0 end) }
+    ensures shut { IfErr result (IsStop P.answers passing.now cpu.0) }
 {
     let mut end = end;
     for _ in rt.forever() {

@@ -14,7 +14,7 @@ returns-in_default-clause-shut g c =
 pub returns-in-Err-clause-shut : goal.returns-in-Err-clause-shut
 returns-in-Err-clause-shut g c =
     let p = c.running.inside.reader.promise in
-    reader_by_gate g.G.Gate.answers _ c.args.running p.gate.now p.cpu.0 p.was.value c.in-Err.stop c.fault_of.result
+    reader_by_gate g.G.Gate.answers _ c.args.running p.gate.now p.cpu.0 c.in-Err.stop c.fault_of.result
     c.running.view_is c.running.invariant.2 c.running.invariant.6 c.running.invariant.5 c.fault_of.ensures c.in-Err.ensures
 
 pub returns-in-Ok-took-clause-joined : goal.returns-in-Ok-took-clause-joined
