@@ -1,8 +1,8 @@
 //! The program `collector_rows`: reads worked exchanges with collectors, and writes them with what is answered.
 //!
 //! Standard input is a text of rows, as the file `stdout` of this crate, with or without answers. Each event of a row
-//! is a call of `page_image`, `page_numbers`, `capture`, `collector` or `collector_text`, and what it answers is written
-//! after it.
+//! is a call of `page_image`, `page_numbers`, `capture`, `collector` or `collector_text`, and what it answers is
+//! written after it.
 //! An event that is refused memory is carried out once more, after a line `memory` and the text of each collector of
 //! the row: so a caller that refuses it a growth sees that nothing has changed, and that the call succeeds then.
 #![tactic(auto)]

@@ -57,9 +57,9 @@ pub record IsRingRun (script : Script) (cpu : ℕ) (events : List RingEvent) : T
       → Contains (fills_taken script.start events) f ⊎ (f + script.pages < last.opened)
 
 -- Of each CPU these are the events of its ring, and the fills are those that were taken, each with its CPU. A
--- collector with the verdict yes is shown as that of exactly these fills: each committed record of one of them has its line, under
--- its own CPU and number, and no other line is there; and the missing runs are those of the numbers that were
--- overwritten unread before one of them.
+-- collector with the verdict yes is shown as that of exactly these fills: each committed record of one of them has its
+-- line, under its own CPU and number, and no other line is there; and the missing runs are those of the numbers that
+-- were overwritten unread before one of them.
 pub record IsRunHeadline (script : Script) (bytes : List ℕ) : Type 0 where
   pub events : ℕ → List RingEvent
   pub rings : (cpu : ℕ) → cpu < script.cpus → IsRingRun script cpu (events cpu)

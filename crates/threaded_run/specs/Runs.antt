@@ -62,8 +62,8 @@ pub record IsOneRunOf (script : Script) (calls : List Exchange) (taken : List Ta
 
 -- The ledger of a CPU: its ring has a history of that CPU's lines, the parcels are what the ring's reader took, all of
 -- it and in order, and the ring is settled. So they and then the page that is left cut the committed records of the
--- history. What its writer made are exactly the calls of the lines, and those that finish the frames which are left: the
--- one run of the ring's two ends is a run of these calls and of takes.
+-- history. What its writer made are exactly the calls of the lines, and those that finish the frames which are left:
+-- the one run of the ring's two ends is a run of these calls and of takes.
 pub record IsRunLedger (script : Script) (cpu : ℕ) (ledger : Ledger) : Type 0 where
   pub history : IsRunHistory script cpu (writer_in ledger).history
   pub is_ledger : IsLedger cpu (shape_of script) ledger

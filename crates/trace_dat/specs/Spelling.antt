@@ -1,6 +1,7 @@
 -- How a file is spelled: the bytes of each part. In version 6 they are one after the other, in version 7 most of them
 -- in sections, to which pointers lead.
-use Rattle.std.specs.Prelude.{◌≡◌, ◌≢◌, ℕ, ◌+◌, ◌%◌, ◌<◌, ◌≤◌, List, [], ◌∷◌, ◌++◌, length, take, drop, map, flat_map, codes, slice_index, Option, Some, None, Ok, unwrap_or}
+use Rattle.std.specs.Prelude.{◌≡◌, ◌≢◌, ℕ, ◌+◌, ◌%◌, ◌<◌, ◌≤◌, Option, Some, None, Ok, unwrap_or}
+use Rattle.std.specs.Prelude.{List, [], ◌∷◌, ◌++◌, length, take, drop, map, flat_map, codes, slice_index}
 use Rattle.std.specs.List.{AllByRecursion}
 use Rattle.std.specs.Int.{Width, w16, w32, w64, to_le_bytes}
 use Rattle.trace_dat.specs.declared.entries.TheConstants.{DONE, OPTIONS}
@@ -174,7 +175,9 @@ pub record IsSeven (file : List ℕ) (contents : Contents) : Type 0 where
   pub pointer : List ℕ
   pub links : List Linked
   pub whole : file
-      ≡ magic ++ (ended (codes "7") ++ (machine ++ (to_le_bytes w32 page_size ++ (plain_word ++ (ended release ++ pointer)))))
+      ≡ magic
+      ++ (ended (codes "7")
+      ++ (machine ++ (to_le_bytes w32 page_size ++ (plain_word ++ (ended release ++ pointer)))))
   pub chain : IsChain file 0 pointer links
   pub formats : each_of (formats_of file) (flat_map (λ link. link.options) links) ≡ Ok contents.formats
   pub buffers : each_of (buffer_of file) (flat_map (λ link. link.options) links) ≡ Ok contents.buffers
