@@ -54,13 +54,13 @@ reads_on shape before _ _ (one_more steps between after reads step) =
     }
 
 -- the last ones of equal lists are equal
-last_same : (xs ys : List TakenFill) (x y : TakenFill) → xs ++ x ∷ [] ≡ ys ++ y ∷ [] → x ≡ y
+pub last_same : {A : Type 0} → (xs ys : List A) (x y : A) → xs ++ x ∷ [] ≡ ys ++ y ∷ [] → x ≡ y
 last_same [] [] x y e = cc
-last_same [] (b ∷ ys) x y e =
-    absurd (let long = ap (λ (l : List TakenFill). length l) e in
+last_same {A} [] (b ∷ ys) x y e =
+    absurd (let long = ap (λ (l : List A). length l) e in
     let more = length-append ys (y ∷ []) in omega (arith, long, more))
-last_same (a ∷ xs) [] x y e =
-    absurd (let long = ap (λ (l : List TakenFill). length l) e in
+last_same {A} (a ∷ xs) [] x y e =
+    absurd (let long = ap (λ (l : List A). length l) e in
     let more = length-append xs (x ∷ []) in omega (arith, long, more))
 last_same (a ∷ xs) (b ∷ ys) x y e = last_same xs ys x y cc
 

@@ -1,7 +1,7 @@
 -- What a reader takes on, and where the gate lets it pass meanwhile.
 use Rattle.std.specs.Prelude.{Bool, true, Contains, Some, Result, Ok, Err}
 use Rattle.std.specs.List.{slice_get}
-use Rattle.std.proofs.Common.{◌≡◌, ℕ, zero, suc, List, [], ◌∷◌, ◌++◌, length, refl, sym, ap, ◌∙◌, subst, ⊎_elim, arith, length-append}
+use Rattle.std.proofs.Common.{◌≡◌, ℕ, zero, suc, List, [], ◌∷◌, ◌++◌, refl, sym, ap, ◌∙◌, subst, ⊎_elim, arith}
 use Rattle.std.proofs.lemmas.List.Elements.{Contains-append_cases}
 use Rattle.trace_model.specs.Parcel.{Parcel}
 use Rattle.page_numbers.specs.Parcels.{ParcelValue, as_parcels}
@@ -15,21 +15,11 @@ use Rattle.reader_end.specs.Value.{ReaderEndValue}
 use Rattle.reader_end.specs.declared.end.Found.{Found}
 use Rattle.reader_end.specs.declared.end.Found.TheVariants.{Page, Empty, Moving}
 use Rattle.reader_end.specs.Takes.{IsFound}
+use Rattle.reader_end.proofs.TakesMore.{last_same}
 use Rattle.threaded_run.specs.declared.reading.Stop.{Stop}
 use Rattle.threaded_run.specs.declared.reading.Stop.TheVariants.{NoMemory, Shut}
 use Rattle.threaded_run.specs.Asked.{HaveReadersPassed}
 use Rattle.threaded_run.specs.Taking.{IsPassedLast, TakesOn, HasTaken}
-
--- the last ones of equal lists are equal
-last_same : (xs ys : List Parcel) (x y : Parcel) → xs ++ x ∷ [] ≡ ys ++ y ∷ [] → x ≡ y
-last_same [] [] x y e = cc
-last_same [] (b ∷ ys) x y e =
-    absurd (let long = ap (λ (l : List Parcel). length l) e in
-    let more = length-append ys (y ∷ []) in omega (arith, long, more))
-last_same (a ∷ xs) [] x y e =
-    absurd (let long = ap (λ (l : List Parcel). length l) e in
-    let more = length-append xs (x ∷ []) in omega (arith, long, more))
-last_same (a ∷ xs) (b ∷ ys) x y e = last_same xs ys x y cc
 
 only : (x y : Parcel) → Contains (x ∷ []) y → y ≡ x
 only x y has = let (k, at) = element_at (x ∷ []) y has in of_one k at
