@@ -13,5 +13,5 @@ mod size;
 
 pub use format::{EXTEND_FROM, MAX_PAYLOAD, SHORT_LIMIT};
 pub use next::{Word, WordFault, next_word};
-pub use put::{Place, put_payload, put_record, put_short};
+pub use put::{Place, put_extend, put_payload, put_record, put_short};
 pub use size::{size_of, slot_len};

@@ -40,8 +40,8 @@ fn put_number(out: &mut [u8], number: u32)
     LittleEndian::write_u32(out, number);
 }
 
-/// Puts the time extend of this delta at the front, eight bytes.
-fn put_extend(out: &mut [u8], delta: u64)
+/// Puts the time extend of this delta at the front, eight bytes. All bytes after it stay as they were.
+pub fn put_extend(out: &mut [u8], delta: u64)
     requires time { delta < MOMENT_LIMIT }
     requires room { 8 ≤ length out.old }
     ensures { Puts out.old out.new (bytes_of_word (time_extend delta)) }

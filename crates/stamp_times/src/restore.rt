@@ -7,15 +7,11 @@ ghost use Rattle.record_words.specs.Puts.{Puts};
 ghost use Rattle.stamp_times.specs.Restored.{time_until, restored_word, restored_time, restored_data, restored_image};
 ghost use Rattle.stamp_times.specs.Walk.{RestoresWord};
 
-use byteorder::{ByteOrder, LittleEndian};
 use page_image::number_at;
-use record_words::{EXTEND_FROM, Word, next_word};
+use record_words::{Word, next_word, put_extend};
 
 /// The times of stamps and extends are below this: 2^59.
 const TIME_LIMIT: u64 = 1 << 59;
-
-/// The type of a time extend.
-const TIME_EXTEND: u32 = 30;
 
 /// How many bytes the header of an image takes.
 const HEADER: usize = 16;
@@ -45,25 +41,6 @@ impl Reached {
             before: self.before.wrapping_add(delta),
         }
     }
-}
-
-/// Puts a 32-bit number at the front.
-#[tactic(auto, unfolding(trace_model::specs::Words::le32))]
-fn put_number(out: &mut [u8], number: u32)
-    requires { 4 ≤ length out.old }
-    ensures { Puts out.old out.new (le32 number) }
-{
-    LittleEndian::write_u32(out, number);
-}
-
-/// Puts the time extend of this delta at the front, eight bytes.
-fn put_extend(out: &mut [u8], delta: u64)
-    requires time { delta < word_time_limit }
-    requires room { 8 ≤ length out.old }
-    ensures { Puts out.old out.new (bytes_of_word (time_extend delta)) }
-{
-    put_number(out, TIME_EXTEND + 32 * (delta % EXTEND_FROM) as u32);
-    put_number(&mut out[4..], (delta / EXTEND_FROM) as u32);
 }
 
 /// How long after the time before it a stamp is: until the next time with its 59 bits.
