@@ -65,3 +65,14 @@ def most_memory(command, source, sink):
     with open(source, "rb") as given, open(sink, "wb") as taken:
         done = subprocess.run(timed, stdin=given, stdout=taken, stderr=subprocess.PIPE, check=False)
     return done.returncode, int(done.stderr.split()[-1]) * 1024
+
+
+def timed(command, sink):
+    """The seconds of the processor that a command takes, and its most memory in bytes, by GNU time."""
+    timing = ["/usr/bin/time", "--quiet", "-f", "%U %S %M", *command]
+    with open(sink, "wb") as taken:
+        done = subprocess.run(timing, stdout=taken, stderr=subprocess.PIPE, check=False)
+    if done.returncode:
+        raise Failure(f"{' '.join(map(str, command))} ends with status {done.returncode}")
+    user, system, most = done.stderr.split()[-3:]
+    return float(user) + float(system), int(most) * 1024

@@ -15,6 +15,7 @@ TOOLS = {
     "cc": ("the package gcc", ["cc", "--version"]),
     "valgrind": ("the package valgrind", ["valgrind", "--version"]),
     "/usr/bin/time": ("the package time", None),
+    "trace-cmd": ("the package trace-cmd", ["dpkg-query", "-W", "trace-cmd"]),
     "apt-get": ("Debian's own", None),
     "dpkg-deb": ("Debian's own", None),
 }
