@@ -45,7 +45,7 @@ impl TextBuffer {
     ghost use Rattle.std.specs.Fmt.{decimal};
     ghost use Rattle.command_io.specs.CommandRun.{AppendsPrefix};
     ghost use Rattle.text_values.specs.Digits.{pairs_of};
-    ghost use Rattle.text_buffer.specs.Putting.{waiting, has_failed, HasPut};
+    ghost use Rattle.text_buffer.specs.Putting.{waiting, has_failed, HasPut, Puts};
 
     /// An empty buffer, before anything is put. No other call takes memory.
     pub fn new(alloc: Global) -> Result<TextBuffer, NoMemory>
@@ -115,9 +115,8 @@ impl TextBuffer {
     fn put_more<W: Sink>(&mut self, writer: &mut W, bytes: &[u8])
         requires { has_failed self.old ≡ W.failed writer.old }
         ensures tied { has_failed self.new ≡ W.failed writer.new }
-        ensures put { (start : Option (List ℕ)) (text : List ℕ) →
-            HasPut start (W.contents writer.old) (W.failed writer.old) text self.old →
-            HasPut start (W.contents writer.new) (W.failed writer.new) (text ++ bytes.now) self.new }
+        ensures put { Puts bytes.now self.old (W.contents writer.old) (W.failed writer.old)
+            self.new (W.contents writer.new) (W.failed writer.new) }
     {
         let mut rest = bytes;
         while !rest.is_empty() {
@@ -132,9 +131,8 @@ impl TextBuffer {
     pub fn put<W: Sink>(&mut self, writer: &mut W, bytes: &[u8])
         requires { has_failed self.old ≡ W.failed writer.old }
         ensures tied { has_failed self.new ≡ W.failed writer.new }
-        ensures put { (start : Option (List ℕ)) (text : List ℕ) →
-            HasPut start (W.contents writer.old) (W.failed writer.old) text self.old →
-            HasPut start (W.contents writer.new) (W.failed writer.new) (text ++ bytes.now) self.new }
+        ensures put { Puts bytes.now self.old (W.contents writer.old) (W.failed writer.old)
+            self.new (W.contents writer.new) (W.failed writer.new) }
     {
         if bytes.len() <= self.room() {
             self.add(bytes);
@@ -147,9 +145,8 @@ impl TextBuffer {
     pub fn put_number<W: Sink>(&mut self, writer: &mut W, number: u64)
         requires { has_failed self.old ≡ W.failed writer.old }
         ensures tied { has_failed self.new ≡ W.failed writer.new }
-        ensures put { (start : Option (List ℕ)) (text : List ℕ) →
-            HasPut start (W.contents writer.old) (W.failed writer.old) text self.old →
-            HasPut start (W.contents writer.new) (W.failed writer.new) (text ++ decimal number) self.new }
+        ensures put { Puts (decimal number) self.old (W.contents writer.old) (W.failed writer.old)
+            self.new (W.contents writer.new) (W.failed writer.new) }
     {
         let mut digits = [0; MAX_DIGITS];
         let start = write_digits(number, &mut digits, MAX_DIGITS);
@@ -160,9 +157,8 @@ impl TextBuffer {
     fn put_more_hex<W: Sink>(&mut self, writer: &mut W, bytes: &[u8])
         requires { has_failed self.old ≡ W.failed writer.old }
         ensures tied { has_failed self.new ≡ W.failed writer.new }
-        ensures put { (start : Option (List ℕ)) (text : List ℕ) →
-            HasPut start (W.contents writer.old) (W.failed writer.old) text self.old →
-            HasPut start (W.contents writer.new) (W.failed writer.new) (text ++ pairs_of bytes.now) self.new }
+        ensures put { Puts (pairs_of bytes.now) self.old (W.contents writer.old) (W.failed writer.old)
+            self.new (W.contents writer.new) (W.failed writer.new) }
     {
         let mut rest = bytes;
         while !rest.is_empty() {
@@ -177,9 +173,8 @@ impl TextBuffer {
     pub fn put_hex<W: Sink>(&mut self, writer: &mut W, bytes: &[u8])
         requires { has_failed self.old ≡ W.failed writer.old }
         ensures tied { has_failed self.new ≡ W.failed writer.new }
-        ensures put { (start : Option (List ℕ)) (text : List ℕ) →
-            HasPut start (W.contents writer.old) (W.failed writer.old) text self.old →
-            HasPut start (W.contents writer.new) (W.failed writer.new) (text ++ pairs_of bytes.now) self.new }
+        ensures put { Puts (pairs_of bytes.now) self.old (W.contents writer.old) (W.failed writer.old)
+            self.new (W.contents writer.new) (W.failed writer.new) }
     {
         if bytes.len() <= self.room() / 2 {
             self.add_hex(bytes);
