@@ -138,8 +138,8 @@ impl Collector {
         self.records_from(cpu, RecordNo(0))
     }
 
-    /// The records of a CPU from this number on, as `records` gives them. The first one is found in logarithmic time, and
-    /// by passing over those before it in its page.
+    /// The records of a CPU from this number on, as `records` gives them. The first one is found in logarithmic time,
+    /// and by passing over those before it in its page.
     pub fn records_from(&self, cpu: CpuId, number: RecordNo) -> CpuRecords<'_>
         ensures from { AreRecordsFrom self.now cpu.0 number.0 result }
         // In the list of all records of the CPU they are those from the one of this number on.
