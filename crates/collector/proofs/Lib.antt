@@ -5,6 +5,7 @@ pub mod Stretches
 pub mod RunsLeft
 pub mod Lists
 pub mod RecordsLeft
+pub mod Unique
 pub mod Spans
 pub mod Indexes
 pub mod Indexing

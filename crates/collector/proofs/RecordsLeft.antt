@@ -9,7 +9,7 @@ use Rattle.trace_model.specs.Collection.{Has, Agree}
 use Rattle.trace_model.proofs.collections.Elements.{some_is}
 use Rattle.collector.specs.Sound.{AreSound}
 use Rattle.collector.specs.Index.{IsIn}
-use Rattle.collector.specs.Listed.{AreRecordsOf, first_there, record_under, first_record, records_left, GoOn, GoOnIfAny}
+use Rattle.collector.specs.Listed.{AreRecordsOf, AreRecordsFrom, first_there, record_under, first_record, records_left, GoOn, GoOnIfAny}
 use Rattle.collector.proofs.Indexing.{record_at}
 use Rattle.collector.proofs.Lists.{same_listed, Finds, listed_are, listed_skip, listed_none, listed_first}
 use Rattle.collector.proofs.Stretches.{record_fits}
@@ -85,12 +85,16 @@ records_skip ps cpu n m up fits none = listed_skip (first_record ps cpu) (2 ^ 64
 pub first_record_left : (ps : List Parcel) (cpu n : ℕ) (r : Record) → n < 2 ^ 64 - 1 → first_record ps cpu n ≡ Some r → records_left ps cpu n ≡ (n, r) ∷ records_left ps cpu (n + 1)
 first_record_left ps cpu n r below is = listed_first (first_record ps cpu) (2 ^ 64 - 1) n r below is
 
+-- they are the records from that number on
+pub records_are_left : (ps : List Parcel) (cpu from : ℕ) → Agree ps → AreSound ps → from < 2 ^ 64 → AreRecordsFrom ps cpu from (records_left ps cpu from)
+records_are_left ps cpu from agree sound fits = same_listed {P = Finds (first_record ps cpu) from (2 ^ 64 - 1)} (records_left ps cpu from)
+    (λ m r f. record { has = first_has ps cpu m r f.found; up = f.from })
+    (λ m r h. record { from = h.up; below = record_fits ps sound cpu m r h.has; found = has_first ps agree cpu m r h.has })
+    (listed_are (first_record ps cpu) (2 ^ 64 - 1) (2 ^ 64 - 1 - from) from (omega arith))
+
 -- from the first number on they are all of them
-pub all_records_left : (ps : List Parcel) (cpu : ℕ) → Agree ps → AreSound ps → AreRecordsOf ps cpu (records_left ps cpu 0)
-all_records_left ps cpu agree sound = same_listed {P = Finds (first_record ps cpu) 0 (2 ^ 64 - 1)} (records_left ps cpu 0)
-    (λ m r f. first_has ps cpu m r f.found)
-    (λ m r h. record { from = omega arith; below = record_fits ps sound cpu m r h; found = has_first ps agree cpu m r h })
-    (listed_are (first_record ps cpu) (2 ^ 64 - 1) (2 ^ 64 - 1 - 0) 0 refl)
+pub all_records_from : (ps : List Parcel) (cpu : ℕ) (list : List (ℕ × Record)) → AreRecordsFrom ps cpu 0 list → AreRecordsOf ps cpu list
+all_records_from ps cpu list l = same_listed list (λ m r h. h.has) (λ m r h. record { has = h; up = omega arith }) l
 
 -- ---- the entries of a parcel
 

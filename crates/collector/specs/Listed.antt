@@ -18,6 +18,15 @@ pub record AreListed {X : Type 0} (holds : ℕ → X → Type 0) (list : List (�
 abbrev pub AreRecordsOf : List Parcel → ℕ → List (ℕ × Record) → Type 0
 AreRecordsOf parcels cpu list = AreListed (Has parcels cpu) list
 
+-- the parcels have this record of a CPU under the number, which isn't before `from`
+pub record HasFrom (parcels : List Parcel) (cpu from number : ℕ) (r : Record) : Type 0 where
+  pub has : Has parcels cpu number r
+  pub up : from ≤ number
+
+-- the records that parcels have of a CPU under this number and those after it
+abbrev pub AreRecordsFrom : List Parcel → (cpu from : ℕ) → List (ℕ × Record) → Type 0
+AreRecordsFrom parcels cpu from list = AreListed (HasFrom parcels cpu from) list
+
 -- ---- the same, computed
 
 -- the first of both that is there

@@ -11,7 +11,7 @@ use page_borrow::{Entry, Records};
 use std::fmt;
 use std::iter::FusedIterator;
 use std::marker::Model;
-use trace_model::CpuId;
+use trace_model::{CpuId, RecordNo};
 
 /// Entries of one kept parcel, which continue with this number and with all after it up to the end.
 #[derive(Drop)]
@@ -127,18 +127,31 @@ impl<'a> Iterator for CpuRecords<'a> {
 impl<'a> FusedIterator for CpuRecords<'a> {}
 
 impl Collector {
-    ghost use Rattle.collector.specs.Listed.{AreRecordsOf};
+    ghost use Rattle.std.specs.Prelude.{List, drop};
+    ghost use Rattle.std.specs.List.{slice_get};
+    ghost use Rattle.collector.specs.Listed.{AreRecordsOf, AreRecordsFrom};
 
     /// The records of a CPU by rising number, each with its bytes as they are in a kept page.
     pub fn records(&self, cpu: CpuId) -> CpuRecords<'_>
         ensures { AreRecordsOf self.now cpu.0 result }
+    {
+        self.records_from(cpu, RecordNo(0))
+    }
+
+    /// The records of a CPU from this number on, as `records` gives them. The first one is found in logarithmic time,
+    /// and by passing over those before it in its page.
+    pub fn records_from(&self, cpu: CpuId, number: RecordNo) -> CpuRecords<'_>
+        ensures from { AreRecordsFrom self.now cpu.0 number.0 result }
+        // In the list of all records of the CPU they are those from the one of this number on.
+        ensures rest { (list : List (ℕ × Record)) (k : ℕ) (r : Record) → AreRecordsOf self.now cpu.0 list
+            → slice_get list k ≡ Some (number.0, r) → result ≡ drop k list }
     {
         let _parcels = self.parcels();
         CpuRecords {
             collector: self,
             cpu,
             entries: None,
-            number: 0,
+            number: number.0,
             end: 0,
         }
     }
