@@ -1,1 +1,4 @@
+pub mod Quoting
+pub mod Names
 pub mod Printing
+pub mod Printed

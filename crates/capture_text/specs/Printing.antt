@@ -1,36 +1,96 @@
--- What is printed of losses and damaged pages. docs/FORMATS.md, "Captures".
-use Rattle.std.specs.Prelude.{ℕ, ◌*◌, List, [], ◌∷◌, ◌++◌, flat_map, codes}
+-- The lines of a collection: of its records, of its missing runs, of losses of unknown number, and of damaged pages, as
+-- text or as JSON. docs/FORMATS.md, "Captures".
+use Rattle.std.specs.Prelude.{ℕ, ◌+◌, ◌-◌, ◌*◌, ◌==◌, nat_lt, if◌then◌else◌, List, [], ◌∷◌, ◌++◌, map, flat_map, codes, Option, Some, None}
+use Rattle.std.specs.Int.{div_ceil}
 use Rattle.std.specs.Fmt.{decimal}
-use Rattle.text_model.specs.Text.{line_feed, space}
+use Rattle.std.specs.List.{enumerate_from}
+use Rattle.trace_model.specs.Listing.{Line}
+use Rattle.trace_dat.specs.Contents.{EventFormat}
+use Rattle.text_model.specs.Text.{hex_text, line_feed, space}
 use Rattle.text_model.specs.Printing.{image_fault_text}
-use Rattle.image_dump.specs.ImageFaults.{reader_fault_text}
+use Rattle.text_values.specs.Digits.{pairs_of}
+use Rattle.world_model.specs.Printing.{printed_line, printed_runs}
+use Rattle.kernel_texts.specs.Names.{Event, event_of}
+use Rattle.kernel_texts.specs.FirstBytes.{common_fields_in}
 use Rattle.capture.specs.Pages.{Damage}
-use Rattle.capture.specs.declared.pages.Damaged.{Damaged}
+use Rattle.capture.specs.declared.part.Part.{Part}
+use Rattle.capture_text.specs.declared.form.Form.{Form}
+use Rattle.capture_text.specs.declared.form.Form.TheVariants.{Text, Json}
+use Rattle.capture_text.specs.Names.{named_part, json_named}
+
+-- ---- records
+
+-- a record's line with what its event is
+abbrev pub named_line : (ℕ → Option Event) → Line → List ℕ
+named_line event_by line =
+    decimal line.cpu ++ space ∷ decimal line.number ++ space ∷ decimal line.moment
+    ++ space ∷ named_part event_by line.bytes (common_fields_in line.bytes)
+    ++ space ∷ hex_text line.bytes ++ line_feed ∷ []
+
+-- a record's line as JSON, with what `named` says of its event
+abbrev pub json_line : (named : List ℕ) → Line → List ℕ
+json_line named line =
+    codes "{\"cpu\":" ++ decimal line.cpu ++ codes ",\"number\":" ++ decimal line.number
+    ++ codes ",\"time\":" ++ decimal line.moment ++ named ++ codes ",\"data\":\"" ++ pairs_of line.bytes ++ codes "\"}"
+    ++ line_feed ∷ []
+
+-- A record's line; if there are formats, with what its event is by them.
+abbrev pub record_line : Form → (formats : Option (List EventFormat)) → Line → List ℕ
+record_line Text None line = printed_line line
+record_line Text (Some formats) line = named_line (λ id. event_of id formats) line
+record_line Json None line = json_line [] line
+record_line Json (Some formats) line =
+    json_line (json_named (λ id. event_of id formats) line.bytes (common_fields_in line.bytes)) line
+
+-- ---- missing runs
+
+-- a run of missing numbers of a CPU: the first and the last
+abbrev pub json_missing : ℕ → ℕ × ℕ → List ℕ
+json_missing cpu run =
+    codes "{\"cpu\":" ++ decimal cpu ++ codes ",\"missing\":[" ++ decimal run.0 ++ codes "," ++ decimal run.1
+    ++ codes "]}" ++ line_feed ∷ []
+
+-- the missing runs of each CPU, by rising CPU
+abbrev pub run_lines : Form → List (List (ℕ × ℕ)) → List ℕ
+run_lines Text runs = printed_runs runs
+run_lines Json runs = flat_map (λ of_cpu. flat_map (json_missing of_cpu.0) of_cpu.1) (enumerate_from 0 runs)
+
+-- ---- losses of unknown number
 
 -- at this number of a CPU records were lost, one at least
-abbrev pub unknown_line : (cpu number : ℕ) → List ℕ
-unknown_line cpu number = codes "unknown " ++ decimal cpu ++ space ∷ decimal number ++ line_feed ∷ []
+abbrev pub unknown_line : Form → (cpu number : ℕ) → List ℕ
+unknown_line Text cpu number = codes "unknown " ++ decimal cpu ++ space ∷ decimal number ++ line_feed ∷ []
+unknown_line Json cpu number =
+    codes "{\"cpu\":" ++ decimal cpu ++ codes ",\"unknown\":" ++ decimal number ++ codes "}" ++ line_feed ∷ []
 
-abbrev pub printed_unknown : (cpu : ℕ) → List ℕ → List ℕ
-printed_unknown cpu numbers = flat_map (unknown_line cpu) numbers
+abbrev pub unknown_lines : Form → (cpu : ℕ) → (numbers : List ℕ) → List ℕ
+unknown_lines form cpu numbers = flat_map (unknown_line form cpu) numbers
 
--- the CPU of a damaged page, and the number of the next record
-abbrev pub damaged_front : (cpu number : ℕ) → List ℕ
-damaged_front cpu number = codes "damaged " ++ decimal cpu ++ space ∷ decimal number
+-- ---- damaged pages
 
--- how many pages are before it, and its first byte in the capture, whose pages have `size` bytes
-abbrev pub damaged_place : (size index : ℕ) → List ℕ
-damaged_place size index = codes " page " ++ decimal index ++ codes " byte " ++ decimal (size * index) ++ codes ": "
+-- how many pages a part has, of which the last may be shorter; none, if they have no size
+abbrev pub page_count : Part → ℕ
+page_count part = if part.size == 0 then 0 else div_ceil part.length part.size
 
--- a page of a CPU can't be read, with what is wrong with it
-abbrev pub damaged_line : (size cpu number index : ℕ) → List ℕ → List ℕ
-damaged_line size cpu number index fault =
-    damaged_front cpu number ++ (damaged_place size index ++ (fault ++ line_feed ∷ []))
+-- the place of the first byte of the page at this index, counted over the parts, in the bytes of all parts
+abbrev pub offset_of : List Part → (index : ℕ) → ℕ
+offset_of [] index = 0
+offset_of (part ∷ parts) index =
+    if nat_lt index (page_count part) then part.size * index
+    else part.length + offset_of parts (index - page_count part)
 
-abbrev pub printed_damages : (size cpu : ℕ) → List Damage → List ℕ
-printed_damages size cpu damages =
-    flat_map (λ damage. damaged_line size cpu damage.number damage.index (image_fault_text damage.cause)) damages
+-- a page of a CPU can't be read: the number of the next record, which page it is, where it begins, and what is wrong
+abbrev pub damaged_line : Form → (cpu number index offset : ℕ) → (fault : List ℕ) → List ℕ
+damaged_line Text cpu number index offset fault =
+    codes "damaged " ++ decimal cpu ++ space ∷ decimal number ++ codes " page " ++ decimal index
+    ++ codes " byte " ++ decimal offset ++ codes ": " ++ fault ++ line_feed ∷ []
+damaged_line Json cpu number index offset fault =
+    codes "{\"cpu\":" ++ decimal cpu ++ codes ",\"damaged\":" ++ decimal number ++ codes ",\"page\":" ++ decimal index
+    ++ codes ",\"byte\":" ++ decimal offset ++ codes ",\"fault\":\"" ++ fault ++ codes "\"}" ++ line_feed ∷ []
 
--- the line of a damaged page as it is answered
-abbrev pub reported_line : (size cpu : ℕ) → Damaged → List ℕ
-reported_line size cpu damaged = damaged_line size cpu damaged.number.0 damaged.page (reader_fault_text damaged.fault)
+abbrev pub damage_line : Form → List Part → (cpu : ℕ) → Damage → List ℕ
+damage_line form parts cpu damage =
+    damaged_line form cpu damage.number damage.index (offset_of parts damage.index) (image_fault_text damage.cause)
+
+abbrev pub damaged_lines : Form → List Part → (cpu : ℕ) → List Damage → List ℕ
+damaged_lines form parts cpu damages = flat_map (damage_line form parts cpu) damages

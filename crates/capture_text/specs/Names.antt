@@ -1,0 +1,54 @@
+-- What a line says of its record besides the numbers: the process that wrote it, its event, and the text of a print.
+use Rattle.std.specs.Prelude.{ℕ, Bool, false, ◌&&◌, ◌==◌, if◌then◌else◌, List, [], ◌∷◌, ◌++◌, take_while, drop, codes, bytes_eq, Option, Some, None}
+use Rattle.std.specs.Fmt.{decimal, signed_decimal}
+use Rattle.text_model.specs.Text.{space}
+use Rattle.trace_dat.specs.Contents.{EventFormat}
+use Rattle.kernel_texts.specs.Names.{Event, event_of}
+use Rattle.kernel_texts.specs.FirstBytes.{common_fields_in}
+use Rattle.kernel_texts.specs.declared.record.CommonFields.{CommonFields}
+use Rattle.capture_text.specs.Quoting.{quotation_mark, quoted, shown_name}
+
+-- an event's system and its own name
+abbrev pub event_text : Event → List ℕ
+event_text event = shown_name event.system ++ codes ":" ++ shown_name event.name
+
+-- whether the event is what a program prints (kernel/trace/trace_entries.h, `print`)
+abbrev pub is_print : Option Event → Bool
+is_print None = false
+is_print (Some event) = bytes_eq event.system (codes "ftrace") && bytes_eq event.name (codes "print")
+
+-- the text of such a record: behind the fields that all events have and an address, up to the first zero byte
+abbrev pub print_text : List ℕ → List ℕ
+print_text bytes = take_while (λ b. if b == 0 then false else true) (drop 16 bytes)
+
+-- ---- in a line of text
+
+-- the event, or its number if it has no name
+abbrev pub event_or_number : ℕ → Option Event → List ℕ
+event_or_number id None = decimal id
+event_or_number id (Some event) = event_text event
+
+abbrev pub print_part : Option Event → List ℕ → List ℕ
+print_part event bytes = if is_print event then space ∷ quoted (print_text bytes) else []
+
+-- the process, the event, and the text of a print; a record without the fields has none of them
+abbrev pub named_part : (ℕ → Option Event) → List ℕ → Option CommonFields → List ℕ
+named_part event_by bytes None = codes "- -"
+named_part event_by bytes (Some fields) =
+    signed_decimal fields.pid ++ space ∷ event_or_number fields.event (event_by fields.event)
+    ++ print_part (event_by fields.event) bytes
+
+-- ---- in a JSON line
+
+abbrev pub json_event : ℕ → Option Event → List ℕ
+json_event id None = decimal id
+json_event id (Some event) = quotation_mark ∷ event_text event ++ quotation_mark ∷ []
+
+abbrev pub json_print : Option Event → List ℕ → List ℕ
+json_print event bytes = if is_print event then codes ",\"text\":" ++ quoted (print_text bytes) else []
+
+abbrev pub json_named : (ℕ → Option Event) → List ℕ → Option CommonFields → List ℕ
+json_named event_by bytes None = []
+json_named event_by bytes (Some fields) =
+    codes ",\"pid\":" ++ signed_decimal fields.pid ++ codes ",\"event\":"
+    ++ json_event fields.event (event_by fields.event) ++ json_print (event_by fields.event) bytes

@@ -1,0 +1,28 @@
+-- What a printer has printed.
+use Rattle.std.specs.Prelude.{◌≡◌, ℕ, ⊤, Bool, List, Option, Some, None}
+use Rattle.trace_dat.specs.Contents.{EventFormat}
+use Rattle.kernel_texts.specs.declared.names.EventNames.{EventNames}
+use Rattle.kernel_texts.specs.Names.{HasEvents}
+use Rattle.text_buffer.specs.Putting.{has_failed, HasPut}
+use Rattle.capture_text.specs.declared.form.Form.{Form}
+use Rattle.capture_text.specs.declared.printer.Printer.{Printer}
+
+-- whether a write has failed
+abbrev pub failed_of : Printer → Bool
+failed_of printer = has_failed printer.buffer
+
+-- events are named by these formats, or not at all
+abbrev pub AreNames : Option (Bor EventNames) → (formats : Option (List EventFormat)) → Type 0
+AreNames None None = ⊤
+AreNames None (Some formats) = ⊥
+AreNames (Some names) None = ⊥
+AreNames (Some names) (Some formats) = HasEvents names.now formats
+
+-- A printer that prints in this form, with events named by these formats, if any, has printed this text since the
+-- writer's contents were `start`. Now they are `contents`, and a write has failed or not. (`HasPut` says how much of the
+-- text is written.)
+pub record HasPrinted (form : Form) (formats : Option (List EventFormat)) (start contents : Option (List ℕ))
+    (failed : Bool) (text : List ℕ) (printer : Printer) : Type 0 where
+  pub form_is : printer.form ≡ form
+  pub names_are : AreNames printer.names formats
+  pub put : HasPut start contents failed text printer.buffer
