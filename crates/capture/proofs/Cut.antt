@@ -1,17 +1,11 @@
 -- A capture that is cut into pages, and one piece more.
-use Rattle.std.proofs.Common.{◌≡◌, ◌∙◌, ℕ, suc, ◌+◌, ◌*◌, ◌≤◌, ◌<◌, List, [], ◌∷◌, ◌++◌, length, drop, Option, refl, sym, ap, subst, arith, length-append, length-drop, append-nil, ⊎_elim}
-use Rattle.std.proofs.lemmas.List.{take_all, drop_all, take-append-le, drop-append-le}
-use Rattle.std.specs.Io.KnownBytes.{Consumes}
-use Rattle.std.proofs.KnownBytes.{Consumes-nil, Consumes-trans}
-use Rattle.capture.specs.Pages.{Page, IsPageOf, AreCut}
+use Rattle.std.proofs.Common.{◌≡◌, ◌∙◌, ℕ, suc, ◌+◌, ◌*◌, ◌≤◌, ◌<◌, List, [], ◌∷◌, ◌++◌, length, drop, refl, sym, ap, subst, arith, length-append, length-drop, append-nil, append_assoc, ⊎_elim}
+use Rattle.std.specs.Prelude.{map}
+use Rattle.std.proofs.lemmas.List.{take_all, drop_all, take-append-le, drop-append-le, map-append}
+use Rattle.trace_model.specs.Image.{Missed}
+use Rattle.capture.specs.Pages.{Page, IsPageOf, AreCut, told, Fit}
 use Rattle.capture.specs.Captures.{IsCapture, AddsPage, AddsRest, PassesNumbers}
-use Rattle.capture.specs.Reading.{IsRead, IsReadPast}
 use Rattle.capture.specs.declared.pages.Capture.{Capture}
-
--- what was read is whole pages
-pub record IsReadWhole (size : ℕ) (unread left : Option (List ℕ)) (capture : Capture) : Type 0 where
-  pub read : IsRead size unread left capture
-  pub whole : length read.bytes ≡ size * length read.pages
 
 pub cut-append : (size : ℕ) (bytes piece : List ℕ) (pages : List Page) (page : Page) → AreCut size bytes pages
     → length bytes ≡ size * length pages → 0 < length piece → length piece ≤ size → IsPageOf piece page
@@ -28,65 +22,75 @@ cut-append size bytes piece (first ∷ pages) page (some_there, first_is, more) 
           (cut-append size (drop size bytes) piece pages page more rest some fits is),
     )
 
--- nothing is read yet
-pub read-none : (size : ℕ) (known : Option (List ℕ)) (capture : Capture) → IsCapture capture [] → IsReadWhole size known known capture
-read-none size known capture none = record {
-  read = record { bytes = []; pages = []; taken = Consumes-nil known; cut = refl; capture_is = none };
-  whole = omega arith;
-}
-
 whole_more : (size n a b : ℕ) → a ≡ size * n → b ≡ size → a + b ≡ size * suc n
 whole_more size n a b whole one = omega arith
 
--- a whole page more
-pub read-page : (size : ℕ) (unread left after : Option (List ℕ)) (capture new : Capture) (piece : List ℕ) (was : IsReadWhole size unread left capture)
-    → 0 < size → length piece ≡ size → Consumes left after piece → AddsPage piece was.read.pages new → IsReadWhole size unread after new
-read-page size unread left after capture new piece was some long taken adds = record {
-  read = record {
-    bytes = was.read.bytes ++ piece;
-    pages = was.read.pages ++ adds.page ∷ [];
-    taken = Consumes-trans unread left after was.read.bytes piece was.read.taken taken;
-    cut = cut-append size was.read.bytes piece was.read.pages adds.page was.read.cut was.whole (omega (arith, long, some)) (omega (arith, long)) adds.page_is;
-    capture_is = adds.capture_is;
-  };
-  whole = length-append was.read.bytes piece ∙ whole_more size (length was.read.pages) (length was.read.bytes) (length piece) was.whole long
-      ∙ ap (λ (n : ℕ). size * n) (let more : suc (length was.read.pages) ≡ length (was.read.pages ++ adds.page ∷ []) = omega (arith, length-append was.read.pages (adds.page ∷ [])) in more);
+-- after these pages whole pages were read, which have these bytes
+pub record AreWhole (size : ℕ) (known : Missed) (before : List Page) (front : List ℕ) (capture : Capture) : Type 0 where
+  pub more : List Page
+  pub cut : AreCut size front more
+  pub capture_is : IsCapture capture (before ++ map (told known) more)
+  pub whole : length front ≡ size * length more
+
+pub whole-none : (size : ℕ) (known : Missed) (before : List Page) (capture : Capture) → IsCapture capture before → AreWhole size known before [] capture
+whole-none size known before capture is = record {
+  more = [];
+  cut = refl;
+  capture_is = subst (IsCapture capture) (sym (append-nil before)) is;
+  whole = omega arith;
 }
 
--- and what is left after whole pages
-pub read-rest : (size : ℕ) (unread left after : Option (List ℕ)) (capture new : Capture) (piece : List ℕ) (was : IsReadWhole size unread left capture)
-    → length piece ≤ size → Consumes left after piece → AddsRest piece was.read.pages new → IsRead size unread after new
-read-rest size unread left after capture new piece was fits taken adds = ⊎_elim
+-- the pages with one more
+told_more : (known : Missed) (before more : List Page) (page : Page)
+    → (before ++ map (told known) more) ++ told known page ∷ [] ≡ before ++ map (told known) (more ++ page ∷ [])
+told_more known before more page =
+    append_assoc before (map (told known) more) (told known page ∷ [])
+    ∙ ap (λ (ps : List Page). before ++ ps) (sym (map-append (told known) more (page ∷ [])))
+
+pub whole-page : (size : ℕ) (known : Missed) (before : List Page) (front piece : List ℕ) (capture new : Capture) (was : AreWhole size known before front capture)
+    → 0 < size → length piece ≡ size → AddsPage known piece (before ++ map (told known) was.more) new
+    → AreWhole size known before (front ++ piece) new
+whole-page size known before front piece capture new was some long adds = record {
+  more = was.more ++ adds.page ∷ [];
+  cut = cut-append size front piece was.more adds.page was.cut was.whole (omega (arith, long, some)) (omega (arith, long)) adds.page_is;
+  capture_is = subst (IsCapture new) (told_more known before was.more adds.page) adds.capture_is;
+  whole = length-append front piece ∙ whole_more size (length was.more) (length front) (length piece) was.whole long
+      ∙ ap (λ (n : ℕ). size * n) (let one : suc (length was.more) ≡ length (was.more ++ adds.page ∷ []) = omega (arith, length-append was.more (adds.page ∷ [])) in one);
+}
+
+-- pages were read after these, and have these bytes
+pub record AreRead (size : ℕ) (known : Missed) (before : List Page) (bytes : List ℕ) (capture : Capture) : Type 0 where
+  pub more : List Page
+  pub cut : AreCut size bytes more
+  pub capture_is : IsCapture capture (before ++ map (told known) more)
+
+pub whole-rest : (size : ℕ) (known : Missed) (before : List Page) (front piece : List ℕ) (capture new : Capture) (was : AreWhole size known before front capture)
+    → length piece ≤ size → AddsRest known piece (before ++ map (told known) was.more) new → AreRead size known before (front ++ piece) new
+whole-rest size known before front piece capture new was fits adds = ⊎_elim
     (λ none. record {
-      bytes = was.read.bytes ++ piece;
-      pages = was.read.pages;
-      taken = Consumes-trans unread left after was.read.bytes piece was.read.taken taken;
-      cut = subst (λ (xs : List ℕ). AreCut size xs was.read.pages)
-          (sym (append-nil was.read.bytes) ∙ ap (λ (xs : List ℕ). was.read.bytes ++ xs) (sym none.0)) was.read.cut;
+      more = was.more;
+      cut = subst (λ (xs : List ℕ). AreCut size xs was.more)
+          (sym (append-nil front) ∙ ap (λ (xs : List ℕ). front ++ xs) (sym none.0)) was.cut;
       capture_is = none.1;
     })
     (λ page. record {
-      bytes = was.read.bytes ++ piece;
-      pages = was.read.pages ++ page.1.page ∷ [];
-      taken = Consumes-trans unread left after was.read.bytes piece was.read.taken taken;
-      cut = cut-append size was.read.bytes piece was.read.pages page.1.page was.read.cut was.whole page.0 fits page.1.page_is;
-      capture_is = page.1.capture_is;
+      more = was.more ++ page.1.page ∷ [];
+      cut = cut-append size front piece was.more page.1.page was.cut was.whole page.0 fits page.1.page_is;
+      capture_is = subst (IsCapture new) (told_more known before was.more page.1.page) page.1.capture_is;
     })
     adds
 
--- a page more, whose numbers don't fit
-pub read-past : (size : ℕ) (unread left after : Option (List ℕ)) (capture : Capture) (piece : List ℕ) (was : IsReadWhole size unread left capture)
-    → 0 < length piece → length piece ≤ size → Consumes left after piece → PassesNumbers piece was.read.pages → IsReadPast size unread after
-read-past size unread left after capture piece was some fits taken passes = record {
-  bytes = was.read.bytes ++ piece;
-  pages = was.read.pages ++ passes.page ∷ [];
-  taken = Consumes-trans unread left after was.read.bytes piece was.read.taken taken;
-  cut = cut-append size was.read.bytes piece was.read.pages passes.page was.read.cut was.whole some fits passes.page_is;
-  past = passes.past;
-}
+-- pages after these have these bytes, and with them the numbers don't fit
+pub record ArePast (size : ℕ) (known : Missed) (before : List Page) (bytes : List ℕ) : Type 0 where
+  pub more : List Page
+  pub cut : AreCut size bytes more
+  pub past : Fit (before ++ map (told known) more) → ⊥
 
--- the pages that are read are counted
-pub read-count : (size : ℕ) (unread left after : Option (List ℕ)) (capture new : Capture) (piece : List ℕ) (was : IsReadWhole size unread left capture)
-    → AddsPage piece was.read.pages new → new.pages ≡ capture.pages + 1
-read-count size unread left after capture new piece was adds =
-    omega (arith, was.read.capture_is.count_is, adds.capture_is.count_is, length-append was.read.pages (adds.page ∷ []))
+pub whole-past : (size : ℕ) (known : Missed) (before : List Page) (front piece : List ℕ) (capture : Capture) (was : AreWhole size known before front capture)
+    → 0 < length piece → length piece ≤ size → PassesNumbers known piece (before ++ map (told known) was.more)
+    → ArePast size known before (front ++ piece)
+whole-past size known before front piece capture was some fits passes = record {
+  more = was.more ++ passes.page ∷ [];
+  cut = cut-append size front piece was.more passes.page was.cut was.whole some fits passes.page_is;
+  past = λ fit. passes.past (subst Fit (sym (told_more known before was.more passes.page)) fit);
+}

@@ -2,6 +2,9 @@ mod Appended
 mod Captured
 pub mod Cut
 mod Filled
+pub mod Told
+mod Adding
+mod ReadingOn
 mod Numbers
 mod Disjoint
 mod Together

@@ -6,7 +6,8 @@ use Rattle.page_image.specs.Images.{missed_of}
 use Rattle.page_image.specs.declared.image.Image.{Image}
 use Rattle.page_numbers.specs.Faults.{image_fault}
 use Rattle.page_numbers.specs.Parcels.{as_parcels}
-use Rattle.capture.specs.Pages.{PageRead, Page, IsPageOf, parcels_from, unknown_from, Damage, damages_from, end_from, Fit}
+use Rattle.trace_model.specs.Image.{Missed}
+use Rattle.capture.specs.Pages.{PageRead, Page, told, IsPageOf, AreCut, parcels_from, unknown_from, Damage, damages_from, end_from, Fit}
 use Rattle.capture.specs.declared.pages.Capture.{Capture}
 use Rattle.capture.specs.declared.pages.Damaged.{Damaged}
 
@@ -39,19 +40,35 @@ pub record IsCapture (capture : Capture) (pages : List Page) : Type 0 where
   pub count_is : capture.pages ≡ length pages
   pub fit : Fit pages
 
--- one page more, with these bytes, was read after these pages
-pub record AddsPage (bytes : List ℕ) (pages : List Page) (capture : Capture) : Type 0 where
+-- One page more, with these bytes, was read after these pages; a loss of unknown number is `known`.
+pub record AddsPage (known : Missed) (bytes : List ℕ) (pages : List Page) (capture : Capture) : Type 0 where
   pub page : Page
   pub page_is : IsPageOf bytes page
-  pub capture_is : IsCapture capture (pages ++ page ∷ [])
+  pub capture_is : IsCapture capture (pages ++ told known page ∷ [])
 
 -- these bytes were left after these pages: none, or a last page
-abbrev pub AddsRest : List ℕ → List Page → Capture → Type 0
-AddsRest bytes pages capture =
-    ((bytes ≡ []) × IsCapture capture pages) ⊎ ((0 < length bytes) × AddsPage bytes pages capture)
+abbrev pub AddsRest : (known : Missed) → List ℕ → List Page → Capture → Type 0
+AddsRest known bytes pages capture =
+    ((bytes ≡ []) × IsCapture capture pages) ⊎ ((0 < length bytes) × AddsPage known bytes pages capture)
 
 -- with one page more, which has these bytes, the numbers don't fit
-pub record PassesNumbers (bytes : List ℕ) (pages : List Page) : Type 0 where
+pub record PassesNumbers (known : Missed) (bytes : List ℕ) (pages : List Page) : Type 0 where
   pub page : Page
   pub page_is : IsPageOf bytes page
-  pub past : Fit (pages ++ page ∷ []) → ⊥
+  pub past : Fit (pages ++ told known page ∷ []) → ⊥
+
+-- These bytes, cut into pages of this size, were read after these pages.
+pub record AddsPages (size : ℕ) (known : Missed) (bytes : List ℕ) (pages : List Page) (capture : Capture)
+    : Type 0 where
+  pub more : List Page
+  pub cut : AreCut size bytes more
+  pub capture_is : IsCapture capture (pages ++ map (told known) more)
+
+-- with the pages of a beginning of these bytes the numbers don't fit
+pub record PassesWithin (size : ℕ) (known : Missed) (bytes : List ℕ) (pages : List Page) : Type 0 where
+  pub front : List ℕ
+  pub behind : List ℕ
+  pub more : List Page
+  pub parts : bytes ≡ front ++ behind
+  pub cut : AreCut size front more
+  pub past : Fit (pages ++ map (told known) more) → ⊥

@@ -28,6 +28,17 @@ AreCut size bytes [] = bytes ≡ []
 AreCut size bytes (page ∷ pages) =
     (0 < length bytes) × IsPageOf (take size bytes) page × AreCut size (drop size bytes) pages
 
+-- what is known of a loss, if one of unknown number is `known`
+abbrev pub told_of : (known : Missed) → Missed → Missed
+told_of known none = none
+told_of known unknown = known
+told_of known (counted events) = counted events
+
+-- the page, if a loss of unknown number is `known`
+abbrev pub told : (known : Missed) → Page → Page
+told known (intact read) = intact record { missed = told_of known read.missed; records = read.records }
+told known (damaged cause) = damaged cause
+
 -- how many records were lost before a page at least: one, if their number isn't stated
 abbrev pub least_missed : Missed → ℕ
 least_missed none = 0

@@ -10,13 +10,18 @@ ghost use Rattle.trace_model.specs.Image.{unknown, has_room, image_of, missed_re
 ghost use Rattle.trace_model.specs.ParcelBytes.{AgreesWith};
 ghost use Rattle.trace_model.specs.Collection.{Agree};
 ghost use Rattle.trace_model.specs.declared.limits.TheConstants.{MAX_IMAGE};
-ghost use Rattle.capture.specs.Pages.{Page, intact, IsPageOf, AreCut, parcels_from};
+ghost use Rattle.capture.specs.Pages.{Page, intact, told, IsPageOf, AreCut, parcels_from};
 ghost use Rattle.capture.specs.Rings.{AreReported, HaveCounts, IsAtMost, parcels_of_captures};
 
 /// Bytes are one list of pages at most.
 pub fn captures_have_one_reading()
     ensures { (size : ℕ) (bytes : List ℕ) (pages others : List Page) → AreCut size bytes pages
         → AreCut size bytes others → pages ≡ others }
+{}
+
+/// A page stays as it is, if its loss of unknown number is still unknown.
+pub fn unknown_losses_stay()
+    ensures { (page : Page) → told unknown page ≡ page }
 {}
 
 /// If each page reads, and states how many records were lost, the parcels are those of the ring: exactly its pieces,

@@ -11,4 +11,4 @@ mod pages;
 mod read;
 
 pub use pages::{Capture, CaptureFault, Damaged};
-pub use read::{ReadFault, read_capture};
+pub use read::{Extent, ReadFault, fill_piece, read_capture, read_on};

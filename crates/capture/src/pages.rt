@@ -6,14 +6,14 @@ ghost use Rattle.page_image.specs.Contents.{IsPage};
 ghost use Rattle.page_image.specs.Images.{missed_of};
 ghost use Rattle.page_numbers.specs.Faults.{image_fault};
 ghost use Rattle.page_numbers.specs.Parcels.{as_parcel};
-ghost use Rattle.capture.specs.Pages.{Page, intact, damaged, least_missed, parcel_at, behind, unknown_at};
+ghost use Rattle.capture.specs.Pages.{Page, intact, damaged, told_of, least_missed, parcel_at, behind, unknown_at};
 ghost use Rattle.capture.specs.Captures.{page_read, numbers_of};
 ghost use Rattle.capture.specs.declared.pages.CaptureFault.TheVariants.{NoMemory as MemoryIs};
 
 use page_image::{Image, ImageFault, Missed, read_image};
 use page_numbers::{Parcel, ParcelFault};
 use stamp_times::restore_stamps;
-use std::alloc::{AllocFailed, Global};
+use std::alloc::{AllocError, AllocFailed, Global};
 use trace_model::{CpuId, FillNo, RecordNo};
 
 /// Why a capture can't be read on.
@@ -29,6 +29,14 @@ impl<T: Drop> From<AllocFailed<T>> for CaptureFault {
     ghost from_gives = { λ _ e. e ≡ MemoryIs };
 
     fn from(_refused: AllocFailed<T>) -> CaptureFault {
+        CaptureFault::NoMemory
+    }
+}
+
+impl From<AllocError> for CaptureFault {
+    ghost from_gives = { λ _ e. e ≡ MemoryIs };
+
+    fn from(_refused: AllocError) -> CaptureFault {
         CaptureFault::NoMemory
     }
 }
@@ -69,6 +77,16 @@ fn least_missed(missed: Missed) -> u64
         Missed::None => 0,
         Missed::Unknown => 1,
         Missed::Count(events) => events,
+    }
+}
+
+/// What is known of a loss, if one of unknown number is `unknown`.
+fn told(unknown: Missed, missed: Missed) -> Missed
+    ensures { missed_of result ≡ told_of (missed_of unknown) (missed_of missed) }
+{
+    match missed {
+        Missed::Unknown => unknown,
+        stated => stated,
     }
 }
 
@@ -128,9 +146,10 @@ impl Capture {
     ghost use Rattle.trace_model.specs.Image.{ImageCause};
     ghost use Rattle.trace_model.specs.declared.limits.TheConstants.{MAX_CPUS};
     ghost use Rattle.page_image.specs.Contents.{IsPage};
+    ghost use Rattle.page_image.specs.Images.{missed_of};
     ghost use Rattle.page_numbers.specs.Faults.{image_fault};
     ghost use Rattle.capture.specs.Pages.{Page, intact, damaged, Fit};
-    ghost use Rattle.capture.specs.Captures.{page_read, IsCapture, AddsPage, AddsRest, PassesNumbers};
+    ghost use Rattle.capture.specs.Captures.{page_read, IsCapture, AddsPage, AddsRest, PassesNumbers, AddsPages, PassesWithin};
 
     /// A capture of which nothing is read.
     pub fn new(alloc: Global, cpu: CpuId) -> Capture
@@ -194,36 +213,90 @@ impl Capture {
 
     /// Reads one page more, which is this image. Where there is no answer, the capture is of no use.
     ///
-    /// Stamps in the image are replaced by extends to the same times.
-    pub fn add_page(&mut self, alloc: Global, image: &mut [u8]) -> Result<(), CaptureFault>
+    /// A loss of unknown number is taken as `unknown`: still unknown, or a count. Stamps in the image are replaced by
+    /// extends to the same times.
+    pub fn add_page(
+        &mut self,
+        alloc: Global,
+        image: &mut [u8],
+        unknown: Missed,
+    ) -> Result<(), CaptureFault>
         requires { self.old.cpu.0 < MAX_CPUS }
         ensures cpu { self.new.cpu ≡ self.old.cpu }
         ensures read { (pages : List Page) → IsCapture self.old pages
-            → OnOk result (AddsPage image.old pages self.new) }
+            → OnOk result (AddsPage (missed_of unknown) image.old pages self.new) }
         ensures numbers { (pages : List Page) → IsCapture self.old pages → result ≡ Err CaptureFault.Numbers
-            → PassesNumbers image.old pages }
+            → PassesNumbers (missed_of unknown) image.old pages }
     {
         restore_stamps(image);
         match read_image(alloc, image) {
-            Ok(image) => self.add_image(alloc, image),
+            Ok(mut image) => {
+                image.missed = told(unknown, image.missed);
+                self.add_image(alloc, image)
+            }
             Err(ImageFault::NoMemory) => Err(CaptureFault::NoMemory),
             Err(fault) => self.add_damaged(fault),
         }
     }
 
     /// Reads what is left of the capture's bytes after whole pages: nothing, or a last page.
-    pub fn add_rest(self, alloc: Global, rest: &mut [u8]) -> Result<Capture, CaptureFault>
-        requires { self.cpu.0 < MAX_CPUS }
-        ensures cpu { IfOk result (λ capture. capture.cpu ≡ self.cpu) }
-        ensures read { (pages : List Page) → IsCapture self pages
-            → IfOk result (λ capture. AddsRest rest.old pages capture) }
-        ensures numbers { (pages : List Page) → IsCapture self pages → result ≡ Err CaptureFault.Numbers
-            → (0 < length rest.old) × PassesNumbers rest.old pages }
+    pub fn add_rest(
+        &mut self,
+        alloc: Global,
+        rest: &mut [u8],
+        unknown: Missed,
+    ) -> Result<(), CaptureFault>
+        requires { self.old.cpu.0 < MAX_CPUS }
+        ensures cpu { self.new.cpu ≡ self.old.cpu }
+        ensures read { (pages : List Page) → IsCapture self.old pages
+            → OnOk result (AddsRest (missed_of unknown) rest.old pages self.new) }
+        ensures numbers { (pages : List Page) → IsCapture self.old pages → result ≡ Err CaptureFault.Numbers
+            → (0 < length rest.old) × PassesNumbers (missed_of unknown) rest.old pages }
     {
-        let mut capture = self;
-        if !rest.is_empty() {
-            capture.add_page(alloc, rest)?;
+        if rest.is_empty() {
+            return Ok(());
         }
-        Ok(capture)
+        self.add_page(alloc, rest, unknown)
+    }
+
+    /// Reads one page more, which stays as it is.
+    fn add_copy(&mut self, alloc: Global, page: &[u8], unknown: Missed) -> Result<(), CaptureFault>
+        requires { self.old.cpu.0 < MAX_CPUS }
+        ensures cpu { self.new.cpu ≡ self.old.cpu }
+        ensures read { (pages : List Page) → IsCapture self.old pages
+            → OnOk result (AddsRest (missed_of unknown) page.now pages self.new) }
+        ensures numbers { (pages : List Page) → IsCapture self.old pages → result ≡ Err CaptureFault.Numbers
+            → (0 < length page.now) × PassesNumbers (missed_of unknown) page.now pages }
+    {
+        let mut copy = page.to_vec(alloc)?;
+        self.add_rest(alloc, copy.as_mut_slice(), unknown)
+    }
+
+    /// Reads pages more, which lie in memory: each has `size` bytes, but for the last one, which may be shorter. Of
+    /// the bytes one page at a time is copied. Where there is no answer, the capture is of no use.
+    ///
+    /// A loss of unknown number is taken as `unknown`.
+    pub fn add_bytes(
+        &mut self,
+        alloc: Global,
+        size: usize,
+        bytes: &[u8],
+        unknown: Missed,
+    ) -> Result<(), CaptureFault>
+        requires cpu { self.old.cpu.0 < MAX_CPUS }
+        requires some { 0 < size }
+        ensures cpu { self.new.cpu ≡ self.old.cpu }
+        ensures read { (pages : List Page) → IsCapture self.old pages
+            → OnOk result (AddsPages size (missed_of unknown) bytes.now pages self.new) }
+        ensures numbers { (pages : List Page) → IsCapture self.old pages → result ≡ Err CaptureFault.Numbers
+            → PassesWithin size (missed_of unknown) bytes.now pages }
+    {
+        let mut rest = bytes;
+        while size <= rest.len() {
+            let (page, behind) = rest.split_at(size);
+            self.add_copy(alloc, page, unknown)?;
+            rest = behind;
+        }
+        self.add_copy(alloc, rest, unknown)
     }
 }

@@ -1,14 +1,17 @@
 //! A capture, read from its source in pieces of one page.
-ghost use Rattle.std.specs.Prelude.{◌≡◌, ◌↔◌, ◌<◌, ◌≤◌, false, true, Err, length, take, vec_len, IfOk, IsErr};
+ghost use Rattle.std.specs.Prelude.{◌≡◌, ◌↔◌, ◌<◌, ◌≤◌, false, true, Err, length, take, vec_len, IfOk, IsErr, OnOk, List};
 ghost use Rattle.std.specs.Io.KnownBytes.{Consumes, IsAtEnd};
 ghost use Rattle.trace_model.specs.declared.limits.TheConstants.{MAX_CPUS};
-ghost use Rattle.capture.specs.Reading.{IsRead, IsReadPast};
+ghost use Rattle.capture.specs.Pages.{Page};
+ghost use Rattle.capture.specs.Captures.{IsCapture};
+ghost use Rattle.capture.specs.Reading.{IsRead, IsReadPast, IsReadOn, IsReadOnPast};
 ghost use Rattle.capture.specs.declared.pages.CaptureFault.{CaptureFault};
 ghost use Rattle.capture.specs.declared.pages.CaptureFault.TheVariants.{NoMemory as MemoryIs};
 ghost use Rattle.capture.specs.declared.read.ReadFault.TheVariants.{Capture as CaptureIs};
 
 use crate::pages::{Capture, CaptureFault};
 use command_io::Source;
+use page_image::Missed;
 use std::alloc::{AllocError, Global};
 use std::io;
 use trace_model::CpuId;
@@ -39,7 +42,7 @@ impl From<AllocError> for ReadFault {
 }
 
 /// Reads until the piece is full or the source is at its end, and answers how many bytes were read.
-fn fill_piece<R: Source>(reader: &mut R, piece: &mut [u8]) -> io::Result<usize>
+pub fn fill_piece<R: Source>(reader: &mut R, piece: &mut [u8]) -> io::Result<usize>
     requires { R.failed reader.old ≡ false }
     ensures taken { IfOk result (λ count.
         Consumes (R.remaining reader.old) (R.remaining reader.new) (take count piece.new)) }
@@ -56,6 +59,58 @@ fn fill_piece<R: Source>(reader: &mut R, piece: &mut [u8]) -> io::Result<usize>
         filled += count;
     }
     Ok(filled)
+}
+
+/// How much a source had: whole pages, and bytes behind them.
+#[derive(Clone, Copy, Debug, PartialEq, Eq)]
+pub struct Extent {
+    /// How many whole pages.
+    pub whole: u64,
+    /// How many bytes behind them, fewer than a page has.
+    pub rest: usize,
+}
+
+/// Reads on in a source of whose first page `filled` bytes are read already, into `piece`: fewer than there is room for
+/// only if it is at its end. Each page of it, which is as long as `piece` but for the last one, is read after those that
+/// the capture has. Where there is no answer, the capture is of no use; and nothing is read after a fault.
+pub fn read_on<R: Source>(
+    alloc: Global,
+    capture: &mut Capture,
+    piece: &mut [u8],
+    filled: usize,
+    reader: &mut R,
+) -> Result<Extent, ReadFault>
+    requires cpu { capture.old.cpu.0 < MAX_CPUS }
+    requires some { 0 < length piece.old }
+    requires filled { filled ≤ length piece.old }
+    requires at_end { filled < length piece.old → IsAtEnd (R.remaining reader.old) }
+    requires known { (before : List Page) × IsCapture capture.old before }
+    requires sound { R.failed reader.old ≡ false }
+    ensures cpu { capture.new.cpu ≡ capture.old.cpu }
+    ensures read { (before : List Page) → IsCapture capture.old before → IfOk result (λ extent.
+        IsReadOn (length piece.old) (take filled piece.old) (R.remaining reader.old) (R.remaining reader.new)
+        before capture.new extent) }
+    ensures end { OnOk result (IsAtEnd (R.remaining reader.new)) }
+    ensures read_fault { (R.failed reader.new ≡ true) ↔ (result ≡ Err ReadFault.Read) }
+    ensures numbers { (before : List Page) → IsCapture capture.old before
+        → result ≡ Err (ReadFault.Capture CaptureFault.Numbers)
+        → IsReadOnPast (length piece.old) (take filled piece.old) (R.remaining reader.old) (R.remaining reader.new) before }
+{
+    let before = capture.pages;
+    let mut filled = filled;
+    while filled == piece.len() {
+        capture.add_page(alloc, piece, Missed::Unknown)?;
+        let Ok(count) = fill_piece(reader, piece) else {
+            return Err(ReadFault::Read);
+        };
+        filled = count;
+    }
+    let whole = capture.pages - before;
+    capture.add_rest(alloc, &mut piece[..filled], Missed::Unknown)?;
+    Ok(Extent {
+        whole,
+        rest: filled,
+    })
 }
 
 /// Reads all of a CPU's capture, whose pages have `size` bytes each, but for the last one, which may be shorter. At
@@ -78,13 +133,9 @@ pub fn read_capture<R: Source>(
 {
     let mut piece = vec![in alloc; 0u8; size]?;
     let mut capture = Capture::new(alloc, cpu);
-    loop {
-        let Ok(count) = fill_piece(reader, piece.as_mut_slice()) else {
-            return Err(ReadFault::Read);
-        };
-        if count < size {
-            return Ok(capture.add_rest(alloc, &mut piece[..count])?);
-        }
-        capture.add_page(alloc, piece.as_mut_slice())?;
-    }
+    let Ok(filled) = fill_piece(reader, piece.as_mut_slice()) else {
+        return Err(ReadFault::Read);
+    };
+    read_on(alloc, &mut capture, piece.as_mut_slice(), filled, reader)?;
+    Ok(capture)
 }

@@ -1,10 +1,10 @@
-use Rattle.std.proofs.Common.{◌≢◌, List, ℕ, rules, subst}
-use Rattle.trace_model.specs.Image.{DecodesImage, FirstImageFault}
+use Rattle.std.proofs.Common.{◌≡◌, ◌≢◌, ◌++◌, ◌∷◌, [], List, ℕ, rules, ap, sym, subst}
+use Rattle.trace_model.specs.Image.{Missed, DecodesImage, FirstImageFault}
 use Rattle.page_image.specs.Images.{missed_of}
 use Rattle.page_image.specs.Contents.{records_of_page}
 use Rattle.page_image.specs.declared.image.ImageFault.TheVariants.{NoMemory}
-use Rattle.capture.specs.Pages.{Page, intact, damaged, IsPageOf}
-use Rattle.capture.specs.Captures.{page_read}
+use Rattle.capture.specs.Pages.{Page, intact, damaged, told, IsPageOf, Fit}
+use Rattle.capture.specs.Captures.{page_read, IsCapture}
 use Rattle.capture.proofs.Captured.{on_ok, cause-of}
 use Rattle.capture.proofs.pages.Capture.add_page.Goals as goal
 
@@ -17,7 +17,14 @@ returns-in-Ok-clause-read c = λ pages was.
       subst (λ (bytes : List ℕ). DecodesImage bytes image.time image.size (missed_of image.missed) (records_of_page image.page))
           c.restore_stamps.ensures c.in-Ok.ensures.reads,
     ) in
-    on_ok c.add_image.result (λ read. record { page = intact (page_read image); page_is = is; capture_is = read }) (c.add_image.ensures.read pages was)
+    let known : Page = intact record { missed = missed_of c.told-image.result; records = records_of_page image.page } in
+    let same : known ≡ told (missed_of c.args.unknown) (intact (page_read image)) =
+    ap (λ (m : Missed). intact record { missed = m; records = records_of_page image.page }) c.told-image.ensures in
+    on_ok c.add_image.result (λ read. record {
+      page = intact (page_read image);
+      page_is = is;
+      capture_is = subst (λ (p : Page). IsCapture c.add_image.new.self (pages ++ p ∷ [])) same read;
+    }) (c.add_image.ensures.read pages was)
 
 pub returns-in-Ok-clause-numbers : goal.returns-in-Ok-clause-numbers
 returns-in-Ok-clause-numbers c = λ pages was numbers.
@@ -28,7 +35,14 @@ returns-in-Ok-clause-numbers c = λ pages was numbers.
       subst (λ (bytes : List ℕ). DecodesImage bytes image.time image.size (missed_of image.missed) (records_of_page image.page))
           c.restore_stamps.ensures c.in-Ok.ensures.reads,
     ) in
-    record { page = intact (page_read image); page_is = is; past = c.add_image.ensures.numbers pages was numbers }
+    let known : Page = intact record { missed = missed_of c.told-image.result; records = records_of_page image.page } in
+    let same : known ≡ told (missed_of c.args.unknown) (intact (page_read image)) =
+    ap (λ (m : Missed). intact record { missed = m; records = records_of_page image.page }) c.told-image.ensures in
+    record {
+      page = intact (page_read image);
+      page_is = is;
+      past = λ fit. c.add_image.ensures.numbers pages was numbers (subst (λ (p : Page). Fit (pages ++ p ∷ [])) (sym same) fit);
+    }
 
 pub returns-in-Err : goal.returns-in-Err
 returns-in-Err c =
