@@ -1,8 +1,12 @@
 -- Which event has a number, by the formats of events.
-use Rattle.std.specs.Prelude.{ℕ, ◌^◌, ◌==◌, List, [], ◌∷◌, codes, Option, Some, None, nat_lt, if◌then◌else◌}
+use Rattle.std.specs.Prelude.{◌≡◌, ℕ, ◌^◌, ◌==◌, ◌<◌, ◌++◌, List, [], ◌∷◌, length, take, codes, Option, Some, None, nat_lt, if◌then◌else◌}
 use Rattle.std.specs.Option.{option_and_then, option_map}
+use Rattle.std.specs.BTreeMap.{get}
+use Rattle.std.specs.Ordering.{nat_cmp}
 use Rattle.trace_dat.specs.Contents.{EventFormat}
 use Rattle.kernel_texts.specs.declared.names.EventName.{EventName}
+use Rattle.kernel_texts.specs.declared.names.OwnedEvent.{OwnedEvent}
+use Rattle.kernel_texts.specs.declared.names.EventNames.{EventNames}
 use Rattle.kernel_texts.specs.Lines.{value_in, number_in}
 
 -- an event: its system and its own name
@@ -40,3 +44,20 @@ first_of None other = other
 abbrev pub event_of : ℕ → List EventFormat → Option Event
 event_of id [] = None
 event_of id (format ∷ formats) = first_of (event_of id formats) (event_under id (described_in format))
+
+-- an event that owns its names
+abbrev pub event_held : OwnedEvent → Event
+event_held event = record { system = event.system.items; name = event.name.items }
+
+-- the event that is known by this number
+abbrev pub events_of : EventNames → ℕ → Option Event
+events_of names id = option_map event_held (get nat_cmp names.events id)
+
+-- what is known by each number is the event of that number by these formats
+abbrev pub HasEvents : EventNames → List EventFormat → Type 0
+HasEvents names formats = (id : ℕ) → events_of names id ≡ event_of id formats
+
+-- of further formats the first ones are known, and not all
+abbrev pub HasEventsOfSome : EventNames → (known further : List EventFormat) → Type 0
+HasEventsOfSome names known further =
+    (count : ℕ) × (count < length further) × HasEvents names (known ++ take count further)

@@ -8,5 +8,5 @@ mod names;
 mod record;
 
 pub use counters::{Counters, ring_counters};
-pub use names::{EventName, event_names};
+pub use names::{EventName, EventNames};
 pub use record::{CommonFields, common_fields};

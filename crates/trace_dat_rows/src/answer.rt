@@ -1,6 +1,6 @@
 //! What a file holds, as text.
 use crate::fault::RowFault;
-use kernel_texts::{common_fields, event_names, ring_counters};
+use kernel_texts::{EventName, EventNames, common_fields, ring_counters};
 use std::alloc::Global;
 use trace_dat::{Buffer, Cause, Fault, Format, ReadError, TraceDat, read_trace_dat};
 
@@ -14,6 +14,20 @@ fn put_bytes(out: &mut String, alloc: Global, word: &str, bytes: &[u8]) -> Resul
     Ok(())
 }
 
+/// Puts the number of an event, and its names.
+fn put_event(
+    out: &mut String,
+    alloc: Global,
+    id: u16,
+    event: EventName<'_>,
+) -> Result<(), RowFault> {
+    write!(out, "  event {id}")?;
+    put_bytes(out, alloc, " ", event.system)?;
+    put_bytes(out, alloc, " ", event.name)?;
+    out.push('\n')?;
+    Ok(())
+}
+
 /// Puts the formats, and which events they describe.
 fn put_formats(out: &mut String, alloc: Global, formats: &[Format<'_>]) -> Result<(), RowFault> {
     for format in formats {
@@ -21,12 +35,12 @@ fn put_formats(out: &mut String, alloc: Global, formats: &[Format<'_>]) -> Resul
         put_bytes(out, alloc, " ", format.text)?;
         out.push('\n')?;
     }
-    let names = event_names(alloc, formats)?;
-    for (id, event) in &names {
-        write!(out, "  event {id}")?;
-        put_bytes(out, alloc, " ", event.system)?;
-        put_bytes(out, alloc, " ", event.name)?;
-        out.push('\n')?;
+    let mut names = EventNames::new(alloc);
+    names.add(formats)?;
+    for id in 0..=u16::MAX {
+        if let Some(event) = names.event(id) {
+            put_event(out, alloc, id, event)?;
+        }
     }
     Ok(())
 }

@@ -3,6 +3,7 @@ use hex::FromHexError;
 use std::alloc::AllocError;
 use std::io;
 use thiserror::Error;
+use trace_model::NoMemory;
 
 /// Why the text isn't answered to its end.
 #[derive(Debug, Drop, Error)]
@@ -20,6 +21,12 @@ pub enum RowFault {
 
 impl From<AllocError> for RowFault {
     fn from(_: AllocError) -> RowFault {
+        RowFault::NoMemory
+    }
+}
+
+impl From<NoMemory> for RowFault {
+    fn from(_: NoMemory) -> RowFault {
         RowFault::NoMemory
     }
 }
