@@ -1,0 +1,4 @@
+pub mod Files
+pub mod Losses
+pub mod Captures
+pub mod Inputs
