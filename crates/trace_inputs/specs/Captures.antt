@@ -32,6 +32,23 @@ pub record IsCpuCaptured (cpu : ℕ) (overrun : Option ℕ) (parts : List ModelP
   pub bytes_are : found.bytes ≡ bytes_in parts
   pub bytes_fit : bytes_in parts < 2 ^ 64
 
+-- a part was counted
+pub record CountsPart (old new : CpuCapture) (part : Part) : Type 0 where
+  pub capture_is : new.capture ≡ old.capture
+  pub parts_are : new.parts.items ≡ old.parts.items ++ part ∷ []
+  pub bytes_are : new.bytes ≡ old.bytes + part.length
+  pub fits : old.bytes + part.length < 2 ^ 64
+
+-- What is read of a CPU so far, if a loss of unknown number is `known`.
+pub record IsCpuRead (known : Missed) (cpu : ℕ) (parts : List ModelPart) (found : CpuCapture) : Type 0 where
+  pub pages : List Page
+  pub cut : CutsOf parts pages
+  pub cpu_is : found.capture.cpu.0 ≡ cpu
+  pub capture_is : IsCapture found.capture (map (told known) pages)
+  pub parts_are : found.parts.items ≡ map measured parts
+  pub bytes_are : found.bytes ≡ bytes_in parts
+  pub bytes_fit : bytes_in parts < 2 ^ 64
+
 -- what is read of each CPU, if the files have these parts
 pub record AreCpusCaptured (overrun : ℕ → Option ℕ) (parts : List ModelPart) (cpus : List CpuCapture) : Type 0 where
   pub count : length cpus ≡ MAX_CPUS
@@ -50,6 +67,15 @@ pub record AreCaptured (page : ℕ) (files : List File) (captured : Captured) : 
 pub record FitCpu (parts : List ModelPart) (pages : List Page) : Type 0 where
   pub pages_fit : Fit pages
   pub bytes_fit : bytes_in parts < 2 ^ 64
+
+-- these parts of a CPU were read, and with a beginning of the next one the numbers don't fit
+pub record IsPartPast (known : Missed) (parts : List ModelPart) (part : ModelPart) : Type 0 where
+  pub front : List ℕ
+  pub behind : List ℕ
+  pub bytes_are : part.bytes ≡ front ++ behind
+  pub pages : List Page
+  pub cut : CutsOf (parts ++ record part { bytes = front } ∷ []) pages
+  pub past : FitCpu (parts ++ record part { bytes = front } ∷ []) (map (told known) pages) → ⊥
 
 -- Numbers don't fit: of a CPU of these files some parts were read, `whole`, and a beginning of the next one. Of a loss of
 -- unknown number nothing was known then, or what the counters say.

@@ -44,26 +44,26 @@ formatted (Err fault) = Err (Format fault)
 abbrev pub is_main : TraceBuffer → Bool
 is_main buffer = length buffer.name == 0
 
--- the pages of each of a buffer's CPUs, in pages of this size
-abbrev pub parts_of_cpus : (size : ℕ) → List Recorded → Checked (List ModelPart)
-parts_of_cpus size [] = Ok []
-parts_of_cpus size (recorded ∷ more) =
+-- for each of some things a list, joined
+unfoldable pub each_of : {X A : Type 0} → (X → Checked (List A)) → List X → Checked (List A)
+each_of of [] = Ok []
+each_of of (x ∷ xs) = of x >>= λ first. each_of of xs >>= λ others. Ok (first ++ others)
+
+-- what there is of a CPU, in pages of this size
+abbrev pub part_of : (size : ℕ) → Recorded → Checked (List ModelPart)
+part_of size recorded =
     if nat_lt recorded.cpu MAX_CPUS
-    then (parts_of_cpus size more >>= λ parts. Ok (record { cpu = recorded.cpu; size = size; bytes = recorded.pages } ∷ parts))
-    else Err (BadCpu recorded.cpu)
+    then Ok (record { cpu = recorded.cpu; size = size; bytes = recorded.pages } ∷ []) else Err (BadCpu recorded.cpu)
 
--- the pages of a buffer's CPUs, if pages can have its size
-abbrev pub parts_of_buffer : TraceBuffer → Checked (List ModelPart)
-parts_of_buffer buffer =
+-- the parts of the main buffer, if pages can have its size
+abbrev pub parts_of_main : TraceBuffer → Checked (List ModelPart)
+parts_of_main buffer =
     if nat_lt buffer.page_size 4096 || nat_lt 65536 buffer.page_size then Err (BadPage buffer.page_size)
-    else parts_of_cpus buffer.page_size buffer.cpus
+    else each_of (part_of buffer.page_size) buffer.cpus
 
--- the parts of the main buffer, or of the buffers without a name, one after the other
-abbrev pub parts_of_buffers : List TraceBuffer → Checked (List ModelPart)
-parts_of_buffers [] = Ok []
-parts_of_buffers (buffer ∷ buffers) =
-    (if is_main buffer then parts_of_buffer buffer else Ok []) >>= λ parts.
-    parts_of_buffers buffers >>= λ others. Ok (parts ++ others)
+-- the parts of a buffer, which are listed if it is the main one
+abbrev pub parts_of_buffer : TraceBuffer → Checked (List ModelPart)
+parts_of_buffer buffer = if is_main buffer then parts_of_main buffer else Ok []
 
 -- how many bytes parts have
 abbrev pub bytes_in : List ModelPart → ℕ
@@ -76,7 +76,7 @@ within len parts = if nat_lt len (bytes_in parts) then Err Overlap else Ok parts
 
 -- the parts of what a file of this length holds
 abbrev pub parts_in : (len : ℕ) → Contents → Checked (List ModelPart)
-parts_in len contents = parts_of_buffers contents.buffers >>= within len
+parts_in len contents = each_of parts_of_buffer contents.buffers >>= within len
 
 -- ---- a file
 

@@ -2,3 +2,4 @@ pub mod Files
 pub mod Losses
 pub mod Captures
 pub mod Inputs
+pub mod Giving

@@ -5,8 +5,10 @@
 #![tactic(auto)]
 
 mod captured;
+mod cpu_part;
 mod fault;
 mod inputs;
+mod parts;
 
 pub use captured::{Captured, CpuCapture, Input, Part};
 pub use fault::{FileFault, InputFault, Unread};
