@@ -20,6 +20,7 @@ pub record ReadsWhole (size : ℕ) (first pending : List ℕ) (unread left : Opt
   pub taken : Consumes unread left bytes
   pub parts : first ++ bytes ≡ front ++ pending
   pub cpu_is : capture.cpu ≡ old.cpu
+  pub short : length first < size → (bytes ≡ []) × (pending ≡ first)
   pub are : (before : List Page) → IsCapture old before → AreWhole size unknown before front capture
 
 pub reads-none : (size : ℕ) (first : List ℕ) (unread : Option (List ℕ)) (capture : Capture) → ReadsWhole size first first unread unread capture capture
@@ -29,6 +30,7 @@ reads-none size first unread capture = record {
   taken = Consumes-nil unread;
   parts = append-nil first;
   cpu_is = refl;
+  short = λ _. (refl, refl);
   are = λ before is. whole-none size unknown before capture is;
 }
 
@@ -42,6 +44,7 @@ reads-page size first pending piece unread left after old capture new was some l
   taken = Consumes-trans unread left after was.bytes piece was.taken taken;
   parts = sym (append_assoc first was.bytes piece) ∙ ap (λ (xs : List ℕ). xs ++ piece) was.parts;
   cpu_is = cpu ∙ was.cpu_is;
+  short = λ few. absurd (let lengths = ap length (was.short few).1 in omega (arith, lengths, few, long));
   are = λ before is.
       let w = was.are before is in
       whole-page size unknown before was.front pending capture new w some long (adds (before ++ map (told unknown) w.more) w.capture_is);
@@ -85,6 +88,7 @@ reads-on size first pending unread left old capture new extent was fits adds who
       extent_is = ap length was.parts ∙ length-append was.front pending
           ∙ size_of size extent.whole extent.rest (length w.more) (length was.front) (length pending) w.whole
           (let same : extent.whole ≡ length w.more = omega (arith, count, whole) in same) rest;
+      no_more = λ few. (was.short few).0;
     }
 
 pub reads-past : (size : ℕ) (first pending : List ℕ) (unread left : Option (List ℕ)) (old capture : Capture)
@@ -100,6 +104,7 @@ reads-past size first pending unread left old capture was some fits passes befor
       taken = was.taken;
       cut = subst (λ (xs : List ℕ). AreCut size xs p.more) (sym was.parts) p.cut;
       past = λ fit. p.past (subst (λ (ps : List Page). Fit (before ++ ps)) (sym (all-told-unknown p.more)) fit);
+      no_more = λ few. (was.short few).0;
     }
 
 -- a source of which all is read on after its first piece is read

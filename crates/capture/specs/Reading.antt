@@ -1,5 +1,5 @@
 -- What was read of a source.
-use Rattle.std.specs.Prelude.{◌≡◌, ℕ, ◌+◌, ◌*◌, List, ◌++◌, length, Option}
+use Rattle.std.specs.Prelude.{◌≡◌, ℕ, ◌+◌, ◌*◌, ◌<◌, List, [], ◌++◌, length, Option}
 use Rattle.std.specs.Io.KnownBytes.{Consumes}
 use Rattle.capture.specs.Pages.{Page, AreCut, Fit}
 use Rattle.capture.specs.Captures.{IsCapture}
@@ -32,6 +32,7 @@ pub record IsReadOn (size : ℕ) (first : List ℕ) (unread left : Option (List 
   pub cut : AreCut size (first ++ bytes) pages
   pub capture_is : IsCapture capture (before ++ pages)
   pub extent_is : length (first ++ bytes) ≡ size * extent.whole + extent.rest
+  pub no_more : length first < size → bytes ≡ []
 
 -- the same, and with the pages the numbers don't fit
 pub record IsReadOnPast (size : ℕ) (first : List ℕ) (unread left : Option (List ℕ)) (before : List Page) : Type 0 where
@@ -40,3 +41,4 @@ pub record IsReadOnPast (size : ℕ) (first : List ℕ) (unread left : Option (L
   pub taken : Consumes unread left bytes
   pub cut : AreCut size (first ++ bytes) pages
   pub past : Fit (before ++ pages) → ⊥
+  pub no_more : length first < size → bytes ≡ []

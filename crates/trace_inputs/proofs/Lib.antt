@@ -1,0 +1,5 @@
+pub mod Cuts
+pub mod CpuParts
+mod Answers
+mod EachLoop
+mod Lengths

@@ -1,0 +1,96 @@
+-- What is read of files, by CPU.
+use Rattle.std.specs.Prelude.{◌≡◌, ◌⊎◌, ℕ, ◌+◌, ◌-◌, ◌^◌, ◌<◌, List, [], ◌∷◌, ◌++◌, length, map, min, Option, Some, None}
+use Rattle.std.specs.List.{slice_get}
+use Rattle.trace_model.specs.declared.limits.TheConstants.{MAX_CPUS}
+use Rattle.trace_model.specs.Image.{Missed, unknown}
+use Rattle.capture.specs.Pages.{Page, told, AreCut, Fit}
+use Rattle.capture.specs.Captures.{IsCapture}
+use Rattle.kernel_texts.specs.Names.{HasEvents}
+use Rattle.trace_inputs.specs.declared.captured.Part.{Part}
+use Rattle.trace_inputs.specs.declared.captured.CpuCapture.{CpuCapture}
+use Rattle.trace_inputs.specs.declared.captured.Captured.{Captured}
+use Rattle.trace_inputs.specs.Files.{File, ModelPart, bytes_in, parts_of_cpu, ArePartsOf, all_formats, all_instances}
+use Rattle.trace_inputs.specs.Losses.{overrun_in, loss_of, settled}
+
+-- The pages of parts are those of the first, and then those of the others: each part is cut for itself.
+abbrev pub CutsOf : List ModelPart → List Page → Type 0
+CutsOf [] pages = pages ≡ []
+CutsOf (part ∷ parts) pages =
+    (own : List Page) × (others : List Page) × (pages ≡ own ++ others) × AreCut part.size part.bytes own × CutsOf parts others
+
+-- the size of a part's pages, and how many bytes it has
+abbrev pub measured : ModelPart → Part
+measured part = record { size = part.size; length = length part.bytes }
+
+-- What is read of a CPU: the pages of these parts, with what is known of a loss of unknown number.
+pub record IsCpuCaptured (cpu : ℕ) (overrun : Option ℕ) (parts : List ModelPart) (found : CpuCapture) : Type 0 where
+  pub pages : List Page
+  pub cut : CutsOf parts pages
+  pub cpu_is : found.capture.cpu.0 ≡ cpu
+  pub capture_is : IsCapture found.capture (settled overrun pages)
+  pub parts_are : found.parts.items ≡ map measured parts
+  pub bytes_are : found.bytes ≡ bytes_in parts
+  pub bytes_fit : bytes_in parts < 2 ^ 64
+
+-- a part was counted
+pub record CountsPart (old new : CpuCapture) (part : Part) : Type 0 where
+  pub capture_is : new.capture ≡ old.capture
+  pub parts_are : new.parts.items ≡ old.parts.items ++ part ∷ []
+  pub bytes_are : new.bytes ≡ old.bytes + part.length
+  pub fits : old.bytes + part.length < 2 ^ 64
+
+-- What is read of a CPU so far, if a loss of unknown number is `known`.
+pub record IsCpuRead (known : Missed) (cpu : ℕ) (parts : List ModelPart) (found : CpuCapture) : Type 0 where
+  pub pages : List Page
+  pub cut : CutsOf parts pages
+  pub cpu_is : found.capture.cpu.0 ≡ cpu
+  pub capture_is : IsCapture found.capture (map (told known) pages)
+  pub parts_are : found.parts.items ≡ map measured parts
+  pub bytes_are : found.bytes ≡ bytes_in parts
+  pub bytes_fit : bytes_in parts < 2 ^ 64
+
+-- what is read of each CPU, if the files have these parts
+pub record AreCpusCaptured (overrun : ℕ → Option ℕ) (parts : List ModelPart) (cpus : List CpuCapture) : Type 0 where
+  pub count : length cpus ≡ MAX_CPUS
+  pub each : (cpu : ℕ) (found : CpuCapture) → slice_get cpus cpu ≡ Some found
+      → IsCpuCaptured cpu (overrun cpu) (parts_of_cpu cpu parts) found
+
+-- What is read of files, none of which has a fault.
+pub record AreCaptured (page : ℕ) (files : List File) (captured : Captured) : Type 0 where
+  pub parts : List ModelPart
+  pub parts_are : ArePartsOf page files parts
+  pub cpus_are : AreCpusCaptured (overrun_in files) parts captured.cpus.items
+  pub names_are : HasEvents captured.names (all_formats files)
+  pub instances_are : captured.instances ≡ min (all_instances files) (2 ^ 64 - 1)
+
+-- the numbers of a CPU's records, pages and bytes fit 64 bits
+pub record FitCpu (parts : List ModelPart) (pages : List Page) : Type 0 where
+  pub pages_fit : Fit pages
+  pub bytes_fit : bytes_in parts < 2 ^ 64
+
+-- these parts of a CPU were read, and with a beginning of the next one the numbers don't fit
+pub record IsPartPast (known : Missed) (parts : List ModelPart) (part : ModelPart) : Type 0 where
+  pub front : List ℕ
+  pub behind : List ℕ
+  pub bytes_are : part.bytes ≡ front ++ behind
+  pub pages : List Page
+  pub cut : CutsOf (parts ++ record part { bytes = front } ∷ []) pages
+  pub past : FitCpu (parts ++ record part { bytes = front } ∷ []) (map (told known) pages) → ⊥
+
+-- Numbers don't fit: of a CPU of these files some parts were read, `whole`, and a beginning of the next one. Of a loss of
+-- unknown number nothing was known then, or what the counters say.
+pub record ArePast (page : ℕ) (files : List File) : Type 0 where
+  pub cpu : ℕ
+  pub parts : List ModelPart
+  pub whole : List ModelPart
+  pub last : ModelPart
+  pub behind : List ℕ
+  pub further : List ModelPart
+  pub parts_are : ArePartsOf page files parts
+  pub begin : parts_of_cpu cpu parts ≡ whole ++ record last { bytes = last.bytes ++ behind } ∷ further
+  pub pages : List Page
+  pub cut : CutsOf (whole ++ last ∷ []) pages
+  pub known : Missed
+  pub known_is : (known ≡ unknown)
+      ⊎ ((all : List Page) × CutsOf (parts_of_cpu cpu parts) all × (known ≡ loss_of (overrun_in files cpu) all))
+  pub past : FitCpu (whole ++ last ∷ []) (map (told known) pages) → ⊥

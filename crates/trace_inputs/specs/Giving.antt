@@ -1,0 +1,26 @@
+-- What a reader of a file answers, in the words of the definitions.
+use Rattle.std.specs.Prelude.{◌≡◌, List, [], ◌∷◌, ◌++◌, Result, Ok, Err, ⊤}
+use Rattle.trace_inputs.specs.declared.cpu_part.CpuPart.{CpuPart}
+use Rattle.trace_inputs.specs.declared.fault.InputFault.{InputFault}
+use Rattle.trace_inputs.specs.declared.fault.InputFault.TheVariants as faults
+use Rattle.trace_inputs.specs.Files.{Checked, ◌>>=◌, ModelPart}
+
+-- a part without where it lies in memory
+abbrev pub part_seen : CpuPart → ModelPart
+part_seen part = record { cpu = part.cpu.0; size = part.size.bytes; bytes = part.pages.now }
+
+-- a list after what was read before it
+abbrev pub with_list : {A : Type 0} → List A → Checked (List A) → Checked (List A)
+with_list before reading = reading >>= λ xs. Ok (before ++ xs)
+
+-- the fault of a reading, or refused memory
+abbrev pub Fails : {A : Type 0} → InputFault → Checked A → Type 0
+Fails faults.Read reading = ⊥
+Fails (faults.File fault) reading = reading ≡ Err fault
+Fails faults.Numbers reading = ⊥
+Fails faults.NoMemory reading = ⊤
+
+-- the answer is what the reading is, as `view` shows it
+abbrev pub Gives : {X A : Type 0} → (X → A) → Result X InputFault → Checked A → Type 0
+Gives view (Ok x) reading = reading ≡ Ok (view x)
+Gives view (Err fault) reading = Fails fault reading

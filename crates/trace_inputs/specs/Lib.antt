@@ -1,0 +1,5 @@
+pub mod Files
+pub mod Losses
+pub mod Captures
+pub mod Inputs
+pub mod Giving
