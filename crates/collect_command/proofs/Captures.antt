@@ -1,0 +1,76 @@
+-- One capture more.
+use Rattle.std.proofs.Common.{◌≡◌, ℕ, zero, suc, ◌+◌, List, [], ◌∷◌, ◌++◌, length, append_assoc, append-nil, refl, sym, ap, ◌∙◌, subst, arith}
+use Rattle.trace_model.specs.Parcel.{Parcel}
+use Rattle.trace_model.specs.Collection.{IsSame}
+use Rattle.trace_model.proofs.collections.Collections.{same_itself, same_same, same_joined}
+use Rattle.page_numbers.specs.Parcels.{ParcelValue, as_parcels}
+use Rattle.capture.specs.Pages.{Page, parcels_from, unknown_from, damages_from}
+use Rattle.capture.specs.Captures.{AreDamages, numbers_of}
+use Rattle.capture.specs.Rings.{parcels_of_captures}
+use Rattle.trace_inputs.specs.declared.captured.CpuCapture.{CpuCapture}
+use Rattle.trace_inputs.specs.Files.{ModelPart}
+use Rattle.collect_command.specs.declared.gather.Gaps.{Gaps}
+use Rattle.collect_command.specs.Gathered.{IsReadFrom, AreReadFrom, AreGapsOf, AreAllGaps}
+
+-- the last of what was read, and its pages
+pub record LastRead (parts : List ModelPart) (cpu : ℕ) (front : List CpuCapture) (found : CpuCapture) (captures : List (List Page)) : Type 0 where
+  pub own : List Page
+  pub others : List (List Page)
+  pub captures_are : captures ≡ others ++ own ∷ []
+  pub front_read : AreReadFrom parts cpu front others
+  pub last_read : IsReadFrom parts (cpu + length others) found own
+
+pub last_read : (parts : List ModelPart) (cpu : ℕ) (front : List CpuCapture) (found : CpuCapture) (captures : List (List Page))
+    → AreReadFrom parts cpu (front ++ found ∷ []) captures → LastRead parts cpu front found captures
+last_read parts cpu [] found [] read = absurd read
+last_read parts cpu [] found (own ∷ []) read = record {
+  own = own;
+  others = [];
+  captures_are = refl;
+  front_read = tt;
+  last_read = subst (λ (n : ℕ). IsReadFrom parts n found own) (let e : cpu ≡ cpu + 0 = omega arith in e) read.0;
+}
+last_read parts cpu [] found (own ∷ other ∷ captures) read = absurd read.1
+last_read parts cpu (first ∷ front) found [] read = absurd read
+last_read parts cpu (first ∷ front) found (pages ∷ captures) read =
+    let last = last_read parts (suc cpu) front found captures read.1 in
+    record {
+      own = last.own;
+      others = pages ∷ last.others;
+      captures_are = ap (λ (cs : List (List Page)). pages ∷ cs) last.captures_are;
+      front_read = (read.0, last.front_read);
+      last_read = subst (λ (n : ℕ). IsReadFrom parts n found last.own)
+          (let e : suc cpu + length last.others ≡ cpu + suc (length last.others) = omega arith in e) last.last_read;
+    }
+
+-- the gaps of one capture more
+pub gaps_more : (parts : List ModelPart) (cpu : ℕ) (gaps : List Gaps) (more : Gaps) (captures : List (List Page)) (own : List Page)
+    → AreAllGaps parts cpu gaps captures → AreGapsOf parts (cpu + length captures) more own
+    → AreAllGaps parts cpu (gaps ++ more ∷ []) (captures ++ own ∷ [])
+gaps_more parts cpu [] more [] own all last = (subst (λ (n : ℕ). AreGapsOf parts n more own) (let e : cpu + 0 ≡ cpu = omega arith in e) last, tt)
+gaps_more parts cpu [] more (pages ∷ captures) own all last = absurd all
+gaps_more parts cpu (first ∷ gaps) more [] own all last = absurd all
+gaps_more parts cpu (first ∷ gaps) more (pages ∷ captures) own all last =
+    (all.0, gaps_more parts (suc cpu) gaps more captures own all.1
+    (subst (λ (n : ℕ). AreGapsOf parts n more own) (let e : cpu + suc (length captures) ≡ suc cpu + length captures = omega arith in e) last))
+
+-- the parcels of one capture more
+parcels_more : (cpu : ℕ) (captures : List (List Page)) (own : List Page)
+    → parcels_of_captures cpu (captures ++ own ∷ []) ≡ parcels_of_captures cpu captures ++ parcels_from (cpu + length captures) 0 0 own
+parcels_more cpu [] own = append-nil (parcels_from cpu 0 0 own) ∙ ap (λ (n : ℕ). parcels_from n 0 0 own) (let e : cpu ≡ cpu + 0 = omega arith in e)
+parcels_more cpu (pages ∷ captures) own =
+    ap (λ (ps : List Parcel). parcels_from cpu 0 0 pages ++ ps) (parcels_more (suc cpu) captures own)
+    ∙ sym (append_assoc (parcels_from cpu 0 0 pages) (parcels_of_captures (suc cpu) captures) (parcels_from (suc cpu + length captures) 0 0 own))
+    ∙ ap (λ (n : ℕ). (parcels_from cpu 0 0 pages ++ parcels_of_captures (suc cpu) captures) ++ parcels_from n 0 0 own)
+    (let e : suc cpu + length captures ≡ cpu + suc (length captures) = omega arith in e)
+
+-- a collector to which the parcels of one capture more are added
+pub capture_added : (joined new added : List Parcel) (captures : List (List Page)) (own : List Page) (cpu : ℕ)
+    → IsSame joined (parcels_of_captures 0 captures) → IsSame new (joined ++ added) → added ≡ parcels_from cpu 0 0 own → cpu ≡ 0 + length captures
+    → IsSame new (parcels_of_captures 0 (captures ++ own ∷ []))
+capture_added joined new added captures own cpu same union is cpu_is =
+    let own_is : added ≡ parcels_from (0 + length captures) 0 0 own = is ∙ ap (λ (n : ℕ). parcels_from n 0 0 own) cpu_is in
+    let all : parcels_of_captures 0 captures ++ added ≡ parcels_of_captures 0 (captures ++ own ∷ []) =
+    ap (λ (ps : List Parcel). parcels_of_captures 0 captures ++ ps) own_is ∙ sym (parcels_more 0 captures own) in
+    same_same new (joined ++ added) (parcels_of_captures 0 (captures ++ own ∷ [])) union
+    (subst (IsSame (joined ++ added)) all (same_joined joined added (parcels_of_captures 0 captures) added same (same_itself added)))
