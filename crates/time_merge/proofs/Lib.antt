@@ -1,4 +1,7 @@
 pub mod Ordered
+pub mod Pairs
+pub mod StretchWalks
+pub mod Takes
 pub mod ByNumber
 pub mod Merged
 pub mod ByTime

@@ -1,2 +1,4 @@
 pub mod LineOrder
 pub mod Lines
+pub mod Walks
+pub mod Stretches

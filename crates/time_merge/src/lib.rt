@@ -2,10 +2,16 @@
 //!
 //! Each CPU's records are walked by number, as lines. The walks of several CPUs are merged by moment, CPU and number; a
 //! single walk gives the lines as they are. If the moments of a CPU fall, the lines are then sorted in place.
+//!
+//! `walk_lines` makes no list. It merges stretches of each CPU's records, which end where a moment falls, and has each
+//! line taken as the merge gives it.
 #![tactic(auto)]
 
 mod by_time;
 mod lines;
+mod stretches;
+mod walk;
 
 pub use by_time::listing;
 pub use lines::Line;
+pub use walk::{TakesLines, walk_lines};
