@@ -1,11 +1,13 @@
-//! Files of the host: what an input's bytes come from, the formats of events below a folder, and how far a long reading
-//! or writing is.
+//! Files of the host: what an input's bytes come from, the formats of events below a folder, how far a long reading or
+//! writing is, and what is said of a file that can't be read.
 #![tactic(auto)]
 
 mod feed;
 mod formats;
+mod message;
 mod progress;
 
 pub use feed::Feed;
 pub use formats::{FormatText, formats_below};
+pub use message::{FileMessage, Trouble};
 pub use progress::{Progress, Watched};
