@@ -7,16 +7,43 @@ ghost use Rattle.command_line.specs.declared.call.CallFault.TheVariants.{NoMemor
 use clap::Error;
 use clap::error::ErrorKind;
 use std::alloc::AllocError;
+use trace_model::CpuId;
+
+/// A file that `collect` reads.
+#[derive(Clone, Copy, Debug, PartialEq, Eq)]
+pub struct CpuFile<'a> {
+    /// The CPU whose pages it has, if they are raw.
+    pub cpu: CpuId,
+    /// Its path; `-` is standard input.
+    pub path: &'a str,
+}
+
+/// What `collect` is asked for.
+#[derive(Debug, Drop)]
+pub struct CollectCall<'a> {
+    /// How many bytes a page of a raw file has.
+    pub page: usize,
+    /// Whether the process and the event of a record are printed.
+    pub names: bool,
+    /// Whether each line is an object.
+    pub json: bool,
+    /// The folder below which formats of events are.
+    pub formats: Option<&'a str>,
+    /// The files, one at least.
+    pub files: Vec<CpuFile<'a>>,
+}
 
 /// What the command line asks for.
-#[derive(Clone, Copy, Debug, PartialEq, Eq)]
-pub enum Call {
+#[derive(Debug, Drop)]
+pub enum Call<'a> {
     /// `tracering replay`, with the log if `--log` is given.
     Replay { log: bool },
     /// `tracering run`.
     Run,
     /// `tracering dump`.
     Dump,
+    /// `tracering collect`.
+    Collect(CollectCall<'a>),
 }
 
 /// Why the command line asks for nothing.

@@ -1,8 +1,10 @@
 //! What the process's command line asks for.
-ghost use Rattle.std.specs.Prelude.{◌≡◌, ◌≢◌};
+ghost use Rattle.std.specs.Prelude.{◌≡◌, ◌≢◌, Err, IfErr, IfOk, map, string_bytes};
+ghost use Rattle.command_line.specs.CommandLine.{IsCallOf};
 
 use crate::call::{Call, CallFault};
 use crate::parse::call_of;
+use std::alloc::Global;
 use std::env;
 use std::io::ErrorKind;
 use std::rt::Env;
@@ -19,17 +21,24 @@ fn fault_of_words(kind: ErrorKind) -> CallFault
     }
 }
 
-/// The words of the command line, as they were given to the process.
-fn given_words<R: Env + AllocGlobal>(rt: &R) -> Result<Vec<String>, CallFault> {
+/// The words of the command line, as they were given to the process. No contract can say which words they are.
+pub fn given_words<R: Env + AllocGlobal>(rt: &R) -> Result<Vec<String>, CallFault> {
     match env::args(rt) {
         Ok(words) => Ok(words.collect(rt.alloc())?),
         Err(error) => Err(fault_of_words(error.kind())),
     }
 }
 
-/// What the process's command line asks for: that of its words by [`call_of`]. No contract can say which words they
-/// are.
-pub fn given_call<R: Env + AllocGlobal>(rt: &R) -> Result<Call, CallFault> {
-    let words = given_words(rt)?;
-    call_of(rt.alloc(), words.as_slice())
+/// What these words ask for, by [`call_of`], if they could be given.
+pub fn given_call<'a>(
+    alloc: Global,
+    words: &'a Result<Vec<String>, CallFault>,
+) -> Result<Call<'a>, CallFault>
+    ensures words { IfOk words.now (λ given. IsCallOf (map string_bytes given.items) result) }
+    ensures none { IfErr words.now (λ fault. result ≡ Err fault) }
+{
+    match words {
+        Ok(words) => call_of(alloc, words.as_slice()),
+        Err(fault) => Err(*fault),
+    }
 }

@@ -4,7 +4,9 @@
 mod call;
 mod given;
 mod parse;
+mod words;
 
-pub use call::{Call, CallFault};
-pub use given::given_call;
+pub use call::{Call, CallFault, CollectCall, CpuFile};
+pub use given::{given_call, given_words};
 pub use parse::call_of;
+pub use words::{DEFAULT_PAGE, MAX_PAGE, MIN_PAGE};

@@ -30,7 +30,7 @@ fn program<'a>(alloc: Global) -> Result<Command<'a>, AllocError>
 }
 
 /// The call that these matches make, if they make one.
-fn call_of_matches(matches: &ArgMatches) -> Option<Call>
+fn call_of_matches<'a>(matches: &ArgMatches<'a>) -> Option<Call<'a>>
     ensures named { IfSome result (λ call. subcommand_name_of matches.now ≡ Some (name_of call)) }
     ensures none { result ≡ None → (subcommand_name_of matches.now ≢ Some (codes "replay"))
         × (subcommand_name_of matches.now ≢ Some (codes "run"))
@@ -51,7 +51,7 @@ fn call_of_matches(matches: &ArgMatches) -> Option<Call>
 }
 
 /// The parse of the words.
-fn parse_words<S: AsStr>(alloc: Global, words: &[S]) -> Result<Call, CallFault>
+fn parse_words<'a, S: AsStr>(alloc: Global, words: &'a [S]) -> Result<Call<'a>, CallFault>
     ensures { IsCallOf (map S.text words.now) result }
 {
     let matches = program(alloc)?.try_get_matches_from(words)?;
@@ -59,7 +59,7 @@ fn parse_words<S: AsStr>(alloc: Global, words: &[S]) -> Result<Call, CallFault>
 }
 
 /// What these words ask for. The first is the program's own name, whatever it is.
-pub fn call_of<S: AsStr>(alloc: Global, words: &[S]) -> Result<Call, CallFault>
+pub fn call_of<'a, S: AsStr>(alloc: Global, words: &'a [S]) -> Result<Call<'a>, CallFault>
     // Except that memory may be refused, it is what the parse of the words finds.
     ensures call { IsCallOf (map S.text words.now) result }
 

@@ -1,0 +1,49 @@
+-- How the words of `collect` are read.
+use Rattle.std.specs.Prelude.{◌≡◌, ℕ, ◌-◌, ◌==◌, ◌&&◌, Bool, List, [], ◌∷◌, Option, Some, None, length, nat_lt, nat_le, if◌then◌else◌, option_map, option_and_then, ◌+◌, take, drop}
+use Rattle.std.specs.Char.{is_ascii_digit}
+use Rattle.std.specs.List.{list_all, position as first_place}
+use Rattle.std.specs.Str.Parse.{digits_value}
+use Rattle.trace_model.specs.declared.limits.TheConstants.{MAX_CPUS}
+use Rattle.command_line.specs.declared.words.TheConstants.{DEFAULT_PAGE, MIN_PAGE, MAX_PAGE}
+
+-- the text is a number in decimal digits, one at least
+abbrev pub is_number : List ℕ → Bool
+is_number text = nat_lt 0 (length text) && list_all is_ascii_digit text
+
+-- the number that a text is, if it is one from `low` to `high`
+abbrev pub number_in : (low high : ℕ) (text : List ℕ) → Option ℕ
+number_in low high text =
+    if is_number text && (nat_le low (digits_value 10 text) && nat_le (digits_value 10 text) high)
+    then Some (digits_value 10 text) else None
+
+-- the byte `=`
+abbrev pub is_equals : ℕ → Bool
+is_equals byte = byte == 61
+
+-- `before` is what is before the word's first `=`, and `after` what is after it
+abbrev pub IsSplitAt : (word before after : List ℕ) → Type 0
+IsSplitAt word before after =
+    (at : ℕ) × (first_place is_equals word ≡ Some at) × (before ≡ take at word) × (after ≡ drop (at + 1) word)
+
+-- the CPU and the path of a FILE whose first `=` is at this place, if it has one
+abbrev pub file_split : (position : ℕ) (word : List ℕ) → Option ℕ → Option (ℕ × List ℕ)
+file_split position word None = Some (position, word)
+file_split position word (Some at) =
+    if is_number (take at word) then option_map (λ cpu. (cpu, drop (at + 1) word)) (number_in 0 (MAX_CPUS - 1) (take at word))
+    else Some (position, word)
+
+-- The CPU and the path of a FILE: `CPU=PATH` says both, if there are digits alone before the first `=`; every other word
+-- is a path, of the CPU of its position. There is none if the CPU is too high.
+abbrev pub file_word : (position : ℕ) (word : List ℕ) → Option (ℕ × List ℕ)
+file_word position word = file_split position word (first_place is_equals word)
+
+-- the bytes of a page: those that `--page` says, if they are in its range, and else the usual ones
+abbrev pub page_word : Option (List ℕ) → Option ℕ
+page_word None = Some DEFAULT_PAGE
+page_word (Some text) = number_in MIN_PAGE MAX_PAGE text
+
+-- the CPUs and paths of all FILEs, from this position on, if each has them
+abbrev pub file_words : (position : ℕ) (words : List (List ℕ)) → Option (List (ℕ × List ℕ))
+file_words position [] = Some []
+file_words position (word ∷ words) =
+    option_and_then (λ file. option_map (λ files. file ∷ files) (file_words (position + 1) words)) (file_word position word)
