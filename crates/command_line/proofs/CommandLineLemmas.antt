@@ -1,17 +1,22 @@
 -- What the program makes of words of any kind.
-use Rattle.std.proofs.Common.{◌≡◌, ◌≢◌, List, Option, Some, None, IfSome, true, false, codes, refl, sym, ap, ◌∙◌}
+use Rattle.std.proofs.Common.{◌≡◌, ◌≢◌, List, Option, Some, None, Ok, Err, IfSome, true, false, codes, refl, sym, ap, subst, ◌∙◌}
 use Rattle.std.specs.Box.{box_value}
-use Rattle.std.specs.Prelude.{option_map, ok_or}
+use Rattle.std.specs.Prelude.{IsErrAnd, Result, option_map, ok_or}
 use Rattle.clap.specs.Words.{App, HasMatchesOf, Row, Text, is_simple, is_simple_and_free, one_of, one_text, rows_of, subcommand_name_of, subcommand_of, subcommand_rows, subcommand_rows_of}
 use Rattle.clap.specs.declared.parser.matches.ArgMatches.{ArgMatches}
 use Rattle.clap.specs.declared.parser.matches.ArgMatches.TheViews.{out-ArgMatches, out-SubCommand}
 use Rattle.clap.specs.declared.parser.matches.Found.{Found}
+use Rattle.clap.specs.declared.error.ErrorKind.{ErrorKind}
+use Rattle.clap.specs.declared.error.ErrorKind.TheVariants.{OutOfMemory}
 use Rattle.clap.proofs.OnLiterals.{clap_on_literals}
 use Rattle.clap.proofs.WalkLemmas.{one_text-rows}
-use Rattle.command_line.specs.CommandLine.{IsCallOf, IsAccepted, command_line, flag_text, log_text, name_of, names_command}
+use Rattle.command_line.specs.CommandLine.{IsCallOf, IsAccepted, IsScript, command_line, fault_of_kind, flag_text, log_text, name_of, names_command, rows_found, rows_named}
+use Rattle.command_line.specs.Calls.{AreUnread, AsksFor, asked_of}
+use Rattle.command_line.specs.declared.call.CollectCall.{CollectCall}
 use Rattle.command_line.specs.declared.call.Call.{Call}
-use Rattle.command_line.specs.declared.call.Call.TheVariants.{Replay}
-use Rattle.command_line.specs.declared.call.CallFault.TheVariants.{Usage}
+use Rattle.command_line.specs.declared.call.Call.TheVariants.{Replay, Collect}
+use Rattle.command_line.specs.declared.call.CallFault.{CallFault}
+use Rattle.command_line.specs.declared.call.CallFault.TheVariants.{Usage, NoMemory}
 
 -- the matches of the command line have the name of the command that the words name
 pub name_of_matches : (app : App) (words : List Text) (m : ArgMatches) → app ≡ command_line → HasMatchesOf app words m → subcommand_name_of m ≡ names_command words
@@ -39,14 +44,26 @@ pub command_line_is_free : is_simple_and_free command_line ≡ true
 unfolding clap_on_literals
 command_line_is_free = refl
 
--- what is made of the matches is an answer to the words
+-- they have the rows of the command that the words name
+pub rows_of_matches : (app : App) (words : List Text) (m : ArgMatches) → app ≡ command_line → HasMatchesOf app words m → rows_found (subcommand_rows_of m) ≡ rows_named words
+unfolding rows_named
+rows_of_matches app words m same has =
+    ap rows_found ((has (ap is_simple same)).1) ∙ ap (λ (a : App). rows_found (subcommand_of a words)) same
+
+-- which are those of the matches that were found for it
+pub rows_of_found : (matched : Option (Text × List Row)) (found : Found) → option_map (λ p. p.1) matched ≡ Some (rows_of found) → rows_of found ≡ rows_found matched
+rows_of_found None found is = absurd (cc)
+rows_of_found (Some p) found is = cc
+
+-- what is made of the matches of another command than `collect` is an answer to the words
 pub call_of_matches-words : (words : List Text) (m : ArgMatches) (call : Option Call) → HasMatchesOf command_line words m → IsAccepted words
-    → IfSome call (λ x. subcommand_name_of m ≡ Some (name_of x))
+    → subcommand_name_of m ≢ Some (codes "collect")
+    → IfSome call (λ x. IsScript x × (subcommand_name_of m ≡ Some (name_of x)))
     → (call ≡ None → (subcommand_name_of m ≢ Some (codes "replay")) × (subcommand_name_of m ≢ Some (codes "run")) × (subcommand_name_of m ≢ Some (codes "dump")))
     → (flag_text (subcommand_rows_of m) ≡ Some (codes "true") → call ≢ Some (Replay false))
     → (flag_text (subcommand_rows_of m) ≡ Some (codes "false") → call ≢ Some (Replay true))
     → IsCallOf words (ok_or call Usage)
-call_of_matches-words words m None has accepted named none log no_log =
+call_of_matches-words words m None has accepted other named none log no_log =
     let name = name_of_matches command_line words m refl has in
     record {
       accepted = λ x is. accepted;
@@ -56,16 +73,98 @@ call_of_matches-words words m None has accepted named none log no_log =
       no_replay = λ _ _ is. (none refl).0 (name ∙ is);
       no_run = λ _ _ is. (none refl).1 (name ∙ is);
       no_dump = λ _ _ is. (none refl).2 (name ∙ is);
+      collect = λ x is. absurd (cc);
+      no_collect = λ _ _ is. absurd (other (name ∙ is));
     }
-call_of_matches-words words m (Some x) has accepted named none log no_log =
+call_of_matches-words words m (Some x) has accepted other named none log no_log =
     let name = name_of_matches command_line words m refl has in
     let flag = flag_of_matches command_line words m refl has in
     record {
       accepted = λ y is. accepted;
-      named = λ y is. sym name ∙ named ∙ (let same : x ≡ y = cc in ap (λ (call : Call). Some (name_of call)) same);
+      named = λ y is. sym name ∙ named.1 ∙ (let same : x ≡ y = cc in ap (λ (call : Call). Some (name_of call)) same);
       log = λ asked is. log (flag ∙ asked) (let same : x ≡ Replay false = cc in ap Some same);
       no_log = λ unasked is. no_log (flag ∙ unasked) (let same : x ≡ Replay true = cc in ap Some same);
       no_replay = λ is. absurd (cc);
       no_run = λ is. absurd (cc);
       no_dump = λ is. absurd (cc);
+      collect = λ call is. let same : x ≡ Collect call = cc in absurd (subst IsScript same named.0);
+      no_collect = λ is. absurd (cc);
     }
+
+-- and so is what is made of those of `collect`
+pub collect_call-words : (words : List Text) (m : ArgMatches) (found : Found) (call : CollectCall) → HasMatchesOf command_line words m → IsAccepted words
+    → subcommand_name_of m ≡ Some (codes "collect") → option_map (λ p. p.1) (subcommand_rows_of m) ≡ Some (rows_of found)
+    → AsksFor (rows_of found) (asked_of call) → IsCallOf words (Ok (Collect call))
+collect_call-words words m found call has accepted named rows asks =
+    let name = name_of_matches command_line words m refl has in
+    let same_rows = rows_of_found (subcommand_rows_of m) found rows ∙ rows_of_matches command_line words m refl has in
+    let asks_words : AsksFor (rows_named words) (asked_of call) = subst (λ (rows : List Row). AsksFor rows (asked_of call)) same_rows asks in
+    record {
+      accepted = λ y is. accepted;
+      named = λ y is. sym name ∙ named ∙ (let same : Collect call ≡ y = cc in ap (λ (call : Call). Some (name_of call)) same);
+      log = λ _ is. cc;
+      no_log = λ _ is. cc;
+      no_replay = λ is. absurd (cc);
+      no_run = λ is. absurd (cc);
+      no_dump = λ is. absurd (cc);
+      collect = λ other is. let same : call ≡ other = cc in subst (λ (call : CollectCall). AsksFor (rows_named words) (asked_of call)) same asks_words;
+      no_collect = λ is. absurd (cc);
+    }
+
+-- and refused memory is an answer to all words
+pub no_memory-words : (words : List Text) → IsCallOf words (Err NoMemory)
+no_memory-words words = record {
+  accepted = λ y is. absurd (cc);
+  named = λ y is. absurd (cc);
+  log = λ _ is. cc;
+  no_log = λ _ is. cc;
+  no_replay = λ is. absurd (cc);
+  no_run = λ is. absurd (cc);
+  no_dump = λ is. absurd (cc);
+  collect = λ other is. absurd (cc);
+  no_collect = λ is. absurd (cc);
+}
+
+-- and that nothing is made of them
+unread-words : (words : List Text) (m : ArgMatches) (found : Found) → HasMatchesOf command_line words m
+    → subcommand_name_of m ≡ Some (codes "collect") → option_map (λ p. p.1) (subcommand_rows_of m) ≡ Some (rows_of found)
+    → AreUnread (rows_of found) → IsCallOf words (Err Usage)
+unread-words words m found has named rows unread =
+    let name = name_of_matches command_line words m refl has in
+    let same_rows = rows_of_found (subcommand_rows_of m) found rows ∙ rows_of_matches command_line words m refl has in
+    record {
+      accepted = λ y is. absurd (cc);
+      named = λ y is. absurd (cc);
+      log = λ _ is. cc;
+      no_log = λ _ is. cc;
+      no_replay = λ _ _ is. let wrong = sym named ∙ name ∙ is in cc;
+      no_run = λ _ _ is. let wrong = sym named ∙ name ∙ is in cc;
+      no_dump = λ _ _ is. let wrong = sym named ∙ name ∙ is in cc;
+      collect = λ other is. absurd (cc);
+      no_collect = λ _ _ _. subst AreUnread same_rows unread;
+    }
+
+pub no_collect-words : (words : List Text) (m : ArgMatches) (found : Found) (fault : CallFault) → HasMatchesOf command_line words m
+    → subcommand_name_of m ≡ Some (codes "collect") → option_map (λ p. p.1) (subcommand_rows_of m) ≡ Some (rows_of found)
+    → (fault ≡ Usage → AreUnread (rows_of found)) → IsCallOf words (Err fault)
+no_collect-words words m found NoMemory has named rows unread = no_memory-words words
+no_collect-words words m found Usage has named rows unread = unread-words words m found has named rows (unread refl)
+
+-- a parse that fails answers words that it doesn't accept, or memory was refused
+pub refused-words : (words : List Text) (fault : CallFault) → (IsAccepted words → fault ≡ NoMemory) → IsCallOf words (Err fault)
+refused-words words fault memory = record {
+  accepted = λ y is. absurd (cc);
+  named = λ y is. absurd (cc);
+  log = λ _ is. cc;
+  no_log = λ _ is. cc;
+  no_replay = λ is accepted. let why = memory accepted in absurd (cc);
+  no_run = λ is accepted. let why = memory accepted in absurd (cc);
+  no_dump = λ is accepted. let why = memory accepted in absurd (cc);
+  collect = λ other is. absurd (cc);
+  no_collect = λ is accepted. let why = memory accepted in absurd (cc);
+}
+
+pub failed-words : (words : List Text) (result : Result Call CallFault) (kind : ErrorKind) → IsErrAnd result (λ fault. fault ≡ fault_of_kind kind)
+    → (IsAccepted words → kind ≡ OutOfMemory) → IsCallOf words result
+failed-words words (Ok call) kind is memory = absurd is
+failed-words words (Err fault) kind is memory = refused-words words fault (λ accepted. is ∙ ap fault_of_kind (memory accepted))

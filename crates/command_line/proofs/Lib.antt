@@ -1,3 +1,5 @@
 pub mod CommandLineLemmas
 pub mod CommandLineExamples
 pub mod NumberWords
+pub mod FileLists
+pub mod CollectExamples

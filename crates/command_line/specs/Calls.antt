@@ -1,8 +1,63 @@
--- What the command `collect` is asked for.
-use Rattle.std.specs.Prelude.{ℕ, Bool, List, Option, map, option_map}
+-- What the command `collect` is asked for, and what the matches of its words say of that.
+use Rattle.std.specs.Prelude.{◌≡◌, ◌⊎◌, ℕ, Bool, true, false, List, Option, None, Some, Result, Ok, Err, codes, is_some, map, option_and_then, option_map, ⊤}
+use Rattle.clap.specs.Words.{Row, Text, all_of, first_of, one_of}
+use Rattle.command_line.specs.FileWords.{file_list, page_word}
+use Rattle.command_line.specs.declared.call.Call.{Call}
+use Rattle.command_line.specs.declared.call.Call.TheVariants.{Replay, Run, Dump, Collect}
+use Rattle.command_line.specs.declared.call.CallFault.{CallFault}
+use Rattle.command_line.specs.declared.call.CallFault.TheVariants.{Usage, NoMemory}
 use Rattle.command_line.specs.declared.call.CollectCall.{CollectCall}
 use Rattle.command_line.specs.declared.call.CpuFile.{CpuFile}
 
 -- a FILE's CPU and path
 abbrev pub file_seen : CpuFile → ℕ × List ℕ
 file_seen file = (file.cpu.0, file.path.now)
+
+-- what `collect` is asked for: the bytes of a page, whether names and whether objects are printed, the folder of formats,
+-- and the CPU and the path of each file
+pub record Asked : Type 0 where
+  pub page : ℕ
+  pub names : Bool
+  pub json : Bool
+  pub formats : Option Text
+  pub files : List (ℕ × Text)
+
+abbrev pub asked_of : CollectCall → Asked
+asked_of call = record {
+  page = call.page;
+  names = call.names;
+  json = call.json;
+  formats = option_map (λ folder. folder.now) call.formats;
+  files = map file_seen call.files.items;
+}
+
+-- the bytes of a page and the files that the matches of `collect` name, if they can be read
+abbrev pub page_matched : List Row → Option ℕ
+page_matched rows = page_word (first_of (codes "page") rows)
+
+abbrev pub files_matched : List Row → Option (List (ℕ × Text))
+files_matched rows = option_and_then file_list (all_of (codes "file") rows)
+
+-- The matches ask for this. Names are printed if `--names` or `--formats` is given.
+pub record AsksFor (rows : List Row) (asked : Asked) : Type 0 where
+  pub page : page_matched rows ≡ Some asked.page
+  pub files : files_matched rows ≡ Some asked.files
+  pub formats : first_of (codes "formats") rows ≡ asked.formats
+  pub json : one_of (codes "json") rows ≡ Some (codes "true") → asked.json ≡ true
+  pub no_json : one_of (codes "json") rows ≡ Some (codes "false") → asked.json ≡ false
+  pub names : one_of (codes "names") rows ≡ Some (codes "true") → asked.names ≡ true
+  pub named_formats : is_some asked.formats ≡ true → asked.names ≡ true
+  pub no_names : one_of (codes "names") rows ≡ Some (codes "false") → asked.formats ≡ None → asked.names ≡ false
+
+-- the matches name no size of a page, or no files, that can be read
+abbrev pub AreUnread : List Row → Type 0
+AreUnread rows = (page_matched rows ≡ None) ⊎ (files_matched rows ≡ None)
+
+-- `collect` is called for this, except that memory may be refused
+abbrev pub IsAsked : Result Call CallFault → Asked → Type 0
+IsAsked (Ok (Collect call)) asked = asked_of call ≡ asked
+IsAsked (Ok (Replay log)) asked = ⊥
+IsAsked (Ok Run) asked = ⊥
+IsAsked (Ok Dump) asked = ⊥
+IsAsked (Err Usage) asked = ⊥
+IsAsked (Err NoMemory) asked = ⊤

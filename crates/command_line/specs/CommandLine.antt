@@ -1,30 +1,56 @@
 -- The program's command line as `clap` parses it.
-use Rattle.std.specs.Prelude.{◌≡◌, ◌≢◌, List, [], Option, Some, Result, Ok, Err, true, false, codes, option_and_then, option_map}
+use Rattle.std.specs.Prelude.{◌≡◌, ◌≢◌, List, [], Option, None, Some, Result, Ok, Err, true, false, codes, option_and_then, option_map, ⊤}
 use Rattle.clap.specs.Words.{App, Row, Rule, Text, fault_of, new_app, new_rule, one_of, subcommand_of, with_rule, with_subcommand}
-use Rattle.clap.specs.declared.builder.action.ArgAction.TheVariants.{SetTrue}
+use Rattle.clap.specs.declared.builder.action.ArgAction.TheVariants.{Append, Set, SetTrue}
 use Rattle.clap.specs.declared.error.ErrorKind.{ErrorKind}
 use Rattle.clap.specs.declared.error.ErrorKind.TheVariants.{OutOfMemory}
 use Rattle.command_line.specs.declared.call.Call.{Call}
-use Rattle.command_line.specs.declared.call.Call.TheVariants.{Replay, Run, Dump}
+use Rattle.command_line.specs.declared.call.Call.TheVariants.{Replay, Run, Dump, Collect}
+use Rattle.command_line.specs.Calls.{AreUnread, AsksFor, asked_of}
+use Rattle.command_line.specs.declared.call.CollectCall.{CollectCall}
 use Rattle.command_line.specs.declared.call.CallFault.{CallFault}
 use Rattle.command_line.specs.declared.call.CallFault.TheVariants.{Usage, NoMemory}
 
--- the flag `--log`
-abbrev pub log_rule : Rule
-log_rule = record (new_rule (codes "log")) { long = Some (codes "log"); action = Some SetTrue }
+-- a flag of this name, as `--log`
+abbrev pub flag_rule : Text → Rule
+flag_rule name = record (new_rule name) { long = Some name; action = Some SetTrue }
+
+-- an option of this name that takes a value, as `--page`
+abbrev pub option_rule : Text → Rule
+option_rule name = record (new_rule name) { long = Some name; action = Some Set }
+
+-- the values without a name, one at least
+abbrev pub values_rule : Text → Rule
+values_rule name = record (new_rule name) { required = true; action = Some Append }
 
 -- the program with its two commands that carry out a script: `replay`, which takes `--log`, and `run`
 abbrev pub script_commands : App
 script_commands =
-    let replay = with_rule (new_app (codes "replay")) log_rule in
+    let replay = with_rule (new_app (codes "replay")) (flag_rule (codes "log")) in
     let run = new_app (codes "run") in
     with_subcommand (with_subcommand (new_app (codes "tracering")) replay.top) run.top
 
 -- and with its third command, `dump`
-abbrev pub command_line : App
-command_line =
+abbrev pub image_commands : App
+image_commands =
     let dump = new_app (codes "dump") in
     with_subcommand script_commands dump.top
+
+-- the command `collect`, with its options and its flags
+abbrev pub collect_options : App
+collect_options =
+    let paged = with_rule (new_app (codes "collect")) (option_rule (codes "page")) in
+    let named = with_rule paged (flag_rule (codes "names")) in
+    let formed = with_rule named (option_rule (codes "formats")) in
+    with_rule formed (flag_rule (codes "json"))
+
+-- and with its files
+abbrev pub collect_command : App
+collect_command = with_rule collect_options (values_rule (codes "file"))
+
+-- the program with its fourth command, `collect`
+abbrev pub command_line : App
+command_line = with_subcommand image_commands collect_command.top
 
 -- the parse accepts the words
 abbrev pub IsAccepted : List Text → Type 0
@@ -42,14 +68,30 @@ flag_text matched = option_and_then (λ p. one_of (codes "log") p.1) matched
 unfoldable pub log_text : List Text → Option Text
 log_text words = flag_text (subcommand_of command_line words)
 
+-- the matches of the command that was found, none if none was
+abbrev pub rows_found : Option (Text × List Row) → List Row
+rows_found None = []
+rows_found (Some found) = found.1
+
+-- the matches of the command that the words name
+unfoldable pub rows_named : List Text → List Row
+rows_named words = rows_found (subcommand_of command_line words)
+
 -- the name of the command that is asked for
 abbrev pub name_of : Call → Text
 name_of (Replay log) = codes "replay"
 name_of Run = codes "run"
 name_of Dump = codes "dump"
+name_of (Collect call) = codes "collect"
 
--- What the program makes of its words: the command and the flag that the parse finds, if it accepts the words; if it
--- doesn't, or finds no command, the usage line. Memory is refused at any of them.
+-- the call is of another command than `collect`
+abbrev pub IsScript : Call → Type 0
+IsScript (Collect call) = ⊥
+IsScript _ = ⊤
+
+-- What the program makes of its words: the command and what else the parse finds, if it accepts the words; if it
+-- doesn't, or finds no command, or what it finds for `collect` can't be read, the usage line. Memory is refused at any of
+-- them.
 pub record IsCallOf (words : List Text) (result : Result Call CallFault) : Type 0 where
   pub accepted : (call : Call) → result ≡ Ok call → IsAccepted words
   pub named : (call : Call) → result ≡ Ok call → names_command words ≡ Some (name_of call)
@@ -58,6 +100,8 @@ pub record IsCallOf (words : List Text) (result : Result Call CallFault) : Type 
   pub no_replay : result ≡ Err Usage → IsAccepted words → names_command words ≢ Some (codes "replay")
   pub no_run : result ≡ Err Usage → IsAccepted words → names_command words ≢ Some (codes "run")
   pub no_dump : result ≡ Err Usage → IsAccepted words → names_command words ≢ Some (codes "dump")
+  pub collect : (call : CollectCall) → result ≡ Ok (Collect call) → AsksFor (rows_named words) (asked_of call)
+  pub no_collect : result ≡ Err Usage → IsAccepted words → names_command words ≡ Some (codes "collect") → AreUnread (rows_named words)
 
 -- the parse fails because memory was refused, or at the words
 abbrev pub fault_of_kind : ErrorKind → CallFault

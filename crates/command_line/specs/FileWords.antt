@@ -47,3 +47,7 @@ abbrev pub file_words : (position : ℕ) (words : List (List ℕ)) → Option (L
 file_words position [] = Some []
 file_words position (word ∷ words) =
     option_and_then (λ file. option_map (λ files. file ∷ files) (file_words (position + 1) words)) (file_word position word)
+
+-- the same of all FILEs of a call, of which there is one at least, and no more than there can be CPUs
+abbrev pub file_list : (words : List (List ℕ)) → Option (List (ℕ × List ℕ))
+file_list words = if nat_lt 0 (length words) && nat_le (length words) MAX_CPUS then file_words 0 words else None

@@ -6,7 +6,7 @@ ghost use Rattle.command_line.specs.declared.call.CallFault.TheVariants.{NoMemor
 
 use clap::Error;
 use clap::error::ErrorKind;
-use std::alloc::AllocError;
+use std::alloc::{AllocError, AllocFailed};
 use trace_model::CpuId;
 
 /// A file that `collect` reads.
@@ -59,6 +59,14 @@ impl From<AllocError> for CallFault {
     ghost from_gives = { λ _ fault. fault ≡ NoMemory };
 
     fn from(_refused: AllocError) -> CallFault {
+        CallFault::NoMemory
+    }
+}
+
+impl<T: Drop> From<AllocFailed<T>> for CallFault {
+    ghost from_gives = { λ _ fault. fault ≡ NoMemory };
+
+    fn from(_refused: AllocFailed<T>) -> CallFault {
         CallFault::NoMemory
     }
 }

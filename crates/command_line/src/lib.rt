@@ -2,6 +2,7 @@
 #![tactic(auto)]
 
 mod call;
+mod collect;
 mod given;
 mod parse;
 mod words;

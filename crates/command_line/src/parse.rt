@@ -1,37 +1,104 @@
 //! The parse of the program's command line.
 ghost use Rattle.std.specs.Prelude.{◌≡◌, ◌≢◌, ◌⊎◌, ℕ, List, ◌∷◌, [], map, codes, Some, None, Ok, Err, IfOk, IfSome, true, false};
-ghost use Rattle.clap.specs.Words.{app_of, subcommand_name_of, subcommand_rows_of};
-ghost use Rattle.command_line.specs.CommandLine.{IsCallOf, command_line, flag_text, name_of, script_commands};
+ghost use Rattle.clap.specs.declared.builder.command.Command.TheViews.{out-Command as fields_of};
+ghost use Rattle.clap.specs.Words.{app_of, subcommand_name_of, subcommand_rows_of, with_rule};
+ghost use Rattle.command_line.specs.Calls.{IsAsked};
+ghost use Rattle.command_line.specs.CommandLine.{IsCallOf, IsScript, collect_options, command_line, flag_rule, flag_text, image_commands, name_of, option_rule, script_commands, values_rule};
 
 use crate::call::{Call, CallFault};
+use crate::collect::collect_call;
 use clap::{Arg, ArgAction, ArgMatches, Command};
 use std::alloc::{AllocError, Global};
 use std::convert::AsStr;
+
+/// The command with one flag more, of this name.
+fn with_flag<'a>(
+    alloc: Global,
+    command: Command<'a>,
+    name: &'a str,
+) -> Result<Command<'a>, AllocError>
+    ensures added { IfOk result (λ more.
+        app_of more ≡ with_rule (app_of command.entry) (flag_rule name.entry.now)) }
+    ensures local { (fields_of command.entry).has_globals ≡ false
+        → IfOk result (λ more. (fields_of more).has_globals ≡ false) }
+{
+    let flag = Arg::new(alloc, name).long(name).action(ArgAction::SetTrue);
+    command.arg(flag)
+}
+
+/// The command with one option more, of this name, which takes a value.
+fn with_option<'a>(
+    alloc: Global,
+    command: Command<'a>,
+    name: &'a str,
+) -> Result<Command<'a>, AllocError>
+    ensures added { IfOk result (λ more.
+        app_of more ≡ with_rule (app_of command.entry) (option_rule name.entry.now)) }
+    ensures local { (fields_of command.entry).has_globals ≡ false
+        → IfOk result (λ more. (fields_of more).has_globals ≡ false) }
+{
+    let option = Arg::new(alloc, name).long(name).action(ArgAction::Set);
+    command.arg(option)
+}
+
+/// The command with values without a name, of which there is one at least.
+fn with_values<'a>(
+    alloc: Global,
+    command: Command<'a>,
+    name: &'a str,
+) -> Result<Command<'a>, AllocError>
+    ensures added { IfOk result (λ more.
+        app_of more ≡ with_rule (app_of command.entry) (values_rule name.entry.now)) }
+    ensures local { (fields_of command.entry).has_globals ≡ false
+        → IfOk result (λ more. (fields_of more).has_globals ≡ false) }
+{
+    let values = Arg::new(alloc, name)
+        .required(true)
+        .action(ArgAction::Append);
+    command.arg(values)
+}
 
 /// The program with its two commands that carry out a script, of which `replay` takes `--log`.
 fn script_program<'a>(alloc: Global) -> Result<Command<'a>, AllocError>
     ensures { IfOk result (λ program. app_of program ≡ script_commands) }
 {
-    let log = Arg::new(alloc, "log")
-        .long("log")
-        .action(ArgAction::SetTrue);
-    let replay = Command::new(alloc, "replay").arg(log)?;
+    let replay = with_flag(alloc, Command::new(alloc, "replay"), "log")?;
     let run = Command::new(alloc, "run");
     let first = Command::new(alloc, "tracering").subcommand(replay)?;
     first.subcommand(run)
 }
 
-/// The program with its three commands.
-fn program<'a>(alloc: Global) -> Result<Command<'a>, AllocError>
-    ensures { IfOk result (λ program. app_of program ≡ command_line) }
+/// The program with `dump` too.
+fn image_program<'a>(alloc: Global) -> Result<Command<'a>, AllocError>
+    ensures { IfOk result (λ program. app_of program ≡ image_commands) }
 {
     let dump = Command::new(alloc, "dump");
     script_program(alloc)?.subcommand(dump)
 }
 
-/// The call that these matches make, if they make one.
+/// The command `collect` with its options and flags.
+fn collect_program<'a>(alloc: Global) -> Result<Command<'a>, AllocError>
+    ensures options { IfOk result (λ program. app_of program ≡ collect_options) }
+    ensures local { IfOk result (λ program. (fields_of program).has_globals ≡ false) }
+{
+    let paged = with_option(alloc, Command::new(alloc, "collect"), "page")?;
+    let named = with_flag(alloc, paged, "names")?;
+    let formed = with_option(alloc, named, "formats")?;
+    with_flag(alloc, formed, "json")
+}
+
+/// The program with its four commands.
+fn program<'a>(alloc: Global) -> Result<Command<'a>, AllocError>
+    ensures { IfOk result (λ program. app_of program ≡ command_line) }
+{
+    let collect = with_values(alloc, collect_program(alloc)?, "file")?;
+    image_program(alloc)?.subcommand(collect)
+}
+
+/// The call that these matches make, if they make one other than `collect`.
 fn call_of_matches<'a>(matches: &ArgMatches<'a>) -> Option<Call<'a>>
-    ensures named { IfSome result (λ call. subcommand_name_of matches.now ≡ Some (name_of call)) }
+    ensures named { IfSome result (λ call.
+        IsScript call × (subcommand_name_of matches.now ≡ Some (name_of call))) }
     ensures none { result ≡ None → (subcommand_name_of matches.now ≢ Some (codes "replay"))
         × (subcommand_name_of matches.now ≢ Some (codes "run"))
         × (subcommand_name_of matches.now ≢ Some (codes "dump")) }
@@ -55,7 +122,13 @@ fn parse_words<'a, S: AsStr>(alloc: Global, words: &'a [S]) -> Result<Call<'a>, 
     ensures { IsCallOf (map S.text words.now) result }
 {
     let matches = program(alloc)?.try_get_matches_from(words)?;
-    call_of_matches(&matches).ok_or(CallFault::Usage)
+    match matches.subcommand_matches("collect") {
+        Some(found) => match collect_call(alloc, found) {
+            Ok(call) => Ok(Call::Collect(call)),
+            Err(fault) => Err(fault),
+        },
+        None => call_of_matches(&matches).ok_or(CallFault::Usage),
+    }
 }
 
 /// What these words ask for. The first is the program's own name, whatever it is.
@@ -78,6 +151,61 @@ pub fn call_of<'a, S: AsStr>(alloc: Global, words: &'a [S]) -> Result<Call<'a>, 
         → (result ≡ Ok Call.Dump) ⊎ (result ≡ Err CallFault.NoMemory) }
     ensures dump_log { (first : List ℕ)
         → map S.text words.now ≡ first ∷ codes "dump" ∷ codes "--log" ∷ []
+        → (result ≡ Err CallFault.Usage) ⊎ (result ≡ Err CallFault.NoMemory) }
+
+    // Or of `collect`, with files alone, a CPU and standard input, flags, and a size of a page.
+    ensures collect { (first : List ℕ)
+        → map S.text words.now ≡ first ∷ codes "collect" ∷ codes "a" ∷ codes "b" ∷ []
+        → IsAsked result (record {
+          page = 4096;
+          names = false;
+          json = false;
+          formats = None;
+          files = (0, codes "a") ∷ (1, codes "b") ∷ [];
+        }) }
+    ensures collect_cpu { (first : List ℕ)
+        → map S.text words.now ≡ first ∷ codes "collect" ∷ codes "3=a" ∷ codes "-" ∷ []
+        → IsAsked result (record {
+          page = 4096;
+          names = false;
+          json = false;
+          formats = None;
+          files = (3, codes "a") ∷ (1, codes "-") ∷ [];
+        }) }
+    ensures collect_flags { (first : List ℕ)
+        → map S.text words.now ≡ first ∷ codes "collect" ∷ codes "--json" ∷ codes "--names" ∷ codes "a" ∷ []
+        → IsAsked result (record {
+          page = 4096;
+          names = true;
+          json = true;
+          formats = None;
+          files = (0, codes "a") ∷ [];
+        }) }
+    ensures collect_page { (first : List ℕ)
+        → map S.text words.now ≡ first ∷ codes "collect" ∷ codes "--page" ∷ codes "8192" ∷ codes "a" ∷ []
+        → IsAsked result (record {
+          page = 8192;
+          names = false;
+          json = false;
+          formats = None;
+          files = (0, codes "a") ∷ [];
+        }) }
+    ensures collect_formats { (first : List ℕ)
+        → map S.text words.now ≡ first ∷ codes "collect" ∷ codes "a" ∷ codes "--formats" ∷ codes "d" ∷ codes "b" ∷ []
+        → IsAsked result (record {
+          page = 4096;
+          names = true;
+          json = false;
+          formats = Some (codes "d");
+          files = (0, codes "a") ∷ (1, codes "b") ∷ [];
+        }) }
+    ensures collect_none { (first : List ℕ) → map S.text words.now ≡ first ∷ codes "collect" ∷ []
+        → (result ≡ Err CallFault.Usage) ⊎ (result ≡ Err CallFault.NoMemory) }
+    ensures collect_high { (first : List ℕ)
+        → map S.text words.now ≡ first ∷ codes "collect" ∷ codes "256=a" ∷ []
+        → (result ≡ Err CallFault.Usage) ⊎ (result ≡ Err CallFault.NoMemory) }
+    ensures collect_small { (first : List ℕ)
+        → map S.text words.now ≡ first ∷ codes "collect" ∷ codes "--page" ∷ codes "47" ∷ codes "a" ∷ []
         → (result ≡ Err CallFault.Usage) ⊎ (result ≡ Err CallFault.NoMemory) }
 {
     parse_words(alloc, words)

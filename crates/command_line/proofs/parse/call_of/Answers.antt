@@ -1,4 +1,5 @@
 use Rattle.command_line.proofs.CommandLineExamples.{call_of_replay, call_of_replay_log, call_of_run, call_of_run_log, call_of_dump, call_of_dump_log}
+use Rattle.command_line.proofs.CollectExamples.{asked_collect, asked_cpu, asked_flags, asked_page, asked_formats, refused_none, refused_high, refused_small}
 use Rattle.command_line.proofs.parse.call_of.Goals as goal
 
 pub returns-clause-replay : goal.returns-clause-replay
@@ -24,3 +25,35 @@ returns-clause-dump g c = λ first words.
 pub returns-clause-dump_log : goal.returns-clause-dump_log
 returns-clause-dump_log g c = λ first words.
     call_of_dump_log first c.parse_words.result (rw words at c.parse_words.ensures)
+
+pub returns-clause-collect : goal.returns-clause-collect
+returns-clause-collect g c = λ first words.
+    asked_collect first c.parse_words.result (rw words at c.parse_words.ensures)
+
+pub returns-clause-collect_cpu : goal.returns-clause-collect_cpu
+returns-clause-collect_cpu g c = λ first words.
+    asked_cpu first c.parse_words.result (rw words at c.parse_words.ensures)
+
+pub returns-clause-collect_flags : goal.returns-clause-collect_flags
+returns-clause-collect_flags g c = λ first words.
+    asked_flags first c.parse_words.result (rw words at c.parse_words.ensures)
+
+pub returns-clause-collect_page : goal.returns-clause-collect_page
+returns-clause-collect_page g c = λ first words.
+    asked_page first c.parse_words.result (rw words at c.parse_words.ensures)
+
+pub returns-clause-collect_formats : goal.returns-clause-collect_formats
+returns-clause-collect_formats g c = λ first words.
+    asked_formats first c.parse_words.result (rw words at c.parse_words.ensures)
+
+pub returns-clause-collect_none : goal.returns-clause-collect_none
+returns-clause-collect_none g c = λ first words.
+    refused_none first c.parse_words.result (rw words at c.parse_words.ensures)
+
+pub returns-clause-collect_high : goal.returns-clause-collect_high
+returns-clause-collect_high g c = λ first words.
+    refused_high first c.parse_words.result (rw words at c.parse_words.ensures)
+
+pub returns-clause-collect_small : goal.returns-clause-collect_small
+returns-clause-collect_small g c = λ first words.
+    refused_small first c.parse_words.result (rw words at c.parse_words.ensures)

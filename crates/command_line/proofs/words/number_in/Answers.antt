@@ -1,4 +1,4 @@
-use Rattle.std.proofs.Common.{rules, ◌≡◌, Some, sym, ◌∙◌}
+use Rattle.std.proofs.Common.{rules, sym, ◌∙◌}
 use Rattle.command_line.proofs.NumberWords.{refused}
 use Rattle.command_line.proofs.words.number_in.Goals as goal
 

@@ -1,0 +1,160 @@
+-- What the program's command line is on words that call for `collect` and are written out.
+use Rattle.std.proofs.Common.{◌≡◌, ◌⊎◌, inl, inr, List, ◌∷◌, [], Result, Ok, Err, Some, None, Option, ℕ, Bool, true, false, codes, is_some, refl, sym, ap, ◌∙◌}
+use Rattle.clap.specs.Words.{Row, Text, first_of}
+use Rattle.clap.proofs.OnLiterals.{clap_on_literals}
+use Rattle.command_line.specs.Calls.{Asked, AsksFor, AreUnread, IsAsked, asked_of, files_matched, page_matched}
+use Rattle.command_line.specs.CommandLine.{IsCallOf, IsAccepted, names_command, rows_named}
+use Rattle.command_line.specs.declared.call.Call.{Call}
+use Rattle.command_line.specs.declared.call.Call.TheVariants.{Replay, Run, Dump, Collect}
+use Rattle.command_line.specs.declared.call.CallFault.{CallFault}
+use Rattle.command_line.specs.declared.call.CallFault.TheVariants.{Usage, NoMemory}
+
+same_asked : (a b : Asked) → a.page ≡ b.page → a.names ≡ b.names → a.json ≡ b.json → a.formats ≡ b.formats → a.files ≡ b.files → a ≡ b
+same_asked a b page names json formats files =
+    let make : ℕ → Bool → Bool → Option Text → List (ℕ × Text) → Asked = λ p n j f fs. record { page = p; names = n; json = j; formats = f; files = fs } in
+    ap (λ p. make p a.names a.json a.formats a.files) page ∙ ap (λ n. make b.page n a.json a.formats a.files) names
+    ∙ ap (λ j. make b.page b.names j a.formats a.files) json ∙ ap (λ f. make b.page b.names b.json f a.files) formats
+    ∙ ap (λ fs. make b.page b.names b.json b.formats fs) files
+
+-- what the matches say, and so all that they ask for
+record Says (rows : List Row) (asked : Asked) : Type 0 where
+  page : page_matched rows ≡ Some asked.page
+  files : files_matched rows ≡ Some asked.files
+  formats : first_of (codes "formats") rows ≡ asked.formats
+  json : (asks : Asked) → AsksFor rows asks → asks.json ≡ asked.json
+  names : (asks : Asked) → AsksFor rows asks → asks.names ≡ asked.names
+
+same_some : {T : Type 0} (a b : T) (o : Option T) → o ≡ Some a → o ≡ Some b → a ≡ b
+same_some a b o x y = let both : Some a ≡ Some b = sym x ∙ y in cc
+
+module _ (words : List Text) (named : names_command words ≡ Some (codes "collect")) where
+  asks : (asked : Asked) (result : Result Call CallFault) → IsAccepted words → Says (rows_named words) asked → IsCallOf words result → IsAsked result asked
+  asks asked (Ok (Collect call)) accepted says a =
+      let asks = a.collect call refl in
+      same_asked (asked_of call) asked
+      (same_some call.page asked.page _ asks.page says.page) (says.names (asked_of call) asks) (says.json (asked_of call) asks)
+      (sym asks.formats ∙ says.formats) (same_some _ asked.files _ asks.files says.files)
+  asks asked (Ok (Replay log)) accepted says a = absurd (let wrong = sym named ∙ a.named (Replay log) refl in cc)
+  asks asked (Ok Run) accepted says a = absurd (let wrong = sym named ∙ a.named Run refl in cc)
+  asks asked (Ok Dump) accepted says a = absurd (let wrong = sym named ∙ a.named Dump refl in cc)
+  asks asked (Err Usage) accepted says a = absurd (unread (a.no_collect refl accepted named))
+    where
+      unread : AreUnread (rows_named words) → ⊥
+      unread (inl none) = let wrong = sym none ∙ says.page in cc
+      unread (inr none) = let wrong = sym none ∙ says.files in cc
+  asks asked (Err NoMemory) accepted says a = tt
+
+  unreadable : (result : Result Call CallFault) → AreUnread (rows_named words) → IsCallOf words result → (result ≡ Err Usage) ⊎ (result ≡ Err NoMemory)
+  unreadable (Ok (Collect call)) (inl none) a = absurd (let wrong = sym none ∙ (a.collect call refl).page in cc)
+  unreadable (Ok (Collect call)) (inr none) a = absurd (let wrong = sym none ∙ (a.collect call refl).files in cc)
+  unreadable (Ok (Replay log)) none a = absurd (let wrong = sym named ∙ a.named (Replay log) refl in cc)
+  unreadable (Ok Run) none a = absurd (let wrong = sym named ∙ a.named Run refl in cc)
+  unreadable (Ok Dump) none a = absurd (let wrong = sym named ∙ a.named Dump refl in cc)
+  unreadable (Err Usage) none a = inl refl
+  unreadable (Err NoMemory) none a = inr refl
+
+collect_accepted : (first : List ℕ) → IsAccepted (first ∷ codes "collect" ∷ codes "a" ∷ codes "b" ∷ [])
+unfolding clap_on_literals
+collect_accepted first = refl
+
+collect_named : (first : List ℕ) → names_command (first ∷ codes "collect" ∷ codes "a" ∷ codes "b" ∷ []) ≡ Some (codes "collect")
+unfolding clap_on_literals names_command
+collect_named first = refl
+
+collect_says : (first : List ℕ) → Says (rows_named (first ∷ codes "collect" ∷ codes "a" ∷ codes "b" ∷ [])) (record { page = 4096; names = false; json = false; formats = None; files = (0, codes "a") ∷ (1, codes "b") ∷ [] })
+unfolding clap_on_literals rows_named
+collect_says first = record { page = refl; files = refl; formats = refl; json = λ asks h. h.no_json refl; names = λ asks h. h.no_names refl (sym h.formats) }
+
+pub asked_collect : (first : List ℕ) (result : Result Call CallFault) → IsCallOf (first ∷ codes "collect" ∷ codes "a" ∷ codes "b" ∷ []) result → IsAsked result (record { page = 4096; names = false; json = false; formats = None; files = (0, codes "a") ∷ (1, codes "b") ∷ [] })
+asked_collect first result a = asks (first ∷ codes "collect" ∷ codes "a" ∷ codes "b" ∷ []) (collect_named first) (record { page = 4096; names = false; json = false; formats = None; files = (0, codes "a") ∷ (1, codes "b") ∷ [] }) result (collect_accepted first) (collect_says first) a
+
+cpu_accepted : (first : List ℕ) → IsAccepted (first ∷ codes "collect" ∷ codes "3=a" ∷ codes "-" ∷ [])
+unfolding clap_on_literals
+cpu_accepted first = refl
+
+cpu_named : (first : List ℕ) → names_command (first ∷ codes "collect" ∷ codes "3=a" ∷ codes "-" ∷ []) ≡ Some (codes "collect")
+unfolding clap_on_literals names_command
+cpu_named first = refl
+
+cpu_says : (first : List ℕ) → Says (rows_named (first ∷ codes "collect" ∷ codes "3=a" ∷ codes "-" ∷ [])) (record { page = 4096; names = false; json = false; formats = None; files = (3, codes "a") ∷ (1, codes "-") ∷ [] })
+unfolding clap_on_literals rows_named
+cpu_says first = record { page = refl; files = refl; formats = refl; json = λ asks h. h.no_json refl; names = λ asks h. h.no_names refl (sym h.formats) }
+
+pub asked_cpu : (first : List ℕ) (result : Result Call CallFault) → IsCallOf (first ∷ codes "collect" ∷ codes "3=a" ∷ codes "-" ∷ []) result → IsAsked result (record { page = 4096; names = false; json = false; formats = None; files = (3, codes "a") ∷ (1, codes "-") ∷ [] })
+asked_cpu first result a = asks (first ∷ codes "collect" ∷ codes "3=a" ∷ codes "-" ∷ []) (cpu_named first) (record { page = 4096; names = false; json = false; formats = None; files = (3, codes "a") ∷ (1, codes "-") ∷ [] }) result (cpu_accepted first) (cpu_says first) a
+
+flags_accepted : (first : List ℕ) → IsAccepted (first ∷ codes "collect" ∷ codes "--json" ∷ codes "--names" ∷ codes "a" ∷ [])
+unfolding clap_on_literals
+flags_accepted first = refl
+
+flags_named : (first : List ℕ) → names_command (first ∷ codes "collect" ∷ codes "--json" ∷ codes "--names" ∷ codes "a" ∷ []) ≡ Some (codes "collect")
+unfolding clap_on_literals names_command
+flags_named first = refl
+
+flags_says : (first : List ℕ) → Says (rows_named (first ∷ codes "collect" ∷ codes "--json" ∷ codes "--names" ∷ codes "a" ∷ [])) (record { page = 4096; names = true; json = true; formats = None; files = (0, codes "a") ∷ [] })
+unfolding clap_on_literals rows_named
+flags_says first = record { page = refl; files = refl; formats = refl; json = λ asks h. h.json refl; names = λ asks h. h.names refl }
+
+pub asked_flags : (first : List ℕ) (result : Result Call CallFault) → IsCallOf (first ∷ codes "collect" ∷ codes "--json" ∷ codes "--names" ∷ codes "a" ∷ []) result → IsAsked result (record { page = 4096; names = true; json = true; formats = None; files = (0, codes "a") ∷ [] })
+asked_flags first result a = asks (first ∷ codes "collect" ∷ codes "--json" ∷ codes "--names" ∷ codes "a" ∷ []) (flags_named first) (record { page = 4096; names = true; json = true; formats = None; files = (0, codes "a") ∷ [] }) result (flags_accepted first) (flags_says first) a
+
+page_accepted : (first : List ℕ) → IsAccepted (first ∷ codes "collect" ∷ codes "--page" ∷ codes "8192" ∷ codes "a" ∷ [])
+unfolding clap_on_literals
+page_accepted first = refl
+
+page_named : (first : List ℕ) → names_command (first ∷ codes "collect" ∷ codes "--page" ∷ codes "8192" ∷ codes "a" ∷ []) ≡ Some (codes "collect")
+unfolding clap_on_literals names_command
+page_named first = refl
+
+page_says : (first : List ℕ) → Says (rows_named (first ∷ codes "collect" ∷ codes "--page" ∷ codes "8192" ∷ codes "a" ∷ [])) (record { page = 8192; names = false; json = false; formats = None; files = (0, codes "a") ∷ [] })
+unfolding clap_on_literals rows_named
+page_says first = record { page = refl; files = refl; formats = refl; json = λ asks h. h.no_json refl; names = λ asks h. h.no_names refl (sym h.formats) }
+
+pub asked_page : (first : List ℕ) (result : Result Call CallFault) → IsCallOf (first ∷ codes "collect" ∷ codes "--page" ∷ codes "8192" ∷ codes "a" ∷ []) result → IsAsked result (record { page = 8192; names = false; json = false; formats = None; files = (0, codes "a") ∷ [] })
+asked_page first result a = asks (first ∷ codes "collect" ∷ codes "--page" ∷ codes "8192" ∷ codes "a" ∷ []) (page_named first) (record { page = 8192; names = false; json = false; formats = None; files = (0, codes "a") ∷ [] }) result (page_accepted first) (page_says first) a
+
+formats_accepted : (first : List ℕ) → IsAccepted (first ∷ codes "collect" ∷ codes "a" ∷ codes "--formats" ∷ codes "d" ∷ codes "b" ∷ [])
+unfolding clap_on_literals
+formats_accepted first = refl
+
+formats_named : (first : List ℕ) → names_command (first ∷ codes "collect" ∷ codes "a" ∷ codes "--formats" ∷ codes "d" ∷ codes "b" ∷ []) ≡ Some (codes "collect")
+unfolding clap_on_literals names_command
+formats_named first = refl
+
+formats_says : (first : List ℕ) → Says (rows_named (first ∷ codes "collect" ∷ codes "a" ∷ codes "--formats" ∷ codes "d" ∷ codes "b" ∷ [])) (record { page = 4096; names = true; json = false; formats = Some (codes "d"); files = (0, codes "a") ∷ (1, codes "b") ∷ [] })
+unfolding clap_on_literals rows_named
+formats_says first = record { page = refl; files = refl; formats = refl; json = λ asks h. h.no_json refl; names = λ asks h. h.named_formats (let is : asks.formats ≡ Some (codes "d") = sym h.formats in ap is_some is) }
+
+pub asked_formats : (first : List ℕ) (result : Result Call CallFault) → IsCallOf (first ∷ codes "collect" ∷ codes "a" ∷ codes "--formats" ∷ codes "d" ∷ codes "b" ∷ []) result → IsAsked result (record { page = 4096; names = true; json = false; formats = Some (codes "d"); files = (0, codes "a") ∷ (1, codes "b") ∷ [] })
+asked_formats first result a = asks (first ∷ codes "collect" ∷ codes "a" ∷ codes "--formats" ∷ codes "d" ∷ codes "b" ∷ []) (formats_named first) (record { page = 4096; names = true; json = false; formats = Some (codes "d"); files = (0, codes "a") ∷ (1, codes "b") ∷ [] }) result (formats_accepted first) (formats_says first) a
+
+high_named : (first : List ℕ) → names_command (first ∷ codes "collect" ∷ codes "256=a" ∷ []) ≡ Some (codes "collect")
+unfolding clap_on_literals names_command
+high_named first = refl
+
+high_unread : (first : List ℕ) → AreUnread (rows_named (first ∷ codes "collect" ∷ codes "256=a" ∷ []))
+unfolding clap_on_literals rows_named
+high_unread first = inr refl
+
+pub refused_high : (first : List ℕ) (result : Result Call CallFault) → IsCallOf (first ∷ codes "collect" ∷ codes "256=a" ∷ []) result → (result ≡ Err Usage) ⊎ (result ≡ Err NoMemory)
+refused_high first result a = unreadable (first ∷ codes "collect" ∷ codes "256=a" ∷ []) (high_named first) result (high_unread first) a
+
+small_named : (first : List ℕ) → names_command (first ∷ codes "collect" ∷ codes "--page" ∷ codes "47" ∷ codes "a" ∷ []) ≡ Some (codes "collect")
+unfolding clap_on_literals names_command
+small_named first = refl
+
+small_unread : (first : List ℕ) → AreUnread (rows_named (first ∷ codes "collect" ∷ codes "--page" ∷ codes "47" ∷ codes "a" ∷ []))
+unfolding clap_on_literals rows_named
+small_unread first = inl refl
+
+pub refused_small : (first : List ℕ) (result : Result Call CallFault) → IsCallOf (first ∷ codes "collect" ∷ codes "--page" ∷ codes "47" ∷ codes "a" ∷ []) result → (result ≡ Err Usage) ⊎ (result ≡ Err NoMemory)
+refused_small first result a = unreadable (first ∷ codes "collect" ∷ codes "--page" ∷ codes "47" ∷ codes "a" ∷ []) (small_named first) result (small_unread first) a
+
+none_refused : (first : List ℕ) → IsAccepted (first ∷ codes "collect" ∷ []) → ⊥
+unfolding clap_on_literals
+none_refused first accepted = cc
+
+pub refused_none : (first : List ℕ) (result : Result Call CallFault) → IsCallOf (first ∷ codes "collect" ∷ []) result → (result ≡ Err Usage) ⊎ (result ≡ Err NoMemory)
+refused_none first (Ok call) a = absurd (none_refused first (a.accepted call refl))
+refused_none first (Err Usage) a = inl refl
+refused_none first (Err NoMemory) a = inr refl

@@ -1,0 +1,88 @@
+//! What the matches of `collect` ask for.
+ghost use Rattle.std.specs.Prelude.{◌≡◌, Some, None, Err, IfOk, codes, false, map, option_map, true};
+ghost use Rattle.clap.specs.Words.{first_of, found_of, one_of, rows_of};
+ghost use Rattle.command_line.specs.Calls.{AreUnread, AsksFor, asked_of, file_seen, files_matched, page_matched};
+ghost use Rattle.command_line.specs.FileWords.{file_list};
+
+use crate::call::{CallFault, CollectCall, CpuFile};
+use crate::words::{cpu_file, page_size};
+use clap::ArgMatches;
+use std::alloc::Global;
+use trace_model::MAX_CPUS;
+
+// The CPUs and the paths of all FILEs.
+fn files_of<'a>(alloc: Global, words: &[&'a str]) -> Result<Vec<CpuFile<'a>>, CallFault>
+    ensures files { IfOk result (λ files.
+        file_list (map (λ word. word.now) words.now) ≡ Some (map file_seen files.items)) }
+    ensures unread { result ≡ Err CallFault.Usage → file_list (map (λ word. word.now) words.now) ≡ None }
+{
+    if words.is_empty() || words.len() > MAX_CPUS as usize {
+        return Err(CallFault::Usage);
+    }
+    let mut files = Vec::new(alloc);
+    let mut position = 0;
+    for word in words {
+        let Some(file) = cpu_file(position, word) else {
+            return Err(CallFault::Usage);
+        };
+        files.push(file)?;
+        position += 1;
+    }
+    Ok(files)
+}
+
+// The bytes of a page that the matches ask for.
+fn matched_page(found: &ArgMatches<'_>) -> Option<u32>
+    ensures { result ≡ page_matched (rows_of (found_of found.now)) }
+{
+    page_size(found.get_str("page"))
+}
+
+// The files that they name.
+fn matched_files<'a>(alloc: Global, found: &ArgMatches<'a>) -> Result<Vec<CpuFile<'a>>, CallFault>
+    ensures files { IfOk result (λ files.
+        files_matched (rows_of (found_of found.now)) ≡ Some (map file_seen files.items)) }
+    ensures unread { result ≡ Err CallFault.Usage → files_matched (rows_of (found_of found.now)) ≡ None }
+{
+    match found.get_strs("file") {
+        Some(words) => files_of(alloc, words),
+        None => Err(CallFault::Usage),
+    }
+}
+
+// The folder of formats that they name.
+fn matched_formats<'a>(found: &ArgMatches<'a>) -> Option<&'a str>
+    ensures { option_map (λ folder. folder.now) result ≡ first_of (codes "formats") (rows_of (found_of found.now)) }
+{
+    found.get_str("formats")
+}
+
+// Whether the flag of this name is given.
+fn matched_flag(found: &ArgMatches<'_>, name: &str) -> bool
+    ensures given { one_of name.now (rows_of (found_of found.now)) ≡ Some (codes "true") → result ≡ true }
+    ensures not_given { one_of name.now (rows_of (found_of found.now)) ≡ Some (codes "false") → result ≡ false }
+{
+    found.get_flag(name)
+}
+
+/// What the matches of `collect` ask for.
+pub(crate) fn collect_call<'a>(
+    alloc: Global,
+    found: &ArgMatches<'a>,
+) -> Result<CollectCall<'a>, CallFault>
+    ensures asked { IfOk result (λ call. AsksFor (rows_of (found_of found.now)) (asked_of call)) }
+    ensures unread { result ≡ Err CallFault.Usage → AreUnread (rows_of (found_of found.now)) }
+{
+    let Some(page) = matched_page(found) else {
+        return Err(CallFault::Usage);
+    };
+    let files = matched_files(alloc, found)?;
+    let formats = matched_formats(found);
+    Ok(CollectCall {
+        page: page as usize,
+        names: matched_flag(found, "names") || formats.is_some(),
+        json: matched_flag(found, "json"),
+        formats,
+        files,
+    })
+}
