@@ -13,8 +13,8 @@ use Rattle.command_line.specs.declared.call.CpuFile.{CpuFile}
 abbrev pub file_seen : CpuFile → ℕ × List ℕ
 file_seen file = (file.cpu.0, file.path.now)
 
--- what `collect` is asked for: the bytes of a page, whether names and whether objects are printed, the folder of formats,
--- and the CPU and the path of each file
+-- what `collect` is asked for: the bytes of a page, whether names and whether objects are printed, the folder of
+-- formats, and the CPU and the path of each file
 pub record Asked : Type 0 where
   pub page : ℕ
   pub names : Bool
@@ -47,7 +47,8 @@ pub record AsksFor (rows : List Row) (asked : Asked) : Type 0 where
   pub no_json : one_of (codes "json") rows ≡ Some (codes "false") → asked.json ≡ false
   pub names : one_of (codes "names") rows ≡ Some (codes "true") → asked.names ≡ true
   pub named_formats : is_some asked.formats ≡ true → asked.names ≡ true
-  pub no_names : one_of (codes "names") rows ≡ Some (codes "false") → asked.formats ≡ None → asked.names ≡ false
+  pub no_names : one_of (codes "names") rows ≡ Some (codes "false") → asked.formats ≡ None
+      → asked.names ≡ false
 
 -- the matches name no size of a page, or no files, that can be read
 abbrev pub AreUnread : List Row → Type 0

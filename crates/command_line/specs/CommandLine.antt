@@ -90,8 +90,8 @@ IsScript (Collect call) = ⊥
 IsScript _ = ⊤
 
 -- What the program makes of its words: the command and what else the parse finds, if it accepts the words; if it
--- doesn't, or finds no command, or what it finds for `collect` can't be read, the usage line. Memory is refused at any of
--- them.
+-- doesn't, or finds no command, or what it finds for `collect` can't be read, the usage line. Memory is refused at any
+-- of them.
 pub record IsCallOf (words : List Text) (result : Result Call CallFault) : Type 0 where
   pub accepted : (call : Call) → result ≡ Ok call → IsAccepted words
   pub named : (call : Call) → result ≡ Ok call → names_command words ≡ Some (name_of call)
@@ -101,7 +101,8 @@ pub record IsCallOf (words : List Text) (result : Result Call CallFault) : Type 
   pub no_run : result ≡ Err Usage → IsAccepted words → names_command words ≢ Some (codes "run")
   pub no_dump : result ≡ Err Usage → IsAccepted words → names_command words ≢ Some (codes "dump")
   pub collect : (call : CollectCall) → result ≡ Ok (Collect call) → AsksFor (rows_named words) (asked_of call)
-  pub no_collect : result ≡ Err Usage → IsAccepted words → names_command words ≡ Some (codes "collect") → AreUnread (rows_named words)
+  pub no_collect : result ≡ Err Usage → IsAccepted words → names_command words ≡ Some (codes "collect")
+      → AreUnread (rows_named words)
 
 -- the parse fails because memory was refused, or at the words
 abbrev pub fault_of_kind : ErrorKind → CallFault

@@ -29,11 +29,12 @@ IsSplitAt word before after =
 abbrev pub file_split : (position : ℕ) (word : List ℕ) → Option ℕ → Option (ℕ × List ℕ)
 file_split position word None = Some (position, word)
 file_split position word (Some at) =
-    if is_number (take at word) then option_map (λ cpu. (cpu, drop (at + 1) word)) (number_in 0 (MAX_CPUS - 1) (take at word))
+    if is_number (take at word)
+    then option_map (λ cpu. (cpu, drop (at + 1) word)) (number_in 0 (MAX_CPUS - 1) (take at word))
     else Some (position, word)
 
--- The CPU and the path of a FILE: `CPU=PATH` says both, if there are digits alone before the first `=`; every other word
--- is a path, of the CPU of its position. There is none if the CPU is too high.
+-- The CPU and the path of a FILE: `CPU=PATH` says both, if there are digits alone before the first `=`; every other
+-- word is a path, of the CPU of its position. There is none if the CPU is too high.
 abbrev pub file_word : (position : ℕ) (word : List ℕ) → Option (ℕ × List ℕ)
 file_word position word = file_split position word (first_place is_equals word)
 
@@ -46,7 +47,8 @@ page_word (Some text) = number_in MIN_PAGE MAX_PAGE text
 abbrev pub file_words : (position : ℕ) (words : List (List ℕ)) → Option (List (ℕ × List ℕ))
 file_words position [] = Some []
 file_words position (word ∷ words) =
-    option_and_then (λ file. option_map (λ files. file ∷ files) (file_words (position + 1) words)) (file_word position word)
+    option_and_then (λ file. option_map (λ files. file ∷ files) (file_words (position + 1) words))
+    (file_word position word)
 
 -- the same of all FILEs of a call, of which there is one at least, and no more than there can be CPUs
 abbrev pub file_list : (words : List (List ℕ)) → Option (List (ℕ × List ℕ))

@@ -173,7 +173,8 @@ pub fn call_of<'a, S: AsStr>(alloc: Global, words: &'a [S]) -> Result<Call<'a>, 
           files = (3, codes "a") ∷ (1, codes "-") ∷ [];
         }) }
     ensures collect_flags { (first : List ℕ)
-        → map S.text words.now ≡ first ∷ codes "collect" ∷ codes "--json" ∷ codes "--names" ∷ codes "a" ∷ []
+        → map S.text words.now
+        ≡ first ∷ codes "collect" ∷ codes "--json" ∷ codes "--names" ∷ codes "a" ∷ []
         → IsAsked result (record {
           page = 4096;
           names = true;
@@ -191,7 +192,8 @@ pub fn call_of<'a, S: AsStr>(alloc: Global, words: &'a [S]) -> Result<Call<'a>, 
           files = (0, codes "a") ∷ [];
         }) }
     ensures collect_formats { (first : List ℕ)
-        → map S.text words.now ≡ first ∷ codes "collect" ∷ codes "a" ∷ codes "--formats" ∷ codes "d" ∷ codes "b" ∷ []
+        → map S.text words.now
+        ≡ first ∷ codes "collect" ∷ codes "a" ∷ codes "--formats" ∷ codes "d" ∷ codes "b" ∷ []
         → IsAsked result (record {
           page = 4096;
           names = true;

@@ -39,7 +39,8 @@ fn number_in(low: u32, high: u32, text: &str) -> Option<u32>
 
 // What is before the first `=` and after it.
 fn split_at_equals(word: &str) -> Option<(&str, &str)>
-    ensures { MatchOption result (first_place is_equals word.now ≡ None) (λ parts. IsSplitAt word.now parts.0.now parts.1.now) }
+    ensures { MatchOption result (first_place is_equals word.now ≡ None)
+        (λ parts. IsSplitAt word.now parts.0.now parts.1.now) }
 {
     word.split_once('=')
 }
