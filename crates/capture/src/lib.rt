@@ -8,7 +8,9 @@
 
 pub mod laws;
 mod pages;
+mod part;
 mod read;
 
 pub use pages::{Capture, CaptureFault, Damaged};
+pub use part::Part;
 pub use read::{Extent, ReadFault, fill_piece, read_capture, read_on};

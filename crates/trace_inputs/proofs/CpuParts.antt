@@ -5,7 +5,7 @@ use Rattle.trace_model.specs.Image.{Missed}
 use Rattle.capture.specs.Pages.{Page, AreCut, told, Fit}
 use Rattle.capture.specs.Captures.{IsCapture, AddsPages, PassesWithin}
 use Rattle.capture.specs.declared.pages.Capture.{Capture}
-use Rattle.trace_inputs.specs.declared.captured.Part.{Part}
+use Rattle.capture.specs.declared.part.Part.{Part}
 use Rattle.trace_inputs.specs.declared.captured.CpuCapture.{CpuCapture}
 use Rattle.trace_inputs.specs.Files.{ModelPart, bytes_in}
 use Rattle.trace_inputs.specs.Captures.{CutsOf, measured, CountsPart, IsCpuRead, FitCpu, IsPartPast}

@@ -1,5 +1,6 @@
 pub mod Cuts
 pub mod CpuParts
+mod CpuLists
 mod Answers
 mod EachLoop
 mod Lengths

@@ -1,12 +1,13 @@
 -- What is read of files, by CPU.
 use Rattle.std.specs.Prelude.{◌≡◌, ◌⊎◌, ℕ, ◌+◌, ◌-◌, ◌^◌, ◌<◌, List, [], ◌∷◌, ◌++◌, length, map, min, Option, Some, None}
 use Rattle.std.specs.List.{slice_get}
+use Rattle.std.specs.Io.KnownBytes.{Consumes}
 use Rattle.trace_model.specs.declared.limits.TheConstants.{MAX_CPUS}
 use Rattle.trace_model.specs.Image.{Missed, unknown}
 use Rattle.capture.specs.Pages.{Page, told, AreCut, Fit}
 use Rattle.capture.specs.Captures.{IsCapture}
 use Rattle.kernel_texts.specs.Names.{HasEvents}
-use Rattle.trace_inputs.specs.declared.captured.Part.{Part}
+use Rattle.capture.specs.declared.part.Part.{Part}
 use Rattle.trace_inputs.specs.declared.captured.CpuCapture.{CpuCapture}
 use Rattle.trace_inputs.specs.declared.captured.Captured.{Captured}
 use Rattle.trace_inputs.specs.Files.{File, ModelPart, bytes_in, parts_of_cpu, ArePartsOf, all_formats, all_instances}
@@ -49,6 +50,12 @@ pub record IsCpuRead (known : Missed) (cpu : ℕ) (parts : List ModelPart) (foun
   pub bytes_are : found.bytes ≡ bytes_in parts
   pub bytes_fit : bytes_in parts < 2 ^ 64
 
+-- the same of each CPU, if these parts are read
+pub record AreCpusRead (known : Missed) (parts : List ModelPart) (cpus : List CpuCapture) : Type 0 where
+  pub count : length cpus ≡ MAX_CPUS
+  pub each : (cpu : ℕ) (found : CpuCapture) → slice_get cpus cpu ≡ Some found
+      → IsCpuRead known cpu (parts_of_cpu cpu parts) found
+
 -- what is read of each CPU, if the files have these parts
 pub record AreCpusCaptured (overrun : ℕ → Option ℕ) (parts : List ModelPart) (cpus : List CpuCapture) : Type 0 where
   pub count : length cpus ≡ MAX_CPUS
@@ -77,20 +84,48 @@ pub record IsPartPast (known : Missed) (parts : List ModelPart) (part : ModelPar
   pub cut : CutsOf (parts ++ record part { bytes = front } ∷ []) pages
   pub past : FitCpu (parts ++ record part { bytes = front } ∷ []) (map (told known) pages) → ⊥
 
--- Numbers don't fit: of a CPU of these files some parts were read, `whole`, and a beginning of the next one. Of a loss of
--- unknown number nothing was known then, or what the counters say.
-pub record ArePast (page : ℕ) (files : List File) : Type 0 where
-  pub cpu : ℕ
-  pub parts : List ModelPart
+-- A source, of which `first` had been read, had `unread` before, and `left` after these bytes, which end it if the first
+-- ones are less than a page.
+pub record IsRest (size : ℕ) (first : List ℕ) (unread left : Option (List ℕ)) (more : List ℕ) : Type 0 where
+  pub taken : Consumes unread left more
+  pub no_more : length first < size → more ≡ []
+
+-- a part, which is a source of which `first` had been read, was read after these parts of a CPU
+pub record AddsRaw (cpu size : ℕ) (first : List ℕ) (unread left : Option (List ℕ)) (parts : List ModelPart)
+    (found : CpuCapture) : Type 0 where
+  pub more : List ℕ
+  pub rest : IsRest size first unread left more
+  pub read : IsCpuRead unknown cpu (parts ++ record { cpu = cpu; size = size; bytes = first ++ more } ∷ []) found
+
+-- with a beginning of that part the numbers don't fit
+pub record IsRawPast (cpu size : ℕ) (first : List ℕ) (unread left : Option (List ℕ)) (parts : List ModelPart)
+    : Type 0 where
+  pub more : List ℕ
+  pub rest : IsRest size first unread left more
+  pub past : IsPartPast unknown parts (record { cpu = cpu; size = size; bytes = first ++ more })
+
+-- Numbers don't fit: of the parts of a CPU some were read, `whole`, and a beginning of the next one. A loss of unknown
+-- number is `known`.
+pub record IsCpuPast (known : Missed) (cpu : ℕ) (parts : List ModelPart) : Type 0 where
   pub whole : List ModelPart
   pub last : ModelPart
   pub behind : List ℕ
   pub further : List ModelPart
-  pub parts_are : ArePartsOf page files parts
   pub begin : parts_of_cpu cpu parts ≡ whole ++ record last { bytes = last.bytes ++ behind } ∷ further
   pub pages : List Page
   pub cut : CutsOf (whole ++ last ∷ []) pages
-  pub known : Missed
-  pub known_is : (known ≡ unknown)
-      ⊎ ((all : List Page) × CutsOf (parts_of_cpu cpu parts) all × (known ≡ loss_of (overrun_in files cpu) all))
   pub past : FitCpu (whole ++ last ∷ []) (map (told known) pages) → ⊥
+
+-- what is known of a loss of unknown number in the pages of parts: nothing, or what the counters say of it
+abbrev pub IsKnown : (overrun : Option ℕ) → List ModelPart → Missed → Type 0
+IsKnown overrun parts known =
+    (known ≡ unknown) ⊎ ((pages : List Page) × CutsOf parts pages × (known ≡ loss_of overrun pages))
+
+-- Numbers of a CPU of these files don't fit.
+pub record ArePast (page : ℕ) (files : List File) : Type 0 where
+  pub parts : List ModelPart
+  pub parts_are : ArePartsOf page files parts
+  pub cpu : ℕ
+  pub known : Missed
+  pub known_is : IsKnown (overrun_in files cpu) (parts_of_cpu cpu parts) known
+  pub past : IsCpuPast known cpu parts

@@ -1,7 +1,9 @@
 //! Why files can't be read.
 ghost use Rattle.std.specs.Prelude.{◌≡◌};
+ghost use Rattle.trace_inputs.specs.Giving.{input_fault};
 ghost use Rattle.trace_inputs.specs.declared.fault.InputFault.TheVariants.{NoMemory as MemoryIs};
 
+use capture::CaptureFault;
 use std::alloc::{AllocError, AllocFailed};
 use trace_dat::Fault;
 
@@ -44,6 +46,17 @@ impl<T: Drop> From<AllocFailed<T>> for InputFault {
 
     fn from(_refused: AllocFailed<T>) -> InputFault {
         InputFault::NoMemory
+    }
+}
+
+impl From<CaptureFault> for InputFault {
+    ghost from_gives = { λ f e. e ≡ input_fault f };
+
+    fn from(fault: CaptureFault) -> InputFault {
+        match fault {
+            CaptureFault::Numbers => InputFault::Numbers,
+            CaptureFault::NoMemory => InputFault::NoMemory,
+        }
     }
 }
 

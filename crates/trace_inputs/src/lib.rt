@@ -6,10 +6,12 @@
 
 mod captured;
 mod cpu_part;
+mod cpus;
 mod fault;
 mod inputs;
 mod parts;
+mod raw;
 
-pub use captured::{Captured, CpuCapture, Input, Part};
+pub use captured::{Captured, CpuCapture, Input};
 pub use fault::{FileFault, InputFault, Unread};
 pub use inputs::read_inputs;
