@@ -4,3 +4,5 @@ mod CpuLists
 mod Answers
 mod EachLoop
 mod Lengths
+mod LossSums
+mod Overruns

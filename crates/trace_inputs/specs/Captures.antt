@@ -121,11 +121,22 @@ abbrev pub IsKnown : (overrun : Option ℕ) → List ModelPart → Missed → Ty
 IsKnown overrun parts known =
     (known ≡ unknown) ⊎ ((pages : List Page) × CutsOf parts pages × (known ≡ loss_of overrun pages))
 
+-- what is read of the CPU whose capture this is, if these are all parts
+abbrev pub IsOwnRead : List ModelPart → CpuCapture → Type 0
+IsOwnRead parts found = IsCpuRead unknown found.capture.cpu.0 (parts_of_cpu found.capture.cpu.0 parts) found
+
+abbrev pub IsOwnCaptured : (overrun : Option ℕ) → List ModelPart → CpuCapture → Type 0
+IsOwnCaptured overrun parts found =
+    IsCpuCaptured found.capture.cpu.0 overrun (parts_of_cpu found.capture.cpu.0 parts) found
+
+-- the numbers of a CPU don't fit, once what is known of its loss is counted
+abbrev pub IsOwnPast : (overrun : Option ℕ) → (cpu : ℕ) → List ModelPart → Type 0
+IsOwnPast overrun cpu parts =
+    (known : Missed) × IsKnown overrun (parts_of_cpu cpu parts) known × IsCpuPast known cpu parts
+
 -- Numbers of a CPU of these files don't fit.
 pub record ArePast (page : ℕ) (files : List File) : Type 0 where
   pub parts : List ModelPart
   pub parts_are : ArePartsOf page files parts
   pub cpu : ℕ
-  pub known : Missed
-  pub known_is : IsKnown (overrun_in files cpu) (parts_of_cpu cpu parts) known
-  pub past : IsCpuPast known cpu parts
+  pub past : IsOwnPast (overrun_in files cpu) cpu parts

@@ -11,6 +11,7 @@ mod fault;
 mod inputs;
 mod parts;
 mod raw;
+mod settle;
 
 pub use captured::{Captured, CpuCapture, Input};
 pub use fault::{FileFault, InputFault, Unread};
