@@ -6,3 +6,4 @@ mod EachLoop
 mod Lengths
 mod LossSums
 mod Overruns
+mod Settled

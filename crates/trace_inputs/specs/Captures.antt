@@ -121,14 +121,6 @@ abbrev pub IsKnown : (overrun : Option ℕ) → List ModelPart → Missed → Ty
 IsKnown overrun parts known =
     (known ≡ unknown) ⊎ ((pages : List Page) × CutsOf parts pages × (known ≡ loss_of overrun pages))
 
--- what is read of the CPU whose capture this is, if these are all parts
-abbrev pub IsOwnRead : List ModelPart → CpuCapture → Type 0
-IsOwnRead parts found = IsCpuRead unknown found.capture.cpu.0 (parts_of_cpu found.capture.cpu.0 parts) found
-
-abbrev pub IsOwnCaptured : (overrun : Option ℕ) → List ModelPart → CpuCapture → Type 0
-IsOwnCaptured overrun parts found =
-    IsCpuCaptured found.capture.cpu.0 overrun (parts_of_cpu found.capture.cpu.0 parts) found
-
 -- the numbers of a CPU don't fit, once what is known of its loss is counted
 abbrev pub IsOwnPast : (overrun : Option ℕ) → (cpu : ℕ) → List ModelPart → Type 0
 IsOwnPast overrun cpu parts =

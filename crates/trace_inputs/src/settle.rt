@@ -9,7 +9,7 @@ ghost use Rattle.capture.specs.Captures.{IsCapture};
 ghost use Rattle.kernel_texts.specs.Counters.{counters_in};
 ghost use Rattle.trace_inputs.specs.Files.{ModelPart, parts_of_cpu};
 ghost use Rattle.trace_inputs.specs.Losses.{overrun_at, overrun_of, missed_in, loss_of};
-ghost use Rattle.trace_inputs.specs.Captures.{IsCpuRead, AreCpusRead, AreCpusCaptured, IsCpuPast, IsOwnRead, IsOwnCaptured, IsOwnPast};
+ghost use Rattle.trace_inputs.specs.Captures.{IsCpuRead, AreCpusRead, AreCpusCaptured, IsCpuPast, IsCpuCaptured, IsOwnPast};
 ghost use Rattle.trace_inputs.specs.Giving.{part_seen};
 
 use crate::captured::CpuCapture;
@@ -99,21 +99,24 @@ fn add_own(
     Ok(found)
 }
 
-/// Settles the loss of unknown number of a CPU whose parts are among these, if it has one alone, and so many of its records
-/// were overwritten: its parts are read again.
+/// Settles the loss of unknown number of a CPU whose parts are among these, if it has one alone, and it is
+/// known how many of its records were overwritten: its parts are read again.
 fn settle_cpu(
     alloc: Global,
     found: &mut CpuCapture,
     parts: &[CpuPart<'_>],
-    overrun: u64,
+    overrun: Option<u64>,
 ) -> Result<(), CaptureFault>
     requires cpu { found.old.capture.cpu.0 < MAX_CPUS }
     requires known { (pages : List Page) × IsCapture found.old.capture pages }
-    ensures settled { IsOwnRead (map part_seen parts.now) found.old
-        → OnOk result (IsOwnCaptured (Some overrun) (map part_seen parts.now) found.new) }
-    ensures past { IsOwnRead (map part_seen parts.now) found.old → result ≡ Err CaptureFault.Numbers
-        → IsOwnPast (Some overrun) found.old.capture.cpu.0 (map part_seen parts.now) }
+    ensures settled { (cpu : ℕ) → IsCpuRead unknown cpu (parts_of_cpu cpu (map part_seen parts.now)) found.old
+        → OnOk result (IsCpuCaptured cpu overrun (parts_of_cpu cpu (map part_seen parts.now)) found.new) }
+    ensures past { (cpu : ℕ) → IsCpuRead unknown cpu (parts_of_cpu cpu (map part_seen parts.now)) found.old
+        → result ≡ Err CaptureFault.Numbers → IsOwnPast overrun cpu (map part_seen parts.now) }
 {
+    let Some(overrun) = overrun else {
+        return Ok(());
+    };
     let cpu = found.capture.cpu;
     let known = loss_in(&found.capture, overrun);
     if known == Missed::Unknown {
@@ -139,9 +142,7 @@ pub(crate) fn settle(
 {
     let overruns = overruns_in(texts);
     for cpu in 0..CPUS {
-        if let Some(overrun) = overruns[cpu] {
-            settle_cpu(alloc, &mut cpus[cpu], parts, overrun)?;
-        }
+        settle_cpu(alloc, &mut cpus[cpu], parts, overruns[cpu])?;
     }
     Ok(())
 }
