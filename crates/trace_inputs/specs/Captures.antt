@@ -62,13 +62,21 @@ pub record AreCpusCaptured (overrun : ℕ → Option ℕ) (parts : List ModelPar
   pub each : (cpu : ℕ) (found : CpuCapture) → slice_get cpus cpu ≡ Some found
       → IsCpuCaptured cpu (overrun cpu) (parts_of_cpu cpu parts) found
 
--- What is read of files, none of which has a fault.
-pub record AreCaptured (page : ℕ) (files : List File) (captured : Captured) : Type 0 where
+-- What is read of files, none of which has a fault, if so many records of each CPU were overwritten.
+pub record AreFilesRead (overrun : ℕ → Option ℕ) (page : ℕ) (files : List File) (captured : Captured) : Type 0 where
   pub parts : List ModelPart
   pub parts_are : ArePartsOf page files parts
-  pub cpus_are : AreCpusCaptured (overrun_in files) parts captured.cpus.items
+  pub cpus_are : AreCpusCaptured overrun parts captured.cpus.items
   pub names_are : HasEvents captured.names (all_formats files)
   pub instances_are : captured.instances ≡ min (all_instances files) (2 ^ 64 - 1)
+
+-- What is read of files: if there is one alone, its counters settle losses.
+abbrev pub AreCaptured : (page : ℕ) → List File → Captured → Type 0
+AreCaptured page files captured = AreFilesRead (overrun_in files) page files captured
+
+-- nothing is known of what was overwritten
+abbrev pub unsaid : ℕ → Option ℕ
+unsaid cpu = None
 
 -- the numbers of a CPU's records, pages and bytes fit 64 bits
 pub record FitCpu (parts : List ModelPart) (pages : List Page) : Type 0 where
@@ -126,9 +134,13 @@ abbrev pub IsOwnPast : (overrun : Option ℕ) → (cpu : ℕ) → List ModelPart
 IsOwnPast overrun cpu parts =
     (known : Missed) × IsKnown overrun (parts_of_cpu cpu parts) known × IsCpuPast known cpu parts
 
--- Numbers of a CPU of these files don't fit.
-pub record ArePast (page : ℕ) (files : List File) : Type 0 where
+-- Numbers of a CPU of these files don't fit, if so many records of each were overwritten.
+pub record AreFilesPast (overrun : ℕ → Option ℕ) (page : ℕ) (files : List File) : Type 0 where
   pub parts : List ModelPart
   pub parts_are : ArePartsOf page files parts
   pub cpu : ℕ
-  pub past : IsOwnPast (overrun_in files cpu) cpu parts
+  pub past : IsOwnPast (overrun cpu) cpu parts
+
+-- Numbers of a CPU of these files don't fit.
+abbrev pub ArePast : (page : ℕ) → List File → Type 0
+ArePast page files = AreFilesPast (overrun_in files) page files

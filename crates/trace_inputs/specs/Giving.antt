@@ -31,3 +31,10 @@ Gives view (Err fault) reading = Fails fault reading
 abbrev pub input_fault : CaptureFault → InputFault
 input_fault captures.Numbers = faults.Numbers
 input_fault captures.NoMemory = faults.NoMemory
+
+-- a read failed, or memory was refused
+abbrev pub IsReadOrMemory : InputFault → Type 0
+IsReadOrMemory faults.Read = ⊤
+IsReadOrMemory (faults.File fault) = ⊥
+IsReadOrMemory faults.Numbers = ⊥
+IsReadOrMemory faults.NoMemory = ⊤

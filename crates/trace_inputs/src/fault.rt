@@ -6,6 +6,7 @@ ghost use Rattle.trace_inputs.specs.declared.fault.InputFault.TheVariants.{NoMem
 use capture::CaptureFault;
 use std::alloc::{AllocError, AllocFailed};
 use trace_dat::Fault;
+use trace_model::NoMemory;
 
 /// What is wrong with a file of trace-cmd.
 #[derive(Clone, Copy, Debug, PartialEq, Eq)]
@@ -45,6 +46,14 @@ impl<T: Drop> From<AllocFailed<T>> for InputFault {
     ghost from_gives = { λ _ e. e ≡ MemoryIs };
 
     fn from(_refused: AllocFailed<T>) -> InputFault {
+        InputFault::NoMemory
+    }
+}
+
+impl From<NoMemory> for InputFault {
+    ghost from_gives = { λ _ e. e ≡ MemoryIs };
+
+    fn from(_refused: NoMemory) -> InputFault {
         InputFault::NoMemory
     }
 }

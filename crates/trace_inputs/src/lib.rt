@@ -7,7 +7,9 @@
 mod captured;
 mod cpu_part;
 mod cpus;
+mod dat;
 mod fault;
+mod first;
 mod inputs;
 mod parts;
 mod raw;
