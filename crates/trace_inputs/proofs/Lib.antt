@@ -7,3 +7,5 @@ mod Lengths
 mod LossSums
 mod Overruns
 mod Settled
+mod FirstRead
+mod FilesMore

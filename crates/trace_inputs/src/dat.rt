@@ -1,17 +1,20 @@
 //! A file of trace-cmd.
-ghost use Rattle.std.specs.Prelude.{◌≡◌, ℕ, ◌+◌, ◌-◌, ◌^◌, List, [], ◌∷◌, ◌++◌, map, min, length, Err, Ok, IfErr, IsOk, OnOk};
+ghost use Rattle.std.specs.Prelude.{◌≡◌, ℕ, true, ◌+◌, ◌-◌, ◌^◌, List, [], ◌∷◌, ◌++◌, map, min, length, Err, Ok, IfErr, IsOk, OnOk};
 ghost use Rattle.trace_model.specs.Image.{unknown};
 ghost use Rattle.trace_dat.specs.Contents.{EventFormat, format_seen, buffer_seen, contents_seen};
 ghost use Rattle.trace_dat.specs.Versions.{reading_of};
 ghost use Rattle.kernel_texts.specs.Names.{HasEvents};
-ghost use Rattle.trace_inputs.specs.Files.{ModelPart, count_instances, formatted};
+ghost use Rattle.trace_inputs.specs.Files.{File, ModelPart, is_dat, count_instances, formatted};
 ghost use Rattle.trace_inputs.specs.Losses.{overrun_of};
-ghost use Rattle.trace_inputs.specs.Captures.{AreCpusRead, AreCpusCaptured, IsCpuPast, IsOwnPast};
+ghost use Rattle.trace_inputs.specs.Captures.{AreCpusRead, AreCpusCaptured, IsOwnPast, AreFilesRead, unsaid};
+ghost use Rattle.trace_inputs.specs.FilesRead.{IsAlone, AddsFile, IsFileFault};
 ghost use Rattle.trace_inputs.specs.Giving.{Gives, part_seen};
 
 use crate::captured::{Captured, CpuCapture};
 use crate::cpu_part::CpuPart;
+use crate::cpus::add_parts;
 use crate::fault::{FileFault, InputFault};
+use crate::parts::parts_of;
 use crate::settle::settle;
 use capture::CaptureFault;
 use std::alloc::Global;
@@ -85,4 +88,36 @@ pub(crate) fn settle_by(
         Losses::Kept => Ok(()),
         Losses::Settled => settle(alloc, cpus, parts, texts),
     }
+}
+
+/// Reads a file of trace-cmd, all of which is in memory.
+pub(crate) fn add_dat(
+    alloc: Global,
+    captured: &mut Captured,
+    file: &[u8],
+    losses: Losses,
+) -> Result<(), InputFault>
+    requires dat { is_dat file.now ≡ true }
+    requires known { (page : ℕ) × (files : List File) × IsAlone losses files
+        × AreFilesRead unsaid page files captured.old }
+    ensures read { (page cpu : ℕ) (files : List File) → IsAlone losses files
+        → AreFilesRead unsaid page files captured.old
+        → OnOk result (AddsFile losses page files (record { cpu = cpu; bytes = file.now }) captured.new) }
+    ensures fault { (page cpu : ℕ) (files : List File) → IsAlone losses files
+        → AreFilesRead unsaid page files captured.old → IfErr result (λ fault.
+        IsFileFault losses page files (record { cpu = cpu; bytes = file.now }) fault) }
+{
+    let dat = parsed(alloc, file)?;
+    let parts = parts_of(alloc, &dat, file.len())?;
+    let cpus = captured.cpus.as_mut_slice();
+    add_parts(alloc, cpus, parts.as_slice())?;
+    settle_by(
+        alloc,
+        cpus,
+        parts.as_slice(),
+        dat.counters.as_slice(),
+        losses,
+    )?;
+    add_texts(captured, &dat)?;
+    Ok(())
 }

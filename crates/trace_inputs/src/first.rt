@@ -21,7 +21,8 @@ pub(crate) fn read_rest<R: Source>(
     ensures read_fault { (R.failed reader.new ≡ true) ↔ (result ≡ Err InputFault.Read) }
     ensures fault { IfErr result (λ fault. IsReadOrMemory fault) }
 {
-    let mut file = first.to_vec(alloc)?;
+    let mut file = Vec::new(alloc);
+    file.extend_from_slice(first)?;
     let mut chunk = vec![in alloc; 0u8; READ_CHUNK]?;
     loop {
         let Ok(count) = fill_piece(reader, chunk.as_mut_slice()) else {
