@@ -5,6 +5,7 @@ use Rattle.trace_model.specs.Image.{unknown}
 use Rattle.trace_dat.specs.Fields.{Reading}
 use Rattle.trace_dat.specs.Contents.{EventFormat, Contents}
 use Rattle.trace_dat.specs.Versions.{reading_of}
+use Rattle.kernel_texts.specs.declared.names.EventNames.{EventNames}
 use Rattle.kernel_texts.specs.Names.{HasEvents}
 use Rattle.capture.specs.declared.pages.CaptureFault.{CaptureFault}
 use Rattle.capture.specs.declared.pages.CaptureFault.TheVariants as captures
@@ -12,7 +13,7 @@ use Rattle.trace_inputs.specs.declared.captured.CpuCapture.{CpuCapture}
 use Rattle.trace_inputs.specs.declared.captured.Captured.{Captured}
 use Rattle.trace_inputs.specs.declared.dat.Losses.{Losses}
 use Rattle.trace_inputs.specs.declared.dat.Losses.TheVariants.{Kept, Settled}
-use Rattle.trace_inputs.specs.Files.{Checked, ◌>>=◌, File, ModelPart, is_dat, formatted, parts_in, parts_of, held, held_by, formats_of, instances_of, counters_of, ArePartsOf, all_formats, all_instances}
+use Rattle.trace_inputs.specs.Files.{Checked, ◌>>=◌, File, ModelPart, is_dat, formatted, parts_in, parts_of, held, held_by, formats_of, instances_of, counters_of, count_instances, ArePartsOf, all_formats, all_instances}
 use Rattle.trace_inputs.specs.Losses.{overrun_of}
 use Rattle.trace_inputs.specs.Captures.{AreCpusRead, AreCpusCaptured, IsCpuPast, IsOwnPast, AreFilesRead, AreFilesPast, unsaid}
 use Rattle.trace_inputs.specs.Giving.{input_fault}
@@ -28,7 +29,7 @@ pub parts-of-dat : (page : ℕ) (file : File) (contents : Contents) (own : List 
     → formatted (reading_of file.bytes) ≡ Ok contents → parts_in (length file.bytes) contents ≡ Ok own → parts_of page file ≡ Ok own
 parts-of-dat page file contents own dat reads parts =
     ap (λ (b : Bool). if b then (formatted (reading_of file.bytes) >>= parts_in (length file.bytes))
-        else Ok (record { cpu = file.cpu; size = page; bytes = file.bytes } ∷ [])) dat
+    else Ok (record { cpu = file.cpu; size = page; bytes = file.bytes } ∷ [])) dat
     ∙ ap (λ (r : Checked Contents). r >>= parts_in (length file.bytes)) reads ∙ parts
 
 pub held-dat : {A : Type 0} (of : Contents → A) (otherwise : A) (file : File) (contents : Contents) → is_dat file.bytes ≡ true
@@ -146,3 +147,49 @@ alone-parts Settled page files parts e alone are = no-files page files parts alo
 pub ok-not-err : {A E : Type 0} (result : Result A E) (e : E) → IsOk result → result ≡ Err e → ⊥
 ok-not-err (Ok x) e ok is = cc
 ok-not-err (Err f) e ok is = cc
+
+-- ---- a raw file
+
+parts-of-raw : (page : ℕ) (file : File) → is_dat file.bytes ≡ false
+    → parts_of page file ≡ Ok (record { cpu = file.cpu; size = page; bytes = file.bytes } ∷ [])
+parts-of-raw page file raw =
+    ap (λ (b : Bool). if b then (formatted (reading_of file.bytes) >>= parts_in (length file.bytes))
+        else Ok (record { cpu = file.cpu; size = page; bytes = file.bytes } ∷ [])) raw
+
+held-raw : {A : Type 0} (of : Contents → A) (otherwise : A) (file : File) → is_dat file.bytes ≡ false → held_by of otherwise file ≡ otherwise
+held-raw of otherwise file raw = ap (λ (b : Bool). if b then held of otherwise (reading_of file.bytes) else otherwise) raw
+
+raw-said : (losses : Losses) (file : File) (parts : List ModelPart) (cpus : List CpuCapture) → is_dat file.bytes ≡ false → AreCpusRead unknown parts cpus
+    → AreCpusCaptured (said_by losses file) parts cpus
+raw-said Kept file parts cpus raw read = as-captured parts cpus read
+raw-said Settled file parts cpus raw read =
+    subst (λ (ts : List (List ℕ)). AreCpusCaptured (λ cpu. overrun_of cpu ts) parts cpus) (sym (held-raw (λ (contents : Contents). contents.counters) [] file raw))
+    (as-captured parts cpus read)
+
+pub raw-added : (losses : Losses) (page : ℕ) (files : List File) (file : File) (old new : Captured) (was : AreFilesRead unsaid page files old)
+    → is_dat file.bytes ≡ false
+    → AreCpusRead unknown (was.parts ++ record { cpu = file.cpu; size = page; bytes = file.bytes } ∷ []) new.cpus.items
+    → new.names ≡ old.names → new.instances ≡ old.instances → AddsFile losses page files file new
+raw-added losses page files file old new was raw read names instances = record {
+  parts = was.parts ++ record { cpu = file.cpu; size = page; bytes = file.bytes } ∷ [];
+  parts_are = parts-more page files was.parts file _ was.parts_are (parts-of-raw page file raw);
+  cpus_are = raw-said losses file _ new.cpus.items raw read;
+  names_are = subst (λ (n : EventNames). HasEvents n (all_formats (files ++ file ∷ []))) (sym names)
+      (subst (HasEvents old.names) (sym (formats-more files file
+      ∙ ap (λ (fs : List EventFormat). all_formats files ++ fs) (held-raw (λ (contents : Contents). contents.formats) [] file raw)
+      ∙ append-nil (all_formats files))) was.names_are);
+  instances_are = instances ∙ was.instances_are
+      ∙ ap (λ (n : ℕ). min n (2 ^ 64 - 1)) (let none = held-raw (λ (contents : Contents). count_instances contents.buffers) 0 file raw in
+      let same : all_instances files ≡ all_instances (files ++ file ∷ []) = omega (arith, none, instances-more files file) in same);
+}
+
+pub raw-past : (losses : Losses) (page : ℕ) (files : List File) (file : File) (old : Captured) (was : AreFilesRead unsaid page files old)
+    → is_dat file.bytes ≡ false
+    → IsCpuPast unknown file.cpu (was.parts ++ record { cpu = file.cpu; size = page; bytes = file.bytes } ∷ [])
+    → AreFilesPast (said_by losses file) page (files ++ file ∷ [])
+raw-past losses page files file old was raw past = record {
+  parts = was.parts ++ record { cpu = file.cpu; size = page; bytes = file.bytes } ∷ [];
+  parts_are = parts-more page files was.parts file _ was.parts_are (parts-of-raw page file raw);
+  cpu = file.cpu;
+  past = (unknown, inl refl, past);
+}

@@ -9,3 +9,5 @@ mod Overruns
 mod Settled
 mod FirstRead
 mod FilesMore
+mod Prefixes
+mod RestFaults

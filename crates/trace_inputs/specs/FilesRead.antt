@@ -1,5 +1,6 @@
 -- One file more.
-use Rattle.std.specs.Prelude.{◌≡◌, ℕ, List, [], ◌∷◌, ◌++◌, Option, Err, ⊤}
+use Rattle.std.specs.Prelude.{◌≡◌, ℕ, Bool, true, false, List, [], ◌∷◌, ◌++◌, Option, Err, ⊤}
+use Rattle.std.specs.Io.KnownBytes.{Consumes, IsAtEnd}
 use Rattle.trace_inputs.specs.declared.captured.Captured.{Captured}
 use Rattle.trace_inputs.specs.declared.dat.Losses.{Losses}
 use Rattle.trace_inputs.specs.declared.dat.Losses.TheVariants.{Kept, Settled}
@@ -23,9 +24,29 @@ IsAlone Settled files = files ≡ []
 abbrev pub AddsFile : Losses → (page : ℕ) → List File → File → Captured → Type 0
 AddsFile losses page files file captured = AreFilesRead (said_by losses file) page (files ++ file ∷ []) captured
 
+-- after these files a file was read, of which `first` had been read already
+pub record AddsRestOf (losses : Losses) (page cpu : ℕ) (first : List ℕ) (unread left : Option (List ℕ)) (files : List File)
+    (captured : Captured) : Type 0 where
+  pub more : List ℕ
+  pub taken : Consumes unread left more
+  pub added : AddsFile losses page files (record { cpu = cpu; bytes = first ++ more }) captured
+
 -- why a file wasn't read after these files, though its bytes were
 abbrev pub IsFileFault : Losses → (page : ℕ) → List File → File → InputFault → Type 0
 IsFileFault losses page files file faults.Read = ⊥
 IsFileFault losses page files file (faults.File fault) = parts_of page file ≡ Err fault
 IsFileFault losses page files file faults.Numbers = AreFilesPast (said_by losses file) page (files ++ file ∷ [])
 IsFileFault losses page files file faults.NoMemory = ⊤
+
+-- The same of a file of which `first` had been read already; `failed` says whether a read has failed.
+abbrev pub IsRestFault : Losses → (page cpu : ℕ) → (first : List ℕ) → (unread left : Option (List ℕ)) → (failed : Bool)
+    → List File → InputFault → Type 0
+IsRestFault losses page cpu first unread left failed files faults.Read = failed ≡ true
+IsRestFault losses page cpu first unread left failed files (faults.File fault) =
+    (failed ≡ false) × IsAtEnd left × ((more : List ℕ) × Consumes unread left more
+    × (parts_of page (record { cpu = cpu; bytes = first ++ more }) ≡ Err fault))
+IsRestFault losses page cpu first unread left failed files faults.Numbers =
+    (failed ≡ false) × ((more : List ℕ) × Consumes unread left more
+    × AreFilesPast (said_by losses (record { cpu = cpu; bytes = first ++ more })) page
+    (files ++ record { cpu = cpu; bytes = first ++ more } ∷ []))
+IsRestFault losses page cpu first unread left failed files faults.NoMemory = failed ≡ false

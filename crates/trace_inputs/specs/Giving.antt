@@ -2,6 +2,8 @@
 use Rattle.std.specs.Prelude.{◌≡◌, List, [], ◌∷◌, ◌++◌, Result, Ok, Err, ⊤}
 use Rattle.capture.specs.declared.pages.CaptureFault.{CaptureFault}
 use Rattle.capture.specs.declared.pages.CaptureFault.TheVariants as captures
+use Rattle.capture.specs.declared.read.ReadFault.{ReadFault}
+use Rattle.capture.specs.declared.read.ReadFault.TheVariants as reads
 use Rattle.trace_inputs.specs.declared.cpu_part.CpuPart.{CpuPart}
 use Rattle.trace_inputs.specs.declared.fault.InputFault.{InputFault}
 use Rattle.trace_inputs.specs.declared.fault.InputFault.TheVariants as faults
@@ -38,3 +40,8 @@ IsReadOrMemory faults.Read = ⊤
 IsReadOrMemory (faults.File fault) = ⊥
 IsReadOrMemory faults.Numbers = ⊥
 IsReadOrMemory faults.NoMemory = ⊤
+
+-- why a file isn't read, if its pages can't be
+abbrev pub read_fault : ReadFault → InputFault
+read_fault reads.Read = faults.Read
+read_fault (reads.Capture fault) = input_fault fault

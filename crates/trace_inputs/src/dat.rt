@@ -31,7 +31,7 @@ pub(crate) enum Losses {
 }
 
 /// What a file holds.
-pub(crate) fn parsed(alloc: Global, file: &[u8]) -> Result<TraceDat<'_>, InputFault>
+fn parsed(alloc: Global, file: &[u8]) -> Result<TraceDat<'_>, InputFault>
     ensures { Gives contents_seen result (formatted (reading_of file.now)) }
 {
     match read_trace_dat(alloc, file) {
@@ -55,7 +55,7 @@ fn instances_in(buffers: &[Buffer<'_>]) -> u64
 }
 
 /// Adds what a file holds beside the pages of its main buffer: the formats of events, and how many instances there are.
-pub(crate) fn add_texts(captured: &mut Captured, dat: &TraceDat<'_>) -> Result<(), NoMemory>
+fn add_texts(captured: &mut Captured, dat: &TraceDat<'_>) -> Result<(), NoMemory>
     ensures cpus { captured.new.cpus ≡ captured.old.cpus }
     ensures names { (known : List EventFormat) → HasEvents captured.old.names known
         → OnOk result (HasEvents captured.new.names (known ++ map format_seen dat.now.formats.items)) }
@@ -69,7 +69,7 @@ pub(crate) fn add_texts(captured: &mut Captured, dat: &TraceDat<'_>) -> Result<(
 }
 
 /// Settles losses by texts of counters, if that is wanted.
-pub(crate) fn settle_by(
+fn settle_by(
     alloc: Global,
     cpus: &mut [CpuCapture],
     parts: &[CpuPart<'_>],

@@ -1,9 +1,9 @@
 //! Why files can't be read.
 ghost use Rattle.std.specs.Prelude.{◌≡◌};
-ghost use Rattle.trace_inputs.specs.Giving.{input_fault};
+ghost use Rattle.trace_inputs.specs.Giving.{input_fault, read_fault};
 ghost use Rattle.trace_inputs.specs.declared.fault.InputFault.TheVariants.{NoMemory as MemoryIs};
 
-use capture::CaptureFault;
+use capture::{CaptureFault, ReadFault};
 use std::alloc::{AllocError, AllocFailed};
 use trace_dat::Fault;
 use trace_model::NoMemory;
@@ -65,6 +65,17 @@ impl From<CaptureFault> for InputFault {
         match fault {
             CaptureFault::Numbers => InputFault::Numbers,
             CaptureFault::NoMemory => InputFault::NoMemory,
+        }
+    }
+}
+
+impl From<ReadFault> for InputFault {
+    ghost from_gives = { λ f e. e ≡ read_fault f };
+
+    fn from(fault: ReadFault) -> InputFault {
+        match fault {
+            ReadFault::Read => InputFault::Read,
+            ReadFault::Capture(fault) => InputFault::from(fault),
         }
     }
 }

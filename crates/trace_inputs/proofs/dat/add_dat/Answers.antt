@@ -52,9 +52,11 @@ returns-in_err-settle_by-clause-fault c = λ page cpu files alone was.
     let p = err_from_is_err_and c.from_residual-in_err-settle_by.result c.from_residual-in_err-settle_by.ensures.1 in
     rw (p.1, p.2) (settled-fault c.args.losses page files file own c.args.captured.now was c.in_err-settle_by.field-0.0 alone is
     (λ kept. ok-not-err c.settle_by.result c.in_err-settle_by.field-0.0 (c.settle_by.ensures.kept kept).1 c.in_err-settle_by.was)
-    (λ settled numbers. let past = c.settle_by.ensures.past settled (c.in_err-settle_by.was ∙ ap Err numbers) in
-    (past.0, subst (λ (ts : List (List ℕ)). IsOwnPast (overrun_of past.0 ts) past.0 own) texts
-    (subst (λ (ps : List CpuPart). IsOwnPast (overrun_of past.0 (map (λ text. text.now) c.as_slice-3.result.now)) past.0 (map part_seen ps)) c.as_slice-2.ensures.value past.1))))
+    (λ settled numbers. let past = c.settle_by.ensures.past settled (c.in_err-settle_by.was ∙ ap Err numbers) in (
+      past.0,
+      subst (λ (ts : List (List ℕ)). IsOwnPast (overrun_of past.0 ts) past.0 own) texts
+          (subst (λ (ps : List CpuPart). IsOwnPast (overrun_of past.0 (map (λ text. text.now) c.as_slice-3.result.now)) past.0 (map part_seen ps)) c.as_slice-2.ensures.value past.1),
+    )))
 
 pub returns-clause-read : goal.returns-clause-read
 returns-clause-read c = λ page cpu files alone was.
