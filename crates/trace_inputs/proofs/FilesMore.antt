@@ -1,6 +1,6 @@
 -- Files, and one more.
-use Rattle.std.proofs.Common.{◌≡◌, ◌≢◌, ◌∙◌, ℕ, ◌+◌, ◌-◌, ◌^◌, ◌≤◌, ◌<◌, inl, Bool, true, false, List, [], ◌∷◌, ◌++◌, length, map, Option, Ok, Err, refl, sym, ap, subst, arith, append-nil, append_assoc}
-use Rattle.std.specs.Prelude.{if◌then◌else◌, min, Result, IsOk, IfErr}
+use Rattle.std.proofs.Common.{◌≡◌, ◌≢◌, ◌∙◌, ℕ, ◌+◌, ◌-◌, ◌^◌, inl, Bool, true, false, List, [], ◌∷◌, ◌++◌, length, Ok, Err, refl, sym, ap, subst, arith, append-nil, append_assoc}
+use Rattle.std.specs.Prelude.{if◌then◌else◌, min, Result, IsOk}
 use Rattle.trace_model.specs.Image.{unknown}
 use Rattle.trace_dat.specs.Fields.{Reading}
 use Rattle.trace_dat.specs.Contents.{EventFormat, Contents}
@@ -154,7 +154,7 @@ parts-of-raw : (page : ℕ) (file : File) → is_dat file.bytes ≡ false
     → parts_of page file ≡ Ok (record { cpu = file.cpu; size = page; bytes = file.bytes } ∷ [])
 parts-of-raw page file raw =
     ap (λ (b : Bool). if b then (formatted (reading_of file.bytes) >>= parts_in (length file.bytes))
-        else Ok (record { cpu = file.cpu; size = page; bytes = file.bytes } ∷ [])) raw
+    else Ok (record { cpu = file.cpu; size = page; bytes = file.bytes } ∷ [])) raw
 
 held-raw : {A : Type 0} (of : Contents → A) (otherwise : A) (file : File) → is_dat file.bytes ≡ false → held_by of otherwise file ≡ otherwise
 held-raw of otherwise file raw = ap (λ (b : Bool). if b then held of otherwise (reading_of file.bytes) else otherwise) raw

@@ -11,3 +11,4 @@ mod FirstRead
 mod FilesMore
 mod Prefixes
 mod RestFaults
+mod InputsRead

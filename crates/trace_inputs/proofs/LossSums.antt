@@ -1,13 +1,13 @@
 -- What a capture has of losses, beside what its pages state.
-use Rattle.std.proofs.Common.{◌≡◌, ◌≢◌, ◌∙◌, ℕ, suc, ◌+◌, ◌-◌, ◌≤◌, ◌<◌, Bool, true, false, List, [], ◌∷◌, ◌++◌, length, map, take, drop, get_or, refl, sym, ap, subst, arith, length-append}
+use Rattle.std.proofs.Common.{◌≡◌, ◌≢◌, ◌∙◌, ℕ, suc, ◌+◌, ◌-◌, ◌≤◌, ◌<◌, Bool, true, false, List, [], ◌∷◌, ◌++◌, length, take, drop, get_or, refl, sym, ap, arith, length-append}
 use Rattle.std.specs.Prelude.{◌==◌, ◌&&◌, nat_lt, if◌then◌else◌, Some}
 use Rattle.std.proofs.lemmas.Grind.{common_steps}
 use Rattle.std.proofs.lemmas.List.{take_more, take-append-drop, length-map}
 use Rattle.trace_model.specs.Parcel.{Parcel}
 use Rattle.trace_model.specs.Image.{Missed, none, unknown, counted}
 use Rattle.page_numbers.specs.Parcels.{ParcelValue, as_parcels}
-use Rattle.capture.specs.Pages.{Page, intact, damaged, least_missed, behind, end_from, parcels_from, unknown_at, unknown_from, Damage, damages_from}
-use Rattle.capture.specs.Captures.{IsCapture, AreDamages, numbers_of}
+use Rattle.capture.specs.Pages.{Page, intact, damaged, least_missed, behind, end_from, parcels_from, unknown_at, unknown_from, damages_from}
+use Rattle.capture.specs.Captures.{IsCapture, AreDamages}
 use Rattle.capture.specs.declared.pages.Capture.{Capture}
 use Rattle.capture.specs.declared.pages.Damaged.{Damaged}
 use Rattle.trace_inputs.specs.Losses.{missed_in, counted_in, counted_losses, unknown_in, unknown_losses, are_intact, loss_of}

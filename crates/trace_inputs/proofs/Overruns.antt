@@ -1,7 +1,7 @@
 -- Counters of CPUs, text by text from the last one.
-use Rattle.std.proofs.Common.{◌≡◌, ◌∙◌, ℕ, zero, suc, ◌+◌, ◌≤◌, ◌<◌, List, [], ◌∷◌, length, map, take, drop, ◌++◌, append-nil, get_or, sym, ap, arith, replicate, refl, Option, Some, None}
+use Rattle.std.proofs.Common.{◌≡◌, ◌∙◌, ℕ, zero, suc, ◌+◌, ◌<◌, List, length, map, drop, get_or, sym, ap, arith, replicate, refl, Some, None}
 use Rattle.std.specs.List.{slice_get}
-use Rattle.std.proofs.lemmas.List.{drop_more, drop_all, take_all}
+use Rattle.std.proofs.lemmas.List.{drop_more, drop_all}
 use Rattle.kernel_texts.specs.Counters.{counters_in}
 use Rattle.trace_inputs.specs.Losses.{overrun_at, overrun_of}
 

@@ -1,5 +1,5 @@
 -- Why the rest of a file wasn't read.
-use Rattle.std.proofs.Common.{◌≡◌, ◌≢◌, ◌∙◌, ℕ, Bool, true, false, List, [], ◌∷◌, ◌++◌, Option, Ok, Err, refl, sym, ap, subst}
+use Rattle.std.proofs.Common.{◌≡◌, ◌≢◌, ℕ, Bool, true, false, List, [], ◌∷◌, ◌++◌, Option, Ok, Err, refl, subst}
 use Rattle.std.specs.Prelude.{Result, IfErr}
 use Rattle.std.specs.Io.KnownBytes.{Consumes, IsAtEnd}
 use Rattle.std.proofs.KnownBytes.{Consumes-trans}
@@ -12,7 +12,7 @@ use Rattle.trace_inputs.specs.declared.fault.InputFault.{InputFault}
 use Rattle.trace_inputs.specs.declared.fault.InputFault.TheVariants as faults
 use Rattle.trace_inputs.specs.Files.{File}
 use Rattle.trace_inputs.specs.Captures.{AreFilesPast}
-use Rattle.trace_inputs.specs.FilesRead.{said_by, AddsFile, AddsRestOf, IsFileFault, IsRestFault}
+use Rattle.trace_inputs.specs.FilesRead.{said_by, AddsRestOf, IsFileFault, IsRestFault}
 use Rattle.trace_inputs.specs.Giving.{read_fault}
 
 pub not-failed : (failed : Bool) → (failed ≡ true → ⊥) → failed ≡ false
@@ -54,6 +54,21 @@ added-before losses page cpu first start unread left files captured taken adds =
   taken = Consumes-trans start unread left first adds.more taken adds.taken;
   added = adds.added;
 }
+
+-- the same, where the size of a page is said in another way
+pub added-sized : (losses : Losses) (size page cpu : ℕ) (first : List ℕ) (start unread left : Option (List ℕ)) (files : List File) (captured : Captured)
+    → size ≡ page → Consumes start unread first → AddsRestOf losses size cpu first unread left files captured
+    → AddsRestOf losses page cpu [] start left files captured
+added-sized losses size page cpu first start unread left files captured same taken adds =
+    added-before losses page cpu first start unread left files captured taken
+    (subst (λ (n : ℕ). AddsRestOf losses n cpu first unread left files captured) same adds)
+
+pub fault-sized : (losses : Losses) (size page cpu : ℕ) (first : List ℕ) (start unread left : Option (List ℕ)) (failed : Bool) (files : List File)
+    → size ≡ page → Consumes start unread first → (fault : InputFault) → IsRestFault losses size cpu first unread left failed files fault
+    → IsRestFault losses page cpu [] start left failed files fault
+fault-sized losses size page cpu first start unread left failed files same taken fault why =
+    fault-before losses page cpu first start unread left failed files taken fault
+    (subst (λ (n : ℕ). IsRestFault losses n cpu first unread left failed files fault) same why)
 
 -- a raw source
 pub raw-fault : (losses : Losses) (page cpu : ℕ) (first : List ℕ) (unread left : Option (List ℕ)) (failed : Bool) (files : List File)

@@ -1,5 +1,5 @@
 -- A CPU whose loss is settled.
-use Rattle.std.proofs.Common.{◌≡◌, ◌≢◌, ◌∙◌, ℕ, ◌⊎◌, inl, inr, ⊎_elim, ◌<◌, List, [], ◌∷◌, ◌++◌, length, map, set, get_or, ◌+◌, ◌≤◌, Option, Some, None, refl, sym, ap, ap₂, subst, arith}
+use Rattle.std.proofs.Common.{◌≡◌, ◌≢◌, ◌∙◌, ℕ, ⊎_elim, ◌<◌, List, [], ◌∷◌, ◌++◌, map, set, get_or, ◌+◌, ◌≤◌, Option, Some, sym, ap, ap₂, subst, arith}
 use Rattle.std.specs.List.{slice_get}
 use Rattle.std.proofs.lemmas.Option.{get_or_from_slice_get}
 use Rattle.std.proofs.lemmas.Bool.{cases_lt}
@@ -10,7 +10,7 @@ use Rattle.capture.proofs.OneReading.{one-reading}
 use Rattle.capture.proofs.Told.{all-told-unknown}
 use Rattle.trace_inputs.specs.declared.captured.CpuCapture.{CpuCapture}
 use Rattle.trace_inputs.specs.Files.{ModelPart, parts_of_cpu}
-use Rattle.trace_inputs.specs.Losses.{loss_of, settled}
+use Rattle.trace_inputs.specs.Losses.{loss_of}
 use Rattle.trace_inputs.specs.Captures.{CutsOf, IsCpuRead, IsCpuCaptured}
 use Rattle.trace_inputs.proofs.CpuLists.{get-set}
 

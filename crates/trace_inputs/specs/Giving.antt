@@ -1,5 +1,5 @@
 -- What a reader of a file answers, in the words of the definitions.
-use Rattle.std.specs.Prelude.{◌≡◌, List, [], ◌∷◌, ◌++◌, Result, Ok, Err, ⊤}
+use Rattle.std.specs.Prelude.{◌≡◌, List, ◌++◌, Result, Ok, Err, ⊤}
 use Rattle.capture.specs.declared.pages.CaptureFault.{CaptureFault}
 use Rattle.capture.specs.declared.pages.CaptureFault.TheVariants as captures
 use Rattle.capture.specs.declared.read.ReadFault.{ReadFault}

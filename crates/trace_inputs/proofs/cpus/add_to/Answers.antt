@@ -1,9 +1,9 @@
-use Rattle.std.proofs.Common.{◌≡◌, ◌<◌, ℕ, Err, Some, get_or, sym, subst, arith}
+use Rattle.std.proofs.Common.{◌≡◌, ◌<◌, ℕ, Some, get_or, arith}
 use Rattle.std.specs.List.{slice_get}
 use Rattle.std.proofs.lemmas.Option.{slice_get-get_or}
 use Rattle.trace_model.specs.declared.limits.TheConstants.{MAX_CPUS}
 use Rattle.trace_inputs.specs.declared.captured.CpuCapture.{CpuCapture}
-use Rattle.trace_inputs.specs.Files.{ModelPart, parts_of_cpu}
+use Rattle.trace_inputs.specs.Files.{parts_of_cpu}
 use Rattle.trace_inputs.specs.Giving.{part_seen}
 use Rattle.trace_inputs.proofs.Answers.{on_ok}
 use Rattle.trace_inputs.proofs.CpuLists.{cpus-more, cpu-past}

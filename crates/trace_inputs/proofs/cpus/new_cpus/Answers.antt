@@ -1,4 +1,4 @@
-use Rattle.std.proofs.Common.{◌≡◌, ℕ, ◌++◌, ◌∷◌, [], Some, ⊎_elim, ap, sym, subst, vec_len, ◌∙◌, length, List, arith}
+use Rattle.std.proofs.Common.{◌≡◌, ℕ, [], Some, ⊎_elim, subst, List, arith}
 use Rattle.std.specs.List.{slice_get}
 use Rattle.trace_model.specs.Image.{unknown}
 use Rattle.trace_inputs.specs.declared.captured.CpuCapture.{CpuCapture}

@@ -1,4 +1,4 @@
-use Rattle.std.proofs.Common.{◌≡◌, ◌∙◌, ◌++◌, ◌+◌, ◌-◌, ◌^◌, Vec, Global, ℕ, List, [], Ok, Err, length, map, refl, sym, ap, subst, arith}
+use Rattle.std.proofs.Common.{◌≡◌, ◌∙◌, ◌++◌, ◌+◌, ◌-◌, ◌^◌, Vec, Global, ℕ, List, [], Err, length, map, sym, ap, subst, arith}
 use Rattle.std.specs.Prelude.{min}
 use Rattle.std.proofs.lemmas.Result.{err_from_is_err_and}
 use Rattle.std.proofs.lemmas.Grind.{common_steps}
@@ -7,8 +7,7 @@ use Rattle.trace_dat.specs.Contents.{EventFormat, Contents, contents_seen}
 use Rattle.kernel_texts.specs.Names.{HasEvents}
 use Rattle.trace_inputs.specs.declared.cpu_part.CpuPart.{CpuPart}
 use Rattle.trace_inputs.specs.declared.captured.CpuCapture.{CpuCapture}
-use Rattle.trace_inputs.specs.declared.dat.Losses.TheVariants.{Kept, Settled}
-use Rattle.trace_inputs.specs.Files.{File, ModelPart, parts_of, count_instances, counters_of, all_formats}
+use Rattle.trace_inputs.specs.Files.{File, ModelPart, count_instances, counters_of, all_formats}
 use Rattle.trace_inputs.specs.Losses.{overrun_of}
 use Rattle.trace_inputs.specs.Captures.{AreCpusRead, AreCpusCaptured, IsCpuPast, IsOwnPast}
 use Rattle.trace_inputs.specs.Giving.{part_seen}

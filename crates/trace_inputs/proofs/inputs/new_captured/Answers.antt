@@ -6,7 +6,7 @@ pub returns : goal.returns
 returns c = λ page. record {
   parts = [];
   parts_are = refl;
-  cpus_are = as-captured [] _ ?;
-  names_are = ?;
+  cpus_are = as-captured [] _ c.in_ok-new_cpus.ensures;
+  names_are = c.new.ensures;
   instances_are = refl;
 }

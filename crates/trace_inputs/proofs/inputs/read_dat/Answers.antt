@@ -1,4 +1,4 @@
-use Rattle.std.proofs.Common.{◌≡◌, ◌++◌, ◌∙◌, false, List, ℕ, sym, ap, subst}
+use Rattle.std.proofs.Common.{◌≡◌, ◌∙◌, false, List, ℕ, subst}
 use Rattle.trace_inputs.specs.FilesRead.{AddsFile}
 use Rattle.trace_inputs.proofs.Answers.{on_ok}
 use Rattle.trace_inputs.proofs.RestFaults.{not-failed, if_err, read-rest-fault}

@@ -1,11 +1,11 @@
-use Rattle.std.proofs.Common.{◌≡◌, ◌++◌, ◌+◌, ◌∷◌, [], ℕ, List, Err, take, drop, map, sym, ap, subst, arith}
+use Rattle.std.proofs.Common.{◌≡◌, ◌++◌, ◌+◌, ◌∷◌, [], ℕ, List, Err, take, drop, map, sym, subst, arith}
 use Rattle.std.proofs.lemmas.Grind.{common_steps}
 use Rattle.page_image.specs.Images.{missed_of}
 use Rattle.capture.specs.declared.pages.CaptureFault.TheVariants.{Numbers}
 use Rattle.trace_inputs.specs.Files.{ModelPart, parts_of_cpu}
 use Rattle.trace_inputs.specs.Captures.{IsCpuRead, IsPartPast, IsCpuPast}
 use Rattle.trace_inputs.specs.Giving.{part_seen}
-use Rattle.trace_inputs.proofs.CpuLists.{parts-next, parts-rest, own-part, other-part, cpu-past, past-more}
+use Rattle.trace_inputs.proofs.CpuLists.{parts-next, parts-rest, cpu-past, past-more}
 use Rattle.trace_inputs.proofs.settle.add_own.Goals as goal
 
 pub loop-part-init : goal.loop-part-init

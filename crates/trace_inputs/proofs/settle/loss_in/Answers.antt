@@ -1,8 +1,6 @@
-use Rattle.std.proofs.Common.{◌≡◌, ◌≢◌, ◌≤◌, ◌<◌, ◌-◌, ◌+◌, ℕ, List, sym, ap, ◌∙◌, arith, length, vec_len}
+use Rattle.std.proofs.Common.{◌≡◌, ◌<◌, ◌-◌, ℕ, sym, ap, ◌∙◌, arith, vec_len}
 use Rattle.std.proofs.lemmas.Grind.{common_steps}
-use Rattle.std.proofs.lemmas.Bool.{eqb-true}
 use Rattle.trace_model.specs.Image.{counted}
-use Rattle.capture.specs.Pages.{Page}
 use Rattle.trace_inputs.specs.Losses.{missed_in, counted_losses, unknown_losses}
 use Rattle.trace_inputs.proofs.LossSums.{capture-missed, capture-fits, capture-unknown, capture-whole, capture-broken, loss-known, loss-not-one, loss-damaged, loss-low}
 use Rattle.trace_inputs.proofs.settle.loss_in.Goals as goal

@@ -1,4 +1,4 @@
-use Rattle.std.proofs.Common.{◌≡◌, ◌+◌, ap, sym, ◌∙◌, arith, get_or}
+use Rattle.std.proofs.Common.{◌+◌, ap, ◌∙◌, arith}
 use Rattle.page_numbers.specs.Parcels.{ParcelValue}
 use Rattle.std.proofs.lemmas.List.{take_all}
 use Rattle.trace_inputs.specs.Losses.{missed_in}

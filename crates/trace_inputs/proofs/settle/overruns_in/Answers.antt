@@ -1,7 +1,4 @@
-use Rattle.std.proofs.Common.{◌≡◌, ℕ, ◌<◌, ◌+◌, ◌-◌, ◌++◌, ◌∙◌, List, Some, None, Option, length, map, take, drop, sym, ap, subst, arith, replicate, append-nil}
-use Rattle.std.specs.List.{slice_get}
-use Rattle.std.proofs.lemmas.Grind.{common_steps}
-use Rattle.trace_inputs.specs.Losses.{overrun_of}
+use Rattle.std.proofs.Common.{◌-◌, ◌∙◌, Some, None, sym, ap, arith}
 use Rattle.trace_inputs.proofs.Overruns.{get-replicate, none-left, one-before}
 use Rattle.trace_inputs.proofs.settle.overruns_in.Goals as goal
 

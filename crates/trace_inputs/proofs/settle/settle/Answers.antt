@@ -1,18 +1,14 @@
-use Rattle.std.proofs.Common.{◌≡◌, ℕ, ◌≤◌, ◌<◌, List, Err, Option, Some, get_or, map, length, ◌∙◌, sym, ap, subst, arith}
+use Rattle.std.proofs.Common.{◌≡◌, ℕ, Err, Option, Some, get_or, map, ◌∙◌, subst, arith}
 use Rattle.std.proofs.lemmas.Grind.{common_steps}
 use Rattle.std.specs.List.{slice_get}
 use Rattle.std.proofs.lemmas.List.{length-set}
 use Rattle.std.proofs.lemmas.Option.{slice_get-get_or, slice_get_within}
-use Rattle.trace_model.specs.declared.limits.TheConstants.{MAX_CPUS}
-use Rattle.trace_model.specs.Image.{unknown}
 use Rattle.capture.specs.declared.pages.CaptureFault.TheVariants.{Numbers}
 use Rattle.trace_inputs.specs.declared.captured.CpuCapture.{CpuCapture}
-use Rattle.trace_inputs.specs.Files.{ModelPart, parts_of_cpu}
-use Rattle.trace_inputs.specs.Losses.{overrun_of}
-use Rattle.trace_inputs.specs.Captures.{IsCpuRead, IsCpuCaptured, IsOwnPast}
+use Rattle.trace_inputs.specs.Files.{parts_of_cpu}
+use Rattle.trace_inputs.specs.Captures.{IsCpuCaptured, IsOwnPast}
 use Rattle.trace_inputs.specs.Giving.{part_seen}
-use Rattle.trace_inputs.proofs.Answers.{on_ok}
-use Rattle.trace_inputs.proofs.Settled.{AreSettledTo, settled-next, plain-capture, overrun-at}
+use Rattle.trace_inputs.proofs.Settled.{settled-next, plain-capture, overrun-at}
 use Rattle.trace_inputs.proofs.settle.settle.Goals as goal
 
 pub loop-cpu-init : goal.loop-cpu-init

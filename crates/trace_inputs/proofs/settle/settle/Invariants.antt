@@ -1,11 +1,7 @@
-use Rattle.std.proofs.Common.{◌≡◌, ℕ, ◌≤◌, ◌<◌, length, map, Some}
+use Rattle.std.proofs.Common.{◌≡◌, ℕ, ◌<◌, length, map, Some}
 use Rattle.std.specs.List.{slice_get}
 use Rattle.trace_model.specs.declared.limits.TheConstants.{MAX_CPUS}
-use Rattle.trace_model.specs.Image.{unknown}
-use Rattle.trace_inputs.specs.declared.captured.CpuCapture.{CpuCapture}
-use Rattle.trace_inputs.specs.Files.{parts_of_cpu}
 use Rattle.trace_inputs.specs.Losses.{overrun_of}
-use Rattle.trace_inputs.specs.Captures.{IsCpuRead, IsCpuCaptured}
 use Rattle.trace_inputs.specs.Giving.{part_seen}
 use Rattle.trace_inputs.proofs.Settled.{AreSettledTo}
 use Rattle.trace_inputs.proofs.settle.settle.Given as goal

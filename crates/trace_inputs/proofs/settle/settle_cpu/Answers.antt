@@ -1,6 +1,6 @@
-use Rattle.std.proofs.Common.{◌≡◌, ◌∙◌, inr, List, ℕ, Option, Err, Some, map, sym, ap, subst, arith}
+use Rattle.std.proofs.Common.{◌≡◌, ◌∙◌, inr, ℕ, Option, Err, map, sym, ap, subst, arith}
 use Rattle.std.proofs.lemmas.Grind.{common_steps}
-use Rattle.trace_model.specs.Image.{Missed, unknown}
+use Rattle.trace_model.specs.Image.{unknown}
 use Rattle.page_image.specs.Images.{missed_of}
 use Rattle.page_image.specs.declared.image.Missed.TheVariants.{Unknown}
 use Rattle.capture.specs.declared.pages.CaptureFault.TheVariants.{Numbers}
