@@ -17,7 +17,8 @@ use Rattle.trace_inputs.specs.Losses.{overrun_in, loss_of, settled}
 abbrev pub CutsOf : List ModelPart → List Page → Type 0
 CutsOf [] pages = pages ≡ []
 CutsOf (part ∷ parts) pages =
-    (own : List Page) × (others : List Page) × (pages ≡ own ++ others) × AreCut part.size part.bytes own × CutsOf parts others
+    (own : List Page) × (others : List Page) × (pages ≡ own ++ others) × AreCut part.size part.bytes own
+    × CutsOf parts others
 
 -- the size of a part's pages, and how many bytes it has
 abbrev pub measured : ModelPart → Part
@@ -92,8 +93,8 @@ pub record IsPartPast (known : Missed) (parts : List ModelPart) (part : ModelPar
   pub cut : CutsOf (parts ++ record part { bytes = front } ∷ []) pages
   pub past : FitCpu (parts ++ record part { bytes = front } ∷ []) (map (told known) pages) → ⊥
 
--- A source, of which `first` had been read, had `unread` before, and `left` after these bytes, which end it if the first
--- ones are less than a page.
+-- A source, of which `first` had been read, had `unread` before, and `left` after these bytes: none, if the first ones
+-- are less than a page.
 pub record IsRest (size : ℕ) (first : List ℕ) (unread left : Option (List ℕ)) (more : List ℕ) : Type 0 where
   pub taken : Consumes unread left more
   pub no_more : length first < size → more ≡ []

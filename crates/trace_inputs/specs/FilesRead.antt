@@ -25,8 +25,8 @@ abbrev pub AddsFile : Losses → (page : ℕ) → List File → File → Capture
 AddsFile losses page files file captured = AreFilesRead (said_by losses file) page (files ++ file ∷ []) captured
 
 -- after these files a file was read, of which `first` had been read already
-pub record AddsRestOf (losses : Losses) (page cpu : ℕ) (first : List ℕ) (unread left : Option (List ℕ)) (files : List File)
-    (captured : Captured) : Type 0 where
+pub record AddsRestOf (losses : Losses) (page cpu : ℕ) (first : List ℕ) (unread left : Option (List ℕ))
+    (files : List File) (captured : Captured) : Type 0 where
   pub more : List ℕ
   pub taken : Consumes unread left more
   pub added : AddsFile losses page files (record { cpu = cpu; bytes = first ++ more }) captured

@@ -131,8 +131,8 @@ fn new_captured(alloc: Global) -> Result<Captured, AllocError>
     })
 }
 
-/// Reads all files, one after the other, each to its end. `page` is the size of a raw page in bytes. After a fault nothing
-/// is read.
+/// Reads all files, one after the other, each to its end. `page` is the size of a raw page, in bytes. After a fault
+/// nothing more is read. A file of trace-cmd is held in memory while it is read, and not longer.
 pub fn read_inputs<R: Source>(
     alloc: Global,
     page: usize,

@@ -46,7 +46,8 @@ pub(crate) fn add_raw<R: Source>(
     ensures read_fault { (R.failed reader.new ≡ true) ↔ (result ≡ Err ReadFault.Read) }
     ensures past { (cpu : ℕ) (parts : List ModelPart) → IsCpuRead unknown cpu parts found.old
         → result ≡ Err (ReadFault.Capture CaptureFault.Numbers)
-        → IsRawPast cpu (length piece.old) (take filled piece.old) (R.remaining reader.old) (R.remaining reader.new) parts }
+        → IsRawPast cpu (length piece.old) (take filled piece.old) (R.remaining reader.old) (R.remaining reader.new)
+        parts }
 {
     let size = piece.len();
     let extent = read_on(alloc, &mut found.capture, piece, filled, reader)?;
