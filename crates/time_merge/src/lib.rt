@@ -6,6 +6,8 @@
 
 mod by_time;
 mod lines;
+mod walk;
 
 pub use by_time::listing;
 pub use lines::Line;
+pub use walk::TakesLines;
