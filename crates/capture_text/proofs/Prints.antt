@@ -17,7 +17,7 @@ use Rattle.capture_text.specs.declared.form.Form.TheVariants.{Text, Json}
 use Rattle.capture_text.specs.declared.printer.Printer.{Printer}
 use Rattle.capture_text.specs.Names.{named_part, json_named}
 use Rattle.capture_text.specs.Printing.{record_line, named_line, json_line}
-use Rattle.capture_text.specs.Printed.{AreNames, HasPrinted, Prints}
+use Rattle.capture_text.specs.Printed.{AreNames, Prints}
 
 -- a printer keeps its form and its names, and its buffer is given this text
 pub prints : (bytes : Form → Option (List EventFormat) → List ℕ) (old new : Printer)

@@ -2,9 +2,7 @@
 use Rattle.std.specs.Prelude.{ℕ, ℤ, Bool, false, ◌&&◌, ◌==◌, if◌then◌else◌, List, [], ◌∷◌, ◌++◌, length, take, drop, position, unwrap_or, codes, bytes_eq, Option, Some, None}
 use Rattle.std.specs.Fmt.{decimal, signed_decimal}
 use Rattle.text_model.specs.Text.{space}
-use Rattle.trace_dat.specs.Contents.{EventFormat}
-use Rattle.kernel_texts.specs.Names.{Event, event_of}
-use Rattle.kernel_texts.specs.FirstBytes.{common_fields_in}
+use Rattle.kernel_texts.specs.Names.{Event}
 use Rattle.kernel_texts.specs.declared.record.CommonFields.{CommonFields}
 use Rattle.capture_text.specs.Quoting.{quotation_mark, quoted, shown_name}
 

@@ -20,8 +20,8 @@ AreNames (Some names) None = ⊥
 AreNames (Some names) (Some formats) = HasEvents names.now formats
 
 -- A printer that prints in this form, with events named by these formats, if any, has printed this text since the
--- writer's contents were `start`. Now they are `contents`, and a write has failed or not. (`HasPut` says how much of the
--- text is written.)
+-- writer's contents were `start`. Now they are `contents`, and a write has failed or not. (`HasPut` says how much of
+-- the text is written.)
 pub record HasPrinted (form : Form) (formats : Option (List EventFormat)) (start contents : Option (List ℕ))
     (failed : Bool) (text : List ℕ) (printer : Printer) : Type 0 where
   pub form_is : printer.form ≡ form

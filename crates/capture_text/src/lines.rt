@@ -38,7 +38,8 @@ fn put_in_front(front: &mut [u8; FRONT], number: u64, end: usize) -> usize
 fn put_numbers<W: Sink>(buffer: &mut TextBuffer, writer: &mut W, line: &Line<'_>)
     requires { has_failed buffer.old ≡ W.failed writer.old }
     ensures tied { has_failed buffer.new ≡ W.failed writer.new }
-    ensures put { Puts (decimal line.now.cpu.0 ++ space ∷ decimal line.now.number.0 ++ space ∷ decimal line.now.moment.0 ++ space ∷ [])
+    ensures put { Puts (decimal line.now.cpu.0 ++ space ∷ decimal line.now.number.0
+        ++ space ∷ decimal line.now.moment.0 ++ space ∷ [])
         buffer.old (W.contents writer.old) (W.failed writer.old)
         buffer.new (W.contents writer.new) (W.failed writer.new) }
 {
@@ -101,7 +102,8 @@ pub(crate) fn put_named_line<W: Sink>(
 fn put_json_numbers<W: Sink>(buffer: &mut TextBuffer, writer: &mut W, line: &Line<'_>)
     requires { has_failed buffer.old ≡ W.failed writer.old }
     ensures tied { has_failed buffer.new ≡ W.failed writer.new }
-    ensures put { Puts (codes "{\"cpu\":" ++ decimal line.now.cpu.0 ++ codes ",\"number\":" ++ decimal line.now.number.0 ++ codes ",\"time\":" ++ decimal line.now.moment.0)
+    ensures put { Puts (codes "{\"cpu\":" ++ decimal line.now.cpu.0 ++ codes ",\"number\":"
+        ++ decimal line.now.number.0 ++ codes ",\"time\":" ++ decimal line.now.moment.0)
         buffer.old (W.contents writer.old) (W.failed writer.old)
         buffer.new (W.contents writer.new) (W.failed writer.new) }
 {
@@ -147,7 +149,8 @@ pub(crate) fn put_json_named_line<W: Sink>(
 )
     requires { has_failed buffer.old ≡ W.failed writer.old }
     ensures tied { has_failed buffer.new ≡ W.failed writer.new }
-    ensures put { Puts (json_line (json_named (events_of names.now) line.now.bytes.now (common_fields_in line.now.bytes.now)) (line_seen line.now))
+    ensures put { Puts (json_line (json_named (events_of names.now) line.now.bytes.now
+        (common_fields_in line.now.bytes.now)) (line_seen line.now))
         buffer.old (W.contents writer.old) (W.failed writer.old)
         buffer.new (W.contents writer.new) (W.failed writer.new) }
 {

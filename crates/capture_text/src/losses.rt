@@ -252,7 +252,8 @@ fn put_page<W: Sink>(
 )
     requires { has_failed buffer.old ≡ W.failed writer.old }
     ensures tied { has_failed buffer.new ≡ W.failed writer.new }
-    ensures put { Puts (damaged_line Form.Text cpu damaged.now.number.0 damaged.now.page offset (reader_fault_text damaged.now.fault))
+    ensures put { Puts (damaged_line Form.Text cpu damaged.now.number.0 damaged.now.page offset
+        (reader_fault_text damaged.now.fault))
         buffer.old (W.contents writer.old) (W.failed writer.old)
         buffer.new (W.contents writer.new) (W.failed writer.new) }
 {
@@ -275,7 +276,8 @@ fn put_json_page<W: Sink>(
 )
     requires { has_failed buffer.old ≡ W.failed writer.old }
     ensures tied { has_failed buffer.new ≡ W.failed writer.new }
-    ensures put { Puts (damaged_line Form.Json cpu damaged.now.number.0 damaged.now.page offset (reader_fault_text damaged.now.fault))
+    ensures put { Puts (damaged_line Form.Json cpu damaged.now.number.0 damaged.now.page offset
+        (reader_fault_text damaged.now.fault))
         buffer.old (W.contents writer.old) (W.failed writer.old)
         buffer.new (W.contents writer.new) (W.failed writer.new) }
 {

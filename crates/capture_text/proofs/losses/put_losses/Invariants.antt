@@ -1,4 +1,4 @@
-use Rattle.std.proofs.Common.{◌≡◌, take, flat_map}
+use Rattle.std.proofs.Common.{◌≡◌, take}
 use Rattle.capture.specs.Captures.{numbers_of}
 use Rattle.capture_text.specs.Printing.{unknown_lines}
 use Rattle.text_buffer.specs.Putting.{has_failed, Puts}

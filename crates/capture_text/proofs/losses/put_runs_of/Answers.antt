@@ -1,4 +1,4 @@
-use Rattle.std.proofs.Common.{◌++◌, ◌∙◌, ap, ℕ, List, flat_map, subst}
+use Rattle.std.proofs.Common.{ℕ, List, flat_map, subst}
 use Rattle.std.proofs.lemmas.Iterator.Consumers.{YieldsList-from_first, YieldsList-end}
 use Rattle.collector.specs.Runs.{run_numbers}
 use Rattle.text_buffer.specs.Putting.{Puts}

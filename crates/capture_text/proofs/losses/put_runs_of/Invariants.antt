@@ -1,4 +1,4 @@
-use Rattle.std.proofs.Common.{◌≡◌, take, flat_map}
+use Rattle.std.proofs.Common.{◌≡◌, flat_map}
 use Rattle.std.proofs.Common.{map}
 use Rattle.collector.specs.Runs.{run_numbers}
 use Rattle.capture_text.specs.Printing.{run_line}

@@ -1,4 +1,4 @@
-use Rattle.std.proofs.Common.{◌≡◌, take, flat_map}
+use Rattle.std.proofs.Common.{◌≡◌, take}
 use Rattle.capture_text.specs.Quoting.{escaped_text}
 use Rattle.text_buffer.specs.Putting.{has_failed, Puts}
 use Rattle.capture_text.proofs.quoting.put_escaped_text.Given as goal

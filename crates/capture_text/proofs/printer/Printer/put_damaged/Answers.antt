@@ -1,4 +1,4 @@
-use Rattle.std.proofs.Common.{refl, ap, ◌∙◌, List, ℕ, flat_map}
+use Rattle.std.proofs.Common.{refl, ap, ◌∙◌, List, flat_map}
 use Rattle.capture.specs.Pages.{damages_from}
 use Rattle.capture.specs.declared.pages.Damaged.{Damaged}
 use Rattle.capture_text.specs.Printing.{damaged_lines, reported_line}
