@@ -9,5 +9,5 @@ mod Numbers
 mod Disjoint
 mod Together
 mod Reports
-mod OneReading
+pub mod OneReading
 mod WrittenImages

@@ -70,9 +70,9 @@ pub struct Extent {
     pub rest: usize,
 }
 
-/// Reads on in a source of whose first page `filled` bytes are read already, into `piece`: fewer than there is room for
-/// only if it is at its end. Each page of it, which is as long as `piece` but for the last one, is read after those that
-/// the capture has. Where there is no answer, the capture is of no use; and nothing is read after a fault.
+/// Reads on in a source of whose first page `filled` bytes are read already, into `piece`: fewer than there is room
+/// for only if it is at its end. Each page of it, which is as long as `piece` but for the last one, is read after those
+/// that the capture has. Where there is no answer, the capture is of no use; and nothing is read after a fault.
 pub fn read_on<R: Source>(
     alloc: Global,
     capture: &mut Capture,
@@ -94,7 +94,8 @@ pub fn read_on<R: Source>(
     ensures read_fault { (R.failed reader.new ≡ true) ↔ (result ≡ Err ReadFault.Read) }
     ensures numbers { (before : List Page) → IsCapture capture.old before
         → result ≡ Err (ReadFault.Capture CaptureFault.Numbers)
-        → IsReadOnPast (length piece.old) (take filled piece.old) (R.remaining reader.old) (R.remaining reader.new) before }
+        → IsReadOnPast (length piece.old) (take filled piece.old) (R.remaining reader.old) (R.remaining reader.new)
+        before }
 {
     let before = capture.pages;
     let mut filled = filled;

@@ -1,10 +1,8 @@
 -- What a line says of its record besides the numbers: the process that wrote it, its event, and the text of a print.
-use Rattle.std.specs.Prelude.{ℕ, Bool, false, ◌&&◌, ◌==◌, if◌then◌else◌, List, [], ◌∷◌, ◌++◌, take_while, drop, codes, bytes_eq, Option, Some, None}
+use Rattle.std.specs.Prelude.{ℕ, ℤ, Bool, false, ◌&&◌, ◌==◌, if◌then◌else◌, List, [], ◌∷◌, ◌++◌, length, take, drop, position, unwrap_or, codes, bytes_eq, Option, Some, None}
 use Rattle.std.specs.Fmt.{decimal, signed_decimal}
 use Rattle.text_model.specs.Text.{space}
-use Rattle.trace_dat.specs.Contents.{EventFormat}
-use Rattle.kernel_texts.specs.Names.{Event, event_of}
-use Rattle.kernel_texts.specs.FirstBytes.{common_fields_in}
+use Rattle.kernel_texts.specs.Names.{Event}
 use Rattle.kernel_texts.specs.declared.record.CommonFields.{CommonFields}
 use Rattle.capture_text.specs.Quoting.{quotation_mark, quoted, shown_name}
 
@@ -17,9 +15,13 @@ abbrev pub is_print : Option Event → Bool
 is_print None = false
 is_print (Some event) = bytes_eq event.system (codes "ftrace") && bytes_eq event.name (codes "print")
 
+-- the bytes up to the first zero byte
+abbrev pub text_before_zero : List ℕ → List ℕ
+text_before_zero bytes = take (unwrap_or (position (λ b. b == 0) bytes) (length bytes)) bytes
+
 -- the text of such a record: behind the fields that all events have and an address, up to the first zero byte
 abbrev pub print_text : List ℕ → List ℕ
-print_text bytes = take_while (λ b. if b == 0 then false else true) (drop 16 bytes)
+print_text bytes = text_before_zero (drop 16 bytes)
 
 -- ---- in a line of text
 
@@ -31,12 +33,15 @@ event_or_number id (Some event) = event_text event
 abbrev pub print_part : Option Event → List ℕ → List ℕ
 print_part event bytes = if is_print event then space ∷ quoted (print_text bytes) else []
 
--- the process, the event, and the text of a print; a record without the fields has none of them
+-- the process, the event, and the text of a print
+abbrev pub known_part : (ℕ → Option Event) → List ℕ → (id : ℕ) → (pid : ℤ) → List ℕ
+known_part event_by bytes id pid =
+    signed_decimal pid ++ space ∷ event_or_number id (event_by id) ++ print_part (event_by id) bytes
+
+-- of a record without these fields neither is known
 abbrev pub named_part : (ℕ → Option Event) → List ℕ → Option CommonFields → List ℕ
 named_part event_by bytes None = codes "- -"
-named_part event_by bytes (Some fields) =
-    signed_decimal fields.pid ++ space ∷ event_or_number fields.event (event_by fields.event)
-    ++ print_part (event_by fields.event) bytes
+named_part event_by bytes (Some fields) = known_part event_by bytes fields.event fields.pid
 
 -- ---- in a JSON line
 
@@ -47,8 +52,11 @@ json_event id (Some event) = quotation_mark ∷ event_text event ++ quotation_ma
 abbrev pub json_print : Option Event → List ℕ → List ℕ
 json_print event bytes = if is_print event then codes ",\"text\":" ++ quoted (print_text bytes) else []
 
+abbrev pub json_known : (ℕ → Option Event) → List ℕ → (id : ℕ) → (pid : ℤ) → List ℕ
+json_known event_by bytes id pid =
+    codes ",\"pid\":" ++ signed_decimal pid ++ codes ",\"event\":" ++ json_event id (event_by id)
+    ++ json_print (event_by id) bytes
+
 abbrev pub json_named : (ℕ → Option Event) → List ℕ → Option CommonFields → List ℕ
 json_named event_by bytes None = []
-json_named event_by bytes (Some fields) =
-    codes ",\"pid\":" ++ signed_decimal fields.pid ++ codes ",\"event\":"
-    ++ json_event fields.event (event_by fields.event) ++ json_print (event_by fields.event) bytes
+json_named event_by bytes (Some fields) = json_known event_by bytes fields.event fields.pid

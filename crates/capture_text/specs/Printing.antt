@@ -1,6 +1,6 @@
 -- The lines of a collection: of its records, of its missing runs, of losses of unknown number, and of damaged pages, as
 -- text or as JSON. docs/FORMATS.md, "Captures".
-use Rattle.std.specs.Prelude.{ℕ, ◌+◌, ◌-◌, ◌*◌, ◌==◌, nat_lt, if◌then◌else◌, List, [], ◌∷◌, ◌++◌, map, flat_map, codes, Option, Some, None}
+use Rattle.std.specs.Prelude.{ℕ, ◌+◌, ◌-◌, ◌*◌, ◌==◌, nat_lt, if◌then◌else◌, List, [], ◌∷◌, ◌++◌, flat_map, codes, Option, Some, None}
 use Rattle.std.specs.Int.{div_ceil}
 use Rattle.std.specs.Fmt.{decimal}
 use Rattle.std.specs.List.{enumerate_from}
@@ -9,10 +9,12 @@ use Rattle.trace_dat.specs.Contents.{EventFormat}
 use Rattle.text_model.specs.Text.{hex_text, line_feed, space}
 use Rattle.text_model.specs.Printing.{image_fault_text}
 use Rattle.text_values.specs.Digits.{pairs_of}
-use Rattle.world_model.specs.Printing.{printed_line, printed_runs}
+use Rattle.world_model.specs.Printing.{printed_line, printed_missing, printed_runs}
 use Rattle.kernel_texts.specs.Names.{Event, event_of}
 use Rattle.kernel_texts.specs.FirstBytes.{common_fields_in}
+use Rattle.image_dump.specs.ImageFaults.{reader_fault_text}
 use Rattle.capture.specs.Pages.{Damage}
+use Rattle.capture.specs.declared.pages.Damaged.{Damaged}
 use Rattle.capture.specs.declared.part.Part.{Part}
 use Rattle.capture_text.specs.declared.form.Form.{Form}
 use Rattle.capture_text.specs.declared.form.Form.TheVariants.{Text, Json}
@@ -49,6 +51,10 @@ abbrev pub json_missing : ℕ → ℕ × ℕ → List ℕ
 json_missing cpu run =
     codes "{\"cpu\":" ++ decimal cpu ++ codes ",\"missing\":[" ++ decimal run.0 ++ codes "," ++ decimal run.1
     ++ codes "]}" ++ line_feed ∷ []
+
+abbrev pub run_line : Form → (cpu : ℕ) → ℕ × ℕ → List ℕ
+run_line Text cpu run = printed_missing cpu run
+run_line Json cpu run = json_missing cpu run
 
 -- the missing runs of each CPU, by rising CPU
 abbrev pub run_lines : Form → List (List (ℕ × ℕ)) → List ℕ
@@ -94,3 +100,8 @@ damage_line form parts cpu damage =
 
 abbrev pub damaged_lines : Form → List Part → (cpu : ℕ) → List Damage → List ℕ
 damaged_lines form parts cpu damages = flat_map (damage_line form parts cpu) damages
+
+-- the line of a damaged page as it is answered
+abbrev pub reported_line : Form → List Part → (cpu : ℕ) → Damaged → List ℕ
+reported_line form parts cpu damaged =
+    damaged_line form cpu damaged.number.0 damaged.page (offset_of parts damaged.page) (reader_fault_text damaged.fault)

@@ -9,8 +9,7 @@ use Rattle.capture.specs.Captures.{AreDamages, numbers_of}
 use Rattle.capture.specs.Rings.{parcels_of_captures}
 use Rattle.trace_inputs.specs.declared.captured.CpuCapture.{CpuCapture}
 use Rattle.trace_inputs.specs.Files.{ModelPart}
-use Rattle.collect_command.specs.declared.gather.Gaps.{Gaps}
-use Rattle.collect_command.specs.Gathered.{IsReadFrom, AreReadFrom, AreGapsOf, AreAllGaps}
+use Rattle.collect_command.specs.Gathered.{IsReadFrom, AreReadFrom}
 
 -- the last of what was read, and its pages
 pub record LastRead (parts : List ModelPart) (cpu : ℕ) (front : List CpuCapture) (found : CpuCapture) (captures : List (List Page)) : Type 0 where
@@ -43,17 +42,6 @@ last_read parts cpu (first ∷ front) found (pages ∷ captures) read =
           (let e : suc cpu + length last.others ≡ cpu + suc (length last.others) = omega arith in e) last.last_read;
     }
 
--- the gaps of one capture more
-pub gaps_more : (parts : List ModelPart) (cpu : ℕ) (gaps : List Gaps) (more : Gaps) (captures : List (List Page)) (own : List Page)
-    → AreAllGaps parts cpu gaps captures → AreGapsOf parts (cpu + length captures) more own
-    → AreAllGaps parts cpu (gaps ++ more ∷ []) (captures ++ own ∷ [])
-gaps_more parts cpu [] more [] own all last = (subst (λ (n : ℕ). AreGapsOf parts n more own) (let e : cpu + 0 ≡ cpu = omega arith in e) last, tt)
-gaps_more parts cpu [] more (pages ∷ captures) own all last = absurd all
-gaps_more parts cpu (first ∷ gaps) more [] own all last = absurd all
-gaps_more parts cpu (first ∷ gaps) more (pages ∷ captures) own all last =
-    (all.0, gaps_more parts (suc cpu) gaps more captures own all.1
-    (subst (λ (n : ℕ). AreGapsOf parts n more own) (let e : cpu + suc (length captures) ≡ suc cpu + length captures = omega arith in e) last))
-
 -- the parcels of one capture more
 parcels_more : (cpu : ℕ) (captures : List (List Page)) (own : List Page)
     → parcels_of_captures cpu (captures ++ own ∷ []) ≡ parcels_of_captures cpu captures ++ parcels_from (cpu + length captures) 0 0 own
@@ -74,3 +62,8 @@ capture_added joined new added captures own cpu same union is cpu_is =
     ap (λ (ps : List Parcel). parcels_of_captures 0 captures ++ ps) own_is ∙ sym (parcels_more 0 captures own) in
     same_same new (joined ++ added) (parcels_of_captures 0 (captures ++ own ∷ [])) union
     (subst (IsSame (joined ++ added)) all (same_joined joined added (parcels_of_captures 0 captures) added same (same_itself added)))
+
+-- of nothing there are no pages
+pub none_read : (parts : List ModelPart) (cpu : ℕ) (captures : List (List Page)) → AreReadFrom parts cpu [] captures → captures ≡ []
+none_read parts cpu [] read = refl
+none_read parts cpu (own ∷ captures) read = absurd read

@@ -1,2 +1,4 @@
 mod Gathered
 mod Captures
+mod PagesOfAll
+mod Printing

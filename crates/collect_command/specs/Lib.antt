@@ -1,1 +1,4 @@
+pub mod Statuses
+pub mod Faults
 pub mod Gathered
+pub mod Listings

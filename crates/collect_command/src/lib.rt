@@ -1,4 +1,9 @@
 //! The command `collect`: captures in, one listing by time out, with what was lost.
 #![tactic(auto)]
 
+mod ending;
+mod fault_line;
 mod gather;
+mod listing;
+
+pub use ending::Ending;

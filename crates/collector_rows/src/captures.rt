@@ -1,7 +1,7 @@
 //! What is read of a capture, as text.
 use crate::calls::Refusal;
-use capture::{Capture, CaptureFault, ReadFault, read_capture};
-use capture_text::{put_damaged, put_unknown};
+use capture::{Capture, CaptureFault, Part, ReadFault, read_capture};
+use capture_text::{Form, Printer};
 use command_io::Std;
 use page_numbers::Parcel;
 use std::alloc::Global;
@@ -27,16 +27,32 @@ fn put_parcel(out: &mut String, parcel: &Parcel) -> Result<(), NoMemory> {
     Ok(())
 }
 
-/// What was read of a capture, whose pages have this many bytes.
-fn text_of(alloc: Global, capture: &Capture, size: u64) -> Result<Vec<u8>, NoMemory> {
+/// Puts the lines of losses of unknown number and of damaged pages. A write to memory fails only if that is refused.
+fn put_lost(
+    alloc: Global,
+    out: &mut Vec<u8>,
+    capture: &Capture,
+    part: Part,
+) -> Result<(), NoMemory> {
+    let mut writer = Std::new(out);
+    let mut printer = Printer::new(alloc, Form::Text, None)?;
+    printer.put_unknown(&mut writer, capture);
+    printer.put_damaged(&mut writer, capture, &[part]);
+    match printer.finish(&mut writer) {
+        Ok(()) => Ok(()),
+        Err(_) => Err(NoMemory),
+    }
+}
+
+/// What was read of a capture, whose pages are those of this part.
+fn text_of(alloc: Global, capture: &Capture, part: Part) -> Result<Vec<u8>, NoMemory> {
     let (pages, next) = (capture.pages, capture.next.0);
     let mut out = format!(in alloc; "pages {pages} next {next}\n")?;
     for parcel in &capture.parcels {
         put_parcel(&mut out, parcel)?;
     }
     let mut text = out.into_bytes();
-    put_unknown(&mut text, capture)?;
-    put_damaged(&mut text, capture, size)?;
+    put_lost(alloc, &mut text, capture, part)?;
     Ok(text)
 }
 
@@ -46,5 +62,9 @@ pub fn read(alloc: Global, cpu: CpuId, size: usize, bytes: &[u8]) -> Result<Vec<
         return Err(Refusal::NoCapture);
     }
     let capture = read_capture(alloc, cpu, size, &mut Std::new(bytes))?;
-    Ok(text_of(alloc, &capture, size as u64)?)
+    let part = Part {
+        size: size as u64,
+        length: bytes.len() as u64,
+    };
+    Ok(text_of(alloc, &capture, part)?)
 }

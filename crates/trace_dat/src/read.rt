@@ -1,10 +1,11 @@
 //! A whole file, in either version.
-ghost use Rattle.std.specs.Prelude.{◌≡◌, map};
+ghost use Rattle.std.specs.Prelude.{◌≡◌, map, nat_eq};
+ghost use Rattle.std.specs.List.{starts_with};
 ghost use Rattle.trace_dat.specs.Parts.{seen};
 ghost use Rattle.trace_dat.specs.Fields.{Gives};
 ghost use Rattle.trace_dat.specs.Contents.{format_seen, contents_seen};
 ghost use Rattle.trace_dat.specs.Entries.{option_seen};
-ghost use Rattle.trace_dat.specs.Versions.{ended, titled_at, all_formats_at, tables_at, stated_options_at, version_six, version_seven, version_at, contents_of, reading_of};
+ghost use Rattle.trace_dat.specs.Versions.{ended, titled_at, all_formats_at, tables_at, stated_options_at, version_six, version_seven, version_at, contents_of, magic, reading_of};
 
 use crate::buffers::{Shape, counters, put_buffer, put_buffers, put_instances};
 use crate::contents::{Format, TraceDat};
@@ -144,6 +145,13 @@ fn version_of<'a>(part: Part<'a>) -> Result<(Version, Part<'a>), ReadError>
     } else {
         Err(part.fault(Cause::BadVersion))
     }
+}
+
+/// Whether a file begins as those of trace-cmd do. All of its first ten bytes are needed for that.
+pub fn begins_trace_dat(file: &[u8]) -> bool
+    ensures { result ≡ starts_with nat_eq file.now magic }
+{
+    file.starts_with(MAGIC)
 }
 
 /// What a file of trace-cmd holds, in version 6 or 7.

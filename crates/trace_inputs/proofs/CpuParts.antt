@@ -1,14 +1,14 @@
 -- A CPU with one part more.
-use Rattle.std.proofs.Common.{◌≡◌, ◌∙◌, ℕ, ◌+◌, ◌^◌, ◌<◌, ◌≤◌, List, [], ◌∷◌, ◌++◌, length, map, refl, sym, ap, subst, arith, append-nil}
+use Rattle.std.proofs.Common.{◌≡◌, ◌∙◌, ℕ, ◌+◌, ◌^◌, ◌≤◌, List, [], ◌∷◌, ◌++◌, length, map, sym, ap, subst, arith, append-nil}
 use Rattle.std.proofs.lemmas.List.{map-append}
 use Rattle.trace_model.specs.Image.{Missed}
 use Rattle.capture.specs.Pages.{Page, AreCut, told, Fit}
-use Rattle.capture.specs.Captures.{IsCapture, AddsPages, PassesWithin}
+use Rattle.capture.specs.Captures.{IsCapture}
 use Rattle.capture.specs.declared.pages.Capture.{Capture}
-use Rattle.trace_inputs.specs.declared.captured.Part.{Part}
+use Rattle.capture.specs.declared.part.Part.{Part}
 use Rattle.trace_inputs.specs.declared.captured.CpuCapture.{CpuCapture}
-use Rattle.trace_inputs.specs.Files.{ModelPart, bytes_in}
-use Rattle.trace_inputs.specs.Captures.{CutsOf, measured, CountsPart, IsCpuRead, FitCpu, IsPartPast}
+use Rattle.trace_inputs.specs.Files.{ModelPart}
+use Rattle.trace_inputs.specs.Captures.{measured, CountsPart, IsCpuRead, IsPartPast}
 use Rattle.trace_inputs.proofs.Cuts.{cuts-append, bytes-append}
 
 -- a part whose pages are these is read

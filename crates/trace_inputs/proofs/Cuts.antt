@@ -1,5 +1,5 @@
 -- The pages of parts, and of one part more.
-use Rattle.std.proofs.Common.{◌≡◌, ◌∙◌, ℕ, ◌+◌, List, [], ◌∷◌, ◌++◌, length, map, refl, sym, ap, subst, arith, append-nil, append_assoc}
+use Rattle.std.proofs.Common.{◌≡◌, ◌∙◌, ◌+◌, List, [], ◌∷◌, ◌++◌, length, refl, sym, ap, subst, arith, append-nil, append_assoc}
 use Rattle.capture.specs.Pages.{Page, AreCut}
 use Rattle.trace_inputs.specs.Files.{ModelPart, bytes_in}
 use Rattle.trace_inputs.specs.Captures.{CutsOf}

@@ -1,10 +1,8 @@
 -- How many bytes parts have, beside the length of their file.
-use Rattle.std.proofs.Common.{◌≡◌, ◌∙◌, ℕ, ◌+◌, ◌≤◌, ◌<◌, List, [], ◌∷◌, length, get_or, drop, map, Ok, Err, sym, ap, arith}
-use Rattle.std.specs.Prelude.{nat_lt, if◌then◌else◌}
+use Rattle.std.proofs.Common.{◌≡◌, ◌∙◌, ℕ, ◌+◌, ◌≤◌, ◌<◌, List, ◌∷◌, length, get_or, drop, map, sym, ap}
 use Rattle.std.proofs.lemmas.List.{drop_more, drop_all}
 use Rattle.trace_inputs.specs.declared.cpu_part.CpuPart.{CpuPart}
-use Rattle.trace_inputs.specs.declared.fault.FileFault.TheVariants.{Overlap}
-use Rattle.trace_inputs.specs.Files.{ModelPart, bytes_in, within}
+use Rattle.trace_inputs.specs.Files.{bytes_in}
 use Rattle.trace_inputs.specs.Giving.{part_seen}
 
 -- the bytes of the parts from a place on are those of the part there, and of the others

@@ -1,5 +1,14 @@
 pub mod Cuts
 pub mod CpuParts
+mod CpuLists
 mod Answers
 mod EachLoop
 mod Lengths
+mod LossSums
+mod Overruns
+mod Settled
+mod FirstRead
+mod FilesMore
+mod Prefixes
+mod RestFaults
+mod InputsRead

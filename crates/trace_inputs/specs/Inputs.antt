@@ -1,5 +1,5 @@
 -- How inputs are read, one after the other.
-use Rattle.std.specs.Prelude.{◌≡◌, ℕ, Bool, true, false, List, [], ◌∷◌, ◌++◌, length, Option, Result, Err, ⊤}
+use Rattle.std.specs.Prelude.{◌≡◌, ℕ, Bool, true, false, List, [], ◌∷◌, ◌++◌, length, Option, Err, ⊤}
 use Rattle.std.specs.Io.KnownBytes.{Consumes, IsAtEnd}
 use Rattle.trace_inputs.specs.declared.captured.Input.{Input}
 use Rattle.trace_inputs.specs.declared.fault.InputFault.{InputFault}
@@ -25,15 +25,16 @@ AreRead remaining failed [] (new ∷ news) files = ⊥
 AreRead remaining failed (old ∷ olds) [] files = ⊥
 AreRead remaining failed (old ∷ olds) (new ∷ news) [] = ⊥
 
--- why an input wasn't read after these files, of which this much, `file`, was read
-abbrev pub IsWhy : {R : Type 0} → (R → Option (List ℕ)) → (R → Bool) → (page : ℕ) → List File → (new : Input R) → File
+-- why an input wasn't read, after these files: for a fault all of it was read, and for numbers a beginning
+abbrev pub IsWhy : {R : Type 0} → (R → Option (List ℕ)) → (R → Bool) → (page : ℕ) → List File → (old new : Input R)
     → InputFault → Type 0
-IsWhy remaining failed page files new file faults.Read = failed new.reader ≡ true
-IsWhy remaining failed page files new file (faults.File fault) =
-    IsAtEnd (remaining new.reader) × (failed new.reader ≡ false) × (parts_of page file ≡ Err fault)
-IsWhy remaining failed page files new file faults.Numbers =
-    (failed new.reader ≡ false) × ArePast page (files ++ file ∷ [])
-IsWhy remaining failed page files new file faults.NoMemory = failed new.reader ≡ false
+IsWhy remaining failed page files old new faults.Read = failed new.reader ≡ true
+IsWhy remaining failed page files old new (faults.File fault) =
+    (failed new.reader ≡ false) × IsAtEnd (remaining new.reader)
+    × ((file : File) × IsReadOf remaining old new file × (parts_of page file ≡ Err fault))
+IsWhy remaining failed page files old new faults.Numbers =
+    (failed new.reader ≡ false) × ((file : File) × IsReadOf remaining old new file × ArePast page (files ++ file ∷ []))
+IsWhy remaining failed page files old new faults.NoMemory = failed new.reader ≡ false
 
 -- An input wasn't read: those before it were, to their ends, and those after it are untouched.
 pub record IsUnread {R : Type 0} (remaining : R → Option (List ℕ)) (failed : R → Bool) (page : ℕ)
@@ -47,7 +48,5 @@ pub record IsUnread {R : Type 0} (remaining : R → Option (List ℕ)) (failed :
   pub new_is : new ≡ before_new ++ this_new ∷ after
   pub index_is : index ≡ length before
   pub files : List File
-  pub file : File
   pub are_read : AreRead remaining failed before before_new files
-  pub read : IsReadOf remaining this this_new file
-  pub why : IsWhy remaining failed page files this_new file fault
+  pub why : IsWhy remaining failed page files this this_new fault

@@ -3,3 +3,4 @@ pub mod Losses
 pub mod Captures
 pub mod Inputs
 pub mod Giving
+pub mod FilesRead

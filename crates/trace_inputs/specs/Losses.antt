@@ -1,6 +1,7 @@
 -- A loss of unknown number, which the kernel's counters may settle.
 use Rattle.std.specs.Prelude.{ℕ, ◌+◌, ◌-◌, ◌==◌, ◌&&◌, Bool, true, false, List, [], ◌∷◌, map, Option, Some, None, nat_lt, if◌then◌else◌}
 use Rattle.trace_model.specs.Image.{Missed, none, unknown, counted}
+use Rattle.page_numbers.specs.Parcels.{ParcelValue}
 use Rattle.capture.specs.Pages.{Page, intact, damaged, told}
 use Rattle.kernel_texts.specs.Counters.{counters_in}
 use Rattle.kernel_texts.specs.declared.counters.Counters.{Counters}
@@ -44,14 +45,19 @@ unknown_losses [] = 0
 unknown_losses (intact read ∷ pages) = unknown_in read.missed + unknown_losses pages
 unknown_losses (damaged cause ∷ pages) = unknown_losses pages
 
+-- how many numbers parcels miss
+abbrev pub missed_in : List ParcelValue → ℕ
+missed_in [] = 0
+missed_in (parcel ∷ parcels) = parcel.missed + missed_in parcels
+
 -- no page is damaged
 abbrev pub are_intact : List Page → Bool
 are_intact [] = true
 are_intact (intact read ∷ pages) = are_intact pages
 are_intact (damaged cause ∷ pages) = false
 
--- What is known of losses of unknown number in a CPU's pages, of whose records so many were overwritten: if there is one
--- such loss, no page is damaged, and more were overwritten than pages count, it is the rest.
+-- What is known of losses of unknown number in a CPU's pages, of whose records so many were overwritten: if there is
+-- one such loss, no page is damaged, and more were overwritten than pages count, it is the rest.
 abbrev pub loss_of : (overrun : Option ℕ) → List Page → Missed
 loss_of None pages = unknown
 loss_of (Some overrun) pages =

@@ -1,7 +1,7 @@
 //! What is read, and what it is read from.
 ghost use Rattle.std.specs.Prelude.{◌≡◌, ℕ, ◌+◌, ◌^◌, ◌<◌, ◌≤◌, List, [], ◌∷◌, ◌++◌, length, Err, OnOk};
 
-use capture::{Capture, CaptureFault};
+use capture::{Capture, CaptureFault, Part};
 use kernel_texts::EventNames;
 use page_image::Missed;
 use std::alloc::Global;
@@ -14,15 +14,6 @@ pub struct Input<R> {
     pub cpu: CpuId,
     /// The file.
     pub reader: R,
-}
-
-/// What one file has of a CPU: pages of one size, of which the last one may be shorter.
-#[derive(Clone, Copy, Debug, PartialEq, Eq)]
-pub struct Part {
-    /// The size of a page, in bytes.
-    pub size: u64,
-    /// How many bytes all its pages have.
-    pub length: u64,
 }
 
 /// What is read of a CPU.
@@ -69,7 +60,8 @@ impl CpuCapture {
         Ok(())
     }
 
-    /// Reads a part more, which lies in memory, in pages of `size` bytes. A loss of unknown number is taken as `unknown`.
+    /// Reads a part more, which lies in memory, in pages of `size` bytes. A loss of unknown number is taken as
+    /// `unknown`.
     pub(crate) fn add_part(
         &mut self,
         alloc: Global,

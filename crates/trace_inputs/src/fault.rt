@@ -1,9 +1,12 @@
 //! Why files can't be read.
 ghost use Rattle.std.specs.Prelude.{◌≡◌};
+ghost use Rattle.trace_inputs.specs.Giving.{input_fault, read_fault};
 ghost use Rattle.trace_inputs.specs.declared.fault.InputFault.TheVariants.{NoMemory as MemoryIs};
 
+use capture::{CaptureFault, ReadFault};
 use std::alloc::{AllocError, AllocFailed};
 use trace_dat::Fault;
+use trace_model::NoMemory;
 
 /// What is wrong with a file of trace-cmd.
 #[derive(Clone, Copy, Debug, PartialEq, Eq)]
@@ -44,6 +47,36 @@ impl<T: Drop> From<AllocFailed<T>> for InputFault {
 
     fn from(_refused: AllocFailed<T>) -> InputFault {
         InputFault::NoMemory
+    }
+}
+
+impl From<NoMemory> for InputFault {
+    ghost from_gives = { λ _ e. e ≡ MemoryIs };
+
+    fn from(_refused: NoMemory) -> InputFault {
+        InputFault::NoMemory
+    }
+}
+
+impl From<CaptureFault> for InputFault {
+    ghost from_gives = { λ f e. e ≡ input_fault f };
+
+    fn from(fault: CaptureFault) -> InputFault {
+        match fault {
+            CaptureFault::Numbers => InputFault::Numbers,
+            CaptureFault::NoMemory => InputFault::NoMemory,
+        }
+    }
+}
+
+impl From<ReadFault> for InputFault {
+    ghost from_gives = { λ f e. e ≡ read_fault f };
+
+    fn from(fault: ReadFault) -> InputFault {
+        match fault {
+            ReadFault::Read => InputFault::Read,
+            ReadFault::Capture(fault) => InputFault::from(fault),
+        }
     }
 }
 

@@ -1,25 +1,24 @@
-use Rattle.std.proofs.Common.{◌≡◌, ◌++◌, [], ◌∷◌, List, ◌∙◌, ap, sym, subst}
+use Rattle.std.proofs.Common.{◌≡◌, ◌+◌, ◌++◌, [], ◌∷◌, List, take, ◌∙◌, ap, sym, subst}
+use Rattle.std.proofs.lemmas.List.{take_more}
 use Rattle.trace_model.specs.Collection.{IsSame}
-use Rattle.capture.specs.Pages.{Page, parcels_from}
+use Rattle.page_numbers.specs.Parcels.{as_parcels}
+use Rattle.capture.specs.Pages.{Page}
 use Rattle.capture.specs.Rings.{parcels_of_captures}
-use Rattle.collect_command.specs.Gathered.{AreAllGaps}
-use Rattle.collect_command.proofs.Captures.{last_read, gaps_more, capture_added}
+use Rattle.trace_inputs.specs.declared.captured.CpuCapture.{CpuCapture}
+use Rattle.collect_command.specs.Gathered.{AreReadFrom}
+use Rattle.collect_command.proofs.Captures.{last_read, capture_added}
 use Rattle.collect_command.proofs.gather.gather.Goals as goal
 
 pub loop-found-preserved : goal.loop-found-preserved
 loop-found-preserved c parts captures read =
-    let last = last_read parts 0 c.loop-found.yielded c.in-Some.found captures read in
-    let before = c.loop-found.invariant parts last.others last.front_read in
+    let k = c.loop-found.found-index in
+    let cs = c.args.cpus.now in
+    let found = c.found-item.result in
+    let more : take k cs ++ found ∷ [] ≡ take (k + 1) cs =
+    ap (λ (x : CpuCapture). take k cs ++ x ∷ []) c.found-item.is ∙ sym (take_more cs k found c.loop-found-test.true) in
+    let last = last_read parts 0 (take k cs) found captures (subst (λ (xs : List CpuCapture). AreReadFrom parts 0 xs captures) (sym more) read) in
     let is = last.last_read.capture_is in
-    let gaps = gaps_more parts 0 c.loop-found.gaps.items _ last.others last.own before.1 record {
-      cpu_is = last.last_read.cpu_is;
-      unknown_are = is.unknown_are;
-      damaged_are = is.damaged_are;
-      parts_are = last.last_read.parts_are;
-    } in (
-      subst (λ (cs : List (List Page)). IsSame c.add_parcels.new.collector (parcels_of_captures 0 cs)) (sym last.captures_are)
-          (capture_added c.loop-found.collector c.add_parcels.new.collector _ last.others last.own c.in-Some.found.capture.cpu.0 before.0
-          c.in_ok-add_parcels.ensures is.parcels_are last.last_read.cpu_is),
-      subst (λ (cs : List (List Page)). AreAllGaps parts 0 c.push.new.self.items cs) (sym last.captures_are)
-          (subst (λ gs. AreAllGaps parts 0 gs (last.others ++ last.own ∷ [])) (sym c.in_ok-push.ensures.items) gaps),
-    )
+    let before = c.loop-found.invariant parts last.others last.front_read in
+    subst (λ (pages : List (List Page)). IsSame c.add_parcels.new.collector (parcels_of_captures 0 pages)) (sym last.captures_are)
+    (capture_added c.loop-found.collector c.add_parcels.new.collector _ last.others last.own found.capture.cpu.0 before
+    c.in_ok-add_parcels.ensures (ap as_parcels c.deref.ensures.value ∙ is.parcels_are) last.last_read.cpu_is)

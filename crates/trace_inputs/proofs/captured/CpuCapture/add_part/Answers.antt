@@ -1,4 +1,4 @@
-use Rattle.std.proofs.Common.{◌≡◌, ◌++◌, List, Err, map, refl, arith}
+use Rattle.std.proofs.Common.{◌≡◌, Err, map, arith}
 use Rattle.std.proofs.lemmas.Grind.{common_steps}
 use Rattle.capture.specs.Pages.{told}
 use Rattle.capture.specs.declared.pages.CaptureFault.TheVariants.{Numbers}

@@ -1,0 +1,68 @@
+-- What a printer prints, by what its buffer is given.
+use Rattle.std.proofs.Common.{◌≡◌, ℕ, Bool, List, [], ◌∷◌, ◌++◌, refl, sym, ◌∙◌, ap, subst}
+use Rattle.std.specs.Prelude.{Option, Some, None}
+use Rattle.std.specs.Borrow.{Bor}
+use Rattle.trace_dat.specs.Contents.{EventFormat}
+use Rattle.kernel_texts.specs.declared.names.EventNames.{EventNames}
+use Rattle.kernel_texts.specs.declared.record.CommonFields.{CommonFields}
+use Rattle.kernel_texts.specs.Names.{Event, events_of, event_of, HasEvents}
+use Rattle.kernel_texts.specs.FirstBytes.{common_fields_in}
+use Rattle.trace_model.specs.Listing.{Line}
+use Rattle.std.specs.Fmt.{decimal}
+use Rattle.text_model.specs.Text.{hex_text, line_feed, space}
+use Rattle.text_buffer.specs.declared.buffer.TextBuffer.{TextBuffer}
+use Rattle.text_buffer.specs.Putting.{Puts}
+use Rattle.capture_text.specs.declared.form.Form.{Form}
+use Rattle.capture_text.specs.declared.form.Form.TheVariants.{Text, Json}
+use Rattle.capture_text.specs.declared.printer.Printer.{Printer}
+use Rattle.capture_text.specs.Names.{named_part, json_named}
+use Rattle.capture_text.specs.Printing.{record_line, named_line, json_line}
+use Rattle.capture_text.specs.Printed.{AreNames, Prints}
+
+-- a printer keeps its form and its names, and its buffer is given this text
+pub prints : (bytes : Form → Option (List EventFormat) → List ℕ) (old new : Printer)
+    (contents contents_now : Option (List ℕ)) (failed failed_now : Bool)
+    → new.form ≡ old.form → new.names ≡ old.names
+    → ((formats : Option (List EventFormat)) → AreNames old.names formats
+    → Puts (bytes old.form formats) old.buffer contents failed new.buffer contents_now failed_now)
+    → Prints bytes old contents failed new contents_now failed_now
+prints bytes old new contents contents_now failed failed_now same_form same_names put =
+    λ form formats start text has. record {
+      form_is = same_form ∙ has.form_is;
+      names_are = subst (λ (names : Option (Bor EventNames)). AreNames names formats) (sym same_names) has.names_are;
+      put = subst (λ (f : Form). Puts (bytes f formats) old.buffer contents failed new.buffer contents_now failed_now)
+          has.form_is (put formats has.names_are) start text has.put;
+    }
+
+-- events that are the same by number are named alike
+named_alike : (f g : ℕ → Option Event) (bytes : List ℕ) (fields : Option CommonFields) → ((id : ℕ) → f id ≡ g id)
+    → named_part f bytes fields ≡ named_part g bytes fields
+named_alike f g bytes None same = refl
+named_alike f g bytes (Some fields) same = ap (λ (e : Option Event). named_part (λ id. e) bytes (Some fields)) (same fields.event)
+
+json_alike : (f g : ℕ → Option Event) (bytes : List ℕ) (fields : Option CommonFields) → ((id : ℕ) → f id ≡ g id)
+    → json_named f bytes fields ≡ json_named g bytes fields
+json_alike f g bytes None same = refl
+json_alike f g bytes (Some fields) same = ap (λ (e : Option Event). json_named (λ id. e) bytes (Some fields)) (same fields.event)
+
+-- a line by the names that were read, and by the formats that they are of
+pub line_by_names : (names : EventNames) (formats : List EventFormat) (line : Line) → HasEvents names formats
+    → named_line (events_of names) line ≡ record_line Text (Some formats) line
+line_by_names names formats line has =
+    ap (λ (named : List ℕ). decimal line.cpu ++ space ∷ decimal line.number ++ space ∷ decimal line.moment
+    ++ space ∷ named ++ space ∷ hex_text line.bytes ++ line_feed ∷ [])
+    (named_alike (events_of names) (λ id. event_of id formats) line.bytes (common_fields_in line.bytes) has)
+
+pub json_by_names : (names : EventNames) (formats : List EventFormat) (line : Line) → HasEvents names formats
+    → json_line (json_named (events_of names) line.bytes (common_fields_in line.bytes)) line
+    ≡ record_line Json (Some formats) line
+json_by_names names formats line has =
+    ap (λ (named : List ℕ). json_line named line)
+    (json_alike (events_of names) (λ id. event_of id formats) line.bytes (common_fields_in line.bytes) has)
+
+-- a printer's buffer is given a text that is also this one
+pub given : (text same : List ℕ) (old new : TextBuffer) (contents contents_now : Option (List ℕ)) (failed failed_now : Bool)
+    → text ≡ same → Puts text old contents failed new contents_now failed_now
+    → Puts same old contents failed new contents_now failed_now
+given text same old new contents contents_now failed failed_now e puts =
+    subst (λ (t : List ℕ). Puts t old contents failed new contents_now failed_now) e puts

@@ -1,0 +1,20 @@
+use Rattle.std.proofs.Common.{ℕ, List, flat_map, subst}
+use Rattle.std.proofs.lemmas.Iterator.Consumers.{YieldsList-from_first, YieldsList-end}
+use Rattle.collector.specs.Runs.{run_numbers}
+use Rattle.text_buffer.specs.Putting.{Puts}
+use Rattle.capture_text.specs.Printing.{run_line}
+use Rattle.capture_text.proofs.losses.put_runs_of.Goals as goal
+
+pub returns-clause-put : goal.returns-clause-put
+returns-clause-put g c =
+    let runs = c.missing-first-items.result in
+    let given = c.into_iter-first-iterator.ensures.into_iter_gives in
+    let all = YieldsList-end (YieldsList-from_first run_numbers (λ left. left) runs given) c.loop-first.yielded _
+    c.loop-first.yielded_by _ _ c.in-None.is c.next.ensures.steps in (
+      runs,
+      c.missing-first-items.ensures,
+      subst (λ (rs : List (ℕ × ℕ)). Puts (flat_map (run_line c.args.form c.args.cpu.0) rs)
+          c.args.buffer.now (g.W.Sink.contents c.args.writer.now) (g.W.Sink.failed c.args.writer.now)
+          c.loop-first.buffer (g.W.Sink.contents c.loop-first.writer) (g.W.Sink.failed c.loop-first.writer))
+          all.0 c.loop-first.invariant.put,
+    )

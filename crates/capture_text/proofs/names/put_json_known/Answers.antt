@@ -1,0 +1,18 @@
+use Rattle.std.proofs.Common.{ap}
+use Rattle.std.specs.Prelude.{Option}
+use Rattle.std.specs.Fmt.{signed_decimal}
+use Rattle.std.proofs.Math.Facts.{to_z-of_z}
+use Rattle.kernel_texts.specs.Names.{Event}
+use Rattle.capture_text.specs.Names.{json_event, json_print}
+use Rattle.capture_text.proofs.Chains.{put_as}
+use Rattle.capture_text.proofs.Pieces.{json_known}
+use Rattle.capture_text.proofs.names.put_json_known.Goals as goal
+
+pub returns-clause-put : goal.returns-clause-put
+returns-clause-put g c = λ start text has.
+    let front = c.put-2.ensures.put start _ (c.put_signed.ensures.put start _ (c.put.ensures.put start text has)) in
+    put_as start _ _ _ _ _
+    (json_known text _ _ _ _ _ _ (ap signed_decimal (to_z-of_z c.ranges.pid))
+    (ap (λ (e : Option Event). json_event c.args.id e) c.event-event.ensures)
+    (ap (λ (e : Option Event). json_print e c.args.bytes.now) c.event-event.ensures))
+    (c.put_json_print.ensures.put start _ (c.put_json_event.ensures.put start _ front))

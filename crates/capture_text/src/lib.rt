@@ -1,0 +1,14 @@
+//! The text of a collection: the lines of its records, of its missing runs, of losses of unknown number, and of damaged
+//! pages, as text or as JSON. It is put through a buffer of fixed size.
+#![tactic(auto)]
+
+mod form;
+mod lines;
+mod losses;
+mod names;
+mod offsets;
+mod printer;
+mod quoting;
+
+pub use form::Form;
+pub use printer::Printer;

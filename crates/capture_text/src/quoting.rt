@@ -1,0 +1,113 @@
+//! Names that are shown, and texts between quotation marks.
+ghost use Rattle.std.specs.Prelude.{◌≡◌, ◌++◌, codes};
+ghost use Rattle.text_values.specs.Digits.{pair_of};
+ghost use Rattle.std.specs.Str.{is_utf8};
+ghost use Rattle.text_buffer.specs.Putting.{has_failed, Puts};
+ghost use Rattle.capture_text.specs.Quoting.{shown_byte, shown_name, escaped_ascii, escaped, escaped_text, quoted};
+
+use command_io::Sink;
+use std::str::from_utf8;
+use text_buffer::TextBuffer;
+
+/// A byte of a name as it is shown.
+fn shown_byte(byte: u8) -> u8
+    ensures { result ≡ shown_byte byte }
+{
+    if byte > b' ' && byte < 127 && byte != b'"' && byte != b'\\' {
+        return byte;
+    }
+    b'?'
+}
+
+/// Puts a name.
+pub(crate) fn put_name<W: Sink>(buffer: &mut TextBuffer, writer: &mut W, name: &[u8])
+    requires { has_failed buffer.old ≡ W.failed writer.old }
+    ensures tied { has_failed buffer.new ≡ W.failed writer.new }
+    ensures put { Puts (shown_name name.now)
+        buffer.old (W.contents writer.old) (W.failed writer.old)
+        buffer.new (W.contents writer.new) (W.failed writer.new) }
+{
+    for byte in name {
+        buffer.put(writer, &[shown_byte(*byte)]);
+    }
+}
+
+/// Puts a byte of ASCII as it is between quotation marks.
+fn put_escaped_ascii<W: Sink>(buffer: &mut TextBuffer, writer: &mut W, byte: u8)
+    requires { has_failed buffer.old ≡ W.failed writer.old }
+    ensures tied { has_failed buffer.new ≡ W.failed writer.new }
+    ensures put { Puts (escaped_ascii byte)
+        buffer.old (W.contents writer.old) (W.failed writer.old)
+        buffer.new (W.contents writer.new) (W.failed writer.new) }
+{
+    match byte {
+        b'"' | b'\\' => buffer.put(writer, &[b'\\', byte]),
+        b'\n' => buffer.put(writer, b"\\n"),
+        b'\t' => buffer.put(writer, b"\\t"),
+        b'\r' => buffer.put(writer, b"\\r"),
+        0..=31 | 127 => put_control(buffer, writer, byte),
+        _ => buffer.put(writer, &[byte]),
+    }
+}
+
+/// Puts a control character by its number.
+fn put_control<W: Sink>(buffer: &mut TextBuffer, writer: &mut W, byte: u8)
+    requires { has_failed buffer.old ≡ W.failed writer.old }
+    ensures tied { has_failed buffer.new ≡ W.failed writer.new }
+    ensures put { Puts (codes "\\u00" ++ pair_of byte)
+        buffer.old (W.contents writer.old) (W.failed writer.old)
+        buffer.new (W.contents writer.new) (W.failed writer.new) }
+{
+    buffer.put(writer, b"\\u00");
+    buffer.put_hex(writer, &[byte]);
+}
+
+/// Puts a byte as it is between quotation marks, in a text that is UTF-8 or not.
+fn put_escaped<W: Sink>(buffer: &mut TextBuffer, writer: &mut W, is_text: bool, byte: u8)
+    requires { has_failed buffer.old ≡ W.failed writer.old }
+    ensures tied { has_failed buffer.new ≡ W.failed writer.new }
+    ensures put { Puts (escaped is_text byte)
+        buffer.old (W.contents writer.old) (W.failed writer.old)
+        buffer.new (W.contents writer.new) (W.failed writer.new) }
+{
+    if byte < 128 {
+        put_escaped_ascii(buffer, writer, byte);
+    } else if is_text {
+        buffer.put(writer, &[byte]);
+    } else {
+        buffer.put(writer, b"\\ufffd");
+    }
+}
+
+/// Puts what is between the quotation marks.
+fn put_escaped_text<W: Sink>(buffer: &mut TextBuffer, writer: &mut W, is_text: bool, text: &[u8])
+    requires { has_failed buffer.old ≡ W.failed writer.old }
+    ensures tied { has_failed buffer.new ≡ W.failed writer.new }
+    ensures put { Puts (escaped_text is_text text.now)
+        buffer.old (W.contents writer.old) (W.failed writer.old)
+        buffer.new (W.contents writer.new) (W.failed writer.new) }
+{
+    for byte in text {
+        put_escaped(buffer, writer, is_text, *byte);
+    }
+}
+
+/// Whether bytes are UTF-8.
+fn is_text(bytes: &[u8]) -> bool
+    ensures { result ≡ is_utf8 bytes.now }
+{
+    from_utf8(bytes).is_ok()
+}
+
+/// Puts a text between quotation marks.
+pub(crate) fn put_quoted<W: Sink>(buffer: &mut TextBuffer, writer: &mut W, text: &[u8])
+    requires { has_failed buffer.old ≡ W.failed writer.old }
+    ensures tied { has_failed buffer.new ≡ W.failed writer.new }
+    ensures put { Puts (quoted text.now)
+        buffer.old (W.contents writer.old) (W.failed writer.old)
+        buffer.new (W.contents writer.new) (W.failed writer.new) }
+{
+    buffer.put(writer, b"\"");
+    put_escaped_text(buffer, writer, is_text(text), text);
+    buffer.put(writer, b"\"");
+}

@@ -1,0 +1,34 @@
+-- The line that is printed in place of a listing. docs/FORMATS.md, "Captures".
+use Rattle.std.specs.Prelude.{ℕ, List, [], ◌∷◌, ◌++◌, codes}
+use Rattle.std.specs.Fmt.{decimal}
+use Rattle.text_model.specs.Text.{line_feed}
+use Rattle.trace_dat.specs.declared.fault.Cause.{Cause}
+use Rattle.trace_dat.specs.declared.fault.Cause.TheVariants.{Cut, NotTraceDat, BadVersion, OtherMachine, Compressed, Misplaced, OutsideFile, Backward}
+use Rattle.trace_inputs.specs.declared.fault.FileFault.{FileFault}
+use Rattle.trace_inputs.specs.declared.fault.FileFault.TheVariants.{Format, BadCpu, BadPage, Overlap}
+
+-- what is wrong with a file of trace-cmd
+abbrev pub cause_text : Cause → List ℕ
+cause_text Cut = codes "Cut"
+cause_text NotTraceDat = codes "NotTraceDat"
+cause_text BadVersion = codes "BadVersion"
+cause_text OtherMachine = codes "OtherMachine"
+cause_text Compressed = codes "Compressed"
+cause_text Misplaced = codes "Misplaced"
+cause_text OutsideFile = codes "OutsideFile"
+cause_text Backward = codes "Backward"
+
+-- and where, or with which number
+abbrev pub fault_text : FileFault → List ℕ
+fault_text (Format fault) = cause_text fault.cause ++ (codes " at " ++ decimal fault.at)
+fault_text (BadCpu cpu) = codes "BadCpu " ++ decimal cpu
+fault_text (BadPage size) = codes "BadPage " ++ decimal size
+fault_text Overlap = codes "Overlap"
+
+-- the line of a file's fault
+abbrev pub fault_line : FileFault → List ℕ
+fault_line fault = codes "trace.dat: " ++ (fault_text fault ++ line_feed ∷ [])
+
+-- the line for numbers that don't fit
+abbrev pub numbers_line : List ℕ
+numbers_line = codes "numbers" ++ line_feed ∷ []

@@ -1,0 +1,104 @@
+//! The listing of captures.
+ghost use Rattle.std.specs.Prelude.{◌≡◌, ◌==◌, false, List, Option, length, IfOk, OnErr};
+ghost use Rattle.trace_dat.specs.Contents.{EventFormat};
+ghost use Rattle.capture.specs.Pages.{Page};
+ghost use Rattle.trace_inputs.specs.Files.{ModelPart};
+ghost use Rattle.capture_text.specs.Printed.{failed_of, AreNames, Prints};
+ghost use Rattle.collect_command.specs.Gathered.{AreReadFrom};
+ghost use Rattle.collect_command.specs.Listings.{all_unknown, all_damaged, are_all_intact, ending_of, IsListed};
+
+use crate::ending::Ending;
+use crate::gather::gather;
+use capture::Capture;
+use capture_text::{Form, Printer};
+use command_io::Sink;
+use kernel_texts::EventNames;
+use std::alloc::Global;
+use time_merge::walk_lines;
+use trace_inputs::CpuCapture;
+use trace_model::NoMemory;
+
+/// Prints the losses of unknown number of each CPU.
+fn print_unknown<W: Sink>(printer: &mut Printer<'_>, writer: &mut W, cpus: &[CpuCapture])
+    requires { failed_of printer.old ≡ W.failed writer.old }
+    ensures tied { failed_of printer.new ≡ W.failed writer.new }
+    ensures put { (parts : List ModelPart) (captures : List (List Page)) → AreReadFrom parts 0 cpus.now captures
+        → Prints (λ form formats. all_unknown form 0 captures) printer.old (W.contents writer.old) (W.failed writer.old)
+        printer.new (W.contents writer.new) (W.failed writer.new) }
+{
+    for found in cpus {
+        printer.put_unknown(writer, &found.capture);
+    }
+}
+
+/// Prints the damaged pages of each CPU.
+fn print_damaged<W: Sink>(printer: &mut Printer<'_>, writer: &mut W, cpus: &[CpuCapture])
+    requires { failed_of printer.old ≡ W.failed writer.old }
+    ensures tied { failed_of printer.new ≡ W.failed writer.new }
+    ensures put { (parts : List ModelPart) (captures : List (List Page)) → AreReadFrom parts 0 cpus.now captures
+        → Prints (λ form formats. all_damaged form parts 0 captures) printer.old (W.contents writer.old)
+        (W.failed writer.old) printer.new (W.contents writer.new) (W.failed writer.new) }
+{
+    for found in cpus {
+        printer.put_damaged(writer, &found.capture, &found.parts);
+    }
+}
+
+/// Whether each page of a capture can be read.
+fn is_intact(capture: &Capture) -> bool
+    ensures { result ≡ (length capture.now.damaged.items == 0) }
+{
+    capture.damaged.as_slice().is_empty()
+}
+
+/// Whether each page can be read.
+fn are_intact(cpus: &[CpuCapture]) -> bool
+    ensures { (parts : List ModelPart) (captures : List (List Page)) → AreReadFrom parts 0 cpus.now captures
+        → result ≡ are_all_intact captures }
+{
+    for found in cpus {
+        if !is_intact(&found.capture) {
+            return false;
+        }
+    }
+    true
+}
+
+/// How a listing ends.
+fn ending_of(is_written: bool, is_intact: bool) -> Ending
+    ensures { result ≡ ending_of is_written is_intact }
+{
+    if !is_written {
+        return Ending::NotWritten;
+    }
+    if is_intact {
+        Ending::Done
+    } else {
+        Ending::Damaged
+    }
+}
+
+/// Prints what captures have and miss, in this form; with names, what each record's event is. If memory is refused,
+/// nothing is written.
+pub(crate) fn print_listing<W: Sink>(
+    alloc: Global,
+    form: Form,
+    names: Option<&EventNames>,
+    cpus: &[CpuCapture],
+    writer: &mut W,
+) -> Result<Ending, NoMemory>
+    requires { W.failed writer.old ≡ false }
+    ensures listed { (formats : Option (List EventFormat)) (parts : List ModelPart) (captures : List (List Page))
+        → AreNames names.entry formats → AreReadFrom parts 0 cpus.now captures → IfOk result (λ ending.
+        IsListed form formats parts captures (W.contents writer.old) (W.contents writer.new) (W.failed writer.new) ending) }
+    ensures refused { OnErr result (writer.new ≡ writer.old) }
+{
+    let collector = gather(alloc, cpus)?;
+    let mut printer = Printer::new(alloc, form, names)?;
+    walk_lines(alloc, &collector, &mut printer, writer)?;
+    printer.put_missing(writer, &collector);
+    print_unknown(&mut printer, writer, cpus);
+    print_damaged(&mut printer, writer, cpus);
+    let is_written = printer.finish(writer).is_ok();
+    Ok(ending_of(is_written, are_intact(cpus)))
+}
