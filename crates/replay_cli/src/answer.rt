@@ -1,6 +1,7 @@
 //! What the program does for its command line.
 ghost use Rattle.std.specs.Prelude.{◌≡◌, ◌⊎◌, Bool, false, Err, Ok};
 ghost use Rattle.command_io.specs.CommandRun.{IsCommandRun, IsRefusedCall, source_run, sink_run};
+ghost use Rattle.command_line.specs.declared.call.CollectCall.{CollectCall};
 ghost use Rattle.replay_command.specs.Commands.{ReplayGives};
 
 use command_io::{Sink, Source, USAGE, print_memory_line};
@@ -13,23 +14,25 @@ use std::alloc::Global;
 /// status.
 pub fn answer_to<R: Source, W: Sink>(
     alloc: Global,
-    call: Result<Call, CallFault>,
+    call: Result<Call<'_>, CallFault>,
     reader: &mut R,
     writer: &mut W,
 ) -> u8
     requires sound_reader { R.failed reader.old ≡ false }
     requires sound_writer { W.failed writer.old ≡ false }
-    ensures replay { (log : Bool) → call ≡ Ok (Call.Replay log) → IsCommandRun (ReplayGives log)
+    ensures replay { (log : Bool) → call.entry ≡ Ok (Call.Replay log) → IsCommandRun (ReplayGives log)
         (source_run R.remaining R.count R.failed reader.old reader.new)
         (sink_run W.contents W.failed writer.old writer.new) result }
     ensures refused { IsRefusedCall
-        ((call ≡ Ok Call.Run) ⊎ (call ≡ Ok Call.Dump) ⊎ (call ≡ Err CallFault.Usage)) (call ≡ Err CallFault.NoMemory)
+        ((call.entry ≡ Ok Call.Run) ⊎ (call.entry ≡ Ok Call.Dump)
+        ⊎ ((asked : CollectCall) × (call.entry ≡ Ok (Call.Collect asked))) ⊎ (call.entry ≡ Err CallFault.Usage))
+        (call.entry ≡ Err CallFault.NoMemory)
         (source_run R.remaining R.count R.failed reader.old reader.new)
         (sink_run W.contents W.failed writer.old writer.new) result }
 {
     match call {
         Ok(Call::Replay { log }) => replay_to(alloc, reader, writer, log),
-        Ok(Call::Run | Call::Dump) => USAGE,
+        Ok(Call::Run | Call::Dump | Call::Collect(_)) => USAGE,
         Err(CallFault::NoMemory) => print_memory_line(writer),
         Err(CallFault::Usage) => USAGE,
     }

@@ -6,7 +6,7 @@ mod answer;
 
 use crate::answer::answer_to;
 use command_io::{Std, message_for};
-use command_line::given_call;
+use command_line::{given_call, given_words};
 use std::process::ExitCode;
 
 // What is chosen here, `answer_to` and `message_for` say. The rest has no contract: that the line goes to standard
@@ -14,7 +14,8 @@ use std::process::ExitCode;
 fn main(rt: HostRuntime) -> ExitCode {
     let mut input = Std::new(rt.stdin());
     let mut output = Std::new(rt.stdout());
-    let call = given_call(&rt);
+    let words = given_words(&rt);
+    let call = given_call(rt.alloc(), &words);
     let status = answer_to(rt.alloc(), call, &mut input, &mut output);
     if let Some(line) = message_for(status, &input, &output) {
         let _ = eprintln!(rt; "{line}");
