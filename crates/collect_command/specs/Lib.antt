@@ -2,3 +2,5 @@ pub mod Statuses
 pub mod Faults
 pub mod Gathered
 pub mod Listings
+pub mod Runs
+pub mod Asking

@@ -1,9 +1,11 @@
 //! The command `collect`: captures in, one listing by time out, with what was lost.
 #![tactic(auto)]
 
+mod collect;
 mod ending;
 mod fault_line;
 mod gather;
 mod listing;
 
+pub use collect::{Collecting, collect_to};
 pub use ending::Ending;

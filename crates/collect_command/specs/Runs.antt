@@ -1,0 +1,79 @@
+-- What a run of `collect` does with its inputs and its sink.
+use Rattle.std.specs.Prelude.{◌≡◌, ◌⊎◌, ℕ, Bool, true, false, if◌then◌else◌, List, [], ◌∷◌, ◌++◌, length, Option, Some, None}
+use Rattle.trace_model.specs.declared.limits.TheConstants.{MAX_CPUS}
+use Rattle.trace_dat.specs.Contents.{EventFormat}
+use Rattle.command_io.specs.declared.command.TheConstants.{MEMORY_LINE}
+use Rattle.capture.specs.Pages.{Page}
+use Rattle.trace_inputs.specs.declared.captured.Input.{Input}
+use Rattle.trace_inputs.specs.declared.fault.InputFault.{InputFault}
+use Rattle.trace_inputs.specs.declared.fault.InputFault.TheVariants as faults
+use Rattle.trace_inputs.specs.Files.{File, ModelPart, ArePartsOf, all_formats}
+use Rattle.trace_inputs.specs.Losses.{overrun_in}
+use Rattle.trace_inputs.specs.Inputs.{AreRead, IsUnread}
+use Rattle.capture_text.specs.declared.form.Form.{Form}
+use Rattle.collect_command.specs.declared.ending.Ending.{Ending}
+use Rattle.collect_command.specs.declared.ending.Ending.TheVariants.{Malformed, Numbers, NoMemory, NotRead}
+use Rattle.collect_command.specs.Gathered.{AreCpusPages}
+use Rattle.collect_command.specs.Faults.{fault_line, numbers_line}
+use Rattle.collect_command.specs.Listings.{IsWritten, IsListed}
+
+-- How files are listed: the form of lines, the size of a raw page, and whether events are named, by the formats in the
+-- files and by these.
+pub record Asked : Type 0 where
+  pub form : Form
+  pub page : ℕ
+  pub names : Bool
+  pub formats : List EventFormat
+
+-- the formats by which events are named, if they are
+abbrev pub formats_for : Asked → List File → Option (List EventFormat)
+formats_for asked files = if asked.names then Some (all_formats files ++ asked.formats) else None
+
+-- The files, none of which has a fault, are listed: their pages, CPU by CPU, and what these have and miss.
+pub record ListsFiles (asked : Asked) (files : List File) (contents after : Option (List ℕ)) (failed : Bool)
+    (ending : Ending) : Type 0 where
+  pub parts : List ModelPart
+  pub parts_are : ArePartsOf asked.page files parts
+  pub captures : List (List Page)
+  pub pages_are : AreCpusPages (overrun_in files) parts 0 captures
+  pub count : length captures ≡ MAX_CPUS
+  pub listed : IsListed asked.form (formats_for asked files) parts captures contents after failed ending
+
+-- nothing was written
+pub record IsUnwritten (contents after : Option (List ℕ)) (failed : Bool) : Type 0 where
+  pub kept : after ≡ contents
+  pub sound : failed ≡ false
+
+-- the line for refused memory is all that is written
+abbrev pub IsMemoryLine : (contents after : Option (List ℕ)) (failed : Bool) → Ending → Type 0
+IsMemoryLine contents after failed ending = IsWritten contents after failed MEMORY_LINE NoMemory ending
+
+-- what is written if this input can't be read for this fault
+abbrev pub TellsFault : (index : ℕ) → InputFault → (contents after : Option (List ℕ)) (failed : Bool) → Ending → Type 0
+TellsFault index faults.Read contents after failed ending = IsUnwritten contents after failed × (ending ≡ NotRead index)
+TellsFault index (faults.File fault) contents after failed ending =
+    IsWritten contents after failed (fault_line fault) (Malformed index fault) ending ⊎ IsMemoryLine contents after failed ending
+TellsFault index faults.Numbers contents after failed ending = IsWritten contents after failed numbers_line Numbers ending
+TellsFault index faults.NoMemory contents after failed ending = IsMemoryLine contents after failed ending
+
+module _ {R : Type 0} (remaining : R → Option (List ℕ)) (has_failed : R → Bool) where
+  -- all inputs were read, and are listed, or memory was refused before anything was written
+  pub record CollectsAll (asked : Asked) (old new : List (Input R)) (contents after : Option (List ℕ)) (failed : Bool)
+      (ending : Ending) : Type 0 where
+    pub files : List File
+    pub are_read : AreRead remaining has_failed old new files
+    pub told : ListsFiles asked files contents after failed ending ⊎ IsMemoryLine contents after failed ending
+
+  -- an input couldn't be read
+  pub record CollectsNone (asked : Asked) (old new : List (Input R)) (contents after : Option (List ℕ)) (failed : Bool)
+      (ending : Ending) : Type 0 where
+    pub index : ℕ
+    pub fault : InputFault
+    pub unread : IsUnread remaining has_failed asked.page old new index fault
+    pub told : TellsFault index fault contents after failed ending
+
+  -- What a run of `collect` does.
+  abbrev pub IsCollectRun : (asked : Asked) (old new : List (Input R)) (contents after : Option (List ℕ))
+      (failed : Bool) → Ending → Type 0
+  IsCollectRun asked old new contents after failed ending =
+      CollectsAll asked old new contents after failed ending ⊎ CollectsNone asked old new contents after failed ending
