@@ -1,11 +1,9 @@
 -- One capture more.
-use Rattle.std.proofs.Common.{◌≡◌, ℕ, zero, suc, ◌+◌, List, [], ◌∷◌, ◌++◌, length, append_assoc, append-nil, refl, sym, ap, ◌∙◌, subst, arith}
+use Rattle.std.proofs.Common.{◌≡◌, ℕ, suc, ◌+◌, List, [], ◌∷◌, ◌++◌, length, append_assoc, append-nil, refl, sym, ap, ◌∙◌, subst, arith}
 use Rattle.trace_model.specs.Parcel.{Parcel}
 use Rattle.trace_model.specs.Collection.{IsSame}
 use Rattle.trace_model.proofs.collections.Collections.{same_itself, same_same, same_joined}
-use Rattle.page_numbers.specs.Parcels.{ParcelValue, as_parcels}
-use Rattle.capture.specs.Pages.{Page, parcels_from, unknown_from, damages_from}
-use Rattle.capture.specs.Captures.{AreDamages, numbers_of}
+use Rattle.capture.specs.Pages.{Page, parcels_from}
 use Rattle.capture.specs.Rings.{parcels_of_captures}
 use Rattle.trace_inputs.specs.declared.captured.CpuCapture.{CpuCapture}
 use Rattle.trace_inputs.specs.Files.{ModelPart}

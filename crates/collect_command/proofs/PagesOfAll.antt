@@ -1,5 +1,5 @@
 -- The pages of all CPUs, of what is captured of each.
-use Rattle.std.proofs.Common.{◌≡◌, ℕ, zero, suc, ◌+◌, List, [], ◌∷◌, length, Option, Some, refl, sym, ap, subst, arith}
+use Rattle.std.proofs.Common.{◌≡◌, ℕ, suc, ◌+◌, List, [], ◌∷◌, length, Option, Some, refl, ap, subst, arith}
 use Rattle.std.specs.List.{slice_get}
 use Rattle.capture.specs.Pages.{Page}
 use Rattle.trace_inputs.specs.declared.captured.CpuCapture.{CpuCapture}

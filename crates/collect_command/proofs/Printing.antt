@@ -1,11 +1,11 @@
 -- Texts that a printer has printed, one after the other.
-use Rattle.std.proofs.Common.{◌≡◌, ℕ, zero, suc, ◌+◌, ◌<◌, Bool, true, false, true≢false, ◌&&◌, ◌==◌, ◌↔◌, List, [], ◌∷◌, ◌++◌, length, flat_map, map, append_assoc, append-nil, Option, Some, Result, Ok, Err, OnOk, OnErr, IsErr, refl, sym, ap, ◌∙◌, subst, arith}
+use Rattle.std.proofs.Common.{◌≡◌, ℕ, zero, suc, ◌+◌, Bool, true, false, true≢false, ◌&&◌, ◌==◌, ◌↔◌, List, [], ◌∷◌, ◌++◌, length, flat_map, map, append_assoc, append-nil, Option, Some, Result, Ok, Err, OnOk, OnErr, IsErr, refl, sym, ap, ◌∙◌, subst, arith}
 use Rattle.std.specs.Result.{is_ok}
 use Rattle.std.specs.List.{slice_get}
 use Rattle.std.specs.Io.KnownBytes.{Appends}
 use Rattle.std.proofs.lemmas.Option.{none-some}
 use Rattle.std.proofs.lemmas.Bool.Decides.{nat_tests}
-use Rattle.trace_model.specs.Listing.{Line, IsListing}
+use Rattle.trace_model.specs.Listing.{Line}
 use Rattle.trace_model.specs.Parcel.{Parcel}
 use Rattle.trace_model.specs.Collection.{IsSame}
 use Rattle.trace_model.proofs.collections.Elements.{some_is}
@@ -25,7 +25,7 @@ use Rattle.capture_text.specs.declared.form.Form.{Form}
 use Rattle.capture_text.specs.declared.printer.Printer.{Printer}
 use Rattle.capture_text.specs.Printing.{record_line, unknown_lines, damaged_lines}
 use Rattle.capture_text.specs.Printed.{HasPrinted, Prints}
-use Rattle.collect_command.specs.Gathered.{IsReadFrom, AreReadFrom}
+use Rattle.collect_command.specs.Gathered.{AreReadFrom}
 use Rattle.collect_command.specs.Listings.{all_unknown, all_damaged, are_all_intact, ending_of, IsWritten}
 
 -- ---- one text after the other

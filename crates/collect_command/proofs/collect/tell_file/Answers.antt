@@ -1,4 +1,4 @@
-use Rattle.std.proofs.Common.{◌≡◌, ℕ, List, inl, ◌∙◌, subst}
+use Rattle.std.proofs.Common.{ℕ, List, inl, ◌∙◌, subst}
 use Rattle.collect_command.specs.declared.ending.Ending.TheVariants.{Malformed}
 use Rattle.collect_command.specs.Listings.{IsWritten}
 use Rattle.collect_command.proofs.collect.tell_file.Goals as goal

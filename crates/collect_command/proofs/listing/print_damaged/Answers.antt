@@ -1,6 +1,6 @@
-use Rattle.std.proofs.Common.{◌≡◌, ℕ, ◌+◌, ◌++◌, [], ◌∷◌, List, length, take, map, ◌∙◌, ap, sym, subst, refl, arith}
+use Rattle.std.proofs.Common.{◌≡◌, ℕ, ◌+◌, ◌++◌, [], ◌∷◌, List, length, take, map, ◌∙◌, ap, sym, subst}
 use Rattle.std.proofs.lemmas.List.{take_more, take_all}
-use Rattle.capture.specs.Pages.{Page, damages_from}
+use Rattle.capture.specs.Pages.{damages_from}
 use Rattle.capture.specs.declared.part.Part.{Part}
 use Rattle.trace_inputs.specs.declared.captured.CpuCapture.{CpuCapture}
 use Rattle.trace_inputs.specs.Files.{parts_of_cpu}

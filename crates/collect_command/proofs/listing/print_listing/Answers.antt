@@ -1,11 +1,11 @@
-use Rattle.std.proofs.Common.{◌≡◌, ◌++◌, [], List, ℕ, Bool, false, true, Option, flat_map, ◌∙◌, ap, sym, subst}
+use Rattle.std.proofs.Common.{◌≡◌, [], Bool, true, flat_map, ◌∙◌, ap, sym, subst}
 use Rattle.std.specs.Result.{is_ok}
 use Rattle.world_model.specs.Printing.{Shown}
 use Rattle.capture.specs.Rings.{parcels_of_captures}
-use Rattle.capture_text.specs.Printing.{record_line, run_lines}
+use Rattle.capture_text.specs.Printing.{record_line}
 use Rattle.capture_text.specs.Printed.{HasPrinted}
 use Rattle.collect_command.specs.declared.ending.Ending.{Ending}
-use Rattle.collect_command.specs.Listings.{IsWritten, ending_of, are_all_intact, listing_text, all_unknown, all_damaged}
+use Rattle.collect_command.specs.Listings.{IsWritten, ending_of, are_all_intact, listing_text}
 use Rattle.collect_command.proofs.Printing.{walked, same_print, ended}
 use Rattle.collect_command.proofs.listing.print_listing.Goals as goal
 
