@@ -8,7 +8,7 @@ use std::alloc::Global;
 use trace_model::CpuId;
 
 /// A file that is to be read.
-#[derive(Debug)]
+#[derive(Debug, Drop)]
 pub struct Input<R> {
     /// The CPU whose pages it has, if they are raw. A file of trace-cmd says itself which CPUs it has.
     pub cpu: CpuId,
