@@ -14,14 +14,6 @@ pub record AddsWhole (size : ℕ) (known : Missed) (bytes rest : List ℕ) (old 
   pub cpu_is : capture.cpu ≡ old.cpu
   pub are : (before : List Page) → IsCapture old before → AreWhole size known before front capture
 
-pub adds-none : (size : ℕ) (known : Missed) (bytes : List ℕ) (capture : Capture) → AddsWhole size known bytes bytes capture capture
-adds-none size known bytes capture = record {
-  front = [];
-  parts = refl;
-  cpu_is = refl;
-  are = λ before is. whole-none size known before capture is;
-}
-
 -- bytes that are some are a page
 page_of : (known : Missed) (piece : List ℕ) (pages : List Page) (capture : Capture) → 0 < length piece → AddsRest known piece pages capture
     → AddsPage known piece pages capture

@@ -34,32 +34,6 @@ prints bytes old new contents contents_now failed failed_now same_form same_name
           has.form_is (put formats has.names_are) start text has.put;
     }
 
--- events that are the same by number are named alike
-named_alike : (f g : ℕ → Option Event) (bytes : List ℕ) (fields : Option CommonFields) → ((id : ℕ) → f id ≡ g id)
-    → named_part f bytes fields ≡ named_part g bytes fields
-named_alike f g bytes None same = refl
-named_alike f g bytes (Some fields) same = ap (λ (e : Option Event). named_part (λ id. e) bytes (Some fields)) (same fields.event)
-
-json_alike : (f g : ℕ → Option Event) (bytes : List ℕ) (fields : Option CommonFields) → ((id : ℕ) → f id ≡ g id)
-    → json_named f bytes fields ≡ json_named g bytes fields
-json_alike f g bytes None same = refl
-json_alike f g bytes (Some fields) same = ap (λ (e : Option Event). json_named (λ id. e) bytes (Some fields)) (same fields.event)
-
--- a line by the names that were read, and by the formats that they are of
-pub line_by_names : (names : EventNames) (formats : List EventFormat) (line : Line) → HasEvents names formats
-    → named_line (events_of names) line ≡ record_line Text (Some formats) line
-line_by_names names formats line has =
-    ap (λ (named : List ℕ). decimal line.cpu ++ space ∷ decimal line.number ++ space ∷ decimal line.moment
-    ++ space ∷ named ++ space ∷ hex_text line.bytes ++ line_feed ∷ [])
-    (named_alike (events_of names) (λ id. event_of id formats) line.bytes (common_fields_in line.bytes) has)
-
-pub json_by_names : (names : EventNames) (formats : List EventFormat) (line : Line) → HasEvents names formats
-    → json_line (json_named (events_of names) line.bytes (common_fields_in line.bytes)) line
-    ≡ record_line Json (Some formats) line
-json_by_names names formats line has =
-    ap (λ (named : List ℕ). json_line named line)
-    (json_alike (events_of names) (λ id. event_of id formats) line.bytes (common_fields_in line.bytes) has)
-
 -- a printer's buffer is given a text that is also this one
 pub given : (text same : List ℕ) (old new : TextBuffer) (contents contents_now : Option (List ℕ)) (failed failed_now : Bool)
     → text ≡ same → Puts text old contents failed new contents_now failed_now

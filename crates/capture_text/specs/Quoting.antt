@@ -9,7 +9,7 @@ quotation_mark = 34
 abbrev pub backslash : ℕ
 backslash = 92
 
--- a byte of a name as it is shown: any that isn't printable, a space, `"` and `\` are `?`
+-- a byte of a name as it is shown: any that isn't printable, a space, a quotation mark and a backslash are `?`
 abbrev pub shown_byte : ℕ → ℕ
 shown_byte b = if nat_lt 32 b && nat_lt b 127 && (if b == quotation_mark || b == backslash then false else true) then b
     else 63

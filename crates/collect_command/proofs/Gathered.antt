@@ -15,7 +15,3 @@ same_more start joined new given q same union =
     same_same new (joined ++ as_parcel q ∷ []) (start ++ as_parcels (given ++ q ∷ [])) union
     (subst (IsSame (joined ++ as_parcel q ∷ [])) more
     (same_joined joined (as_parcel q ∷ []) (start ++ as_parcels given) (as_parcel q ∷ []) same (same_itself (as_parcel q ∷ []))))
-
--- no parcel yet
-pub same_start : (start : List Parcel) → IsSame start (start ++ as_parcels [])
-same_start start = subst (IsSame start) (sym (append-nil start)) (same_itself start)

@@ -3,7 +3,6 @@ pub mod CpuParts
 mod CpuLists
 mod Answers
 mod EachLoop
-mod Lengths
 mod LossSums
 mod Overruns
 mod Settled

@@ -7,17 +7,8 @@ use lib.Pointwise.{pointwise, pointwise_long}
 use Rattle.trace_dat.specs.Versions.{magic}
 use Rattle.trace_inputs.specs.Files.{is_dat}
 
-dat-long : (bytes : List ℕ) → is_dat bytes ≡ true → 10 ≤ length bytes
-dat-long bytes dat =
-    let long : 10 ≡ length (take 10 bytes) = pointwise_long nat_eq magic (take 10 bytes) dat in
-    omega (arith, long, length-take 10 bytes)
-
 same-front : (first more : List ℕ) → 10 ≤ length first → is_dat (first ++ more) ≡ is_dat first
 same-front first more long = ap (pointwise nat_eq magic) (take-append-le 10 first more long)
-
--- what begins so still does with more behind
-pub dat-more : (first more : List ℕ) → is_dat first ≡ true → is_dat (first ++ more) ≡ true
-dat-more first more dat = same-front first more (dat-long first dat) ∙ dat
 
 -- what doesn't begin so still doesn't, if there is more only behind a whole page
 pub raw-more : (size : ℕ) (first more : List ℕ) → 48 ≤ size → (length first < size → more ≡ []) → is_dat first ≡ false
