@@ -1,7 +1,7 @@
-"""Made scripts and page images, whole and damaged, to the program and to plain rivals: `bench/run fuzz COUNT SEED`
+"""Made scripts, page images and captures, whole and damaged, to the program and to plain rivals: `bench/run fuzz COUNT SEED`
 
-The rival of `replay` is plain Rust (bench/rivals/replay), that of `dump` plain Python (bench/lib/images.py). Inputs on
-which they differ are kept in the folder for temporary files.
+The rival of `replay` is plain Rust (bench/rivals/replay), those of `dump` and of `collect` are plain Python
+(bench/lib/images.py, tools/plain_collect.py). Inputs on which they differ are kept in the folder for temporary files.
 """
 
 import random
@@ -10,7 +10,7 @@ import tempfile
 from concurrent.futures import ThreadPoolExecutor
 from pathlib import Path
 
-from lib import images, scripts, tables
+from lib import captures, images, scripts, tables
 from lib.programs import Failure, rival, tracering
 
 NEEDS = ("rt", "rustc")
@@ -44,12 +44,27 @@ def compare_images(pool, rng, program, count, seed):
     return "page images", sum(answer[0] == 1 for answer in wanted), differ
 
 
+def compare_captures(pool, rng, program, folder, count, seed):
+    captures.write_formats(folder)
+    source = captures.Source(rng)
+    made = [captures.Case(source, folder, at) for at in range(count)]
+    differ = []
+    for at, (case, differs) in enumerate(zip(made, pool.map(lambda case: case.differs(program), made))):
+        if differs:
+            kept_in = Path(tempfile.gettempdir()) / f"tracering-differs-{seed}-{at}.captures"
+            kept_in.mkdir(exist_ok=True)
+            case.keep(kept_in)
+            differ.append(str(kept_in))
+    return "captures", sum(case.wanted[0] == 1 for case in made), differ
+
+
 def run(folder, count="1000", seed="1"):
     ours, rng, number = tracering(), random.Random(int(seed)), int(count)
     with ThreadPoolExecutor(AT_A_TIME) as pool:
         found = [
             compare_scripts(pool, rng, [ours, rival(folder, "replay")], number, seed),
             compare_images(pool, rng, ours, number, seed),
+            compare_captures(pool, rng, ours, Path(folder) / "captures", number, seed),
         ]
     yield f"Seed {seed}."
     yield ""

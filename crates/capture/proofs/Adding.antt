@@ -1,11 +1,11 @@
 -- Pages that lie in memory are added to a capture.
-use Rattle.std.proofs.Common.{◌≡◌, ◌∙◌, ℕ, ◌≤◌, ◌<◌, List, [], ◌++◌, length, refl, sym, ap, subst, append_assoc, ⊎_elim, arith}
+use Rattle.std.proofs.Common.{◌≡◌, ◌∙◌, ℕ, ◌≤◌, ◌<◌, List, ◌++◌, length, sym, ap, subst, append_assoc, ⊎_elim, arith}
 use Rattle.std.specs.Prelude.{map}
 use Rattle.trace_model.specs.Image.{Missed}
 use Rattle.capture.specs.Pages.{Page, told, AreCut}
 use Rattle.capture.specs.Captures.{IsCapture, AddsPage, AddsRest, PassesNumbers, AddsPages, PassesWithin}
 use Rattle.capture.specs.declared.pages.Capture.{Capture}
-use Rattle.capture.proofs.Cut.{AreWhole, whole-none, whole-page, whole-rest, whole-past}
+use Rattle.capture.proofs.Cut.{AreWhole, whole-page, whole-rest, whole-past}
 
 -- a beginning of the bytes was added as whole pages, and this is left
 pub record AddsWhole (size : ℕ) (known : Missed) (bytes rest : List ℕ) (old capture : Capture) : Type 0 where

@@ -13,7 +13,7 @@ abbrev IsOf : Parcel → ℕ → Type 0
 IsOf p n = (p.first ≤ n + p.missed) × (n < p.first + length p.records)
 
 -- the numbers of all parcels are not below the first that is given
-above : (cpu fill next : ℕ) (pages : List Page) (k : ℕ) (p : Parcel) → slice_get (parcels_from cpu fill next pages) k ≡ Some p
+pub above : (cpu fill next : ℕ) (pages : List Page) (k : ℕ) (p : Parcel) → slice_get (parcels_from cpu fill next pages) k ≡ Some p
     → (next + p.missed ≤ p.first)
 above cpu fill next [] k p at = absurd (none_some at)
 above cpu fill next (damaged cause ∷ pages) k p at = above cpu (suc fill) next pages k p at

@@ -6,6 +6,8 @@ pub mod Told
 mod Adding
 mod ReadingOn
 mod Numbers
+mod Each
+mod Rising
 mod Disjoint
 mod Together
 mod Reports

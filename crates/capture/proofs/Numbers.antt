@@ -16,7 +16,7 @@ pub some_parcel : (a b : Parcel) → Some a ≡ Some b → a ≡ b
 some_parcel a b e = cc
 
 -- a count is what was missed
-least_is : (missed : Missed) (n : ℕ) → AgreesWith missed n → (missed ≡ unknown → ⊥) → least_missed missed ≡ n
+pub least_is : (missed : Missed) (n : ℕ) → AgreesWith missed n → (missed ≡ unknown → ⊥) → least_missed missed ≡ n
 least_is none n agrees known = sym agrees
 least_is unknown n agrees known = absurd (known refl)
 least_is (counted events) n agrees known = agrees.1

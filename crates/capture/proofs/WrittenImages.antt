@@ -1,6 +1,7 @@
 -- The images that are written have no stamps, and are read as they are.
-use Rattle.std.proofs.Common.{◌≡◌, ◌∙◌, ℕ, ◌+◌, ◌-◌, ◌%◌, ◌^◌, ◌≤◌, List, [], ◌∷◌, ◌++◌, length, replicate, Bool, true, false, ltb, refl, sym, ap, subst, arith}
-use Rattle.std.specs.Prelude.{◌<◌, ◌||◌}
+use Rattle.std.proofs.Common.{◌≡◌, ◌∙◌, ℕ, suc, ◌+◌, ◌-◌, ◌%◌, ◌^◌, ◌≤◌, List, [], ◌∷◌, ◌++◌, length, take, drop, replicate, Bool, true, false, ltb, refl, sym, ap, subst, arith, length-append}
+use Rattle.std.specs.Prelude.{◌<◌, ◌||◌, map}
+use Rattle.std.proofs.Math.Seq.{take-append_seam, drop-append_seam}
 use Rattle.std.specs.List.{list_any, AllByRecursion}
 use Rattle.std.proofs.lemmas.Bool.{cond_both, ltb-true}
 use Rattle.std.proofs.lemmas.List.Folds.{list_any-append}
@@ -16,7 +17,9 @@ use Rattle.trace_model.proofs.words.ReadBack.{encoding_of-writable, Decodes-page
 use Rattle.trace_model.proofs.images.Images.{DecodesImage-image_of, length-image_of}
 use Rattle.stamp_times.specs.Restored.{restored_data, restored_image}
 use Rattle.stamp_times.proofs.Stamps.{words-stay, restored-joined, restored-parts}
-use Rattle.capture.specs.Pages.{intact, IsPageOf}
+use Rattle.trace_model.specs.Partition.{Piece}
+use Rattle.capture.specs.Pages.{Page, intact, IsPageOf, AreCut}
+use Rattle.capture.specs.Rings.{FitsImage, images_from, page_written}
 
 -- the data is words, none of them a stamp
 record HasNoStamps (contents : List ℕ) : Type 0 where
@@ -124,3 +127,32 @@ written-page records time missed size never all in_time few fits limit =
     page-of-image (first_moment_or time records) (page_encoding records) missed size records
     (record { words = plain.0; rest = []; cut = IsJoined-whole (page_encoding records) plain.0 plain.1.whole plain.1.each; none = plain.1.none })
     in_time few fits limit (Decodes-page_encoding records time never all)
+
+-- one page before others
+cut-page : (size : ℕ) (image bytes : List ℕ) (page : Page) (pages : List Page) → length image ≡ size → 0 < size → IsPageOf image page
+    → AreCut size bytes pages → AreCut size (image ++ bytes) (page ∷ pages)
+cut-page size image bytes page pages long some is cut = (
+  omega (arith, length-append image bytes),
+  subst (λ (xs : List ℕ). IsPageOf xs page)
+      (sym (ap (λ (n : ℕ). take n (image ++ bytes)) (sym long) ∙ take-append_seam image bytes)) is,
+  subst (λ (xs : List ℕ). AreCut size xs pages)
+      (sym (ap (λ (n : ℕ). drop n (image ++ bytes)) (sym long) ∙ drop-append_seam image bytes)) cut,
+)
+
+-- the moment of a record fits 64 bits
+moment_fits : (time : ℕ) (records : List Record) → time < 2 ^ 64 → AllByRecursion IsWritable records → first_moment_or time records < 2 ^ 64
+moment_fits time [] in_time all = in_time
+moment_fits time (r ∷ records) in_time all = let low = all.0.0 in omega arith
+
+pub written-pages : (times : ℕ → ℕ) (size fill : ℕ) (pieces : List Piece) → ((k : ℕ) → times k < 2 ^ 64)
+    → AllByRecursion (FitsImage size) pieces → 16 + size ≤ MAX_IMAGE
+    → AreCut (16 + size) (images_from times size fill pieces) (map (page_written size) pieces)
+written-pages times size fill [] in_time all limit = refl
+written-pages times size fill (p ∷ pieces) in_time (fits, more) limit =
+    let time = first_moment_or (times fill) p.records in
+    cut-page (16 + size) (image_of time (page_encoding p.records) p.skipped size) (images_from times size (suc fill) pieces)
+    (page_written size p) (map (page_written size) pieces) (length-image_of time (page_encoding p.records) p.skipped size fits.data_fits)
+    (omega arith)
+    (written-page p.records (times fill) p.skipped size fits.never_falls fits.writable
+    (moment_fits (times fill) p.records (in_time fill) fits.writable) fits.missed_fits fits.data_fits limit)
+    (written-pages times size (suc fill) pieces in_time more limit)

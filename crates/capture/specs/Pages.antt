@@ -83,7 +83,8 @@ unknown_from next [] = []
 unknown_from next (intact read ∷ pages) = unknown_at next read.missed ++ unknown_from (behind next (intact read)) pages
 unknown_from next (damaged cause ∷ pages) = unknown_from next pages
 
--- A damaged page: the number of the next record that can be read, how many pages are before it, and its first fault.
+-- A damaged page: how many numbers are before it, how many pages are before it, and its first fault. A loss that the
+-- next page states comes after these numbers.
 pub record Damage : Type 0 where
   pub number : ℕ
   pub index : ℕ

@@ -1,10 +1,12 @@
 -- Captures of a ring.
-use Rattle.std.specs.Prelude.{◌≡◌, ℕ, suc, ◌≤◌, List, [], ◌∷◌, ◌++◌, ⊤, Some}
-use Rattle.std.specs.List.{slice_get}
+use Rattle.std.specs.Prelude.{◌≡◌, ℕ, suc, ◌^◌, ◌<◌, ◌≤◌, List, [], ◌∷◌, ◌++◌, length, ⊤, Some}
+use Rattle.std.specs.List.{slice_get, AllByRecursion}
+use Rattle.trace_model.specs.Order.{first_moment_or, NeverFalls, IsWritable}
+use Rattle.trace_model.specs.Words.{page_encoding}
 use Rattle.trace_model.specs.Partition.{Piece, first_of}
 use Rattle.trace_model.specs.Parcel.{Parcel}
 use Rattle.trace_model.specs.ParcelBytes.{AgreesWith}
-use Rattle.trace_model.specs.Image.{unknown}
+use Rattle.trace_model.specs.Image.{unknown, image_of, missed_reported}
 use Rattle.capture.specs.Pages.{Page, intact, damaged, parcels_from}
 
 -- The pages are the pieces of a partition, in their order. Each that reads states of what its piece skips: nothing, if
@@ -38,3 +40,24 @@ pub record IsAtMost (parcel : Parcel) (pieces : List Piece) : Type 0 where
 abbrev pub parcels_of_captures : (cpu : ℕ) → List (List Page) → List Parcel
 parcels_of_captures cpu [] = []
 parcels_of_captures cpu (pages ∷ captures) = parcels_from cpu 0 0 pages ++ parcels_of_captures (suc cpu) captures
+
+-- An image with `size` bytes of data can be written of the piece: a writer can put its records, their moments never
+-- fall, their encoding is short enough, and how many records were lost fits 64 bits.
+pub record FitsImage (size : ℕ) (p : Piece) : Type 0 where
+  pub never_falls : NeverFalls p.records
+  pub writable : AllByRecursion IsWritable p.records
+  pub data_fits : length (page_encoding p.records) ≤ size
+  pub missed_fits : p.skipped < 2 ^ 64
+
+-- The images that are written of pieces, the first of which is at the place `fill`, one after the other. The time of a
+-- page is the moment of its first record; `times` has that of a page without records, by its place.
+abbrev pub images_from : (times : ℕ → ℕ) (size fill : ℕ) → List Piece → List ℕ
+images_from times size fill [] = []
+images_from times size fill (p ∷ pieces) =
+    image_of (first_moment_or (times fill) p.records) (page_encoding p.records) p.skipped size
+    ++ images_from times size (suc fill) pieces
+
+-- the page that is read of a piece's image
+abbrev pub page_written : (size : ℕ) → Piece → Page
+page_written size p =
+    intact record { missed = missed_reported (page_encoding p.records) p.skipped size; records = p.records }

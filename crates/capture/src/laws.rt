@@ -1,17 +1,17 @@
 //! What a capture says of the ring that it was taken from.
-ghost use Rattle.std.specs.Prelude.{◌≡◌, ◌≢◌, ℕ, ◌+◌, ◌^◌, ◌<◌, ◌≤◌, true, List, length, Some};
+ghost use Rattle.std.specs.Prelude.{◌≡◌, ◌≢◌, ℕ, ◌+◌, ◌^◌, ◌<◌, ◌≤◌, true, List, length, map, Some};
 ghost use Rattle.std.specs.List.{slice_get, AllByRecursion};
 ghost use Rattle.trace_model.specs.Record.{Record};
 ghost use Rattle.trace_model.specs.Order.{first_moment_or, NeverFalls, IsWritable};
 ghost use Rattle.trace_model.specs.Words.{page_encoding};
-ghost use Rattle.trace_model.specs.Partition.{Piece};
+ghost use Rattle.trace_model.specs.Partition.{Piece, first_of};
 ghost use Rattle.trace_model.specs.Parcel.{Parcel, AreGenuine};
 ghost use Rattle.trace_model.specs.Image.{unknown, has_room, image_of, missed_reported};
 ghost use Rattle.trace_model.specs.ParcelBytes.{AgreesWith};
 ghost use Rattle.trace_model.specs.Collection.{Agree};
 ghost use Rattle.trace_model.specs.declared.limits.TheConstants.{MAX_IMAGE};
-ghost use Rattle.capture.specs.Pages.{Page, intact, told, IsPageOf, AreCut, parcels_from};
-ghost use Rattle.capture.specs.Rings.{AreReported, HaveCounts, IsAtMost, parcels_of_captures};
+ghost use Rattle.capture.specs.Pages.{PageRead, Page, intact, told, least_missed, IsPageOf, AreCut, parcels_from};
+ghost use Rattle.capture.specs.Rings.{AreReported, HaveCounts, IsAtMost, parcels_of_captures, FitsImage, images_from, page_written};
 
 /// Bytes are one list of pages at most.
 pub fn captures_have_one_reading()
@@ -25,28 +25,49 @@ pub fn unknown_losses_stay()
 {}
 
 /// If each page reads, and states how many records were lost, the parcels are those of the ring: exactly its pieces,
-/// under the numbers of their records.
+/// under the numbers of their records. Each piece has its parcel, at its own place, and there are no more.
 pub fn counted_captures_are_genuine()
-    ensures { (cpu : ℕ) (pages : List Page) (pieces : List Piece) → AreReported pages pieces → HaveCounts pages
+    ensures genuine { (cpu : ℕ) (pages : List Page) (pieces : List Piece) → AreReported pages pieces → HaveCounts pages
         → AreGenuine (parcels_from cpu 0 0 pages) (λ c. pieces) }
+    ensures all { (cpu : ℕ) (pages : List Page) (pieces : List Piece) → AreReported pages pieces → HaveCounts pages
+        → (k : ℕ) (p : Piece) → slice_get pieces k ≡ Some p
+        → (first : ℕ) × (first_of pieces k ≡ Some first) × (slice_get (parcels_from cpu 0 0 pages) k
+        ≡ Some record { cpu = cpu; fill = k; first = first; missed = p.skipped; records = p.records }) }
+    ensures as_many { (cpu : ℕ) (pages : List Page) (pieces : List Piece) → AreReported pages pieces → HaveCounts pages
+        → length (parcels_from cpu 0 0 pages) ≡ length pieces }
 {}
 
 /// In every capture a parcel's records are those of the piece at the place of its page, its numbers are no higher than
-/// theirs, and no more is missing before it than was lost.
+/// theirs, and no more is missing before it than was lost. Each page that reads has its parcel, with its records, and
+/// with its place as the fill.
 pub fn numbers_are_least()
-    ensures { (cpu : ℕ) (pages : List Page) (pieces : List Piece) → AreReported pages pieces
+    ensures least { (cpu : ℕ) (pages : List Page) (pieces : List Piece) → AreReported pages pieces
         → (k : ℕ) (parcel : Parcel) → slice_get (parcels_from cpu 0 0 pages) k ≡ Some parcel
         → IsAtMost parcel pieces }
+    ensures each { (cpu : ℕ) (pages : List Page) (k : ℕ) (read : PageRead) → slice_get pages k ≡ Some (intact read)
+        → (j first : ℕ) × (slice_get (parcels_from cpu 0 0 pages) j ≡ Some record {
+          cpu = cpu;
+          fill = k;
+          first = first;
+          missed = least_missed read.missed;
+          records = read.records;
+        }) }
 {}
 
-/// The parcels of captures are at odds in no number: a collector takes them all.
+/// The parcels of captures are at odds in no number: a collector takes them all. Over the parcels of one capture fills
+/// and numbers rise: the numbers of a parcel's records, and those that it misses, are above those of each before it.
 pub fn captures_agree()
     ensures one { (cpu fill next : ℕ) (pages : List Page) → Agree (parcels_from cpu fill next pages) }
     ensures several { (cpu : ℕ) (captures : List (List Page)) → Agree (parcels_of_captures cpu captures) }
+    ensures rising { (cpu fill next : ℕ) (pages : List Page) (j k : ℕ) (a b : Parcel) → j < k
+        → slice_get (parcels_from cpu fill next pages) j ≡ Some a
+        → slice_get (parcels_from cpu fill next pages) k ≡ Some b
+        → (a.fill < b.fill) × (a.first + length a.records + b.missed ≤ b.first) }
 {}
 
 /// The images that are written of a ring's pages are pages of a capture, with their records. Each states of what was
-/// lost what agrees with its number, and the number itself where it has room for it.
+/// lost what agrees with its number, and the number itself where it has room for it. One after the other, the images
+/// of a ring's pieces are a capture, each page of which reads, and is reported as its piece.
 pub fn written_images_are_pages()
     ensures page { (records : List Record) (time missed size : ℕ) → NeverFalls records
         → AllByRecursion IsWritable records → first_moment_or time records < 2 ^ 64 → missed < 2 ^ 64
@@ -56,4 +77,8 @@ pub fn written_images_are_pages()
     ensures agrees { (contents : List ℕ) (missed size : ℕ) → AgreesWith (missed_reported contents missed size) missed }
     ensures counts { (contents : List ℕ) (missed size : ℕ) → has_room contents size ≡ true
         → missed_reported contents missed size ≢ unknown }
+    ensures list { (times : ℕ → ℕ) (size : ℕ) (pieces : List Piece) → ((k : ℕ) → times k < 2 ^ 64)
+        → AllByRecursion (FitsImage size) pieces → 16 + size ≤ MAX_IMAGE
+        → AreCut (16 + size) (images_from times size 0 pieces) (map (page_written size) pieces)
+        × AreReported (map (page_written size) pieces) pieces }
 {}

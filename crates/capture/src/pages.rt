@@ -44,7 +44,7 @@ impl From<AllocError> for CaptureFault {
 /// A page of a capture that can't be read.
 #[derive(Clone, Copy, Debug, PartialEq, Eq)]
 pub struct Damaged {
-    /// The number of the next record that can be read, if there is one.
+    /// How many numbers are before it. A loss that the next page states comes after them.
     pub number: RecordNo,
     /// How many pages are before it in the capture.
     pub page: u64,
@@ -63,7 +63,7 @@ pub struct Capture {
     pub unknown: Vec<RecordNo>,
     /// The pages that can't be read.
     pub damaged: Vec<Damaged>,
-    /// The number of the next record.
+    /// How many numbers are counted so far. A loss that the next page states comes after them.
     pub next: RecordNo,
     /// How many pages are read.
     pub pages: u64,

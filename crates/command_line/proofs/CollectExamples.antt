@@ -150,6 +150,17 @@ small_unread first = inl refl
 pub refused_small : (first : List ℕ) (result : Result Call CallFault) → IsCallOf (first ∷ codes "collect" ∷ codes "--page" ∷ codes "47" ∷ codes "a" ∷ []) result → (result ≡ Err Usage) ⊎ (result ≡ Err NoMemory)
 refused_small first result a = unreadable (first ∷ codes "collect" ∷ codes "--page" ∷ codes "47" ∷ codes "a" ∷ []) (small_named first) result (small_unread first) a
 
+inputs_named : (first : List ℕ) → names_command (first ∷ codes "collect" ∷ codes "-" ∷ codes "3=-" ∷ []) ≡ Some (codes "collect")
+unfolding clap_on_literals names_command
+inputs_named first = refl
+
+inputs_unread : (first : List ℕ) → AreUnread (rows_named (first ∷ codes "collect" ∷ codes "-" ∷ codes "3=-" ∷ []))
+unfolding clap_on_literals rows_named
+inputs_unread first = inr refl
+
+pub refused_inputs : (first : List ℕ) (result : Result Call CallFault) → IsCallOf (first ∷ codes "collect" ∷ codes "-" ∷ codes "3=-" ∷ []) result → (result ≡ Err Usage) ⊎ (result ≡ Err NoMemory)
+refused_inputs first result a = unreadable (first ∷ codes "collect" ∷ codes "-" ∷ codes "3=-" ∷ []) (inputs_named first) result (inputs_unread first) a
+
 none_refused : (first : List ℕ) → IsAccepted (first ∷ codes "collect" ∷ []) → ⊥
 unfolding clap_on_literals
 none_refused first accepted = cc

@@ -3,7 +3,7 @@ use Rattle.std.proofs.Common.{◌≡◌, ℕ, ◌+◌, ◌<◌, ◌&&◌, Bool, 
 use Rattle.std.proofs.lemmas.List.{map-append}
 use native.Mathlib.Numerals.{unary_clauses}
 use Rattle.std.specs.Prelude.{option_and_then}
-use Rattle.command_line.specs.FileWords.{file_list, file_word, file_words}
+use Rattle.command_line.specs.FileWords.{file_list, file_word, file_words, with_one_input}
 use Rattle.command_line.specs.Calls.{file_seen}
 use Rattle.command_line.specs.declared.call.CpuFile.{CpuFile}
 use Rattle.trace_model.specs.declared.limits.TheConstants.{MAX_CPUS}
@@ -60,4 +60,4 @@ module _ (words : List (Bor (List ℕ))) (i n : ℕ) (d : Bor (List ℕ)) (files
   pub no_more : None ≡ file_word n (slice_index_or words i d).now → file_list (map (λ w. w.now) words) ≡ None
   no_more is =
       none_either (nat_lt 0 (length (map (λ w. w.now) words)) && nat_le (length (map (λ w. w.now) words)) MAX_CPUS) _
-      (read_none _ (map file_seen files) n (slice_index_or words i d).now rest here (sym is))
+      (ap (option_and_then with_one_input) (read_none _ (map file_seen files) n (slice_index_or words i d).now rest here (sym is)))

@@ -3,3 +3,4 @@ pub mod CommandLineExamples
 pub mod NumberWords
 pub mod FileLists
 pub mod CollectExamples
+pub mod Ranges

@@ -1,5 +1,6 @@
 -- What the command `collect` is asked for, and what the matches of its words say of that.
-use Rattle.std.specs.Prelude.{◌≡◌, ◌⊎◌, ℕ, Bool, true, false, List, Option, None, Some, Result, Ok, Err, codes, is_some, map, option_and_then, option_map, ⊤}
+use Rattle.std.specs.Prelude.{◌≡◌, ◌≤◌, ◌<◌, ◌⊎◌, ℕ, All, Bool, true, false, List, Option, None, Some, Result, Ok, Err, codes, is_some, length, map, option_and_then, option_map, ⊤}
+use Rattle.trace_model.specs.declared.limits.TheConstants.{MAX_CPUS}
 use Rattle.clap.specs.Words.{Row, Text, all_of, first_of, one_of}
 use Rattle.command_line.specs.FileWords.{file_list, page_word}
 use Rattle.command_line.specs.declared.call.Call.{Call}
@@ -8,6 +9,7 @@ use Rattle.command_line.specs.declared.call.CallFault.{CallFault}
 use Rattle.command_line.specs.declared.call.CallFault.TheVariants.{Usage, NoMemory}
 use Rattle.command_line.specs.declared.call.CollectCall.{CollectCall}
 use Rattle.command_line.specs.declared.call.CpuFile.{CpuFile}
+use Rattle.command_line.specs.declared.words.TheConstants.{MIN_PAGE, MAX_PAGE}
 
 -- a FILE's CPU and path
 abbrev pub file_seen : CpuFile → ℕ × List ℕ
@@ -49,6 +51,13 @@ pub record AsksFor (rows : List Row) (asked : Asked) : Type 0 where
   pub named_formats : is_some asked.formats ≡ true → asked.names ≡ true
   pub no_names : one_of (codes "names") rows ≡ Some (codes "false") → asked.formats ≡ None
       → asked.names ≡ false
+
+-- What is asked for is in range: the bytes of a page, and the CPU of each file, of which there is one at least.
+pub record IsInRange (call : CollectCall) : Type 0 where
+  pub smallest : MIN_PAGE ≤ call.page
+  pub largest : call.page ≤ MAX_PAGE
+  pub some : 0 < length call.files.items
+  pub cpus : All (λ file. file.cpu.0 < MAX_CPUS) call.files.items
 
 -- the matches name no size of a page, or no files, that can be read
 abbrev pub AreUnread : List Row → Type 0

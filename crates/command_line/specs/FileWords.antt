@@ -1,5 +1,5 @@
 -- How the words of `collect` are read.
-use Rattle.std.specs.Prelude.{◌≡◌, ℕ, ◌-◌, ◌==◌, ◌&&◌, Bool, List, [], ◌∷◌, Option, Some, None, length, nat_lt, nat_le, if◌then◌else◌, option_map, option_and_then, ◌+◌, take, drop}
+use Rattle.std.specs.Prelude.{◌≡◌, ℕ, ◌-◌, ◌==◌, ◌&&◌, Bool, false, List, [], ◌∷◌, Option, Some, None, length, nat_lt, nat_le, if◌then◌else◌, option_map, option_and_then, ◌+◌, take, drop}
 use Rattle.std.specs.Char.{is_ascii_digit}
 use Rattle.std.specs.List.{list_all, position as first_place}
 use Rattle.std.specs.Str.Parse.{digits_value}
@@ -50,6 +50,24 @@ file_words position (word ∷ words) =
     option_and_then (λ file. option_map (λ files. file ∷ files) (file_words (position + 1) words))
     (file_word position word)
 
--- the same of all FILEs of a call, of which there is one at least, and no more than there can be CPUs
+-- the path `-` is standard input
+abbrev pub is_input : List ℕ → Bool
+is_input (byte ∷ []) = byte == 45
+is_input [] = false
+is_input (byte ∷ other ∷ bytes) = false
+
+-- how many files are standard input
+abbrev pub count_inputs : List (ℕ × List ℕ) → ℕ
+count_inputs [] = 0
+count_inputs (file ∷ files) = if is_input file.1 then count_inputs files + 1 else count_inputs files
+
+-- the files, if standard input is one of them at most
+abbrev pub with_one_input : List (ℕ × List ℕ) → Option (List (ℕ × List ℕ))
+with_one_input files = if nat_le (count_inputs files) 1 then Some files else None
+
+-- The CPUs and paths of all FILEs of a call, if each has them. There is one FILE at least, no more than there can be
+-- CPUs, and standard input once at most.
 abbrev pub file_list : (words : List (List ℕ)) → Option (List (ℕ × List ℕ))
-file_list words = if nat_lt 0 (length words) && nat_le (length words) MAX_CPUS then file_words 0 words else None
+file_list words =
+    if nat_lt 0 (length words) && nat_le (length words) MAX_CPUS then option_and_then with_one_input (file_words 0 words)
+    else None

@@ -2,13 +2,26 @@
 ghost use Rattle.std.specs.Prelude.{◌≡◌, Some, None, Err, IfOk, codes, false, map, option_map, true};
 ghost use Rattle.clap.specs.Words.{first_of, found_of, one_of, rows_of};
 ghost use Rattle.command_line.specs.Calls.{AreUnread, AsksFor, asked_of, file_seen, files_matched, page_matched};
-ghost use Rattle.command_line.specs.FileWords.{file_list};
+ghost use Rattle.command_line.specs.FileWords.{count_inputs, file_list};
 
 use crate::call::{CallFault, CollectCall, CpuFile};
-use crate::words::{cpu_file, page_size};
+use crate::words::{cpu_file, is_input, page_size};
 use clap::ArgMatches;
 use std::alloc::Global;
 use trace_model::MAX_CPUS;
+
+// How many files are standard input.
+fn inputs_in(files: &[CpuFile<'_>]) -> usize
+    ensures { result ≡ count_inputs (map file_seen files.now) }
+{
+    let mut count = 0;
+    for file in files {
+        if is_input(file.path) {
+            count += 1;
+        }
+    }
+    count
+}
 
 // The CPUs and the paths of all FILEs.
 fn files_of<'a>(alloc: Global, words: &[&'a str]) -> Result<Vec<CpuFile<'a>>, CallFault>
@@ -27,6 +40,9 @@ fn files_of<'a>(alloc: Global, words: &[&'a str]) -> Result<Vec<CpuFile<'a>>, Ca
         };
         files.push(file)?;
         position += 1;
+    }
+    if inputs_in(&files) > 1 {
+        return Err(CallFault::Usage);
     }
     Ok(files)
 }

@@ -1,6 +1,8 @@
 //! What the process's command line asks for.
-ghost use Rattle.std.specs.Prelude.{◌≡◌, ◌≢◌, Err, IfErr, IfOk, map, string_bytes};
+ghost use Rattle.std.specs.Prelude.{◌≡◌, ◌≢◌, Ok, Err, IfErr, IfOk, map, string_bytes};
+ghost use Rattle.command_line.specs.Calls.{IsInRange};
 ghost use Rattle.command_line.specs.CommandLine.{IsCallOf};
+ghost use Rattle.command_line.specs.declared.call.CollectCall.{CollectCall};
 
 use crate::call::{Call, CallFault};
 use crate::parse::call_of;
@@ -35,6 +37,7 @@ pub fn given_call<'a>(
     words: &'a Result<Vec<String>, CallFault>,
 ) -> Result<Call<'a>, CallFault>
     ensures words { IfOk words.now (λ given. IsCallOf (map string_bytes given.items) result) }
+    ensures in_range { (asked : CollectCall) → result ≡ Ok (Call.Collect asked) → IsInRange asked }
     ensures none { IfErr words.now (λ fault. result ≡ Err fault) }
 {
     match words {

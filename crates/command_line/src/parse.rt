@@ -2,7 +2,8 @@
 ghost use Rattle.std.specs.Prelude.{◌≡◌, ◌≢◌, ◌⊎◌, ℕ, List, ◌∷◌, [], map, codes, Some, None, Ok, Err, IfOk, IfSome, true, false};
 ghost use Rattle.clap.specs.declared.builder.command.Command.TheViews.{out-Command as fields_of};
 ghost use Rattle.clap.specs.Words.{app_of, subcommand_name_of, subcommand_rows_of, with_rule};
-ghost use Rattle.command_line.specs.Calls.{IsAsked};
+ghost use Rattle.command_line.specs.Calls.{IsAsked, IsInRange};
+ghost use Rattle.command_line.specs.declared.call.CollectCall.{CollectCall};
 ghost use Rattle.command_line.specs.CommandLine.{IsCallOf, IsScript, collect_options, command_line, flag_rule, flag_text, image_commands, name_of, option_rule, script_commands, values_rule};
 
 use crate::call::{Call, CallFault};
@@ -135,6 +136,7 @@ fn parse_words<'a, S: AsStr>(alloc: Global, words: &'a [S]) -> Result<Call<'a>, 
 pub fn call_of<'a, S: AsStr>(alloc: Global, words: &'a [S]) -> Result<Call<'a>, CallFault>
     // Except that memory may be refused, it is what the parse of the words finds.
     ensures call { IsCallOf (map S.text words.now) result }
+    ensures in_range { (asked : CollectCall) → result ≡ Ok (Call.Collect asked) → IsInRange asked }
 
     // Such as the words of the program, its command and the flag.
     ensures replay { (first : List ℕ) → map S.text words.now ≡ first ∷ codes "replay" ∷ []
@@ -205,6 +207,9 @@ pub fn call_of<'a, S: AsStr>(alloc: Global, words: &'a [S]) -> Result<Call<'a>, 
         → (result ≡ Err CallFault.Usage) ⊎ (result ≡ Err CallFault.NoMemory) }
     ensures collect_high { (first : List ℕ)
         → map S.text words.now ≡ first ∷ codes "collect" ∷ codes "256=a" ∷ []
+        → (result ≡ Err CallFault.Usage) ⊎ (result ≡ Err CallFault.NoMemory) }
+    ensures collect_inputs { (first : List ℕ)
+        → map S.text words.now ≡ first ∷ codes "collect" ∷ codes "-" ∷ codes "3=-" ∷ []
         → (result ≡ Err CallFault.Usage) ⊎ (result ≡ Err CallFault.NoMemory) }
     ensures collect_small { (first : List ℕ)
         → map S.text words.now ≡ first ∷ codes "collect" ∷ codes "--page" ∷ codes "47" ∷ codes "a" ∷ []

@@ -1,7 +1,7 @@
 //! How the words of `collect` are read.
 ghost use Rattle.std.specs.Prelude.{◌≡◌, None, MatchOption, option_map};
 ghost use Rattle.std.specs.List.{position as first_place};
-ghost use Rattle.command_line.specs.FileWords.{IsSplitAt, file_word, is_equals, is_number as is_number_text, number_in as number_in_text, page_word};
+ghost use Rattle.command_line.specs.FileWords.{IsSplitAt, file_word, is_equals, is_input as is_input_path, is_number as is_number_text, number_in as number_in_text, page_word};
 ghost use Rattle.command_line.specs.Calls.{file_seen};
 
 use crate::call::CpuFile;
@@ -67,6 +67,13 @@ pub(crate) fn cpu_file<'a>(position: u32, word: &'a str) -> Option<CpuFile<'a>>
         Some(_) => Some(path_at(position, word)),
         None => Some(path_at(position, word)),
     }
+}
+
+/// Whether a path is that of standard input, `-`.
+pub(crate) fn is_input(path: &str) -> bool
+    ensures { result ≡ is_input_path path.now }
+{
+    matches!(path.as_bytes(), [b'-'])
 }
 
 /// The bytes of a page, by what `--page` says.

@@ -10,6 +10,8 @@ pub enum Trouble {
     Unread,
     /// It is a file of trace-cmd whose pages are compressed.
     Compressed,
+    /// It has another fault, whose line is printed.
+    Malformed,
 }
 
 /// The line for a file, without a line feed. It takes no memory.
@@ -37,6 +39,7 @@ impl<'a> fmt::Display for FileMessage<'a> {
                 "tracering: {name} is compressed: \
                 trace-cmd convert -i {name} --compression none -o FILE.dat makes one that is not"
             ),
+            Trouble::Malformed => write!(f, "tracering: {name} is malformed"),
         }
     }
 }

@@ -4,12 +4,17 @@ use std::io::{Read, Write};
 use std::rt::Clock;
 use std::time::Instant;
 
-/// After so many bytes the clock is read again.
-const BYTES: u64 = 1 << 20;
+/// After so many bytes the clock is read again, and so many are one MB of what is told.
+const MEGABYTE: u64 = 1_000_000;
 
-/// Tells on standard error how many bytes have passed, at most once a second, after the first second.
-#[derive(Drop)]
-pub struct Progress<'a, R> {
+/// Takes away what is on the line.
+fn clear_line<R: Eprint>(rt: &R) {
+    let _ = eprint!(rt; "\r\x1b[K");
+}
+
+/// Tells on standard error how many bytes have passed, at most once a second, after the first second. What was told is
+/// taken away when it is let go.
+pub struct Progress<'a, R: Eprint + Clock> {
     rt: &'a R,
     /// What is done with the bytes.
     what: &'static str,
@@ -36,7 +41,7 @@ impl<'a, R: Eprint + Clock> Progress<'a, R> {
             told,
             is_shown: false,
             passed: 0,
-            next: BYTES,
+            next: MEGABYTE,
         }
     }
 
@@ -44,7 +49,7 @@ impl<'a, R: Eprint + Clock> Progress<'a, R> {
     fn pass(&mut self, count: usize) {
         self.passed = self.passed.saturating_add(count as u64);
         if self.passed >= self.next {
-            self.next = self.passed.saturating_add(BYTES);
+            self.next = self.passed.saturating_add(MEGABYTE);
             self.look();
         }
     }
@@ -60,7 +65,7 @@ impl<'a, R: Eprint + Clock> Progress<'a, R> {
         if now.duration_since(told).as_secs() > 0 {
             self.told = Some(now);
             self.is_shown = true;
-            let _ = eprint!(self.rt; "\rtracering: {} MB {}", self.passed / BYTES, self.what);
+            let _ = eprint!(self.rt; "\rtracering: {} MB {}", self.passed / MEGABYTE, self.what);
         }
     }
 
@@ -68,14 +73,30 @@ impl<'a, R: Eprint + Clock> Progress<'a, R> {
     fn end(&mut self) {
         if self.is_shown {
             self.is_shown = false;
-            let _ = eprint!(self.rt; "\r\x1b[K");
+            clear_line(self.rt);
+        }
+    }
+}
+
+impl<'a, R: Eprint + Clock> Drop for Progress<'a, R> {
+    fn drop(self) {
+        let Progress {
+            rt,
+            what: _,
+            told: _,
+            is_shown,
+            passed: _,
+            next: _,
+        } = self;
+        if is_shown {
+            clear_line(rt);
         }
     }
 }
 
 /// An end that tells how many bytes have passed.
 #[derive(Drop)]
-pub struct Watched<'a, R, T> {
+pub struct Watched<'a, R: Eprint + Clock, T> {
     inner: T,
     progress: Progress<'a, R>,
 }
@@ -89,13 +110,6 @@ impl<'a, R: Eprint + Clock, T> Watched<'a, R, T> {
         ensures { inner_of result ≡ inner }
     {
         Watched { inner, progress }
-    }
-
-    /// Takes away what was told.
-    pub fn end(&mut self)
-        ensures { inner_of self.new ≡ inner_of self.old }
-    {
-        self.progress.end();
     }
 }
 

@@ -1,6 +1,10 @@
 use Rattle.command_line.proofs.CommandLineExamples.{call_of_replay, call_of_replay_log, call_of_run, call_of_run_log, call_of_dump, call_of_dump_log}
-use Rattle.command_line.proofs.CollectExamples.{asked_collect, asked_cpu, asked_flags, asked_page, asked_formats, refused_none, refused_high, refused_small}
+use Rattle.command_line.proofs.CollectExamples.{asked_collect, asked_cpu, asked_flags, asked_page, asked_formats, refused_none, refused_high, refused_inputs, refused_small}
+use Rattle.command_line.proofs.Ranges.{asked_in_range}
 use Rattle.command_line.proofs.parse.call_of.Goals as goal
+
+pub returns-clause-in_range : goal.returns-clause-in_range
+returns-clause-in_range g c = λ asked is. asked_in_range _ asked (c.parse_words.ensures.collect asked is)
 
 pub returns-clause-replay : goal.returns-clause-replay
 returns-clause-replay g c = λ first words.
@@ -57,3 +61,7 @@ returns-clause-collect_high g c = λ first words.
 pub returns-clause-collect_small : goal.returns-clause-collect_small
 returns-clause-collect_small g c = λ first words.
     refused_small first c.parse_words.result (rw words at c.parse_words.ensures)
+
+pub returns-clause-collect_inputs : goal.returns-clause-collect_inputs
+returns-clause-collect_inputs g c = λ first words.
+    refused_inputs first c.parse_words.result (rw words at c.parse_words.ensures)
