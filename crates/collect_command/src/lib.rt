@@ -8,4 +8,4 @@ mod gather;
 mod listing;
 
 pub use collect::{Collecting, collect_to};
-pub use ending::Ending;
+pub use ending::{Collected, Ending};
