@@ -97,9 +97,11 @@ fn list_captured<W: Sink>(
     captured: Captured,
     writer: &mut W,
 ) -> Result<Ending, NoMemory>
-    requires { W.failed writer.old ≡ false }
+    requires sound { W.failed writer.old ≡ false }
+    requires read { (files : List File) × AreCaptured collecting.now.page files captured }
     ensures listed { (files : List File) → AreCaptured collecting.now.page files captured → IfOk result (λ ending.
-        ListsFiles (asked_by collecting.now) files (W.contents writer.old) (W.contents writer.new) (W.failed writer.new) ending) }
+        ListsFiles (asked_by collecting.now) files (W.contents writer.old) (W.contents writer.new)
+        (W.failed writer.new) ending) }
     ensures refused { OnErr result (writer.new ≡ writer.old) }
 {
     let Captured { cpus, names, .. } = captured;
@@ -117,9 +119,11 @@ fn list_or_tell<W: Sink>(
     captured: Captured,
     writer: &mut W,
 ) -> Ending
-    requires { W.failed writer.old ≡ false }
+    requires sound { W.failed writer.old ≡ false }
+    requires read { (files : List File) × AreCaptured collecting.now.page files captured }
     ensures { (files : List File) → AreCaptured collecting.now.page files captured
-        → ListsFiles (asked_by collecting.now) files (W.contents writer.old) (W.contents writer.new) (W.failed writer.new) result
+        → ListsFiles (asked_by collecting.now) files (W.contents writer.old) (W.contents writer.new)
+        (W.failed writer.new) result
         ⊎ IsMemoryLine (W.contents writer.old) (W.contents writer.new) (W.failed writer.new) result }
 {
     match list_captured(alloc, collecting, captured, writer) {

@@ -5,6 +5,7 @@ mod collect;
 mod ending;
 mod fault_line;
 mod gather;
+pub mod laws;
 mod listing;
 
 pub use collect::{Collecting, collect_to};
