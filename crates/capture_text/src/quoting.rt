@@ -19,7 +19,19 @@ fn shown_byte(byte: u8) -> u8
     b'?'
 }
 
-/// Puts a name.
+/// Whether all bytes of a name are shown as they are.
+fn is_shown(name: &[u8]) -> bool
+    ensures { IsTrue result ↔ (shown_name name.now ≡ name.now) }
+{
+    for byte in name {
+        if shown_byte(*byte) != *byte {
+            return false;
+        }
+    }
+    true
+}
+
+/// Puts a name: at once, if all of it is shown as it is.
 pub(crate) fn put_name<W: Sink>(buffer: &mut TextBuffer, writer: &mut W, name: &[u8])
     requires { has_failed buffer.old ≡ W.failed writer.old }
     ensures tied { has_failed buffer.new ≡ W.failed writer.new }
@@ -27,6 +39,10 @@ pub(crate) fn put_name<W: Sink>(buffer: &mut TextBuffer, writer: &mut W, name: &
         buffer.old (W.contents writer.old) (W.failed writer.old)
         buffer.new (W.contents writer.new) (W.failed writer.new) }
 {
+    if is_shown(name) {
+        buffer.put(writer, name);
+        return;
+    }
     for byte in name {
         buffer.put(writer, &[shown_byte(*byte)]);
     }
