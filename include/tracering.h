@@ -10,13 +10,13 @@
 // copied.
 //
 // Answers. A call answers TRACERING_DONE or another number that isn't positive if it did what it says, and else a
-// positive one: why it didn't. What is changed all the same, the call's own text says. A call may answer these,
-// which its own list leaves out:
-//   TRACERING_NULL     a pointer is null (one to bytes or runs may be, if their number is 0; `out` of take and of settle
-//                      may not)
+// positive one: why it didn't (but `depth` also answers 1 to 4, which are none of these). What is changed all the same,
+// the call's own text says. A call may answer these, which its own list leaves out:
+//   TRACERING_NULL     a pointer is null (one to bytes or runs may be, if their number is 0; `out` of take and of
+//                      settle may not)
 //   TRACERING_ABSENT   the handle has nothing: it is new, or what it had was freed or settled
 //   TRACERING_BUSY     the handle is in another call, which this one interrupts
-// Then nothing is changed.
+// Then nothing is changed, but BUSY of write and begin is counted (`tracering_refused`).
 //
 // Conditions that no call can check: a pointer is valid, with as many bytes as are stated; no two arguments of one call
 // overlap; a handle is in one call at a time, other than by a signal's handler.
@@ -26,9 +26,13 @@
 // ring make sequentially consistent accesses of the words that they share; the proofs assume a memory that is so.
 //
 // Signals. A handler may call write, begin, put, finish, end, begin_close and depth on the handle of the thread that
-// it interrupts: its records are nested. Amid a call on that handle they answer BUSY (depth: 0). It may call take and
-// wish on a reader's handle in the same way. It must not call new, settle, those that free, or any call on a collector:
-// most of these take or release memory. It completes what it begins.
+// it interrupts: its records are nested. Amid a call on that handle they answer BUSY: the handler's record isn't
+// written, and the handle counts it. It may call take and wish on a reader's handle in the same way, and refused
+// always. It must not call new, settle, those that free, or any call on a collector: most of these take or release
+// memory. It completes what it begins.
+// No record of a handler is refused so if it has a ring that nothing which it interrupts writes: one ring for the
+// thread's own code, and one for each level of handlers. Handlers are of one level if each blocks the signals of all of
+// them (sa_mask). examples/c_recorder/levels.c is a program to copy; a collector puts the records of all in order.
 // A handler that interrupts a call on one end of a ring, and calls the other end of that ring, does what another thread
 // would do between two instructions. The library is proved for threads, and tried for such handlers.
 //
@@ -52,10 +56,22 @@ struct tracering_held {
     bool live;
 };
 
+// How many records a writer's calls lost, by the answer.
+struct tracering_refused {
+    uint64_t busy;        // of write and begin
+    uint64_t too_deep;    // of write and begin
+    uint64_t too_long;    // of write and begin
+    uint64_t late_moment; // of write and begin
+    uint64_t crowded;     // of write, and of finish if it isn't a close that is refused
+    uint64_t worn;        // the same
+};
+
 // A handle: `in_call` is set as long as it is in a call, so that one which interrupts it is refused.
 struct tracering_writer {
     struct tracering_held held;
     volatile sig_atomic_t in_call;
+    uint32_t closes; // bit D: of the frames that are begun, the one above D - 1 others is a close
+    struct tracering_refused refused;
 };
 
 struct tracering_reader {
@@ -123,7 +139,8 @@ enum {
     TRACERING_BAD_CPU = 14,      // there is no such CPU
     TRACERING_EMPTY = 15,        // no closed page is unread
     TRACERING_MOVING = 16,       // a move of the head isn't finished, or `take` made all its steps: try again
-    TRACERING_NO_ROOM = 17,      // the buffer is too short
+    TRACERING_NO_ROOM = 17,      // the buffer is too short; take and settle change nothing, missing gives what has
+                                 // room and sets `count`, next sets `line`
     TRACERING_NOT_AT_REST = 18,  // settle: a frame is begun and not completed
     TRACERING_UNREAD = 19,       // settle: a closed page may be unread
     TRACERING_TOO_SHORT = 20,    // there are fewer bytes than TRACERING_HEADER
@@ -212,6 +229,48 @@ static inline int32_t tracering_leave_both(volatile sig_atomic_t *in_call, volat
     return tracering_leave(in_call, code);
 }
 
+// The marks of a call on an end of a ring.
+static inline bool tracering_enter_end(volatile sig_atomic_t *in_call)
+{
+    if (!tracering_enter(in_call))
+        return false;
+    return true;
+}
+
+static inline int32_t tracering_leave_end(volatile sig_atomic_t *in_call, int32_t code)
+{
+    return tracering_leave(in_call, code);
+}
+
+// Counts a record that is lost for this reason, if that is one, and answers it. A handler may count amid it.
+static __attribute__((noinline, cold, unused)) int32_t tracering_lost(struct tracering_writer *w, int32_t code)
+{
+    struct tracering_refused *refused = &w->refused;
+    uint64_t *count = code == TRACERING_BUSY  ? &refused->busy
+        : code == TRACERING_TOO_DEEP          ? &refused->too_deep
+        : code == TRACERING_TOO_LONG          ? &refused->too_long
+        : code == TRACERING_LATE_MOMENT       ? &refused->late_moment
+        : code == TRACERING_CROWDED           ? &refused->crowded
+        : code == TRACERING_WORN              ? &refused->worn
+                                              : NULL;
+    if (count)
+        (void)__atomic_fetch_add(count, 1, __ATOMIC_RELAXED);
+    return code;
+}
+
+// The rest of a handle is zeros, too, once what it had is gone. No handler counts any more: it is answered ABSENT.
+static inline void tracering_forget(struct tracering_writer *w)
+{
+    __atomic_signal_fence(__ATOMIC_SEQ_CST);
+    w->closes = 0;
+    __atomic_store_n(&w->refused.busy, 0, __ATOMIC_RELAXED);
+    __atomic_store_n(&w->refused.too_deep, 0, __ATOMIC_RELAXED);
+    __atomic_store_n(&w->refused.too_long, 0, __ATOMIC_RELAXED);
+    __atomic_store_n(&w->refused.late_moment, 0, __ATOMIC_RELAXED);
+    __atomic_store_n(&w->refused.crowded, 0, __ATOMIC_RELAXED);
+    __atomic_store_n(&w->refused.worn, 0, __ATOMIC_RELAXED);
+}
+
 // A new ring of `pages` pages (2 to 1,024), and a spare one, of `size` bytes of data each (32 to 65,520, a multiple of
 // 4). Its parcels are those of this CPU (below 256). All memory of the ring is taken here.
 // IN_USE, BAD_CPU, BAD_SIZE, NO_MEMORY.
@@ -235,12 +294,15 @@ static inline int32_t tracering_write(struct tracering_writer *w, uint64_t momen
 {
     if (!(w && (payload || !len)))
         return TRACERING_NULL;
-    if (!tracering_enter(&w->in_call))
-        return TRACERING_BUSY;
+    if (!tracering_enter_end(&w->in_call))
+        return tracering_lost(w, TRACERING_BUSY);
     struct tracering_payload given;
     given.bytes = tracering_bytes(payload);
     given.len = len;
-    return tracering_leave(&w->in_call, tracering_raw_write(&w->held, moment, given));
+    int32_t code = tracering_leave_end(&w->in_call, tracering_raw_write(&w->held, moment, given));
+    if (code != TRACERING_DONE)
+        return tracering_lost(w, code);
+    return TRACERING_DONE;
 }
 
 // A record by its parts, so that others may be written between them: begin, finish, put, end, finish. Each record has a
@@ -250,9 +312,10 @@ static inline int32_t tracering_begin(struct tracering_writer *w, uint64_t momen
 {
     if (!w)
         return TRACERING_NULL;
-    if (!tracering_enter(&w->in_call))
-        return TRACERING_BUSY;
-    return tracering_leave(&w->in_call, tracering_raw_begin(&w->held, moment, len));
+    if (!tracering_enter_end(&w->in_call))
+        return tracering_lost(w, TRACERING_BUSY);
+    int32_t code = tracering_leave_end(&w->in_call, tracering_raw_begin(&w->held, moment, len));
+    return code == TRACERING_DONE ? code : tracering_lost(w, code);
 }
 
 // begin_close: a close of the page that is written, so that it can be taken; `finish` carries it out. In a full ring
@@ -261,9 +324,12 @@ static inline int32_t tracering_begin_close(struct tracering_writer *w)
 {
     if (!w)
         return TRACERING_NULL;
-    if (!tracering_enter(&w->in_call))
+    if (!tracering_enter_end(&w->in_call))
         return TRACERING_BUSY;
-    return tracering_leave(&w->in_call, tracering_raw_begin_close(&w->held));
+    int32_t code = tracering_raw_begin_close(&w->held);
+    if (code == TRACERING_DONE)
+        w->closes |= 1u << tracering_raw_depth(&w->held);
+    return tracering_leave_end(&w->in_call, code);
 }
 
 // finish: reserves the record of the frame on top (RESERVED), in a slot of zeros, or says so again of one that is
@@ -274,9 +340,12 @@ static inline int32_t tracering_finish(struct tracering_writer *w)
 {
     if (!w)
         return TRACERING_NULL;
-    if (!tracering_enter(&w->in_call))
+    if (!tracering_enter_end(&w->in_call))
         return TRACERING_BUSY;
-    return tracering_leave(&w->in_call, tracering_raw_finish(&w->held));
+    uint32_t close = w->closes ? w->closes & 1u << tracering_raw_depth(&w->held) : 0;
+    w->closes -= close;
+    int32_t code = tracering_leave_end(&w->in_call, tracering_raw_finish(&w->held));
+    return code <= TRACERING_DONE || close ? code : tracering_lost(w, code);
 }
 
 // put: copies the bytes to the front of the slot of the record on top, which is reserved: its `len` bytes, rounded up
@@ -285,9 +354,10 @@ static inline int32_t tracering_put(struct tracering_writer *w, const void *byte
 {
     if (!(w && (bytes || !len)))
         return TRACERING_NULL;
-    if (!tracering_enter(&w->in_call))
+    if (!tracering_enter_end(&w->in_call))
         return TRACERING_BUSY;
-    return tracering_leave(&w->in_call, tracering_raw_put(&w->held, tracering_bytes(bytes), len));
+    int32_t code = tracering_leave_end(&w->in_call, tracering_raw_put(&w->held, tracering_bytes(bytes), len));
+    return code;
 }
 
 // end: the record on top ends with the bytes in its slot. If its frame is the only one, `finish` completes it; others
@@ -296,33 +366,55 @@ static inline int32_t tracering_end(struct tracering_writer *w)
 {
     if (!w)
         return TRACERING_NULL;
-    if (!tracering_enter(&w->in_call))
+    if (!tracering_enter_end(&w->in_call))
         return TRACERING_BUSY;
-    return tracering_leave(&w->in_call, tracering_raw_end(&w->held));
+    return tracering_leave_end(&w->in_call, tracering_raw_end(&w->held));
 }
 
-// How many frames are begun and not completed: 0 to 4. 0 also if the call is refused.
-static inline size_t tracering_depth(struct tracering_writer *w)
+// How many frames are begun and not completed: 0 to 4. ABSENT, BUSY, NULL: these are above 4.
+static inline int32_t tracering_depth(struct tracering_writer *w)
 {
-    if (!w || !tracering_enter(&w->in_call))
-        return 0;
-    size_t depth = tracering_raw_depth(&w->held);
-    (void)tracering_leave(&w->in_call, 0);
-    return depth;
+    if (!w)
+        return TRACERING_NULL;
+    if (!tracering_enter_end(&w->in_call))
+        return TRACERING_BUSY;
+    return tracering_leave_end(&w->in_call, w->held.live ? (int32_t)tracering_raw_depth(&w->held) : TRACERING_ABSENT);
 }
+
+// Copies to `out` how many records write, begin and finish lost so far, by their answers. It may be made amid a call on
+// the handle, by any handler, and by another thread. (`missed` of a page that is taken has none of these records: it
+// counts those that were written and overwritten.) settle and writer_free set the counts to 0, so read them first. It
+// answers DONE, of a handle that has nothing too.
+// (In C++ the struct is written `struct tracering_refused`, since the call has its name; that is no slip.)
+#pragma GCC diagnostic push
+#pragma GCC diagnostic ignored "-Wshadow"
+static inline int32_t tracering_refused(const struct tracering_writer *w, struct tracering_refused *out)
+{
+    if (!(w && out))
+        return TRACERING_NULL;
+    out->busy = __atomic_load_n(&w->refused.busy, __ATOMIC_RELAXED);
+    out->too_deep = __atomic_load_n(&w->refused.too_deep, __ATOMIC_RELAXED);
+    out->too_long = __atomic_load_n(&w->refused.too_long, __ATOMIC_RELAXED);
+    out->late_moment = __atomic_load_n(&w->refused.late_moment, __ATOMIC_RELAXED);
+    out->crowded = __atomic_load_n(&w->refused.crowded, __ATOMIC_RELAXED);
+    out->worn = __atomic_load_n(&w->refused.worn, __ATOMIC_RELAXED);
+    return TRACERING_DONE;
+}
+#pragma GCC diagnostic pop
 
 // ---- The reader's calls, of its thread and of handlers that interrupt it. None takes memory or waits.
 
 // Takes the oldest page that is closed and unread: its parcel goes to the front of `out`. `out` has room for
 // TRACERING_HEADER and the ring's `size` bytes at least, and so many are written. EMPTY, MOVING, NO_ROOM: then
-// `out` and `taken` are not changed, and no page is taken.
+// `out` and `taken` are not changed, and no page is taken (NO_ROOM doesn't look whether there is one).
 static inline int32_t tracering_take(struct tracering_reader *r, void *out, size_t room, struct tracering_taken *taken)
 {
     if (!(r && out && taken))
         return TRACERING_NULL;
-    if (!tracering_enter(&r->in_call))
+    if (!tracering_enter_end(&r->in_call))
         return TRACERING_BUSY;
-    return tracering_leave(&r->in_call, tracering_raw_take(&r->held, (uint8_t *)out, room, taken));
+    int32_t code = tracering_leave_end(&r->in_call, tracering_raw_take(&r->held, (uint8_t *)out, room, taken));
+    return code;
 }
 
 // Wishes for the page that is written to be closed, after a `take` that answered EMPTY. The writer closes it when the
@@ -332,17 +424,18 @@ static inline int32_t tracering_wish(struct tracering_reader *r)
 {
     if (!r)
         return TRACERING_NULL;
-    if (!tracering_enter(&r->in_call))
+    if (!tracering_enter_end(&r->in_call))
         return TRACERING_BUSY;
-    return tracering_leave(&r->in_call, tracering_raw_wish(&r->held));
+    return tracering_leave_end(&r->in_call, tracering_raw_wish(&r->held));
 }
 
 // ---- The calls of whoever has both ends, or is done with one. They release memory: no handler may make them.
 
 // Joins the two ends of a ring. (No call can find out whether they are of one.) The pages that were taken, and then the
 // one that is given here, have all records that were written, except those that are counted as missed. It is given as
-// `take` does; if it has no record, `taken->len` is 0. Both handles are all zeros afterwards. NOT_AT_REST: a frame is
-// begun and not completed. UNREAD: take until EMPTY first. NO_ROOM. Then neither handle is changed.
+// `take` does; if it has no record, `taken->len` is 0. Both handles are all zeros afterwards, the counts of refused
+// records included. NOT_AT_REST: a frame is begun and not completed. UNREAD: take until EMPTY first. NO_ROOM: `room` is
+// less than `take` wants. Then neither handle is changed, nor `out`, nor `taken`.
 static inline int32_t tracering_settle(struct tracering_writer *w, struct tracering_reader *r, void *out, size_t room,
     struct tracering_taken *taken)
 {
@@ -351,17 +444,25 @@ static inline int32_t tracering_settle(struct tracering_writer *w, struct tracer
     if (!tracering_enter_both(&w->in_call, &r->in_call))
         return TRACERING_BUSY;
     int32_t code = tracering_raw_settle(&w->held, &r->held, (uint8_t *)out, room, taken);
-    return tracering_leave_both(&w->in_call, &r->in_call, code);
+    (void)tracering_leave_both(&w->in_call, &r->in_call, code);
+    if (code != TRACERING_DONE)
+        return code;
+    tracering_forget(w);
+    return TRACERING_DONE;
 }
 
-// Each frees its end; the ring's memory is released with the second. The handle is all zeros afterwards.
+// Each frees its end; the ring's memory is released with the second. The handle is all zeros afterwards, a writer's
+// counts of refused records included.
 static inline int32_t tracering_writer_free(struct tracering_writer *w)
 {
     if (!w)
         return TRACERING_NULL;
     if (!tracering_enter(&w->in_call))
         return TRACERING_BUSY;
-    return tracering_leave(&w->in_call, tracering_raw_writer_free(&w->held));
+    int32_t code = tracering_leave(&w->in_call, tracering_raw_writer_free(&w->held));
+    if (code == TRACERING_DONE)
+        tracering_forget(w);
+    return code;
 }
 
 static inline int32_t tracering_reader_free(struct tracering_reader *r)
@@ -406,7 +507,7 @@ static inline int32_t tracering_collector_add(struct tracering_collector *c, con
 
 // The runs of a CPU's missing numbers, which rise, and of which none touches the next. As many as there is room for go
 // to the front of `runs`, which has `room` of them, and `count` is how many there are in all. NO_ROOM: if these are
-// more; the first ones are given all the same. A CPU of which nothing was added misses nothing.
+// more; the first ones are given all the same, and `count` is set. A CPU of which nothing was added misses nothing.
 static inline int32_t tracering_collector_missing(struct tracering_collector *c, uint32_t cpu,
     struct tracering_run *runs, size_t room, size_t *count)
 {
@@ -432,8 +533,8 @@ static inline int32_t tracering_collector_list(struct tracering_collector *c, si
 }
 
 // The next line of the listing: its bytes go to the front of `out`, and its numbers to `line`. END: all were given, or
-// no listing was made; `line` is not changed. NO_ROOM: the line has `line->len` bytes, which is more than `room`; it
-// stays the next one.
+// no listing was made; `line` is not changed. NO_ROOM: the line has `line->len` bytes, which is more than `room`; all
+// numbers of `line` are set, nothing goes to `out`, and it stays the next one.
 static inline int32_t tracering_collector_next(struct tracering_collector *c, void *out, size_t room,
     struct tracering_line *line)
 {
