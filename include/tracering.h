@@ -6,12 +6,13 @@
 // stored and sent (docs/FORMATS.md, "Parcel bytes"). A collector puts parcels together again, of one CPU or of many,
 // whatever their order and repeats: it lists their records by time, and knows which numbers are missing.
 //
-// Handles. A handle is all zeros ({0}) before its first call. Only the calls below change it, and it must not be
-// copied.
+// Handles. A handle is all zeros before its first call: {0} in C, and in C and C++ TRACERING_WRITER_INIT,
+// TRACERING_READER_INIT and TRACERING_COLLECTOR_INIT. Only the calls below change it, and it must not be copied.
 //
 // Answers. A call answers TRACERING_DONE or another number that isn't positive if it did what it says, and else a
 // positive one: why it didn't (but `depth` also answers 1 to 4, which are none of these). What is changed all the same,
-// the call's own text says. A call may answer these, which its own list leaves out:
+// the call's own text says. `tracering_text` has a text for each. A call may answer these, which its own list leaves
+// out:
 //   TRACERING_NULL     a pointer is null (one to bytes or runs may be, if their number is 0; `out` of take and of
 //                      settle may not)
 //   TRACERING_ABSENT   the handle has nothing: it is new, or what it had was freed or settled
@@ -40,6 +41,13 @@
 // of a process with threads, no call may be made that takes or releases memory.
 #ifndef TRACERING_H
 #define TRACERING_H
+
+#if __SIZEOF_POINTER__ != 8
+#error "tracering: the library is made for machines with 64-bit pointers, and this one has others"
+#endif
+#if __BYTE_ORDER__ != __ORDER_LITTLE_ENDIAN__
+#error "tracering: the library is made for little-endian machines, and this one isn't"
+#endif
 
 #include <signal.h>
 #include <stdbool.h>
@@ -83,6 +91,17 @@ struct tracering_collector {
     struct tracering_held held;
     volatile sig_atomic_t in_call;
 };
+
+// Handles that are all zeros, which no compiler warns of.
+#ifdef __cplusplus
+#define TRACERING_WRITER_INIT {}
+#define TRACERING_READER_INIT {}
+#define TRACERING_COLLECTOR_INIT {}
+#else
+#define TRACERING_WRITER_INIT {{0, 0}, 0, 0, {0, 0, 0, 0, 0, 0}}
+#define TRACERING_READER_INIT {{0, 0}, 0}
+#define TRACERING_COLLECTOR_INIT {{0, 0}, 0}
+#endif
 
 // What is reported of a page that is given.
 struct tracering_taken {
@@ -156,6 +175,49 @@ enum {
     TRACERING_TAKEN_AND_MISSING = 30, // a CPU's number has a record and is missing
     TRACERING_END = 31           // next: all lines of the listing were given
 };
+
+// A short text for what a call answered. (bindings/rust/build.rs reads these lines.)
+static inline const char *tracering_text(int32_t code)
+{
+    switch (code) {
+    case TRACERING_DIFFERENT: return "the collectors don't have and miss the same";
+    case TRACERING_KNOWN: return "all that the parcel has and misses was there already";
+    case TRACERING_RESERVED: return "the record is reserved";
+    case TRACERING_DONE: return "done";
+    case TRACERING_TOO_DEEP: return "four frames are begun and not completed";
+    case TRACERING_TOO_LONG: return "the record has no room on an empty page, or the bytes have none in the slot";
+    case TRACERING_LATE_MOMENT: return "the moment is 2^59 or later";
+    case TRACERING_CROWDED: return "a page is needed, and all are begun and not closed";
+    case TRACERING_WORN: return "a page is needed, and no number is left for its use";
+    case TRACERING_NO_FRAME: return "nothing is begun";
+    case TRACERING_NOT_RESERVED: return "what was begun last has no record that is reserved";
+    case TRACERING_ABSENT: return "the handle has nothing";
+    case TRACERING_IN_USE: return "the handle has something already";
+    case TRACERING_BUSY: return "the handle is in another call";
+    case TRACERING_NULL: return "a pointer is null";
+    case TRACERING_NO_MEMORY: return "there is no memory";
+    case TRACERING_BAD_SIZE: return "a ring can't have this number of pages or this size";
+    case TRACERING_BAD_CPU: return "there is no such CPU";
+    case TRACERING_EMPTY: return "no closed page is unread";
+    case TRACERING_MOVING: return "a move of the head isn't finished: try again";
+    case TRACERING_NO_ROOM: return "the buffer is too short";
+    case TRACERING_NOT_AT_REST: return "a frame is begun and not completed";
+    case TRACERING_UNREAD: return "a closed page may be unread";
+    case TRACERING_TOO_SHORT: return "there are fewer bytes than a parcel has before its page's data";
+    case TRACERING_BAD_IMAGE_SIZE: return "the page states more bytes than follow, or is too long";
+    case TRACERING_BAD_COUNT: return "there are no bytes for the count of missed records that the page states";
+    case TRACERING_CUT: return "the page's data ends within a word";
+    case TRACERING_BAD_LENGTH: return "no word of a page has this length";
+    case TRACERING_TIME_OVERFLOW: return "a moment doesn't fit 64 bits";
+    case TRACERING_NUMBER_OVERFLOW: return "the number after the last record's doesn't fit 64 bits";
+    case TRACERING_MISSED_TOO_MANY: return "more numbers are missing before the first record's than there are";
+    case TRACERING_MISSED_DIFFERS: return "the page states other missed records than the number before it";
+    case TRACERING_CLASH: return "there are two different records of one number";
+    case TRACERING_TAKEN_AND_MISSING: return "a number has a record and is missing";
+    case TRACERING_END: return "all lines of the listing were given";
+    default: return "no call answers this";
+    }
+}
 
 // A payload, as an export takes it.
 struct tracering_payload {
