@@ -39,6 +39,10 @@
 //
 // Memory comes from malloc, realloc and free. A program that replaces one of them replaces all three. In a forked child
 // of a process with threads, no call may be made that takes or releases memory.
+//
+// ThreadSanitizer doesn't know how the two ends of a ring are ordered. If a program is compiled for it, the calls on
+// rings hide what they do from it, but tell it of payloads that they read, and of `out`, where they write it. What else
+// one thread hands to another by a record, it takes for unordered.
 #ifndef TRACERING_H
 #define TRACERING_H
 
@@ -291,16 +295,44 @@ static inline int32_t tracering_leave_both(volatile sig_atomic_t *in_call, volat
     return tracering_leave(in_call, code);
 }
 
+// What calls on rings hide from ThreadSanitizer, and what they tell it.
+#ifdef __SANITIZE_THREAD__
+#define TRACERING_TSAN 1
+#elif defined(__has_feature)
+#if __has_feature(thread_sanitizer)
+#define TRACERING_TSAN 1
+#endif
+#endif
+#ifdef TRACERING_TSAN
+void AnnotateIgnoreReadsBegin(const char *, int);
+void AnnotateIgnoreReadsEnd(const char *, int);
+void AnnotateIgnoreWritesBegin(const char *, int);
+void AnnotateIgnoreWritesEnd(const char *, int);
+void __tsan_read_range(void *, unsigned long);
+void __tsan_write_range(void *, unsigned long);
+#define TRACERING_HIDE() (AnnotateIgnoreReadsBegin(__FILE__, __LINE__), AnnotateIgnoreWritesBegin(__FILE__, __LINE__))
+#define TRACERING_SHOW() (AnnotateIgnoreWritesEnd(__FILE__, __LINE__), AnnotateIgnoreReadsEnd(__FILE__, __LINE__))
+#define TRACERING_READ(bytes, len) __tsan_read_range((void *)(uintptr_t)(bytes), len)
+#define TRACERING_WRITTEN(bytes, len) __tsan_write_range(bytes, len)
+#else
+#define TRACERING_HIDE() ((void)0)
+#define TRACERING_SHOW() ((void)0)
+#define TRACERING_READ(bytes, len) ((void)0)
+#define TRACERING_WRITTEN(bytes, len) ((void)0)
+#endif
+
 // The marks of a call on an end of a ring.
 static inline bool tracering_enter_end(volatile sig_atomic_t *in_call)
 {
     if (!tracering_enter(in_call))
         return false;
+    TRACERING_HIDE();
     return true;
 }
 
 static inline int32_t tracering_leave_end(volatile sig_atomic_t *in_call, int32_t code)
 {
+    TRACERING_SHOW();
     return tracering_leave(in_call, code);
 }
 
@@ -364,6 +396,7 @@ static inline int32_t tracering_write(struct tracering_writer *w, uint64_t momen
     int32_t code = tracering_leave_end(&w->in_call, tracering_raw_write(&w->held, moment, given));
     if (code != TRACERING_DONE)
         return tracering_lost(w, code);
+    TRACERING_READ(payload, len);
     return TRACERING_DONE;
 }
 
@@ -419,6 +452,8 @@ static inline int32_t tracering_put(struct tracering_writer *w, const void *byte
     if (!tracering_enter_end(&w->in_call))
         return TRACERING_BUSY;
     int32_t code = tracering_leave_end(&w->in_call, tracering_raw_put(&w->held, tracering_bytes(bytes), len));
+    if (code == TRACERING_DONE)
+        TRACERING_READ(bytes, len);
     return code;
 }
 
@@ -476,6 +511,8 @@ static inline int32_t tracering_take(struct tracering_reader *r, void *out, size
     if (!tracering_enter_end(&r->in_call))
         return TRACERING_BUSY;
     int32_t code = tracering_leave_end(&r->in_call, tracering_raw_take(&r->held, (uint8_t *)out, room, taken));
+    if (code == TRACERING_DONE)
+        TRACERING_WRITTEN(out, taken->len);
     return code;
 }
 
@@ -505,10 +542,13 @@ static inline int32_t tracering_settle(struct tracering_writer *w, struct tracer
         return TRACERING_NULL;
     if (!tracering_enter_both(&w->in_call, &r->in_call))
         return TRACERING_BUSY;
+    TRACERING_HIDE();
     int32_t code = tracering_raw_settle(&w->held, &r->held, (uint8_t *)out, room, taken);
+    TRACERING_SHOW();
     (void)tracering_leave_both(&w->in_call, &r->in_call, code);
     if (code != TRACERING_DONE)
         return code;
+    TRACERING_WRITTEN(out, taken->len);
     tracering_forget(w);
     return TRACERING_DONE;
 }
