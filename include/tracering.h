@@ -6,17 +6,18 @@
 // stored and sent (docs/FORMATS.md, "Parcel bytes"). A collector puts parcels together again, of one CPU or of many,
 // whatever their order and repeats: it lists their records by time, and knows which numbers are missing.
 //
-// Handles. A handle is all zeros ({0}) before its first call. Only the calls below change it, and it must not be
-// copied.
+// Handles. A handle is all zeros before its first call: {0} in C, and in C and C++ TRACERING_WRITER_INIT,
+// TRACERING_READER_INIT and TRACERING_COLLECTOR_INIT. Only the calls below change it, and it must not be copied.
 //
 // Answers. A call answers TRACERING_DONE or another number that isn't positive if it did what it says, and else a
-// positive one: why it didn't. What is changed all the same, the call's own text says. A call may answer these,
-// which its own list leaves out:
-//   TRACERING_NULL     a pointer is null (one to bytes or runs may be, if their number is 0; `out` of take and of settle
-//                      may not)
+// positive one: why it didn't (but `depth` also answers 1 to 4, which are none of these). What is changed all the same,
+// the call's own text says. `tracering_text` has a text for each. A call may answer these, which its own list leaves
+// out:
+//   TRACERING_NULL     a pointer is null (one to bytes or runs may be, if their number is 0; `out` of take and of
+//                      settle may not)
 //   TRACERING_ABSENT   the handle has nothing: it is new, or what it had was freed or settled
 //   TRACERING_BUSY     the handle is in another call, which this one interrupts
-// Then nothing is changed.
+// Then nothing is changed, but BUSY of write and begin is counted (`tracering_refused`).
 //
 // Conditions that no call can check: a pointer is valid, with as many bytes as are stated; no two arguments of one call
 // overlap; a handle is in one call at a time, other than by a signal's handler.
@@ -26,16 +27,31 @@
 // ring make sequentially consistent accesses of the words that they share; the proofs assume a memory that is so.
 //
 // Signals. A handler may call write, begin, put, finish, end, begin_close and depth on the handle of the thread that
-// it interrupts: its records are nested. Amid a call on that handle they answer BUSY (depth: 0). It may call take and
-// wish on a reader's handle in the same way. It must not call new, settle, those that free, or any call on a collector:
-// most of these take or release memory. It completes what it begins.
+// it interrupts: its records are nested. Amid a call on that handle they answer BUSY: the handler's record isn't
+// written, and the handle counts it. It may call take and wish on a reader's handle in the same way, and refused
+// always. It must not call new, settle, those that free, or any call on a collector: most of these take or release
+// memory. It completes what it begins.
+// No record of a handler is refused so if it has a ring that nothing which it interrupts writes: one ring for the
+// thread's own code, and one for each level of handlers. Handlers are of one level if each blocks the signals of all of
+// them (sa_mask). examples/c_recorder/levels.c is a program to copy; a collector puts the records of all in order.
 // A handler that interrupts a call on one end of a ring, and calls the other end of that ring, does what another thread
 // would do between two instructions. The library is proved for threads, and tried for such handlers.
 //
 // Memory comes from malloc, realloc and free. A program that replaces one of them replaces all three. In a forked child
 // of a process with threads, no call may be made that takes or releases memory.
+//
+// ThreadSanitizer doesn't know how the two ends of a ring are ordered. If a program is compiled for it, the calls on
+// rings hide what they do from it, but tell it of payloads that they read, and of `out`, where they write it. What else
+// one thread hands to another by a record, it takes for unordered.
 #ifndef TRACERING_H
 #define TRACERING_H
+
+#if __SIZEOF_POINTER__ != 8
+#error "tracering: the library is made for machines with 64-bit pointers, and this one has others"
+#endif
+#if __BYTE_ORDER__ != __ORDER_LITTLE_ENDIAN__
+#error "tracering: the library is made for little-endian machines, and this one isn't"
+#endif
 
 #include <signal.h>
 #include <stdbool.h>
@@ -52,10 +68,22 @@ struct tracering_held {
     bool live;
 };
 
+// How many records a writer's calls lost, by the answer.
+struct tracering_refused {
+    uint64_t busy;        // of write and begin
+    uint64_t too_deep;    // of write and begin
+    uint64_t too_long;    // of write and begin
+    uint64_t late_moment; // of write and begin
+    uint64_t crowded;     // of write, and of finish if it isn't a close that is refused
+    uint64_t worn;        // the same
+};
+
 // A handle: `in_call` is set as long as it is in a call, so that one which interrupts it is refused.
 struct tracering_writer {
     struct tracering_held held;
     volatile sig_atomic_t in_call;
+    uint32_t closes; // bit D: of the frames that are begun, the one above D - 1 others is a close
+    struct tracering_refused refused;
 };
 
 struct tracering_reader {
@@ -67,6 +95,17 @@ struct tracering_collector {
     struct tracering_held held;
     volatile sig_atomic_t in_call;
 };
+
+// Handles that are all zeros, which no compiler warns of.
+#ifdef __cplusplus
+#define TRACERING_WRITER_INIT {}
+#define TRACERING_READER_INIT {}
+#define TRACERING_COLLECTOR_INIT {}
+#else
+#define TRACERING_WRITER_INIT {{0, 0}, 0, 0, {0, 0, 0, 0, 0, 0}}
+#define TRACERING_READER_INIT {{0, 0}, 0}
+#define TRACERING_COLLECTOR_INIT {{0, 0}, 0}
+#endif
 
 // What is reported of a page that is given.
 struct tracering_taken {
@@ -123,7 +162,8 @@ enum {
     TRACERING_BAD_CPU = 14,      // there is no such CPU
     TRACERING_EMPTY = 15,        // no closed page is unread
     TRACERING_MOVING = 16,       // a move of the head isn't finished, or `take` made all its steps: try again
-    TRACERING_NO_ROOM = 17,      // the buffer is too short
+    TRACERING_NO_ROOM = 17,      // the buffer is too short; take and settle change nothing, missing gives what has
+                                 // room and sets `count`, next sets `line`
     TRACERING_NOT_AT_REST = 18,  // settle: a frame is begun and not completed
     TRACERING_UNREAD = 19,       // settle: a closed page may be unread
     TRACERING_TOO_SHORT = 20,    // there are fewer bytes than TRACERING_HEADER
@@ -139,6 +179,49 @@ enum {
     TRACERING_TAKEN_AND_MISSING = 30, // a CPU's number has a record and is missing
     TRACERING_END = 31           // next: all lines of the listing were given
 };
+
+// A short text for what a call answered. (bindings/rust/build.rs reads these lines.)
+static inline const char *tracering_text(int32_t code)
+{
+    switch (code) {
+    case TRACERING_DIFFERENT: return "the collectors don't have and miss the same";
+    case TRACERING_KNOWN: return "all that the parcel has and misses was there already";
+    case TRACERING_RESERVED: return "the record is reserved";
+    case TRACERING_DONE: return "done";
+    case TRACERING_TOO_DEEP: return "four frames are begun and not completed";
+    case TRACERING_TOO_LONG: return "the record has no room on an empty page, or the bytes have none in the slot";
+    case TRACERING_LATE_MOMENT: return "the moment is 2^59 or later";
+    case TRACERING_CROWDED: return "a page is needed, and all are begun and not closed";
+    case TRACERING_WORN: return "a page is needed, and no number is left for its use";
+    case TRACERING_NO_FRAME: return "nothing is begun";
+    case TRACERING_NOT_RESERVED: return "what was begun last has no record that is reserved";
+    case TRACERING_ABSENT: return "the handle has nothing";
+    case TRACERING_IN_USE: return "the handle has something already";
+    case TRACERING_BUSY: return "the handle is in another call";
+    case TRACERING_NULL: return "a pointer is null";
+    case TRACERING_NO_MEMORY: return "there is no memory";
+    case TRACERING_BAD_SIZE: return "a ring can't have this number of pages or this size";
+    case TRACERING_BAD_CPU: return "there is no such CPU";
+    case TRACERING_EMPTY: return "no closed page is unread";
+    case TRACERING_MOVING: return "a move of the head isn't finished: try again";
+    case TRACERING_NO_ROOM: return "the buffer is too short";
+    case TRACERING_NOT_AT_REST: return "a frame is begun and not completed";
+    case TRACERING_UNREAD: return "a closed page may be unread";
+    case TRACERING_TOO_SHORT: return "there are fewer bytes than a parcel has before its page's data";
+    case TRACERING_BAD_IMAGE_SIZE: return "the page states more bytes than follow, or is too long";
+    case TRACERING_BAD_COUNT: return "there are no bytes for the count of missed records that the page states";
+    case TRACERING_CUT: return "the page's data ends within a word";
+    case TRACERING_BAD_LENGTH: return "no word of a page has this length";
+    case TRACERING_TIME_OVERFLOW: return "a moment doesn't fit 64 bits";
+    case TRACERING_NUMBER_OVERFLOW: return "the number after the last record's doesn't fit 64 bits";
+    case TRACERING_MISSED_TOO_MANY: return "more numbers are missing before the first record's than there are";
+    case TRACERING_MISSED_DIFFERS: return "the page states other missed records than the number before it";
+    case TRACERING_CLASH: return "there are two different records of one number";
+    case TRACERING_TAKEN_AND_MISSING: return "a number has a record and is missing";
+    case TRACERING_END: return "all lines of the listing were given";
+    default: return "no call answers this";
+    }
+}
 
 // A payload, as an export takes it.
 struct tracering_payload {
@@ -212,6 +295,76 @@ static inline int32_t tracering_leave_both(volatile sig_atomic_t *in_call, volat
     return tracering_leave(in_call, code);
 }
 
+// What calls on rings hide from ThreadSanitizer, and what they tell it.
+#ifdef __SANITIZE_THREAD__
+#define TRACERING_TSAN 1
+#elif defined(__has_feature)
+#if __has_feature(thread_sanitizer)
+#define TRACERING_TSAN 1
+#endif
+#endif
+#ifdef TRACERING_TSAN
+void AnnotateIgnoreReadsBegin(const char *, int);
+void AnnotateIgnoreReadsEnd(const char *, int);
+void AnnotateIgnoreWritesBegin(const char *, int);
+void AnnotateIgnoreWritesEnd(const char *, int);
+void __tsan_read_range(void *, unsigned long);
+void __tsan_write_range(void *, unsigned long);
+#define TRACERING_HIDE() (AnnotateIgnoreReadsBegin(__FILE__, __LINE__), AnnotateIgnoreWritesBegin(__FILE__, __LINE__))
+#define TRACERING_SHOW() (AnnotateIgnoreWritesEnd(__FILE__, __LINE__), AnnotateIgnoreReadsEnd(__FILE__, __LINE__))
+#define TRACERING_READ(bytes, len) __tsan_read_range((void *)(uintptr_t)(bytes), len)
+#define TRACERING_WRITTEN(bytes, len) __tsan_write_range(bytes, len)
+#else
+#define TRACERING_HIDE() ((void)0)
+#define TRACERING_SHOW() ((void)0)
+#define TRACERING_READ(bytes, len) ((void)0)
+#define TRACERING_WRITTEN(bytes, len) ((void)0)
+#endif
+
+// The marks of a call on an end of a ring.
+static inline bool tracering_enter_end(volatile sig_atomic_t *in_call)
+{
+    if (!tracering_enter(in_call))
+        return false;
+    TRACERING_HIDE();
+    return true;
+}
+
+static inline int32_t tracering_leave_end(volatile sig_atomic_t *in_call, int32_t code)
+{
+    TRACERING_SHOW();
+    return tracering_leave(in_call, code);
+}
+
+// Counts a record that is lost for this reason, if that is one, and answers it. A handler may count amid it.
+static __attribute__((noinline, cold, unused)) int32_t tracering_lost(struct tracering_writer *w, int32_t code)
+{
+    struct tracering_refused *refused = &w->refused;
+    uint64_t *count = code == TRACERING_BUSY  ? &refused->busy
+        : code == TRACERING_TOO_DEEP          ? &refused->too_deep
+        : code == TRACERING_TOO_LONG          ? &refused->too_long
+        : code == TRACERING_LATE_MOMENT       ? &refused->late_moment
+        : code == TRACERING_CROWDED           ? &refused->crowded
+        : code == TRACERING_WORN              ? &refused->worn
+                                              : NULL;
+    if (count)
+        (void)__atomic_fetch_add(count, 1, __ATOMIC_RELAXED);
+    return code;
+}
+
+// The rest of a handle is zeros, too, once what it had is gone. No handler counts any more: it is answered ABSENT.
+static inline void tracering_forget(struct tracering_writer *w)
+{
+    __atomic_signal_fence(__ATOMIC_SEQ_CST);
+    w->closes = 0;
+    __atomic_store_n(&w->refused.busy, 0, __ATOMIC_RELAXED);
+    __atomic_store_n(&w->refused.too_deep, 0, __ATOMIC_RELAXED);
+    __atomic_store_n(&w->refused.too_long, 0, __ATOMIC_RELAXED);
+    __atomic_store_n(&w->refused.late_moment, 0, __ATOMIC_RELAXED);
+    __atomic_store_n(&w->refused.crowded, 0, __ATOMIC_RELAXED);
+    __atomic_store_n(&w->refused.worn, 0, __ATOMIC_RELAXED);
+}
+
 // A new ring of `pages` pages (2 to 1,024), and a spare one, of `size` bytes of data each (32 to 65,520, a multiple of
 // 4). Its parcels are those of this CPU (below 256). All memory of the ring is taken here.
 // IN_USE, BAD_CPU, BAD_SIZE, NO_MEMORY.
@@ -235,12 +388,16 @@ static inline int32_t tracering_write(struct tracering_writer *w, uint64_t momen
 {
     if (!(w && (payload || !len)))
         return TRACERING_NULL;
-    if (!tracering_enter(&w->in_call))
-        return TRACERING_BUSY;
+    if (!tracering_enter_end(&w->in_call))
+        return tracering_lost(w, TRACERING_BUSY);
     struct tracering_payload given;
     given.bytes = tracering_bytes(payload);
     given.len = len;
-    return tracering_leave(&w->in_call, tracering_raw_write(&w->held, moment, given));
+    int32_t code = tracering_leave_end(&w->in_call, tracering_raw_write(&w->held, moment, given));
+    if (code != TRACERING_DONE)
+        return tracering_lost(w, code);
+    TRACERING_READ(payload, len);
+    return TRACERING_DONE;
 }
 
 // A record by its parts, so that others may be written between them: begin, finish, put, end, finish. Each record has a
@@ -250,9 +407,10 @@ static inline int32_t tracering_begin(struct tracering_writer *w, uint64_t momen
 {
     if (!w)
         return TRACERING_NULL;
-    if (!tracering_enter(&w->in_call))
-        return TRACERING_BUSY;
-    return tracering_leave(&w->in_call, tracering_raw_begin(&w->held, moment, len));
+    if (!tracering_enter_end(&w->in_call))
+        return tracering_lost(w, TRACERING_BUSY);
+    int32_t code = tracering_leave_end(&w->in_call, tracering_raw_begin(&w->held, moment, len));
+    return code == TRACERING_DONE ? code : tracering_lost(w, code);
 }
 
 // begin_close: a close of the page that is written, so that it can be taken; `finish` carries it out. In a full ring
@@ -261,9 +419,12 @@ static inline int32_t tracering_begin_close(struct tracering_writer *w)
 {
     if (!w)
         return TRACERING_NULL;
-    if (!tracering_enter(&w->in_call))
+    if (!tracering_enter_end(&w->in_call))
         return TRACERING_BUSY;
-    return tracering_leave(&w->in_call, tracering_raw_begin_close(&w->held));
+    int32_t code = tracering_raw_begin_close(&w->held);
+    if (code == TRACERING_DONE)
+        w->closes |= 1u << tracering_raw_depth(&w->held);
+    return tracering_leave_end(&w->in_call, code);
 }
 
 // finish: reserves the record of the frame on top (RESERVED), in a slot of zeros, or says so again of one that is
@@ -274,9 +435,12 @@ static inline int32_t tracering_finish(struct tracering_writer *w)
 {
     if (!w)
         return TRACERING_NULL;
-    if (!tracering_enter(&w->in_call))
+    if (!tracering_enter_end(&w->in_call))
         return TRACERING_BUSY;
-    return tracering_leave(&w->in_call, tracering_raw_finish(&w->held));
+    uint32_t close = w->closes ? w->closes & 1u << tracering_raw_depth(&w->held) : 0;
+    w->closes -= close;
+    int32_t code = tracering_leave_end(&w->in_call, tracering_raw_finish(&w->held));
+    return code <= TRACERING_DONE || close ? code : tracering_lost(w, code);
 }
 
 // put: copies the bytes to the front of the slot of the record on top, which is reserved: its `len` bytes, rounded up
@@ -285,9 +449,12 @@ static inline int32_t tracering_put(struct tracering_writer *w, const void *byte
 {
     if (!(w && (bytes || !len)))
         return TRACERING_NULL;
-    if (!tracering_enter(&w->in_call))
+    if (!tracering_enter_end(&w->in_call))
         return TRACERING_BUSY;
-    return tracering_leave(&w->in_call, tracering_raw_put(&w->held, tracering_bytes(bytes), len));
+    int32_t code = tracering_leave_end(&w->in_call, tracering_raw_put(&w->held, tracering_bytes(bytes), len));
+    if (code == TRACERING_DONE)
+        TRACERING_READ(bytes, len);
+    return code;
 }
 
 // end: the record on top ends with the bytes in its slot. If its frame is the only one, `finish` completes it; others
@@ -296,33 +463,57 @@ static inline int32_t tracering_end(struct tracering_writer *w)
 {
     if (!w)
         return TRACERING_NULL;
-    if (!tracering_enter(&w->in_call))
+    if (!tracering_enter_end(&w->in_call))
         return TRACERING_BUSY;
-    return tracering_leave(&w->in_call, tracering_raw_end(&w->held));
+    return tracering_leave_end(&w->in_call, tracering_raw_end(&w->held));
 }
 
-// How many frames are begun and not completed: 0 to 4. 0 also if the call is refused.
-static inline size_t tracering_depth(struct tracering_writer *w)
+// How many frames are begun and not completed: 0 to 4. ABSENT, BUSY, NULL: these are above 4.
+static inline int32_t tracering_depth(struct tracering_writer *w)
 {
-    if (!w || !tracering_enter(&w->in_call))
-        return 0;
-    size_t depth = tracering_raw_depth(&w->held);
-    (void)tracering_leave(&w->in_call, 0);
-    return depth;
+    if (!w)
+        return TRACERING_NULL;
+    if (!tracering_enter_end(&w->in_call))
+        return TRACERING_BUSY;
+    return tracering_leave_end(&w->in_call, w->held.live ? (int32_t)tracering_raw_depth(&w->held) : TRACERING_ABSENT);
 }
+
+// Copies to `out` how many records write, begin and finish lost so far, by their answers. It may be made amid a call on
+// the handle, by any handler, and by another thread. (`missed` of a page that is taken has none of these records: it
+// counts those that were written and overwritten.) settle and writer_free set the counts to 0, so read them first. It
+// answers DONE, of a handle that has nothing too.
+// (In C++ the struct is written `struct tracering_refused`, since the call has its name; that is no slip.)
+#pragma GCC diagnostic push
+#pragma GCC diagnostic ignored "-Wshadow"
+static inline int32_t tracering_refused(const struct tracering_writer *w, struct tracering_refused *out)
+{
+    if (!(w && out))
+        return TRACERING_NULL;
+    out->busy = __atomic_load_n(&w->refused.busy, __ATOMIC_RELAXED);
+    out->too_deep = __atomic_load_n(&w->refused.too_deep, __ATOMIC_RELAXED);
+    out->too_long = __atomic_load_n(&w->refused.too_long, __ATOMIC_RELAXED);
+    out->late_moment = __atomic_load_n(&w->refused.late_moment, __ATOMIC_RELAXED);
+    out->crowded = __atomic_load_n(&w->refused.crowded, __ATOMIC_RELAXED);
+    out->worn = __atomic_load_n(&w->refused.worn, __ATOMIC_RELAXED);
+    return TRACERING_DONE;
+}
+#pragma GCC diagnostic pop
 
 // ---- The reader's calls, of its thread and of handlers that interrupt it. None takes memory or waits.
 
 // Takes the oldest page that is closed and unread: its parcel goes to the front of `out`. `out` has room for
 // TRACERING_HEADER and the ring's `size` bytes at least, and so many are written. EMPTY, MOVING, NO_ROOM: then
-// `out` and `taken` are not changed, and no page is taken.
+// `out` and `taken` are not changed, and no page is taken (NO_ROOM doesn't look whether there is one).
 static inline int32_t tracering_take(struct tracering_reader *r, void *out, size_t room, struct tracering_taken *taken)
 {
     if (!(r && out && taken))
         return TRACERING_NULL;
-    if (!tracering_enter(&r->in_call))
+    if (!tracering_enter_end(&r->in_call))
         return TRACERING_BUSY;
-    return tracering_leave(&r->in_call, tracering_raw_take(&r->held, (uint8_t *)out, room, taken));
+    int32_t code = tracering_leave_end(&r->in_call, tracering_raw_take(&r->held, (uint8_t *)out, room, taken));
+    if (code == TRACERING_DONE)
+        TRACERING_WRITTEN(out, taken->len);
+    return code;
 }
 
 // Wishes for the page that is written to be closed, after a `take` that answered EMPTY. The writer closes it when the
@@ -332,17 +523,18 @@ static inline int32_t tracering_wish(struct tracering_reader *r)
 {
     if (!r)
         return TRACERING_NULL;
-    if (!tracering_enter(&r->in_call))
+    if (!tracering_enter_end(&r->in_call))
         return TRACERING_BUSY;
-    return tracering_leave(&r->in_call, tracering_raw_wish(&r->held));
+    return tracering_leave_end(&r->in_call, tracering_raw_wish(&r->held));
 }
 
 // ---- The calls of whoever has both ends, or is done with one. They release memory: no handler may make them.
 
 // Joins the two ends of a ring. (No call can find out whether they are of one.) The pages that were taken, and then the
 // one that is given here, have all records that were written, except those that are counted as missed. It is given as
-// `take` does; if it has no record, `taken->len` is 0. Both handles are all zeros afterwards. NOT_AT_REST: a frame is
-// begun and not completed. UNREAD: take until EMPTY first. NO_ROOM. Then neither handle is changed.
+// `take` does; if it has no record, `taken->len` is 0. Both handles are all zeros afterwards, the counts of refused
+// records included. NOT_AT_REST: a frame is begun and not completed. UNREAD: take until EMPTY first. NO_ROOM: `room` is
+// less than `take` wants. Then neither handle is changed, nor `out`, nor `taken`.
 static inline int32_t tracering_settle(struct tracering_writer *w, struct tracering_reader *r, void *out, size_t room,
     struct tracering_taken *taken)
 {
@@ -350,18 +542,29 @@ static inline int32_t tracering_settle(struct tracering_writer *w, struct tracer
         return TRACERING_NULL;
     if (!tracering_enter_both(&w->in_call, &r->in_call))
         return TRACERING_BUSY;
+    TRACERING_HIDE();
     int32_t code = tracering_raw_settle(&w->held, &r->held, (uint8_t *)out, room, taken);
-    return tracering_leave_both(&w->in_call, &r->in_call, code);
+    TRACERING_SHOW();
+    (void)tracering_leave_both(&w->in_call, &r->in_call, code);
+    if (code != TRACERING_DONE)
+        return code;
+    TRACERING_WRITTEN(out, taken->len);
+    tracering_forget(w);
+    return TRACERING_DONE;
 }
 
-// Each frees its end; the ring's memory is released with the second. The handle is all zeros afterwards.
+// Each frees its end; the ring's memory is released with the second. The handle is all zeros afterwards, a writer's
+// counts of refused records included.
 static inline int32_t tracering_writer_free(struct tracering_writer *w)
 {
     if (!w)
         return TRACERING_NULL;
     if (!tracering_enter(&w->in_call))
         return TRACERING_BUSY;
-    return tracering_leave(&w->in_call, tracering_raw_writer_free(&w->held));
+    int32_t code = tracering_leave(&w->in_call, tracering_raw_writer_free(&w->held));
+    if (code == TRACERING_DONE)
+        tracering_forget(w);
+    return code;
 }
 
 static inline int32_t tracering_reader_free(struct tracering_reader *r)
@@ -406,7 +609,7 @@ static inline int32_t tracering_collector_add(struct tracering_collector *c, con
 
 // The runs of a CPU's missing numbers, which rise, and of which none touches the next. As many as there is room for go
 // to the front of `runs`, which has `room` of them, and `count` is how many there are in all. NO_ROOM: if these are
-// more; the first ones are given all the same. A CPU of which nothing was added misses nothing.
+// more; the first ones are given all the same, and `count` is set. A CPU of which nothing was added misses nothing.
 static inline int32_t tracering_collector_missing(struct tracering_collector *c, uint32_t cpu,
     struct tracering_run *runs, size_t room, size_t *count)
 {
@@ -432,8 +635,8 @@ static inline int32_t tracering_collector_list(struct tracering_collector *c, si
 }
 
 // The next line of the listing: its bytes go to the front of `out`, and its numbers to `line`. END: all were given, or
-// no listing was made; `line` is not changed. NO_ROOM: the line has `line->len` bytes, which is more than `room`; it
-// stays the next one.
+// no listing was made; `line` is not changed. NO_ROOM: the line has `line->len` bytes, which is more than `room`; all
+// numbers of `line` are set, nothing goes to `out`, and it stays the next one.
 static inline int32_t tracering_collector_next(struct tracering_collector *c, void *out, size_t room,
     struct tracering_line *line)
 {

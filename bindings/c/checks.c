@@ -43,7 +43,7 @@ static int32_t write_nested(size_t len)
 {
     uint8_t payload[LONGEST];
     fill(payload, len);
-    size_t depth = tracering_depth(&writer);
+    int32_t depth = tracering_depth(&writer);
     int32_t code = tracering_begin(&writer, ++moment, len);
     if (code != TRACERING_DONE)
         return code;
@@ -205,6 +205,13 @@ static int alarms(void (*handler)(int), const struct itimerval *when)
     return sigaction(SIGALRM, &action, NULL) || setitimer(ITIMER_REAL, when, NULL);
 }
 
+// How many records of handlers the writer's handle says that it refused amid its calls.
+static uint64_t refused_amid(void)
+{
+    struct tracering_refused counts;
+    return tracering_refused(&writer, &counts) == TRACERING_DONE ? counts.busy : UINT64_MAX;
+}
+
 // The thread writes while the handler takes, and then takes while the handler writes. Each record is on a page that is
 // taken, or counted as missed before one.
 static int crossed(uint64_t count)
@@ -224,9 +231,22 @@ static int crossed(uint64_t count)
         ;
     bad += written != count || own.faults || own.records + own.missed != written + from_handler;
     bad += count >= 200000 && (!amid_writes || !amid_takes);
+    bad += refused_amid() != amid_calls;
     bad += tracering_writer_free(&writer) != TRACERING_DONE || tracering_reader_free(&own.reader) != TRACERING_DONE;
     from_handler = amid_calls = 0;
     return bad;
+}
+
+// Whether this is what the handle has counted.
+static bool is_counted(const struct tracering_writer *w, struct tracering_refused wanted)
+{
+    struct tracering_refused counts;
+    return tracering_refused(w, &counts) == TRACERING_DONE && !memcmp(&counts, &wanted, sizeof counts);
+}
+
+static bool is_zeros(const struct tracering_writer *w)
+{
+    return !w->held.at && !w->held.live && !w->in_call && !w->closes && is_counted(w, (struct tracering_refused){0});
 }
 
 // Amid a call on their handle all calls are refused, and two handles are marked together or not at all.
@@ -247,10 +267,13 @@ static int amid(void)
     bad += tracering_end(&busy) != TRACERING_BUSY;
     bad += tracering_take(&busy_reader, byte, sizeof byte, &taken) != TRACERING_BUSY;
     bad += tracering_wish(&busy_reader) != TRACERING_BUSY;
+    bad += tracering_depth(&busy) != TRACERING_BUSY;
     bad += tracering_settle(&busy, &r, byte, sizeof byte, &taken) != TRACERING_BUSY || r.in_call;
     bad += tracering_settle(&w, &busy_reader, byte, sizeof byte, &taken) != TRACERING_BUSY || w.in_call;
     bad += tracering_writer_free(&busy) != TRACERING_BUSY;
     bad += tracering_reader_free(&busy_reader) != TRACERING_BUSY;
+    // Of the calls on a writer only write and begin are counted, and the counts are there amid a call.
+    bad += !is_counted(&busy, (struct tracering_refused){.busy = 2}) || !is_counted(&w, (struct tracering_refused){0});
     return bad + (!busy.in_call || !busy_reader.in_call);
 }
 
@@ -260,6 +283,7 @@ static int nulls(void)
     struct tracering_writer w = {0};
     struct tracering_reader r = {0};
     struct tracering_taken taken;
+    struct tracering_refused refused;
     uint8_t byte[TRACERING_HEADER] = {0};
     int bad = 0;
     bad += tracering_new(NULL, &r, 0, 2, 64) != TRACERING_NULL;
@@ -272,7 +296,9 @@ static int nulls(void)
     bad += tracering_put(NULL, byte, 1) != TRACERING_NULL;
     bad += tracering_put(&w, NULL, 1) != TRACERING_NULL;
     bad += tracering_end(NULL) != TRACERING_NULL;
-    bad += tracering_depth(NULL) != 0;
+    bad += tracering_depth(NULL) != TRACERING_NULL;
+    bad += tracering_refused(NULL, &refused) != TRACERING_NULL;
+    bad += tracering_refused(&w, NULL) != TRACERING_NULL;
     bad += tracering_take(NULL, byte, sizeof byte, &taken) != TRACERING_NULL;
     bad += tracering_take(&r, NULL, sizeof byte, &taken) != TRACERING_NULL;
     bad += tracering_take(&r, byte, sizeof byte, NULL) != TRACERING_NULL;
@@ -283,7 +309,7 @@ static int nulls(void)
     bad += tracering_settle(&w, &r, byte, sizeof byte, NULL) != TRACERING_NULL;
     bad += tracering_writer_free(NULL) != TRACERING_NULL;
     bad += tracering_reader_free(NULL) != TRACERING_NULL;
-    return bad;
+    return bad + !is_counted(&w, (struct tracering_refused){0});
 }
 
 // Four frames fit the stack, and two open pages a ring of two.
@@ -299,18 +325,33 @@ static int refused_frames(void)
     bad += tracering_write(&w, 5, "deep", 4) != TRACERING_TOO_DEEP;
     bad += tracering_depth(&w) != 4;
     w.in_call = 1;
-    bad += tracering_depth(&w) != 0;
+    bad += tracering_depth(&w) != TRACERING_BUSY;
     w.in_call = 0;
+    // A close that is refused loses no record.
+    bad += !is_counted(&w, (struct tracering_refused){.too_deep = 2});
     bad += tracering_writer_free(&w) != TRACERING_DONE || tracering_reader_free(&r) != TRACERING_DONE;
+    bad += !is_zeros(&w);
 
     bad += tracering_new(&w, &r, 0, 2, 64) != TRACERING_DONE;
     for (uint64_t moment = 1; moment <= 2; moment++)
         bad += tracering_begin(&w, moment, 60) != TRACERING_DONE || tracering_finish(&w) != TRACERING_RESERVED;
     bad += tracering_write(&w, 3, "third", 5) != TRACERING_CROWDED || tracering_depth(&w) != 2;
     bad += tracering_begin(&w, 3, 60) != TRACERING_DONE || tracering_finish(&w) != TRACERING_CROWDED;
-    bad += tracering_depth(&w) != 2;
+    bad += tracering_depth(&w) != 2 || !is_counted(&w, (struct tracering_refused){.crowded = 2});
+    // Nor does it if it was begun, whether it is on top at once or after a record above it, which is lost; and where it
+    // was, a record may be.
+    bad += tracering_begin_close(&w) != TRACERING_DONE || tracering_finish(&w) != TRACERING_CROWDED;
+    bad += tracering_depth(&w) != 2 || !is_counted(&w, (struct tracering_refused){.crowded = 2});
+    bad += tracering_begin_close(&w) != TRACERING_DONE || tracering_begin(&w, 3, 60) != TRACERING_DONE;
+    bad += tracering_finish(&w) != TRACERING_CROWDED || tracering_depth(&w) != 3;
+    bad += tracering_finish(&w) != TRACERING_CROWDED || tracering_depth(&w) != 2;
+    bad += !is_counted(&w, (struct tracering_refused){.crowded = 3});
+    bad += tracering_begin(&w, 3, 60) != TRACERING_DONE || tracering_finish(&w) != TRACERING_CROWDED;
+    bad += tracering_write(&w, 3, "long", 61) != TRACERING_TOO_LONG;
+    bad += tracering_begin(&w, 1ull << 59, 4) != TRACERING_LATE_MOMENT;
+    bad += !is_counted(&w, (struct tracering_refused){.too_long = 1, .late_moment = 1, .crowded = 4});
     bad += tracering_writer_free(&w) != TRACERING_DONE || tracering_reader_free(&r) != TRACERING_DONE;
-    return bad;
+    return bad + !is_zeros(&w);
 }
 
 // Misuse that a call can see is refused.
@@ -319,28 +360,29 @@ static int refusals(void)
     enum { ROOM = TRACERING_HEADER + 64 };
     struct tracering_writer none = {0}, made = {0};
     struct tracering_reader reader = {0}, no_reader = {0};
-    struct tracering_taken taken;
+    struct tracering_taken taken, unset;
     uint8_t byte[ROOM] = {0};
     int bad = 0;
+    memset(&unset, 7, sizeof unset);
     bad += tracering_write(&none, 1, byte, 1) != TRACERING_ABSENT;
     bad += tracering_begin(&none, 1, 1) != TRACERING_ABSENT;
     bad += tracering_begin_close(&none) != TRACERING_ABSENT;
     bad += tracering_finish(&none) != TRACERING_ABSENT;
     bad += tracering_put(&none, byte, 1) != TRACERING_ABSENT;
     bad += tracering_end(&none) != TRACERING_ABSENT;
-    bad += tracering_depth(&none) != 0;
+    bad += tracering_depth(&none) != TRACERING_ABSENT;
     bad += tracering_take(&reader, byte, ROOM, &taken) != TRACERING_ABSENT;
     bad += tracering_wish(&reader) != TRACERING_ABSENT;
     bad += tracering_settle(&none, &reader, byte, ROOM, &taken) != TRACERING_ABSENT;
     bad += tracering_writer_free(&none) != TRACERING_ABSENT;
-    bad += tracering_reader_free(&reader) != TRACERING_ABSENT;
+    bad += tracering_reader_free(&reader) != TRACERING_ABSENT || !is_zeros(&none);
     bad += tracering_new(&made, &reader, 256, 2, 64) != TRACERING_BAD_CPU;
     bad += tracering_new(&made, &reader, 0, 1, 64) != TRACERING_BAD_SIZE;
     bad += tracering_new(&made, &reader, 0, 1025, 64) != TRACERING_BAD_SIZE;
     bad += tracering_new(&made, &reader, 0, 2, 28) != TRACERING_BAD_SIZE;
     bad += tracering_new(&made, &reader, 0, 2, 66) != TRACERING_BAD_SIZE;
     bad += tracering_new(&made, &reader, 0, 2, 65524) != TRACERING_BAD_SIZE;
-    bad += made.held.at || made.held.live || made.in_call || reader.held.at || reader.held.live || reader.in_call;
+    bad += !is_zeros(&made) || reader.held.at || reader.held.live || reader.in_call;
     bad += tracering_new(&made, &reader, 255, 2, 64) != TRACERING_DONE;
     bad += tracering_new(&made, &reader, 0, 2, 64) != TRACERING_IN_USE;
     bad += tracering_new(&none, &reader, 0, 2, 64) != TRACERING_IN_USE;
@@ -361,7 +403,10 @@ static int refusals(void)
     bad += tracering_end(&made) != TRACERING_DONE;
     bad += tracering_finish(&made) != TRACERING_DONE;
     bad += tracering_depth(&made) != 0;
-    bad += tracering_take(&reader, byte, ROOM - 1, &taken) != TRACERING_NO_ROOM;
+    bad += !is_counted(&made, (struct tracering_refused){.too_long = 1, .late_moment = 1});
+    memset(&taken, 7, sizeof taken);
+    bad += tracering_take(&reader, byte, ROOM - 1, &taken) != TRACERING_NO_ROOM || taken.len != unset.len;
+    bad += taken.count != unset.count || taken.fill != unset.fill;
     bad += tracering_settle(&made, &reader, byte, ROOM, &taken) != TRACERING_UNREAD;
     bad += tracering_take(&reader, byte, ROOM, &taken) != TRACERING_EMPTY;
     bad += tracering_wish(&reader) != TRACERING_DONE;
@@ -372,16 +417,19 @@ static int refusals(void)
     bad += memcmp(byte + 60, "abc", 4) != 0;
     bad += tracering_write(&made, 5, "last", 4) != TRACERING_DONE;
     bad += tracering_take(&reader, byte, ROOM, &taken) != TRACERING_EMPTY;
-    bad += tracering_settle(&made, &reader, byte, ROOM - 1, &taken) != TRACERING_NO_ROOM;
+    memset(&taken, 7, sizeof taken);
+    bad += tracering_settle(&made, &reader, byte, ROOM - 1, &taken) != TRACERING_NO_ROOM || taken.len != unset.len;
+    bad += taken.count != unset.count || taken.fill != unset.fill;
     bad += tracering_settle(&made, &no_reader, byte, ROOM, &taken) != TRACERING_ABSENT;
     bad += tracering_settle(&made, &reader, byte, ROOM, &taken) != TRACERING_DONE;
     bad += taken.count != 1 || taken.first != 2 || taken.missed != 0 || taken.len != ROOM || taken.fill != 1;
-    bad += memcmp(byte + 52, "last", 4) != 0;
+    bad += memcmp(byte + 52, "last", 4) != 0 || !is_zeros(&made);
     bad += tracering_write(&made, 9, byte, 1) != TRACERING_ABSENT;
     bad += tracering_writer_free(&made) != TRACERING_ABSENT;
     bad += tracering_reader_free(&reader) != TRACERING_ABSENT;
     bad += tracering_new(&made, &reader, 0, 2, 64) != TRACERING_DONE;
-    bad += tracering_writer_free(&made) != TRACERING_DONE;
+    bad += tracering_write(&made, 1, byte, 61) != TRACERING_TOO_LONG;
+    bad += tracering_writer_free(&made) != TRACERING_DONE || !is_zeros(&made);
     bad += tracering_wish(&reader) != TRACERING_DONE;
     bad += tracering_reader_free(&reader) != TRACERING_DONE;
     return bad;
@@ -408,7 +456,7 @@ static size_t make_parcel(uint8_t *out, uint64_t first, uint64_t missed, uint64_
 static bool is_line(const struct tracering_line *line, uint64_t moment, uint64_t number, const uint8_t *bytes)
 {
     return line->moment == moment && line->number == number && line->cpu == 3 && line->len == 4
-        && memcmp(bytes, "abcd", 4) == 0;
+        && (!bytes || memcmp(bytes, "abcd", 4) == 0);
 }
 
 // What collectors answer: each refusal, the runs that miss, and a listing line by line.
@@ -502,7 +550,9 @@ static int collected(void)
 
     bad += tracering_collector_next(&c, bytes, 8, &line) != TRACERING_END || line.len != 7;
     bad += tracering_collector_list(&c, &count) != TRACERING_DONE || count != 4;
-    bad += tracering_collector_next(&c, bytes, 3, &line) != TRACERING_NO_ROOM || line.len != 4;
+    memset(bytes, 7, sizeof bytes);
+    bad += tracering_collector_next(&c, bytes, 3, &line) != TRACERING_NO_ROOM || !is_line(&line, 10, 2, NULL);
+    bad += bytes[0] != 7;
     bad += tracering_collector_next(&c, bytes, 4, &line) != TRACERING_DONE || !is_line(&line, 10, 2, bytes);
     bad += tracering_collector_next(&c, bytes, 8, &line) != TRACERING_DONE || !is_line(&line, 10, 6, bytes);
     bad += tracering_collector_next(&c, bytes, 8, &line) != TRACERING_DONE || !is_line(&line, 20, 3, bytes);
@@ -577,7 +627,8 @@ int main(int argc, char **argv)
     atomic_store(&done, 1);
     pthread_join(reader, NULL);
     bad += written != count || faults || seen.faults || seen.records + seen.missed != written + from_handler
-        || from_handler < (count + 7) / 8 || (count >= 200000 && !amid_calls) || is_listed(&seen);
+        || from_handler < (count + 7) / 8 || (count >= 200000 && !amid_calls) || refused_amid() != amid_calls
+        || is_listed(&seen);
     if (bad || argc > 2)
         fprintf(stderr, "records %llu, from handlers %llu, refused amid calls %llu, missed %llu, faults %llu and %d\n",
             (unsigned long long)written, (unsigned long long)from_handler, (unsigned long long)amid_calls,

@@ -16,7 +16,7 @@ static int collect(struct tracering_collector *collector)
         int32_t code = tracering_collector_add(collector, parcel, len, &at);
         if (code > TRACERING_DONE) {
             unsigned long long number = at.number;
-            fprintf(stderr, "a parcel is refused: %d, cpu %u number %llu\n", code, at.cpu, number);
+            fprintf(stderr, "a parcel is refused: %s, cpu %u number %llu\n", tracering_text(code), at.cpu, number);
             return 1;
         }
     }

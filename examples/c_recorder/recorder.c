@@ -27,7 +27,8 @@ static _Thread_local int cpu;
 
 static void record(uint64_t moment, const char *event)
 {
-    // A flight recorder goes on if an event is refused: in a handler that interrupts this very call, for example.
+    // A flight recorder goes on if an event is refused: in a handler that interrupts this very call, for example. The
+    // handle counts it (`tracering_refused`); levels.c shows how no handler is refused so.
     (void)tracering_write(&writers[cpu], moment, event, strlen(event));
 }
 

@@ -6,10 +6,18 @@
 //!
 //! `include/tracering.h` says what each call does. What is a condition there is kept here by types: an end is in one
 //! call at a time, since calls borrow it, and it is freed when it is dropped. That two ends are of one ring is looked at
-//! when they are settled: both carry its number.
+//! when they are settled: both carry its number. What a writer refuses, it answers to its caller, so nothing counts it.
+use std::error::Error;
+use std::fmt;
 use std::os::raw::c_void;
 use std::ptr::null_mut;
 use std::sync::atomic::{AtomicU64, Ordering};
+
+#[cfg(not(all(target_pointer_width = "64", target_endian = "little")))]
+compile_error!("tracering: the library is made for little-endian machines with 64-bit pointers, and this one isn't");
+
+// TEXTS: the text of each answer above 0, in their order, as `include/tracering.h` has it.
+include!(concat!(env!("OUT_DIR"), "/texts.rs"));
 
 #[repr(C)]
 struct Handle {
@@ -86,6 +94,16 @@ const FAULTS: [Fault; 31] = {
     ]
 };
 
+const _: () = assert!(TEXTS.len() == FAULTS.len());
+
+impl fmt::Display for Fault {
+    fn fmt(&self, f: &mut fmt::Formatter<'_>) -> fmt::Result {
+        f.write_str(TEXTS.get(*self as usize).unwrap_or(&"these are ends of two rings"))
+    }
+}
+
+impl Error for Fault {}
+
 fn done(code: i32) -> Result<(), Fault> {
     match code {
         i32::MIN..=0 => Ok(()),
@@ -116,24 +134,42 @@ extern "C" {
     fn tracering_raw_collector_free(c: *mut Handle) -> i32;
 }
 
-/// The end at which records are written, and its ring's number.
-pub struct Writer(Handle, u64);
+/// The end at which records are written, its ring's number, and how many of its records are open.
+pub struct Writer(Handle, u64, usize);
 /// The end at which pages are taken, and its ring's number.
 pub struct Reader(Handle, u64);
 /// A record that is reserved and not ended: its slot is lent. Others may be written meanwhile, by `nested`; it ends
-/// when this is dropped.
-pub struct Open<'a>(&'a mut Writer);
+/// when this is dropped. If this is forgotten instead (`std::mem::forget`), it ends when the writer, or the record that
+/// it is nested in, is used or dropped next. (The number is how many records are open up to this one.)
+#[derive(Debug)]
+pub struct Open<'a>(&'a mut Writer, usize);
+/// A writer as an open record lends it: what it writes is nested in that record. (The number is how many records are
+/// open up to that one; a writer of which none is open is such a writer too.)
+#[derive(Debug)]
+pub struct Nested<'a>(&'a mut Writer, usize);
 
 // The library's proof that both of its handles may go to another thread is in crates/tracering_c.
 unsafe impl Send for Writer {}
 unsafe impl Send for Reader {}
+
+impl fmt::Debug for Writer {
+    fn fmt(&self, f: &mut fmt::Formatter<'_>) -> fmt::Result {
+        f.debug_struct("Writer").field("ring", &self.1).field("open", &self.2).finish()
+    }
+}
+
+impl fmt::Debug for Reader {
+    fn fmt(&self, f: &mut fmt::Formatter<'_>) -> fmt::Result {
+        f.debug_struct("Reader").field("ring", &self.1).finish()
+    }
+}
 
 /// The two ends of a new ring of this CPU, of `pages` pages of `size` bytes of data each.
 pub fn ring(cpu: u32, pages: usize, size: usize) -> Result<(Writer, Reader), Fault> {
     static RINGS: AtomicU64 = AtomicU64::new(0);
     let none = || Handle { at: null_mut(), live: false };
     let number = RINGS.fetch_add(1, Ordering::Relaxed);
-    let (mut w, mut r) = (Writer(none(), number), Reader(none(), number));
+    let (mut w, mut r) = (Writer(none(), number, 0), Reader(none(), number));
     done(unsafe { tracering_raw_new(&mut w.0, &mut r.0, cpu, pages, size) }).map(|()| (w, r))
 }
 
@@ -143,6 +179,7 @@ pub fn settle(mut w: Writer, mut r: Reader, out: &mut [u8]) -> Result<Taken, (Wr
     if w.1 != r.1 {
         return Err((w, r, Fault::OtherRing));
     }
+    w.complete_above(0);
     let mut taken = Taken::default();
     let code = unsafe { tracering_raw_settle(&mut w.0, &mut r.0, out.as_mut_ptr(), out.len(), &mut taken) };
     done(code).map(|()| taken).map_err(|fault| (w, r, fault))
@@ -151,60 +188,94 @@ pub fn settle(mut w: Writer, mut r: Reader, out: &mut [u8]) -> Result<Taken, (Wr
 impl Writer {
     /// Writes a record whole.
     pub fn write(&mut self, moment: u64, payload: &[u8]) -> Result<(), Fault> {
-        let given = Payload { bytes: payload.as_ptr(), len: payload.len() };
-        done(unsafe { tracering_raw_write(&mut self.0, moment, given) })
+        Nested::from(self).write(moment, payload)
     }
 
     /// Reserves a record, to be written in parts; if it is refused, nothing of it is left.
     pub fn begin(&mut self, moment: u64, len: usize) -> Result<Open<'_>, Fault> {
-        let depth = unsafe { tracering_raw_depth(&mut self.0) };
-        done(unsafe { tracering_raw_begin(&mut self.0, moment, len) })?;
-        self.finish(depth).map(|()| Open(self))
+        Nested::from(self).begin(moment, len)
     }
 
     /// Closes the page that is written, so that it can be taken; if that is refused, nothing of it is left.
     pub fn close(&mut self) -> Result<(), Fault> {
-        let depth = unsafe { tracering_raw_depth(&mut self.0) };
-        done(unsafe { tracering_raw_begin_close(&mut self.0) })?;
-        self.finish(depth)
+        Nested::from(self).close()
     }
 
-    /// Finishes the frame on top of `depth` others, which leaves if it is refused.
-    fn finish(&mut self, depth: usize) -> Result<(), Fault> {
+    /// Finishes the frame on top of those of the open records, which leaves if it is refused.
+    fn finish(&mut self) -> Result<(), Fault> {
         let finished = done(unsafe { tracering_raw_finish(&mut self.0) });
-        if finished.is_err() {
-            self.finish_above(depth);
+        if finished.is_err() && unsafe { tracering_raw_depth(&mut self.0) } > self.2 {
+            let _refusal = unsafe { tracering_raw_finish(&mut self.0) };
         }
         finished
     }
 
-    fn finish_above(&mut self, depth: usize) {
-        if unsafe { tracering_raw_depth(&mut self.0) } > depth {
-            let _refusal = unsafe { tracering_raw_finish(&mut self.0) };
+    /// Ends and completes the records above the first `open` ones: one that is dropped, and those that were forgotten.
+    fn complete_above(&mut self, open: usize) {
+        while self.2 > open {
+            let _refusal = unsafe { tracering_raw_end(&mut self.0) };
+            self.2 -= 1;
+            // The outermost record's frame stays until it is completed; one that is nested is gone with its end.
+            if self.2 == 0 {
+                let _refusal = unsafe { tracering_raw_finish(&mut self.0) };
+            }
         }
+    }
+}
+
+impl<'a> From<&'a mut Writer> for Nested<'a> {
+    fn from(writer: &'a mut Writer) -> Nested<'a> {
+        Nested(writer, 0)
+    }
+}
+
+impl<'a> Nested<'a> {
+    /// Writes a record whole.
+    pub fn write(&mut self, moment: u64, payload: &[u8]) -> Result<(), Fault> {
+        let given = Payload { bytes: payload.as_ptr(), len: payload.len() };
+        self.0.complete_above(self.1);
+        done(unsafe { tracering_raw_write(&mut self.0 .0, moment, given) })
+    }
+
+    /// Reserves a record, to be written in parts; if it is refused, nothing of it is left.
+    pub fn begin(self, moment: u64, len: usize) -> Result<Open<'a>, Fault> {
+        let Nested(writer, open) = self;
+        writer.complete_above(open);
+        done(unsafe { tracering_raw_begin(&mut writer.0, moment, len) })?;
+        writer.finish()?;
+        writer.2 += 1;
+        Ok(Open(writer, open + 1))
+    }
+
+    /// Closes the page that is written, so that it can be taken; if that is refused, nothing of it is left.
+    pub fn close(&mut self) -> Result<(), Fault> {
+        self.0.complete_above(self.1);
+        done(unsafe { tracering_raw_begin_close(&mut self.0 .0) })?;
+        self.0.finish()
+    }
+
+    /// The same, lent for a while.
+    pub fn nested(&mut self) -> Nested<'_> {
+        Nested(self.0, self.1)
     }
 }
 
 impl Open<'_> {
     /// Copies the bytes to the front of the record's slot.
     pub fn put(&mut self, bytes: &[u8]) -> Result<(), Fault> {
+        self.0.complete_above(self.1);
         done(unsafe { tracering_raw_put(&mut self.0 .0, bytes.as_ptr(), bytes.len()) })
     }
 
     /// The writer, for records that are nested in this one.
-    pub fn nested(&mut self) -> &mut Writer {
-        self.0
+    pub fn nested(&mut self) -> Nested<'_> {
+        Nested(self.0, self.1)
     }
 }
 
 impl Drop for Open<'_> {
     fn drop(&mut self) {
-        let _refusal = unsafe { tracering_raw_end(&mut self.0 .0) };
-        // The outermost record's frame stays until it is completed; one that is nested is gone with its end. (If this one
-        // was nested in a single other, that one is finished: it has reserved, so nothing changes.)
-        if unsafe { tracering_raw_depth(&mut self.0 .0) } == 1 {
-            self.0.finish_above(0);
-        }
+        self.0.complete_above(self.1 - 1);
     }
 }
 
@@ -223,6 +294,7 @@ impl Reader {
 
 impl Drop for Writer {
     fn drop(&mut self) {
+        self.complete_above(0);
         let _code = unsafe { tracering_raw_writer_free(&mut self.0) };
     }
 }
@@ -264,6 +336,12 @@ pub struct Collector(Handle);
 
 // The library's proof that this handle may go to another thread is in crates/tracering_c.
 unsafe impl Send for Collector {}
+
+impl fmt::Debug for Collector {
+    fn fmt(&self, f: &mut fmt::Formatter<'_>) -> fmt::Result {
+        f.debug_struct("Collector").finish_non_exhaustive()
+    }
+}
 
 impl Collector {
     /// A collector without a parcel.

@@ -104,5 +104,6 @@ fn collectors_are_the_same_whatever_the_order() {
     assert!(!left.same(&mut right));
     right.add(&one).unwrap();
     assert!(left.same(&mut right));
+    assert_eq!(format!("{left:?}"), "Collector { .. }");
     std::thread::spawn(move || assert_eq!(left.list(), Ok(2))).join().unwrap();
 }

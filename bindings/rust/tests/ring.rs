@@ -1,4 +1,6 @@
-use tracering::{ring, settle, Fault, Taken, HEADER};
+use std::error::Error;
+use std::mem::forget;
+use tracering::{ring, settle, Fault, Nested, Taken, HEADER};
 
 #[test]
 fn a_record_goes_in_and_its_page_comes_out() {
@@ -52,6 +54,99 @@ fn a_refused_record_leaves_nothing() {
     drop(two);
     drop(one);
     writer.write(1, b"next").unwrap();
+}
+
+#[test]
+fn a_forgotten_record_ends_at_the_next_call() {
+    let (mut writer, mut reader) = ring(0, 2, 64).unwrap();
+    let mut open = writer.begin(1, 4).unwrap();
+    open.put(b"lost").unwrap();
+    forget(open);
+    writer.write(2, b"next").unwrap();
+    let mut outer = writer.begin(3, 4).unwrap();
+    let mut inner = outer.nested().begin(4, 4).unwrap();
+    inner.put(b"in").unwrap();
+    inner.nested().write(5, b"most").unwrap();
+    forget(inner);
+    outer.put(b"out").unwrap();
+    forget(outer);
+    writer.close().unwrap();
+    let mut out = [0u8; HEADER + 64];
+    assert_eq!(reader.take(&mut out).unwrap().count, 5);
+    let slots: Vec<_> = (0..5).map(|k| &out[HEADER + 8 * k + 4..][..4]).collect();
+    assert_eq!(slots, [b"lost", b"next", b"out\0", b"in\0\0", b"most"]);
+}
+
+#[test]
+fn forgotten_records_wedge_no_ring() {
+    let (mut writer, mut reader) = ring(0, 8, 64).unwrap();
+    let mut out = [0u8; HEADER + 64];
+    for moment in 0..100 {
+        forget(writer.begin(moment, 60).unwrap());
+        let mut open = writer.begin(moment, 60).unwrap();
+        forget(open.nested().begin(moment, 60).unwrap());
+        open.nested().begin(moment, 60).unwrap();
+        forget(open);
+    }
+    // Each record has a page of its own, and all pages but the last one are closed, since their records have ended.
+    writer.write(100, &[0; 60]).unwrap();
+    let mut next = 0;
+    while let Ok(taken) = reader.take(&mut out) {
+        assert_eq!((taken.first, taken.count), (next + taken.missed, 1));
+        next = taken.first + 1;
+    }
+    assert_eq!(next, 400);
+}
+
+#[test]
+fn a_writer_with_a_forgotten_record_is_settled() {
+    let (mut writer, mut reader) = ring(0, 2, 64).unwrap();
+    let mut out = [0u8; HEADER + 64];
+    forget(writer.begin(1, 4).unwrap());
+    assert_eq!(reader.take(&mut out), Err(Fault::Empty));
+    assert_eq!(settle(writer, reader, &mut out).unwrap().count, 1);
+}
+
+#[test]
+fn a_writer_that_is_dropped_leaves_no_forgotten_record_open() {
+    let (mut writer, mut reader) = ring(0, 2, 64).unwrap();
+    let mut out = [0u8; HEADER + 64];
+    let mut open = writer.begin(1, 60).unwrap();
+    open.nested().write(2, &[0; 60]).unwrap();
+    forget(open);
+    assert_eq!(reader.take(&mut out), Err(Fault::Empty));
+    drop(writer);
+    assert_eq!(reader.take(&mut out).unwrap().count, 1);
+}
+
+#[test]
+fn one_function_writes_at_any_depth() {
+    fn twice<'a>(writer: impl Into<Nested<'a>>) -> Result<(), Fault> {
+        let mut writer = writer.into();
+        writer.nested().begin(1, 1)?;
+        writer.write(1, &[1])
+    }
+    let (mut writer, mut reader) = ring(0, 2, 64).unwrap();
+    twice(&mut writer).unwrap();
+    let mut open = writer.begin(1, 1).unwrap();
+    twice(open.nested()).unwrap();
+    drop(open);
+    writer.close().unwrap();
+    assert_eq!(reader.take(&mut [0; HEADER + 64]).unwrap().count, 5);
+}
+
+#[test]
+fn faults_are_errors_and_ends_can_be_printed() {
+    let fault: Box<dyn Error> = ring(0, 1, 64).unwrap_err().into();
+    assert_eq!(fault.to_string(), "a ring can't have this number of pages or this size");
+    assert_eq!(Fault::TooDeep.to_string(), "four frames are begun and not completed");
+    assert_eq!(Fault::End.to_string(), "all lines of the listing were given");
+    assert_eq!(Fault::OtherRing.to_string(), "these are ends of two rings");
+    let (mut writer, reader) = ring(0, 2, 64).unwrap();
+    let number = format!("{reader:?}").replace("Reader { ring: ", "").replace(" }", "");
+    assert_eq!(format!("{writer:?}"), format!("Writer {{ ring: {number}, open: 0 }}"));
+    let open = writer.begin(1, 1).unwrap();
+    assert_eq!(format!("{open:?}"), format!("Open(Writer {{ ring: {number}, open: 1 }}, 1)"));
 }
 
 #[test]
