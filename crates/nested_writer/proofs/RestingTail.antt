@@ -1,7 +1,7 @@
 -- The tail page of an empty stack: its records are the newest committed ones.
-use Rattle.std.proofs.Common.{◌≡◌, ℕ, ◌-◌, List, [], ◌∷◌, length, drop, get_or, map, refl, sym, ap, ◌∙◌, subst, arith}
+use Rattle.std.proofs.Common.{◌≡◌, ℕ, List, [], ◌∷◌, length, drop, get_or, map, refl, sym, ap, ◌∙◌, arith}
 use Rattle.std.proofs.lemmas.List.{drop-map}
-use Rattle.trace_model.specs.History.{HistoryEvent, Reservation, as_record, reserved_records, committed_records}
+use Rattle.trace_model.specs.History.{HistoryEvent, as_record, reserved_records, committed_records}
 use Rattle.trace_model.specs.Packing.{opens_of, cut_from, fills_of}
 use Rattle.trace_model.specs.Ring.{fill_of}
 use Rattle.page_image.specs.Contents.{records_of_page}
