@@ -56,7 +56,7 @@ impl Frames {
         ensures rests { (start : ℕ) (history : List HistoryEvent)
             → IsStack start history self.now.stack
             → IsRestingTail self.now.stack.size self.now.stack.done
-                (fill_of history start self.now.stack.done) history result.now }
+            (fill_of history start self.now.stack.done) history result.now }
     {
         self.stack.resting_tail()
     }
