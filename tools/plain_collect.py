@@ -61,6 +61,8 @@ def page_reading(image):
     if size > len(image) - 16 or len(image) > MOST:
         raise Fault("BadSize")
     missed = missed_before(image, commit, size)
+    # trace-cmd writes such a count of a loss of unknown number.
+    missed = "unknown" if missed == NUMBERS - 1 else missed
     return missed, [*records(time, restored(time, image[16 : 16 + size]))]
 
 

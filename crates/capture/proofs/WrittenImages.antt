@@ -1,6 +1,7 @@
 -- The images that are written have no stamps, and are read as they are.
 use Rattle.std.proofs.Common.{◌≡◌, ◌∙◌, ℕ, suc, ◌+◌, ◌-◌, ◌%◌, ◌^◌, ◌≤◌, List, [], ◌∷◌, ◌++◌, length, take, drop, replicate, Bool, true, false, ltb, refl, sym, ap, subst, arith, length-append}
-use Rattle.std.specs.Prelude.{◌<◌, ◌||◌, map}
+use Rattle.std.specs.Prelude.{◌<◌, ◌||◌, ◌==◌, if◌then◌else◌, map, nat_lt}
+use Rattle.std.proofs.lemmas.Bool.Decides.{nat_tests}
 use Rattle.std.proofs.Math.Seq.{take-append_seam, drop-append_seam}
 use Rattle.std.specs.List.{list_any, AllByRecursion}
 use Rattle.std.proofs.lemmas.Bool.{cond_both, ltb-true}
@@ -9,7 +10,7 @@ use Rattle.std.proofs.lemmas.Grind.{flat_map-append}
 use Rattle.trace_model.specs.Record.{Record}
 use Rattle.trace_model.specs.Order.{first_moment_or, NeverFalls, IsWritable}
 use Rattle.trace_model.specs.Words.{Word, time_extend, bytes_of_word, is_stamp, IsWord, joined, IsJoined, slot_len, data_word, written_words, encoding_of, encodings_behind, page_encoding, Decodes}
-use Rattle.trace_model.specs.Image.{le64, commit_word, commit_of, stored_count, HasParts, image_of, missed_reported, DecodesImage}
+use Rattle.trace_model.specs.Image.{le64, commit_word, commit_of, stored_count, none, unknown, counted, HasParts, image_of, missed_reported, stores_count, DecodesImage}
 use Rattle.trace_model.specs.declared.limits.TheConstants.{MAX_IMAGE, MOMENT_LIMIT}
 use Rattle.trace_model.proofs.words.Lengths.{slot_len-mod, slot_len_ge_four}
 use Rattle.trace_model.proofs.words.Appended.{each-append, IsData-not_stamp, data_word-IsData, data_word-IsWord, IsJoined-whole}
@@ -18,7 +19,7 @@ use Rattle.trace_model.proofs.images.Images.{DecodesImage-image_of, length-image
 use Rattle.stamp_times.specs.Restored.{restored_data, restored_image}
 use Rattle.stamp_times.proofs.Stamps.{words-stay, restored-joined, restored-parts}
 use Rattle.trace_model.specs.Partition.{Piece}
-use Rattle.capture.specs.Pages.{Page, intact, IsPageOf, AreCut}
+use Rattle.capture.specs.Pages.{Page, intact, loss_stated, IsPageOf, AreCut}
 use Rattle.capture.specs.Rings.{FitsImage, images_from, page_written}
 
 -- the data is words, none of them a stamp
@@ -41,8 +42,22 @@ stays time contents is =
     restored-joined contents time is.words is.rest is.cut
     ∙ ap (λ (ws : List Word). joined ws ++ is.rest) (words-stay time is.words is.none) ∙ sym is.cut.whole
 
+-- what is written of a loss is what is read of it
+reported-stays : (contents : List ℕ) (missed size : ℕ) → missed < 2 ^ 64 - 1
+    → missed_reported contents missed size ≡ loss_stated (missed_reported contents missed size)
+reported-stays contents missed size few = by_cases (stores_count contents missed size) (nat_lt 0 missed)
+  where
+    below : missed == 2 ^ 64 - 1 ≡ false
+    below = grind (arith, nat_tests)
+
+    by_cases : (stores some : Bool) → (if stores then counted missed else (if some then unknown else none))
+        ≡ loss_stated (if stores then counted missed else (if some then unknown else none))
+    by_cases true some = rw below refl
+    by_cases false true = refl
+    by_cases false false = refl
+
 page-of-image : (time : ℕ) (contents : List ℕ) (missed size : ℕ) (records : List Record) → HasNoStamps contents
-    → time < 2 ^ 64 → missed < 2 ^ 64 → length contents ≤ size → 16 + size ≤ MAX_IMAGE → Decodes contents time records
+    → time < 2 ^ 64 → missed < 2 ^ 64 - 1 → length contents ≤ size → 16 + size ≤ MAX_IMAGE → Decodes contents time records
     → IsPageOf (image_of time contents missed size) (intact record { missed = missed_reported contents missed size; records = records })
 page-of-image time contents missed size records is in_time few fits limit reads =
     let image = image_of time contents missed size in
@@ -58,8 +73,10 @@ page-of-image time contents missed size records is in_time few fits limit reads 
     ∙ ap (λ (xs : List ℕ). le64 time ++ (le64 (commit_word commit) ++ (xs ++ behind))) (stays time contents is) in (
       time,
       length contents,
+      missed_reported contents missed size,
       subst (λ (bytes : List ℕ). DecodesImage bytes time (length contents) (missed_reported contents missed size) records) (sym same)
-          (DecodesImage-image_of time contents missed size records in_time few fits limit reads),
+          (DecodesImage-image_of time contents missed size records in_time (omega (arith, few)) fits limit reads),
+      reported-stays contents missed size few,
     )
 
 -- the bytes are these words, none of them a stamp
@@ -119,7 +136,7 @@ plain_page (r ∷ records) all =
     )
 
 pub written-page : (records : List Record) (time missed size : ℕ) → NeverFalls records → AllByRecursion IsWritable records
-    → first_moment_or time records < 2 ^ 64 → missed < 2 ^ 64 → length (page_encoding records) ≤ size → 16 + size ≤ MAX_IMAGE
+    → first_moment_or time records < 2 ^ 64 → missed < 2 ^ 64 - 1 → length (page_encoding records) ≤ size → 16 + size ≤ MAX_IMAGE
     → IsPageOf (image_of (first_moment_or time records) (page_encoding records) missed size)
     (intact record { missed = missed_reported (page_encoding records) missed size; records = records })
 written-page records time missed size never all in_time few fits limit =

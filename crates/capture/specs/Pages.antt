@@ -1,13 +1,13 @@
 -- A capture: all that was read of one CPU's pages, which are page images one after the other, and what it holds. How
 -- many records were lost a page states (kernel/trace/ring_buffer.c, ring_buffer_read_page), and no number; so numbers
 -- are counted over the capture.
-use Rattle.std.specs.Prelude.{◌≡◌, ℕ, suc, ◌+◌, ◌^◌, ◌<◌, List, [], ◌∷◌, ◌++◌, length, take, drop}
+use Rattle.std.specs.Prelude.{◌≡◌, ℕ, suc, ◌+◌, ◌-◌, ◌^◌, ◌==◌, ◌<◌, if◌then◌else◌, List, [], ◌∷◌, ◌++◌, length, take, drop}
 use Rattle.trace_model.specs.Record.{Record}
 use Rattle.trace_model.specs.Parcel.{Parcel}
 use Rattle.trace_model.specs.Image.{Missed, none, unknown, counted, DecodesImage, ImageCause, FirstImageFault}
 use Rattle.stamp_times.specs.Restored.{restored_image}
 
--- a page that reads: what its image states of records that were lost before it, and its records
+-- a page that reads: what is known of records that were lost before it, and its records
 pub record PageRead : Type 0 where
   pub missed : Missed
   pub records : List Record
@@ -17,9 +17,18 @@ pub data Page : Type 0 where
   intact : (read : PageRead) → Page
   damaged : (cause : ImageCause) → Page
 
+-- What an image says of records that were lost before it, by what it states. A count of 2^64 - 1 is none: trace-cmd
+-- writes it for a loss of unknown number (`trace-cmd split`), and libtraceevent reads it so (kbuffer-parse.c).
+abbrev pub loss_stated : Missed → Missed
+loss_stated none = none
+loss_stated unknown = unknown
+loss_stated (counted events) = if events == 2 ^ 64 - 1 then unknown else counted events
+
 -- The bytes of a page are this page: they are read with the times of stamps restored.
 abbrev pub IsPageOf : List ℕ → Page → Type 0
-IsPageOf bytes (intact read) = (time size : ℕ) × DecodesImage (restored_image bytes) time size read.missed read.records
+IsPageOf bytes (intact read) =
+    (time size : ℕ) × (stated : Missed) × DecodesImage (restored_image bytes) time size stated read.records
+    × (read.missed ≡ loss_stated stated)
 IsPageOf bytes (damaged cause) = FirstImageFault (restored_image bytes) cause
 
 -- A capture is these pages: each of `size` bytes, but for the last one, which may be shorter.

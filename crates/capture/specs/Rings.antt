@@ -1,5 +1,5 @@
 -- Captures of a ring.
-use Rattle.std.specs.Prelude.{◌≡◌, ℕ, suc, ◌^◌, ◌<◌, ◌≤◌, List, [], ◌∷◌, ◌++◌, length, ⊤, Some}
+use Rattle.std.specs.Prelude.{◌≡◌, ℕ, suc, ◌-◌, ◌^◌, ◌<◌, ◌≤◌, List, [], ◌∷◌, ◌++◌, length, ⊤, Some}
 use Rattle.std.specs.List.{slice_get, AllByRecursion}
 use Rattle.trace_model.specs.Order.{first_moment_or, NeverFalls, IsWritable}
 use Rattle.trace_model.specs.Words.{page_encoding}
@@ -42,12 +42,12 @@ parcels_of_captures cpu [] = []
 parcels_of_captures cpu (pages ∷ captures) = parcels_from cpu 0 0 pages ++ parcels_of_captures (suc cpu) captures
 
 -- An image with `size` bytes of data can be written of the piece: a writer can put its records, their moments never
--- fall, their encoding is short enough, and how many records were lost fits 64 bits.
+-- fall, their encoding is short enough, and fewer than 2^64 - 1 records were lost.
 pub record FitsImage (size : ℕ) (p : Piece) : Type 0 where
   pub never_falls : NeverFalls p.records
   pub writable : AllByRecursion IsWritable p.records
   pub data_fits : length (page_encoding p.records) ≤ size
-  pub missed_fits : p.skipped < 2 ^ 64
+  pub missed_fits : p.skipped < 2 ^ 64 - 1
 
 -- The images that are written of pieces, the first of which is at the place `fill`, one after the other. The time of a
 -- page is the moment of its first record; `times` has that of a page without records, by its place.

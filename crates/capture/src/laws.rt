@@ -1,5 +1,5 @@
 //! What a capture says of the ring that it was taken from.
-ghost use Rattle.std.specs.Prelude.{◌≡◌, ◌≢◌, ℕ, ◌+◌, ◌^◌, ◌<◌, ◌≤◌, true, List, length, map, Some};
+ghost use Rattle.std.specs.Prelude.{◌-◌, ◌≡◌, ◌≢◌, ℕ, ◌+◌, ◌^◌, ◌<◌, ◌≤◌, true, List, length, map, Some};
 ghost use Rattle.std.specs.List.{slice_get, AllByRecursion};
 ghost use Rattle.trace_model.specs.Record.{Record};
 ghost use Rattle.trace_model.specs.Order.{first_moment_or, NeverFalls, IsWritable};
@@ -70,7 +70,7 @@ pub fn captures_agree()
 /// of a ring's pieces are a capture, each page of which reads, and is reported as its piece.
 pub fn written_images_are_pages()
     ensures page { (records : List Record) (time missed size : ℕ) → NeverFalls records
-        → AllByRecursion IsWritable records → first_moment_or time records < 2 ^ 64 → missed < 2 ^ 64
+        → AllByRecursion IsWritable records → first_moment_or time records < 2 ^ 64 → missed < 2 ^ 64 - 1
         → length (page_encoding records) ≤ size → 16 + size ≤ MAX_IMAGE
         → IsPageOf (image_of (first_moment_or time records) (page_encoding records) missed size)
         (intact record { missed = missed_reported (page_encoding records) missed size; records = records }) }

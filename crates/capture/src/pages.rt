@@ -6,7 +6,7 @@ ghost use Rattle.page_image.specs.Contents.{IsPage};
 ghost use Rattle.page_image.specs.Images.{missed_of};
 ghost use Rattle.page_numbers.specs.Faults.{image_fault};
 ghost use Rattle.page_numbers.specs.Parcels.{as_parcel};
-ghost use Rattle.capture.specs.Pages.{Page, intact, damaged, told_of, least_missed, parcel_at, behind, unknown_at};
+ghost use Rattle.capture.specs.Pages.{Page, intact, damaged, loss_stated, told_of, least_missed, parcel_at, behind, unknown_at};
 ghost use Rattle.capture.specs.Captures.{page_read, numbers_of};
 ghost use Rattle.capture.specs.declared.pages.CaptureFault.TheVariants.{NoMemory as MemoryIs};
 
@@ -77,6 +77,16 @@ fn least_missed(missed: Missed) -> u64
         Missed::None => 0,
         Missed::Unknown => 1,
         Missed::Count(events) => events,
+    }
+}
+
+/// What an image says of a loss: a count of 2^64 - 1, which trace-cmd writes, is none.
+fn loss_stated(missed: Missed) -> Missed
+    ensures { missed_of result ≡ loss_stated (missed_of missed) }
+{
+    match missed {
+        Missed::Count(u64::MAX) => Missed::Unknown,
+        stated => stated,
     }
 }
 
@@ -231,7 +241,7 @@ impl Capture {
         restore_stamps(image);
         match read_image(alloc, image) {
             Ok(mut image) => {
-                image.missed = told(unknown, image.missed);
+                image.missed = told(unknown, loss_stated(image.missed));
                 self.add_image(alloc, image)
             }
             Err(ImageFault::NoMemory) => Err(CaptureFault::NoMemory),

@@ -1,4 +1,5 @@
 mod Texts
+mod Plain
 mod Chains
 mod Runs
 mod Damages

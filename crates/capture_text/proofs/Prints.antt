@@ -1,22 +1,13 @@
 -- What a printer prints, by what its buffer is given.
-use Rattle.std.proofs.Common.{◌≡◌, ℕ, Bool, List, [], ◌∷◌, ◌++◌, refl, sym, ◌∙◌, ap, subst}
-use Rattle.std.specs.Prelude.{Option, Some, None}
+use Rattle.std.proofs.Common.{◌≡◌, ℕ, Bool, List, sym, ◌∙◌, subst}
+use Rattle.std.specs.Prelude.{Option}
 use Rattle.std.specs.Borrow.{Bor}
 use Rattle.trace_dat.specs.Contents.{EventFormat}
 use Rattle.kernel_texts.specs.declared.names.EventNames.{EventNames}
-use Rattle.kernel_texts.specs.declared.record.CommonFields.{CommonFields}
-use Rattle.kernel_texts.specs.Names.{Event, events_of, event_of, HasEvents}
-use Rattle.kernel_texts.specs.FirstBytes.{common_fields_in}
-use Rattle.trace_model.specs.Listing.{Line}
-use Rattle.std.specs.Fmt.{decimal}
-use Rattle.text_model.specs.Text.{hex_text, line_feed, space}
 use Rattle.text_buffer.specs.declared.buffer.TextBuffer.{TextBuffer}
 use Rattle.text_buffer.specs.Putting.{Puts}
 use Rattle.capture_text.specs.declared.form.Form.{Form}
-use Rattle.capture_text.specs.declared.form.Form.TheVariants.{Text, Json}
 use Rattle.capture_text.specs.declared.printer.Printer.{Printer}
-use Rattle.capture_text.specs.Names.{named_part, json_named}
-use Rattle.capture_text.specs.Printing.{record_line, named_line, json_line}
 use Rattle.capture_text.specs.Printed.{AreNames, Prints}
 
 -- a printer keeps its form and its names, and its buffer is given this text

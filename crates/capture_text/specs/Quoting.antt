@@ -1,5 +1,5 @@
 -- Texts between quotation marks, as JSON has them (RFC 8259, section 7), and names that need none.
-use Rattle.std.specs.Prelude.{ℕ, Bool, true, false, ◌||◌, ◌&&◌, ◌==◌, nat_lt, if◌then◌else◌, List, [], ◌∷◌, ◌++◌, map, flat_map, codes}
+use Rattle.std.specs.Prelude.{◌≡◌, ℕ, Bool, true, false, ◌||◌, ◌&&◌, ◌==◌, nat_lt, if◌then◌else◌, List, [], ◌∷◌, ◌++◌, map, flat_map, codes}
 use Rattle.std.specs.Str.{is_utf8}
 use Rattle.text_values.specs.Digits.{pair_of}
 
@@ -33,6 +33,10 @@ escaped is_text b = if nat_lt b 128 then escaped_ascii b else if is_text then b 
 
 abbrev pub escaped_text : Bool → List ℕ → List ℕ
 escaped_text is_text text = flat_map (escaped is_text) text
+
+-- a byte that stays as it is
+abbrev pub IsPlain : Bool → ℕ → Type 0
+IsPlain is_text b = escaped is_text b ≡ b ∷ []
 
 -- a text between quotation marks
 abbrev pub quoted : List ℕ → List ℕ

@@ -1,9 +1,9 @@
 //! Names that are shown, and texts between quotation marks.
-ghost use Rattle.std.specs.Prelude.{◌≡◌, ◌++◌, codes};
+ghost use Rattle.std.specs.Prelude.{◌≡◌, ◌<◌, ◌≤◌, ◌↔◌, ◌++◌, IsTrue, codes, length, slice_index, take};
 ghost use Rattle.text_values.specs.Digits.{pair_of};
 ghost use Rattle.std.specs.Str.{is_utf8};
 ghost use Rattle.text_buffer.specs.Putting.{has_failed, Puts};
-ghost use Rattle.capture_text.specs.Quoting.{shown_byte, shown_name, escaped_ascii, escaped, escaped_text, quoted};
+ghost use Rattle.capture_text.specs.Quoting.{shown_byte, shown_name, escaped_ascii, escaped, escaped_text, IsPlain, quoted};
 
 use command_io::Sink;
 use std::str::from_utf8;
@@ -19,7 +19,19 @@ fn shown_byte(byte: u8) -> u8
     b'?'
 }
 
-/// Puts a name.
+/// Whether all bytes of a name are shown as they are.
+fn is_shown(name: &[u8]) -> bool
+    ensures { IsTrue result ↔ (shown_name name.now ≡ name.now) }
+{
+    for byte in name {
+        if shown_byte(*byte) != *byte {
+            return false;
+        }
+    }
+    true
+}
+
+/// Puts a name: at once, if all of it is shown as it is.
 pub(crate) fn put_name<W: Sink>(buffer: &mut TextBuffer, writer: &mut W, name: &[u8])
     requires { has_failed buffer.old ≡ W.failed writer.old }
     ensures tied { has_failed buffer.new ≡ W.failed writer.new }
@@ -27,6 +39,10 @@ pub(crate) fn put_name<W: Sink>(buffer: &mut TextBuffer, writer: &mut W, name: &
         buffer.old (W.contents writer.old) (W.failed writer.old)
         buffer.new (W.contents writer.new) (W.failed writer.new) }
 {
+    if is_shown(name) {
+        buffer.put(writer, name);
+        return;
+    }
     for byte in name {
         buffer.put(writer, &[shown_byte(*byte)]);
     }
@@ -79,7 +95,32 @@ fn put_escaped<W: Sink>(buffer: &mut TextBuffer, writer: &mut W, is_text: bool, 
     }
 }
 
-/// Puts what is between the quotation marks.
+/// Whether a byte stays as it is between quotation marks, in a text that is UTF-8 or not.
+fn is_plain(is_text: bool, byte: u8) -> bool
+    ensures { IsTrue result ↔ IsPlain is_text byte }
+{
+    match byte {
+        0..=31 | b'"' | b'\\' | 127 => false,
+        128..=255 => is_text,
+        _ => true,
+    }
+}
+
+/// How many bytes stay as they are before the first that doesn't.
+fn plain_length(is_text: bool, text: &[u8]) -> usize
+    ensures within { result ≤ length text.now }
+    ensures plain { escaped_text is_text (take result text.now) ≡ take result text.now }
+    ensures longest { result < length text.now → ¬ IsPlain is_text (slice_index text.now result) }
+{
+    for (index, byte) in text.iter().enumerate() {
+        if !is_plain(is_text, *byte) {
+            return index;
+        }
+    }
+    text.len()
+}
+
+/// Puts what is between the quotation marks. A run of bytes that stay as they are is put at once.
 fn put_escaped_text<W: Sink>(buffer: &mut TextBuffer, writer: &mut W, is_text: bool, text: &[u8])
     requires { has_failed buffer.old ≡ W.failed writer.old }
     ensures tied { has_failed buffer.new ≡ W.failed writer.new }
@@ -87,8 +128,15 @@ fn put_escaped_text<W: Sink>(buffer: &mut TextBuffer, writer: &mut W, is_text: b
         buffer.old (W.contents writer.old) (W.failed writer.old)
         buffer.new (W.contents writer.new) (W.failed writer.new) }
 {
-    for byte in text {
+    let mut rest = text;
+    loop {
+        let (plain, behind) = rest.split_at(plain_length(is_text, rest));
+        buffer.put(writer, plain);
+        let Some((byte, more)) = behind.split_first() else {
+            return;
+        };
         put_escaped(buffer, writer, is_text, *byte);
+        rest = more;
     }
 }
 

@@ -1,8 +1,10 @@
 -- One capture more.
-use Rattle.std.proofs.Common.{◌≡◌, ℕ, suc, ◌+◌, List, [], ◌∷◌, ◌++◌, length, append_assoc, append-nil, refl, sym, ap, ◌∙◌, subst, arith}
+use Rattle.std.proofs.Common.{◌≡◌, ℕ, zero, suc, ◌+◌, List, [], ◌∷◌, ◌++◌, length, take, append_assoc}
+use Rattle.std.proofs.Common.{append-nil, refl, sym, ap, ◌∙◌, subst, arith}
 use Rattle.trace_model.specs.Parcel.{Parcel}
-use Rattle.trace_model.specs.Collection.{IsSame}
+use Rattle.trace_model.specs.Collection.{Agree, IsSame}
 use Rattle.trace_model.proofs.collections.Collections.{same_itself, same_same, same_joined}
+use Rattle.trace_model.proofs.collections.Joined.{below_agrees}
 use Rattle.capture.specs.Pages.{Page, parcels_from}
 use Rattle.capture.specs.Rings.{parcels_of_captures}
 use Rattle.trace_inputs.specs.declared.captured.CpuCapture.{CpuCapture}
@@ -50,16 +52,43 @@ parcels_more cpu (pages ∷ captures) own =
     ∙ ap (λ (n : ℕ). (parcels_from cpu 0 0 pages ++ parcels_of_captures (suc cpu) captures) ++ parcels_from n 0 0 own)
     (let e : suc cpu + length captures ≡ cpu + suc (length captures) = omega arith in e)
 
+-- the parcels of captures, and those of one capture more
+capture_beside : (joined added : List Parcel) (captures : List (List Page)) (own : List Page) (cpu : ℕ)
+    → IsSame joined (parcels_of_captures 0 captures) → added ≡ parcels_from cpu 0 0 own → cpu ≡ 0 + length captures
+    → IsSame (joined ++ added) (parcels_of_captures 0 (captures ++ own ∷ []))
+capture_beside joined added captures own cpu same is cpu_is =
+    let before = parcels_of_captures 0 captures in
+    let own_is : added ≡ parcels_from (0 + length captures) 0 0 own =
+    is ∙ ap (λ (n : ℕ). parcels_from n 0 0 own) cpu_is in
+    let all : before ++ added ≡ parcels_of_captures 0 (captures ++ own ∷ []) =
+    ap (λ (ps : List Parcel). before ++ ps) own_is ∙ sym (parcels_more 0 captures own) in
+    subst (IsSame (joined ++ added)) all (same_joined joined added before added same (same_itself added))
+
 -- a collector to which the parcels of one capture more are added
 pub capture_added : (joined new added : List Parcel) (captures : List (List Page)) (own : List Page) (cpu : ℕ)
-    → IsSame joined (parcels_of_captures 0 captures) → IsSame new (joined ++ added) → added ≡ parcels_from cpu 0 0 own → cpu ≡ 0 + length captures
-    → IsSame new (parcels_of_captures 0 (captures ++ own ∷ []))
+    → IsSame joined (parcels_of_captures 0 captures) → IsSame new (joined ++ added) → added ≡ parcels_from cpu 0 0 own
+    → cpu ≡ 0 + length captures → IsSame new (parcels_of_captures 0 (captures ++ own ∷ []))
 capture_added joined new added captures own cpu same union is cpu_is =
-    let own_is : added ≡ parcels_from (0 + length captures) 0 0 own = is ∙ ap (λ (n : ℕ). parcels_from n 0 0 own) cpu_is in
-    let all : parcels_of_captures 0 captures ++ added ≡ parcels_of_captures 0 (captures ++ own ∷ []) =
-    ap (λ (ps : List Parcel). parcels_of_captures 0 captures ++ ps) own_is ∙ sym (parcels_more 0 captures own) in
     same_same new (joined ++ added) (parcels_of_captures 0 (captures ++ own ∷ [])) union
-    (subst (IsSame (joined ++ added)) all (same_joined joined added (parcels_of_captures 0 captures) added same (same_itself added)))
+    (capture_beside joined added captures own cpu same is cpu_is)
+
+-- its parcels contradict none that the collector keeps
+pub capture_agrees : (joined added : List Parcel) (captures : List (List Page)) (own : List Page) (cpu : ℕ)
+    → IsSame joined (parcels_of_captures 0 captures) → added ≡ parcels_from cpu 0 0 own → cpu ≡ 0 + length captures
+    → Agree (parcels_of_captures 0 (captures ++ own ∷ [])) → Agree (joined ++ added)
+capture_agrees joined added captures own cpu same is cpu_is agree =
+    below_agrees (joined ++ added) (parcels_of_captures 0 (captures ++ own ∷ []))
+    (capture_beside joined added captures own cpu same is cpu_is).below agree
+
+-- the pages of the first CPUs
+pub front_read : (parts : List ModelPart) (cpu k : ℕ) (cpus : List CpuCapture) (captures : List (List Page))
+    → AreReadFrom parts cpu cpus captures → AreReadFrom parts cpu (take k cpus) (take k captures)
+front_read parts cpu zero cpus captures read = tt
+front_read parts cpu (suc k) [] [] read = tt
+front_read parts cpu (suc k) [] (own ∷ captures) read = absurd read
+front_read parts cpu (suc k) (found ∷ cpus) [] read = absurd read
+front_read parts cpu (suc k) (found ∷ cpus) (own ∷ captures) read =
+    (read.0, front_read parts (suc cpu) k cpus captures read.1)
 
 -- of nothing there are no pages
 pub none_read : (parts : List ModelPart) (cpu : ℕ) (captures : List (List Page)) → AreReadFrom parts cpu [] captures → captures ≡ []

@@ -2,3 +2,5 @@ mod Gathered
 mod Captures
 mod PagesOfAll
 mod Printing
+mod OneRuns
+mod OneOutput

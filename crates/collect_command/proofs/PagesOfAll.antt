@@ -4,7 +4,7 @@ use Rattle.std.specs.List.{slice_get}
 use Rattle.capture.specs.Pages.{Page}
 use Rattle.trace_inputs.specs.declared.captured.CpuCapture.{CpuCapture}
 use Rattle.trace_inputs.specs.Files.{ModelPart, parts_of_cpu}
-use Rattle.trace_inputs.specs.Captures.{IsCpuCaptured}
+use Rattle.trace_inputs.specs.Captures.{IsCpuCaptured, AreCpusCaptured}
 use Rattle.trace_inputs.specs.Losses.{settled}
 use Rattle.collect_command.specs.Gathered.{AreCpusPages, AreReadFrom}
 
@@ -18,7 +18,7 @@ pub record AllPages (overrun : ℕ → Option ℕ) (parts : List ModelPart) (cpu
 abbrev IsOf : (overrun : ℕ → Option ℕ) → List ModelPart → CpuCapture → ℕ → Type 0
 IsOf overrun parts found cpu = IsCpuCaptured cpu (overrun cpu) (parts_of_cpu cpu parts) found
 
-pub all_pages : (overrun : ℕ → Option ℕ) (parts : List ModelPart) (cpu : ℕ) (cpus : List CpuCapture)
+all_pages : (overrun : ℕ → Option ℕ) (parts : List ModelPart) (cpu : ℕ) (cpus : List CpuCapture)
     → ((k : ℕ) (found : CpuCapture) → slice_get cpus k ≡ Some found → IsOf overrun parts found (cpu + k))
     → AllPages overrun parts cpu cpus
 all_pages overrun parts cpu [] each = record { captures = []; read = tt; pages_are = tt; count = refl }
@@ -40,3 +40,10 @@ all_pages overrun parts cpu (found ∷ cpus) each =
       );
       count = ap suc others.count;
     }
+
+-- the pages of all CPUs
+pub pages_captured : (overrun : ℕ → Option ℕ) (parts : List ModelPart) (cpus : List CpuCapture)
+    → AreCpusCaptured overrun parts cpus → AllPages overrun parts 0 cpus
+pages_captured overrun parts cpus are =
+    all_pages overrun parts 0 cpus (λ k found at.
+    subst (IsOf overrun parts found) (let e : k ≡ 0 + k = omega arith in e) (are.each k found at))

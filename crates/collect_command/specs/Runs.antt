@@ -1,5 +1,5 @@
 -- What a run of `collect` does with its inputs and its sink.
-use Rattle.std.specs.Prelude.{◌≡◌, ◌⊎◌, ℕ, Bool, false, if◌then◌else◌, List, ◌++◌, length, Option, Some, None}
+use Rattle.std.specs.Prelude.{◌≡◌, ◌⊎◌, ℕ, ◌^◌, ◌-◌, Bool, false, if◌then◌else◌, List, ◌++◌, length, min, Option, Some, None}
 use Rattle.trace_model.specs.declared.limits.TheConstants.{MAX_CPUS}
 use Rattle.trace_dat.specs.Contents.{EventFormat}
 use Rattle.command_io.specs.declared.command.TheConstants.{MEMORY_LINE}
@@ -7,10 +7,11 @@ use Rattle.capture.specs.Pages.{Page}
 use Rattle.trace_inputs.specs.declared.captured.Input.{Input}
 use Rattle.trace_inputs.specs.declared.fault.InputFault.{InputFault}
 use Rattle.trace_inputs.specs.declared.fault.InputFault.TheVariants as faults
-use Rattle.trace_inputs.specs.Files.{File, ModelPart, ArePartsOf, all_formats}
+use Rattle.trace_inputs.specs.Files.{File, ModelPart, ArePartsOf, all_formats, all_instances}
 use Rattle.trace_inputs.specs.Losses.{overrun_in}
 use Rattle.trace_inputs.specs.Inputs.{AreRead, IsUnread}
 use Rattle.capture_text.specs.declared.form.Form.{Form}
+use Rattle.collect_command.specs.declared.ending.Collected.{Collected}
 use Rattle.collect_command.specs.declared.ending.Ending.{Ending}
 use Rattle.collect_command.specs.declared.ending.Ending.TheVariants.{Malformed, Numbers, NoMemory, NotRead}
 use Rattle.collect_command.specs.Gathered.{AreCpusPages}
@@ -57,23 +58,27 @@ TellsFault index faults.Numbers contents after failed ending = IsWritten content
 TellsFault index faults.NoMemory contents after failed ending = IsMemoryLine contents after failed ending
 
 module _ {R : Type 0} (remaining : R → Option (List ℕ)) (has_failed : R → Bool) where
-  -- all inputs were read, and are listed, or memory was refused before anything was written
+  -- all inputs were read, and are listed, or memory was refused before anything was written; so many instances aren't
+  -- listed
   pub record CollectsAll (asked : Asked) (old new : List (Input R)) (contents after : Option (List ℕ)) (failed : Bool)
-      (ending : Ending) : Type 0 where
+      (collected : Collected) : Type 0 where
     pub files : List File
     pub are_read : AreRead remaining has_failed old new files
-    pub told : ListsFiles asked files contents after failed ending ⊎ IsMemoryLine contents after failed ending
+    pub told : ListsFiles asked files contents after failed collected.ending
+        ⊎ IsMemoryLine contents after failed collected.ending
+    pub instances_are : collected.instances ≡ min (all_instances files) (2 ^ 64 - 1)
 
   -- an input couldn't be read
   pub record CollectsNone (asked : Asked) (old new : List (Input R)) (contents after : Option (List ℕ)) (failed : Bool)
-      (ending : Ending) : Type 0 where
+      (collected : Collected) : Type 0 where
     pub index : ℕ
     pub fault : InputFault
     pub unread : IsUnread remaining has_failed asked.page old new index fault
-    pub told : TellsFault index fault contents after failed ending
+    pub told : TellsFault index fault contents after failed collected.ending
+    pub no_instances : collected.instances ≡ 0
 
   -- What a run of `collect` does.
   abbrev pub IsCollectRun : (asked : Asked) (old new : List (Input R)) (contents after : Option (List ℕ))
-      (failed : Bool) → Ending → Type 0
-  IsCollectRun asked old new contents after failed ending =
-      CollectsAll asked old new contents after failed ending ⊎ CollectsNone asked old new contents after failed ending
+      (failed : Bool) → Collected → Type 0
+  IsCollectRun asked old new contents after failed collected =
+      CollectsAll asked old new contents after failed collected ⊎ CollectsNone asked old new contents after failed collected

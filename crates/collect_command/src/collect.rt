@@ -1,5 +1,5 @@
 //! The command `collect`.
-ghost use Rattle.std.specs.Prelude.{◌≡◌, ◌<◌, ◌≤◌, false, if◌then◌else◌, List, All, length, Some, None, IfOk, OnErr};
+ghost use Rattle.std.specs.Prelude.{◌≡◌, ◌<◌, ◌≤◌, ◌⊎◌, false, if◌then◌else◌, List, All, length, Some, None, IfOk, OnErr};
 ghost use Rattle.trace_model.specs.declared.limits.TheConstants.{MAX_CPUS};
 ghost use Rattle.trace_dat.specs.Contents.{EventFormat};
 ghost use Rattle.kernel_texts.specs.Names.{HasEvents};
@@ -10,7 +10,7 @@ ghost use Rattle.collect_command.specs.Asking.{asked_by};
 ghost use Rattle.collect_command.specs.Listings.{IsWritten};
 ghost use Rattle.collect_command.specs.Runs.{ListsFiles, TellsFault, IsMemoryLine, IsCollectRun};
 
-use crate::ending::Ending;
+use crate::ending::{Collected, Ending};
 use crate::fault_line::fault_line;
 use crate::listing::print_listing;
 use capture_text::Form;
@@ -97,9 +97,11 @@ fn list_captured<W: Sink>(
     captured: Captured,
     writer: &mut W,
 ) -> Result<Ending, NoMemory>
-    requires { W.failed writer.old ≡ false }
+    requires sound { W.failed writer.old ≡ false }
+    requires read { (files : List File) × AreCaptured collecting.now.page files captured }
     ensures listed { (files : List File) → AreCaptured collecting.now.page files captured → IfOk result (λ ending.
-        ListsFiles (asked_by collecting.now) files (W.contents writer.old) (W.contents writer.new) (W.failed writer.new) ending) }
+        ListsFiles (asked_by collecting.now) files (W.contents writer.old) (W.contents writer.new)
+        (W.failed writer.new) ending) }
     ensures refused { OnErr result (writer.new ≡ writer.old) }
 {
     let Captured { cpus, names, .. } = captured;
@@ -110,6 +112,26 @@ fn list_captured<W: Sink>(
     Ok(ending)
 }
 
+/// Lists what was read, or reports that memory was refused.
+fn list_or_tell<W: Sink>(
+    alloc: Global,
+    collecting: &Collecting<'_>,
+    captured: Captured,
+    writer: &mut W,
+) -> Ending
+    requires sound { W.failed writer.old ≡ false }
+    requires read { (files : List File) × AreCaptured collecting.now.page files captured }
+    ensures { (files : List File) → AreCaptured collecting.now.page files captured
+        → ListsFiles (asked_by collecting.now) files (W.contents writer.old) (W.contents writer.new)
+        (W.failed writer.new) result
+        ⊎ IsMemoryLine (W.contents writer.old) (W.contents writer.new) (W.failed writer.new) result }
+{
+    match list_captured(alloc, collecting, captured, writer) {
+        Ok(ending) => ending,
+        Err(NoMemory) => tell_memory(writer),
+    }
+}
+
 /// Lists files that a kernel's trace was read to: all that they have, by time, and what was lost. Nothing is written
 /// before all are read, and memory is asked for only before the first byte is written.
 pub fn collect_to<R: Source, W: Sink>(
@@ -117,7 +139,7 @@ pub fn collect_to<R: Source, W: Sink>(
     collecting: &Collecting<'_>,
     inputs: &mut [Input<R>],
     writer: &mut W,
-) -> Ending
+) -> Collected
     requires page { 48 ≤ collecting.now.page }
     requires some { 0 < length inputs.old }
     requires cpus { All (λ input. input.cpu.0 < MAX_CPUS) inputs.old }
@@ -127,10 +149,17 @@ pub fn collect_to<R: Source, W: Sink>(
         (W.contents writer.old) (W.contents writer.new) (W.failed writer.new) result }
 {
     match read_inputs(alloc, collecting.page, inputs) {
-        Ok(captured) => match list_captured(alloc, collecting, captured, writer) {
-            Ok(ending) => ending,
-            Err(NoMemory) => tell_memory(writer),
-        },
-        Err(unread) => tell_fault(alloc, unread, writer),
+        Ok(captured) => {
+            let instances = captured.instances;
+            let ending = list_or_tell(alloc, collecting, captured, writer);
+            Collected { ending, instances }
+        }
+        Err(unread) => {
+            let ending = tell_fault(alloc, unread, writer);
+            Collected {
+                ending,
+                instances: 0,
+            }
+        }
     }
 }

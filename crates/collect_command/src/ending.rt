@@ -46,3 +46,13 @@ impl Ending {
         }
     }
 }
+
+/// What a run of `collect` answers.
+#[derive(Clone, Copy, Debug, PartialEq, Eq)]
+pub struct Collected {
+    /// How it ends.
+    pub ending: Ending,
+    /// How many instances the files of trace-cmd have, which aren't listed: buffers beside the main one. It is 2^64 - 1
+    /// if there are more, and 0 if a file can't be read.
+    pub instances: u64,
+}

@@ -5,7 +5,8 @@ mod collect;
 mod ending;
 mod fault_line;
 mod gather;
+pub mod laws;
 mod listing;
 
 pub use collect::{Collecting, collect_to};
-pub use ending::Ending;
+pub use ending::{Collected, Ending};

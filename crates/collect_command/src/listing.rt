@@ -87,10 +87,12 @@ pub(crate) fn print_listing<W: Sink>(
     cpus: &[CpuCapture],
     writer: &mut W,
 ) -> Result<Ending, NoMemory>
-    requires { W.failed writer.old ≡ false }
+    requires sound { W.failed writer.old ≡ false }
+    requires read { (parts : List ModelPart) × (captures : List (List Page)) × AreReadFrom parts 0 cpus.now captures }
     ensures listed { (formats : Option (List EventFormat)) (parts : List ModelPart) (captures : List (List Page))
         → AreNames names.entry formats → AreReadFrom parts 0 cpus.now captures → IfOk result (λ ending.
-        IsListed form formats parts captures (W.contents writer.old) (W.contents writer.new) (W.failed writer.new) ending) }
+        IsListed form formats parts captures (W.contents writer.old) (W.contents writer.new) (W.failed writer.new)
+        ending) }
     ensures refused { OnErr result (writer.new ≡ writer.old) }
 {
     let collector = gather(alloc, cpus)?;

@@ -1,1 +1,2 @@
 pub mod StatusFour
+pub mod SameCpus

@@ -4,7 +4,7 @@ ghost use Rattle.command_io.specs.CommandRun.{IsCommandRun, IsRefusedCall, sourc
 ghost use Rattle.command_line.specs.declared.call.Call.{Call as CallSeen};
 ghost use Rattle.trace_cli.specs.Answers.{CallGives, HasSource};
 
-use command_io::{DONE, Sink, Source, USAGE, print_memory_line};
+use command_io::{Sink, Source, USAGE, print_memory_line};
 use command_line::{Call, CallFault};
 use image_dump::dump_to;
 use replay_command::replay_to;
@@ -13,9 +13,32 @@ use std::alloc::Global;
 use std::sync::Wait;
 use std::thread::Threads;
 
-/// Carries out the command that was called, over these ends, if it is one that reads one source: for `collect` nothing
-/// is done. If the command line is refused, nothing is read or
-/// written; if memory was refused to it, only the line for that is written. Gives the exit status.
+/// Carries out a command that reads one source, over these ends, and gives the exit status.
+fn answer_call<Rt: Threads + Wait + Sync, R: Source, W: Sink>(
+    rt: &Rt,
+    alloc: Global,
+    call: Call<'_>,
+    reader: &mut R,
+    writer: &mut W,
+) -> u8
+    requires one_source { HasSource call }
+    requires sound_reader { R.failed reader.old ≡ false }
+    requires sound_writer { W.failed writer.old ≡ false }
+    ensures { IsCommandRun (CallGives call.entry)
+        (source_run R.remaining R.count R.failed reader.old reader.new)
+        (sink_run W.contents W.failed writer.old writer.new) result }
+{
+    match call {
+        Call::Replay { log } => replay_to(alloc, reader, writer, log),
+        Call::Run => run_to(rt, alloc, reader, writer),
+        Call::Dump => dump_to(alloc, reader, writer),
+        Call::Collect(_) => unreachable!(),
+    }
+}
+
+/// Carries out the command that was called, which is one that reads one source, over these ends. If the command line is
+/// refused, nothing is read or written; if memory was refused to it, only the line for that is written. Gives the exit
+/// status.
 pub fn answer_to<Rt: Threads + Wait + Sync, R: Source, W: Sink>(
     rt: &Rt,
     alloc: Global,
@@ -23,9 +46,10 @@ pub fn answer_to<Rt: Threads + Wait + Sync, R: Source, W: Sink>(
     reader: &mut R,
     writer: &mut W,
 ) -> u8
+    requires one_source { (asked : CallSeen) → call ≡ Ok asked → HasSource asked }
     requires sound_reader { R.failed reader.old ≡ false }
     requires sound_writer { W.failed writer.old ≡ false }
-    ensures called { (asked : CallSeen) → call.entry ≡ Ok asked → HasSource asked → IsCommandRun (CallGives asked)
+    ensures called { (asked : CallSeen) → call.entry ≡ Ok asked → IsCommandRun (CallGives asked)
         (source_run R.remaining R.count R.failed reader.old reader.new)
         (sink_run W.contents W.failed writer.old writer.new) result }
     ensures refused { IsRefusedCall (call.entry ≡ Err CallFault.Usage) (call.entry ≡ Err CallFault.NoMemory)
@@ -33,10 +57,7 @@ pub fn answer_to<Rt: Threads + Wait + Sync, R: Source, W: Sink>(
         (sink_run W.contents W.failed writer.old writer.new) result }
 {
     match call {
-        Ok(Call::Replay { log }) => replay_to(alloc, reader, writer, log),
-        Ok(Call::Run) => run_to(rt, alloc, reader, writer),
-        Ok(Call::Dump) => dump_to(alloc, reader, writer),
-        Ok(Call::Collect(_)) => DONE,
+        Ok(call) => answer_call(rt, alloc, call, reader, writer),
         Err(CallFault::NoMemory) => print_memory_line(writer),
         Err(CallFault::Usage) => USAGE,
     }

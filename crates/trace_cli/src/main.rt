@@ -17,8 +17,8 @@ pub use replay_command::replay_to;
 pub use run_command::run_to;
 use std::process::ExitCode;
 
-// What is chosen here, `answer_to` and `message_for` say, and for `collect` `collect_to`. The rest has no contract: that
-// the line goes to standard error, and that the process ends with the status.
+// What is chosen here, `answer_to` and `message_for` say, and of `collect` the functions that it calls. The rest has no
+// contract: that the line goes to standard error, and that the process ends with the status.
 fn main(rt: HostRuntime) -> ExitCode {
     let words = given_words(&rt);
     let call = given_call(rt.alloc(), &words);

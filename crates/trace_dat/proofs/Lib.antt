@@ -6,3 +6,7 @@ pub mod Spelled
 pub mod SpelledFile
 pub mod SpelledSections
 pub mod SpelledWhole
+pub mod FieldsRead
+pub mod OptionsSame
+pub mod SixRead
+pub mod SevenRead

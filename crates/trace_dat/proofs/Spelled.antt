@@ -1,12 +1,12 @@
 -- What is read at the front of a part is spelled there.
-use Rattle.std.proofs.Common.{◌≡◌, ◌==◌, ℕ, zero, suc, ◌+◌, ◌≤◌, Bool, true, false, cond, ltb, List, [], ◌∷◌, ◌++◌, length, take, drop, flat_map, Option, Some, None, Ok, Err, refl, sym, ap, subst, ◌∙◌, append_assoc, arith, inl, inr}
+use Rattle.std.proofs.Common.{◌≡◌, ◌==◌, ℕ, zero, suc, ◌+◌, ◌<◌, ◌≤◌, Bool, true, false, cond, ltb, List, [], ◌∷◌, ◌++◌, length, take, drop, flat_map, Option, Some, None, Ok, Err, refl, sym, ap, subst, ◌∙◌, append_assoc, arith, inl, inr}
 use Rattle.std.specs.Prelude.{nat_eq}
-use Rattle.std.specs.List.{position, starts_with}
-use Rattle.std.specs.Int.{Width, w32, w64, byte_len, from_le_bytes, to_le_bytes}
-use Rattle.std.proofs.lemmas.Bool.{cases_lt, ltb-false, eqb-true}
+use Rattle.std.specs.List.{AllByRecursion, position, starts_with}
+use Rattle.std.specs.Int.{Width, w16, w32, w64, byte_len, from_le_bytes, to_le_bytes}
+use Rattle.std.proofs.lemmas.Bool.{cases_lt, ltb-false, eqb-true, eqb-false}
 use Rattle.std.proofs.lemmas.List.{take-append-drop, length-take, get_or-drop, get_or-take, get_or_past, drop_more}
 use Rattle.std.proofs.lemmas.List.Quantifiers.{position-Some}
-use Rattle.std.proofs.lemmas.Nat.{le_bytes_4, le_bytes_8}
+use Rattle.std.proofs.lemmas.Nat.{le_bytes_2, le_bytes_4, le_bytes_8, from_le_bytes-to_le_bytes_2, from_le_bytes-to_le_bytes_4, from_le_bytes-to_le_bytes_8}
 use Rattle.std.proofs.lemmas.Slice.Eq.{starts_is}
 use Rattle.std.proofs.lemmas.Bool.Decides.{Decides-eqb}
 use Rattle.trace_dat.specs.declared.fault.Fault.{Fault}
@@ -17,7 +17,7 @@ use Rattle.trace_dat.specs.Fields.{Reading, ◌>>=◌, front, behind, part_at, n
 use Rattle.trace_dat.specs.Contents.{EventFormat}
 use Rattle.trace_dat.specs.Formats.{ring_system, format_at, formats_at, system_at, systems_at}
 use Rattle.trace_dat.specs.Versions.{ended, page_title, record_title, titled_at, all_formats_at, tables_at}
-use Rattle.trace_dat.specs.Spelling.{IsBytes, block, formats_bytes, System, system_bytes, systems_bytes, SixTexts, six_bytes, named_formats, systems_formats, six_formats}
+use Rattle.trace_dat.specs.Spelling.{IsBytes, Fits, IsText, FitsBlock, FormatsFit, SystemFits, SystemsFit, SixTextsFit, block, formats_bytes, System, system_bytes, systems_bytes, SixTexts, six_bytes, named_formats, systems_formats, six_formats}
 use Rattle.trace_dat.proofs.Loops.{same_value}
 
 pub IsBytes-drop : (n : ℕ) (bytes : List ℕ) → IsBytes bytes → IsBytes (drop n bytes)
@@ -66,15 +66,37 @@ part_takes len part body rest fits e =
     subst (λ x. Takes part x.0.bytes x.1 × (length x.0.bytes ≡ len) × IsBytes x.0.bytes) g.1
     (whole, omega (arith, length-take len part.bytes), IsBytes-take len part.bytes fits)
 
--- the bytes of a number of some width spell it
-abbrev pub IsWide : Width → Type 0
-IsWide w = (bytes : List ℕ) (n : ℕ) → length bytes ≡ byte_len w → IsBytes bytes → n ≡ from_le_bytes w bytes → to_le_bytes w n ≡ bytes
+-- the bytes of a number of some width spell it, and are read as that number again
+pub record IsWide (w : Width) : Type 0 where
+  pub len : (n : ℕ) → length (to_le_bytes w n) ≡ byte_len w
+  pub back : (bytes : List ℕ) (n : ℕ) → length bytes ≡ byte_len w → IsBytes bytes → n ≡ from_le_bytes w bytes
+      → to_le_bytes w n ≡ bytes
+  pub again : (n : ℕ) → Fits w n → from_le_bytes w (to_le_bytes w n) ≡ n
+  pub below : (bytes : List ℕ) → IsBytes bytes → Fits w (from_le_bytes w bytes)
+
+pub wide16 : IsWide w16
+wide16 = record {
+  len = λ n. refl;
+  back = λ bytes n len fits is. le_bytes_2 bytes n len fits is;
+  again = λ n lt. from_le_bytes-to_le_bytes_2 n lt;
+  below = λ bytes fits. omega (arith, fits 0, fits 1);
+}
 
 pub wide32 : IsWide w32
-wide32 bytes n len fits is = le_bytes_4 bytes n len fits is
+wide32 = record {
+  len = λ n. refl;
+  back = λ bytes n len fits is. le_bytes_4 bytes n len fits is;
+  again = λ n lt. from_le_bytes-to_le_bytes_4 n lt;
+  below = λ bytes fits. omega (arith, fits 0, fits 1, fits 2, fits 3);
+}
 
 pub wide64 : IsWide w64
-wide64 bytes n len fits is = le_bytes_8 bytes n len fits is
+wide64 = record {
+  len = λ n. refl;
+  back = λ bytes n len fits is. le_bytes_8 bytes n len fits is;
+  again = λ n lt. from_le_bytes-to_le_bytes_8 n lt;
+  below = λ bytes fits. omega (arith, fits 0, fits 1, fits 2, fits 3, fits 4, fits 5, fits 6, fits 7);
+}
 
 pub number_takes : (w : Width) → IsWide w → (part : FilePart) (n : ℕ) (rest : FilePart) → IsBytes part.bytes
     → number_at w part ≡ Ok (n, rest) → Takes part (to_le_bytes w n) rest
@@ -84,11 +106,21 @@ number_takes w wide part n rest fits e =
     let t = part_takes (byte_len w) part b.0.0 b.0.1 fits b.1 in
     let same = same_value (from_le_bytes w b.0.0.bytes, b.0.1) (n, rest) b.2 in
     let number : from_le_bytes w b.0.0.bytes ≡ n = ap (λ p. p.0) same in
-    let spelled : to_le_bytes w n ≡ b.0.0.bytes = wide b.0.0.bytes n t.1 t.2 (sym number) in
+    let spelled : to_le_bytes w n ≡ b.0.0.bytes = wide.back b.0.0.bytes n t.1 t.2 (sym number) in
     subst (λ r. Takes part (to_le_bytes w n) r) (ap (λ p. p.1) same) (subst (λ bs. Takes part bs b.0.1) (sym spelled) t.0)
 
+pub number_fits : (w : Width) → IsWide w → (part : FilePart) (n : ℕ) (rest : FilePart) → IsBytes part.bytes
+    → number_at w part ≡ Ok (n, rest) → Fits w n
+unfolding number_at
+number_fits w wide part n rest fits e =
+    let b = bind_ok (part_at (byte_len w) part) (λ bytes. Ok (from_le_bytes w bytes.0.bytes, bytes.1)) (n, rest) e in
+    let t = part_takes (byte_len w) part b.0.0 b.0.1 fits b.1 in
+    let same = same_value (from_le_bytes w b.0.0.bytes, b.0.1) (n, rest) b.2 in
+    subst (λ k. Fits w k) (ap (λ p. p.0) same) (wide.below b.0.0.bytes t.2)
+
 pub block_takes : (w : Width) → IsWide w → (part body rest : FilePart) → IsBytes part.bytes
-    → block_at w part ≡ Ok (body, rest) → Takes part (block w body.bytes) rest × IsBytes body.bytes
+    → block_at w part ≡ Ok (body, rest)
+    → Takes part (block w body.bytes) rest × IsBytes body.bytes × FitsBlock w body.bytes
 unfolding block_at
 block_takes w wide part body rest fits e =
     let b = bind_ok (number_at w part) (λ len. part_at len.0 len.1) (body, rest) e in
@@ -97,6 +129,7 @@ block_takes w wide part body rest fits e =
       subst (λ k. Takes part (to_le_bytes w k ++ body.bytes) rest) (sym t.1)
           (Takes-then part (to_le_bytes w b.0.0) b.0.1 body.bytes rest n t.0),
       t.2,
+      subst (λ k. Fits w k) (sym t.1) (number_fits w wide part b.0.0 b.0.1 fits b.1),
     )
 
 text_to_takes : (end : Option ℕ) (part : FilePart) (text : List ℕ) (rest : FilePart) → IsBytes part.bytes
@@ -118,6 +151,21 @@ pub text_takes : (part : FilePart) (text : List ℕ) (rest : FilePart) → IsByt
 unfolding text_at
 text_takes part text rest fits e =
     text_to_takes (position (λ b. b == 0) part.bytes) part text rest fits refl e
+
+text_to_ends : (end : Option ℕ) (part : FilePart) (text : List ℕ) (rest : FilePart)
+    → position (λ b. b == 0) part.bytes ≡ end → text_to end part ≡ Ok (text, rest) → IsText text
+text_to_ends None part text rest there e = absurd cc
+text_to_ends (Some len) part text rest there e =
+    let found = position-Some (λ b. b == 0) part.bytes len 0 there in
+    let none : IsText (take len part.bytes) = λ i lt.
+    let before : i < len = omega (arith, lt, length-take len part.bytes) in
+    rw (get_or-take len part.bytes i 0 before) (eqb-false _ _ (found.2 i before)) in
+    subst (λ xs. IsText xs) (ap (λ p. p.0) (same_value (take len part.bytes, behind (len + 1) part) (text, rest) e)) none
+
+-- a text that is read has no zero byte
+pub text_ends : (part : FilePart) (text : List ℕ) (rest : FilePart) → text_at part ≡ Ok (text, rest) → IsText text
+unfolding text_at
+text_ends part text rest e = text_to_ends (position (λ b. b == 0) part.bytes) part text rest refl e
 
 pub passed_ok : {A : Type 0} (b : Bool) (d : Fault) (x y : A) → cond b (Ok x) (Err d) ≡ Ok y → (b ≡ true) × (x ≡ y)
 passed_ok true d x y e = (refl, cc)
@@ -143,18 +191,19 @@ expected_takes text cause part rest fits e =
 format_takes : (system : List ℕ) (part : FilePart) (found : List EventFormat) (rest : FilePart) → IsBytes part.bytes
     → format_at system part ≡ Ok (found, rest)
     → (text : List ℕ) × Takes part (block w64 text) rest × (found ≡ record { system = system; text = text } ∷ [])
+    × FitsBlock w64 text
 unfolding format_at
 format_takes system part found rest fits e =
     let b = bind_ok (block_at w64 part) (λ text. Ok (record { system = system; text = text.0.bytes } ∷ [], text.1)) (found, rest) e in
     let t = block_takes w64 wide64 part b.0.0 b.0.1 fits b.1 in
     let same = same_value (record { system = system; text = b.0.0.bytes } ∷ [], b.0.1) (found, rest) b.2 in
-    (b.0.0.bytes, subst (λ r. Takes part (block w64 b.0.0.bytes) r) (ap (λ p. p.1) same) t.0, sym (ap (λ p. p.0) same))
+    (b.0.0.bytes, subst (λ r. Takes part (block w64 b.0.0.bytes) r) (ap (λ p. p.1) same) t.0, sym (ap (λ p. p.0) same), t.2)
 
 -- formats that are read are spelled, this count of them
 abbrev SpellsFormats : List ℕ → ℕ → FilePart → List EventFormat → FilePart → Type 0
 SpellsFormats system count part found rest =
     (texts : List (List ℕ)) × (length texts ≡ count) × Takes part (flat_map (block w64) texts) rest
-    × (found ≡ named_formats system texts)
+    × (found ≡ named_formats system texts) × AllByRecursion (FitsBlock w64) texts
 
 each_format_takes : (system : List ℕ) (count index : ℕ) (part : FilePart) (found : List EventFormat) (rest : FilePart)
     → IsBytes part.bytes → all_at (λ _. format_at system) index count part ≡ Ok (found, rest)
@@ -162,7 +211,7 @@ each_format_takes : (system : List ℕ) (count index : ℕ) (part : FilePart) (f
 unfolding all_at
 each_format_takes system zero index part found rest fits e =
     let same = same_value ([], part) (found, rest) e in
-    subst (λ x. SpellsFormats system 0 part x.0 x.1) same ([], refl, record { whole = refl; fits = fits }, refl)
+    subst (λ x. SpellsFormats system 0 part x.0 x.1) same ([], refl, record { whole = refl; fits = fits }, refl, tt)
 each_format_takes system (suc count) index part found rest fits e =
     let b = bind_ok (format_at system part) (λ first. all_at (λ _. format_at system) (index + 1) count first.1 >>= λ others. Ok (first.0 ++ others.0, others.1)) (found, rest) e in
     let d = bind_ok (all_at (λ _. format_at system) (index + 1) count b.0.1) (λ others. Ok (b.0.0 ++ others.0, others.1)) (found, rest) b.2 in
@@ -172,12 +221,13 @@ each_format_takes system (suc count) index part found rest fits e =
     ap (λ xs. xs ++ d.0.0) one.2 ∙ ap (λ xs. record { system = system; text = one.0 } ∷ xs) more.3 in
     let same = same_value (b.0.0 ++ d.0.0, d.0.1) (found, rest) d.2 in
     subst (λ x. SpellsFormats system (suc count) part x.0 x.1) same
-    (one.0 ∷ more.0, ap (λ n. suc n) more.1, Takes-then part (block w64 one.0) b.0.1 (flat_map (block w64) more.0) d.0.1 one.1 more.2, lists)
+    (one.0 ∷ more.0, ap (λ n. suc n) more.1, Takes-then part (block w64 one.0) b.0.1 (flat_map (block w64) more.0) d.0.1 one.1 more.2, lists, (one.3, more.4))
 
 -- the formats of a system
 abbrev pub AreSpelled : List ℕ → FilePart → List EventFormat → FilePart → Type 0
 AreSpelled system part found rest =
     (texts : List (List ℕ)) × Takes part (formats_bytes texts) rest × (found ≡ named_formats system texts)
+    × FormatsFit texts
 
 pub formats_take : (system : List ℕ) (part : FilePart) (found : List EventFormat) (rest : FilePart) → IsBytes part.bytes
     → formats_at system part ≡ Ok (found, rest) → AreSpelled system part found rest
@@ -190,6 +240,7 @@ formats_take system part found rest fits e =
       subst (λ k. Takes part (to_le_bytes w32 k ++ flat_map (block w64) t.0) rest) (sym t.1)
           (Takes-then part (to_le_bytes w32 b.0.0) b.0.1 (flat_map (block w64) t.0) rest n t.2),
       t.3,
+      (subst (λ k. Fits w32 k) (sym t.1) (number_fits w32 wide32 part b.0.0 b.0.1 fits b.1), t.4),
     )
 
 -- ---- systems
@@ -198,6 +249,7 @@ formats_take system part found rest fits e =
 abbrev SpellsSystem : FilePart → List EventFormat → FilePart → Type 0
 SpellsSystem part found rest =
     (system : System) × Takes part (system_bytes system) rest × (found ≡ named_formats system.name system.texts)
+    × SystemFits system
 
 system_takes : (part : FilePart) (found : List EventFormat) (rest : FilePart) → IsBytes part.bytes
     → system_at part ≡ Ok (found, rest) → SpellsSystem part found rest
@@ -206,13 +258,13 @@ system_takes part found rest fits e =
     let b = bind_ok (text_at part) (λ name. formats_at name.0 name.1) (found, rest) e in
     let n = text_takes part b.0.0 b.0.1 fits b.1 in
     let t = formats_take b.0.0 b.0.1 found rest n.fits b.2 in
-    (record { name = b.0.0; texts = t.0 }, Takes-then part (ended b.0.0) b.0.1 (formats_bytes t.0) rest n t.1, t.2)
+    (record { name = b.0.0; texts = t.0 }, Takes-then part (ended b.0.0) b.0.1 (formats_bytes t.0) rest n t.1, t.2, (text_ends part b.0.0 b.0.1 b.1, t.3))
 
 -- systems that are read are spelled, this count of them
 abbrev SpellsSystems : ℕ → FilePart → List EventFormat → FilePart → Type 0
 SpellsSystems count part found rest =
     (systems : List System) × (length systems ≡ count) × Takes part (flat_map system_bytes systems) rest
-    × (found ≡ systems_formats systems)
+    × (found ≡ systems_formats systems) × AllByRecursion SystemFits systems
 
 each_system_takes : (count index : ℕ) (part : FilePart) (found : List EventFormat) (rest : FilePart)
     → IsBytes part.bytes → all_at (λ _. system_at) index count part ≡ Ok (found, rest)
@@ -220,7 +272,7 @@ each_system_takes : (count index : ℕ) (part : FilePart) (found : List EventFor
 unfolding all_at
 each_system_takes zero index part found rest fits e =
     let same = same_value ([], part) (found, rest) e in
-    subst (λ x. SpellsSystems 0 part x.0 x.1) same ([], refl, record { whole = refl; fits = fits }, refl)
+    subst (λ x. SpellsSystems 0 part x.0 x.1) same ([], refl, record { whole = refl; fits = fits }, refl, tt)
 each_system_takes (suc count) index part found rest fits e =
     let b = bind_ok (system_at part) (λ first. all_at (λ _. system_at) (index + 1) count first.1 >>= λ others. Ok (first.0 ++ others.0, others.1)) (found, rest) e in
     let d = bind_ok (all_at (λ _. system_at) (index + 1) count b.0.1) (λ others. Ok (b.0.0 ++ others.0, others.1)) (found, rest) b.2 in
@@ -230,11 +282,12 @@ each_system_takes (suc count) index part found rest fits e =
     ap (λ xs. xs ++ d.0.0) one.2 ∙ ap (λ xs. named_formats one.0.name one.0.texts ++ xs) more.3 in
     let same = same_value (b.0.0 ++ d.0.0, d.0.1) (found, rest) d.2 in
     subst (λ x. SpellsSystems (suc count) part x.0 x.1) same
-    (one.0 ∷ more.0, ap (λ n. suc n) more.1, Takes-then part (system_bytes one.0) b.0.1 (flat_map system_bytes more.0) d.0.1 one.1 more.2, lists)
+    (one.0 ∷ more.0, ap (λ n. suc n) more.1, Takes-then part (system_bytes one.0) b.0.1 (flat_map system_bytes more.0) d.0.1 one.1 more.2, lists, (one.3, more.4))
 
 systems_take : (part : FilePart) (found : List EventFormat) (rest : FilePart) → IsBytes part.bytes
     → systems_at part ≡ Ok (found, rest)
     → (systems : List System) × Takes part (systems_bytes systems) rest × (found ≡ systems_formats systems)
+    × SystemsFit systems
 unfolding systems_at
 systems_take part found rest fits e =
     let b = bind_ok (number_at w32 part) (λ count. all_at (λ _. system_at) 0 count.0 count.1) (found, rest) e in
@@ -244,12 +297,13 @@ systems_take part found rest fits e =
       subst (λ k. Takes part (to_le_bytes w32 k ++ flat_map system_bytes t.0) rest) (sym t.1)
           (Takes-then part (to_le_bytes w32 b.0.0) b.0.1 (flat_map system_bytes t.0) rest n t.2),
       t.3,
+      (subst (λ k. Fits w32 k) (sym t.1) (number_fits w32 wide32 part b.0.0 b.0.1 fits b.1), t.4),
     )
 
 -- ---- what is before the number of CPUs in version 6
 
 titled_takes : (title : List ℕ) (part rest : FilePart) → IsBytes part.bytes → titled_at title part ≡ Ok rest
-    → (body : List ℕ) × Takes part (title ++ block w64 body) rest
+    → (body : List ℕ) × Takes part (title ++ block w64 body) rest × FitsBlock w64 body
 unfolding titled_at
 titled_takes title part rest fits e =
     let b = bind_ok (expected_at title Misplaced part) (λ text. block_at w64 text >>= λ body. Ok body.1) rest e in
@@ -259,10 +313,12 @@ titled_takes title part rest fits e =
       d.0.0.bytes,
       subst (λ r. Takes part (title ++ block w64 d.0.0.bytes) r) (same_value d.0.1 rest d.2)
           (Takes-then part title b.0 (block w64 d.0.0.bytes) d.0.1 t k.0),
+      k.2,
     )
 
 tables_take : (part rest : FilePart) → IsBytes part.bytes → tables_at part ≡ Ok rest
     → (x : List ℕ) × (y : List ℕ) × (z : List ℕ) × Takes part (block w32 x ++ (block w32 y ++ block w64 z)) rest
+    × FitsBlock w32 x × FitsBlock w32 y × FitsBlock w64 z
 unfolding tables_at
 tables_take part rest fits e =
     let a = bind_ok (block_at w32 part) (λ symbols. block_at w32 symbols.1 >>= λ texts. (block_at w64 texts.1 >>= λ tasks. Ok tasks.1)) rest e in
@@ -277,12 +333,15 @@ tables_take part rest fits e =
       d.0.0.bytes,
       subst (λ x. Takes part (block w32 a.0.0.bytes ++ (block w32 b.0.0.bytes ++ block w64 d.0.0.bytes)) x) (same_value d.0.1 rest d.2)
           (Takes-then part (block w32 a.0.0.bytes) a.0.1 (block w32 b.0.0.bytes ++ block w64 d.0.0.bytes) d.0.1 p.0 two),
+      p.2,
+      q.2,
+      r.2,
     )
 
 -- the formats and what is round them, up to the tables
 abbrev pub SpellsFront : FilePart → List EventFormat → FilePart → Type 0
 SpellsFront part found rest =
-    (texts : SixTexts) × Takes part (six_bytes texts) rest × (found ≡ six_formats texts)
+    (texts : SixTexts) × Takes part (six_bytes texts) rest × (found ≡ six_formats texts) × SixTextsFit texts
 
 pub front_takes : (part tables rest : FilePart) (found : List EventFormat) → IsBytes part.bytes
     → all_formats_at part ≡ Ok (found, tables) → tables_at tables ≡ Ok rest → SpellsFront part found rest
@@ -307,4 +366,5 @@ front_takes part tables rest found fits e behind_it =
     let one = Takes-then part (page_title ++ block w64 page.0) a.0 ((record_title ++ block w64 word.0) ++ (formats_bytes ring.0 ++ (systems_bytes named.0 ++ tail))) rest page.1 two in
     let lists : found ≡ six_formats texts =
     sym (ap (λ p. p.0) same) ∙ ap (λ xs. xs ++ f.0.0) ring.2 ∙ ap (λ xs. named_formats ring_system ring.0 ++ xs) named.2 in
-    (texts, one, lists)
+    let bounds : SixTextsFit texts = record { page_layout = page.2; record_layout = word.2; ring = ring.3; systems = named.3; symbols = last.4; prints = last.5; tasks = last.6 } in
+    (texts, one, lists, bounds)

@@ -1,11 +1,10 @@
 -- A file of version 6 that is read is spelled so, as a whole.
-use Rattle.std.proofs.Common.{◌≡◌, ◌==◌, ℕ, zero, suc, ◌+◌, ◌≤◌, ◌⊎◌, Bool, true, false, cond, ltb, List, [], ◌∷◌, ◌++◌, length, take, drop, flat_map, Option, Some, None, Ok, Err, refl, sym, ap, subst, ◌∙◌, append_assoc, arith, inl, inr, nat_eq}
+use Rattle.std.proofs.Common.{◌≡◌, ◌≢◌, ◌==◌, ℕ, zero, suc, ◌+◌, ◌≤◌, ◌⊎◌, Bool, true, false, cond, ltb, List, [], ◌∷◌, ◌++◌, length, take, drop, flat_map, Option, Some, None, Ok, Err, refl, sym, ap, subst, ◌∙◌, append_assoc, arith, inl, inr, nat_eq}
 use Rattle.std.specs.Prelude.{codes, unwrap_or}
 use Rattle.std.specs.List.{AllByRecursion, starts_with}
 use Rattle.std.specs.Int.{w16, w32, w64, to_le_bytes}
-use Rattle.std.proofs.lemmas.Bool.{ltb-false, eqb-true}
+use Rattle.std.proofs.lemmas.Bool.{ltb-false, eqb-true, eqb-false}
 use Rattle.std.proofs.lemmas.List.{length-drop}
-use Rattle.std.proofs.lemmas.Nat.{le_bytes_2}
 use Rattle.trace_dat.specs.declared.fault.Cause.TheVariants.{BadVersion, Misplaced, OutsideFile}
 use Rattle.trace_dat.specs.declared.read.Version.{Version}
 use Rattle.trace_dat.specs.declared.read.Version.TheVariants.{Six, Seven}
@@ -16,12 +15,9 @@ use Rattle.trace_dat.specs.Contents.{Recorded, TraceBuffer, Contents}
 use Rattle.trace_dat.specs.Entries.{FileOption, body_at, option_at, option_then, options_among, options_at}
 use Rattle.trace_dat.specs.Buffers.{ranges_word, pages_at, buffer_at, instance_of, counters_of}
 use Rattle.trace_dat.specs.Versions.{ended, options_word, all_formats_at, tables_at, stated_options_at, version_six, version_at}
-use Rattle.trace_dat.specs.Spelling.{IsBytes, block, SixTexts, six_bytes, six_formats, option_bytes, options_bytes, stated_bytes, Range, range_bytes, IsInside, numbered_pages}
+use Rattle.trace_dat.specs.Spelling.{IsBytes, Fits, OptionFits, RangeFits, SixTextsFit, block, SixTexts, six_bytes, six_formats, option_bytes, options_bytes, stated_bytes, Range, range_bytes, IsInside, numbered_pages}
 use Rattle.trace_dat.proofs.Loops.{same_value}
-use Rattle.trace_dat.proofs.Spelled.{IsWide, wide32, wide64, Takes, Takes-then, bind_ok, guard_ok, passed_ok, number_takes, block_takes, word_takes, expected_takes, front_takes}
-
-pub wide16 : IsWide w16
-wide16 bytes n len fits is = le_bytes_2 bytes n len fits is
+use Rattle.trace_dat.proofs.Spelled.{wide16, wide32, wide64, Takes, Takes-then, bind_ok, guard_ok, passed_ok, number_takes, number_fits, block_takes, word_takes, expected_takes, front_takes}
 
 -- which way a test went
 pub chosen : {A : Type 0} (b : Bool) (x y z : A) → cond b x y ≡ z → ((b ≡ true) × (x ≡ z)) ⊎ ((b ≡ false) × (y ≡ z))
@@ -33,16 +29,17 @@ chosen false x y z e = inr (refl, e)
 -- an option is spelled, or the identifier that ends the options
 abbrev SpellsOption : FilePart → Option FileOption → FilePart → Type 0
 SpellsOption part None rest = Takes part (to_le_bytes w16 DONE) rest
-SpellsOption part (Some option) rest = Takes part (option_bytes option) rest
+SpellsOption part (Some option) rest = Takes part (option_bytes option) rest × OptionFits option
 
 body_takes : (id : ℕ) (part here : FilePart) (found : Option FileOption) (rest : FilePart)
-    → Takes part (to_le_bytes w16 id) here → body_at id here ≡ Ok (found, rest) → SpellsOption part found rest
+    → Takes part (to_le_bytes w16 id) here → Fits w16 id → id ≢ DONE → body_at id here ≡ Ok (found, rest)
+    → SpellsOption part found rest
 unfolding body_at
-body_takes id part here found rest before e =
+body_takes id part here found rest before bound not_done e =
     let b = bind_ok (block_at w32 here) (λ body. Ok (Some (record { id = id; body = body.0 }), body.1)) (found, rest) e in
     let t = block_takes w32 wide32 here b.0.0 b.0.1 before.fits b.1 in
     subst (λ x. SpellsOption part x.0 x.1) (same_value (Some (record { id = id; body = b.0.0 }), b.0.1) (found, rest) b.2)
-    (Takes-then part (to_le_bytes w16 id) here (block w32 b.0.0.bytes) b.0.1 before t.0)
+    (Takes-then part (to_le_bytes w16 id) here (block w32 b.0.0.bytes) b.0.1 before t.0, (bound, not_done, t.2))
 
 option_takes : (part : FilePart) (found : Option FileOption) (rest : FilePart) → IsBytes part.bytes
     → option_at part ≡ Ok (found, rest) → SpellsOption part found rest
@@ -53,30 +50,30 @@ option_takes part found rest fits e =
     elim (chosen (b.0.0 == DONE) (Ok (None, b.0.1)) (body_at b.0.0 b.0.1) (Ok (found, rest)) b.2) [
       | inl end ↦ subst (λ x. SpellsOption part x.0 x.1) (same_value (None, b.0.1) (found, rest) end.1)
           (subst (λ k. Takes part (to_le_bytes w16 k) b.0.1) (eqb-true _ _ end.0) n)
-      | inr more ↦ body_takes b.0.0 part b.0.1 found rest n more.1
+      | inr more ↦ body_takes b.0.0 part b.0.1 found rest n (number_fits w16 wide16 part b.0.0 b.0.1 fits b.1) (eqb-false _ _ more.0) more.1
     ]
 
 -- the options that are read are spelled
 abbrev pub SpellsOptions : FilePart → List FileOption → FilePart → Type 0
-SpellsOptions part found rest = Takes part (options_bytes found) rest
+SpellsOptions part found rest = Takes part (options_bytes found) rest × AllByRecursion OptionFits found
 
 first_option_takes : (count : ℕ) (part here : FilePart) (first : Option FileOption) (found : List FileOption)
     (rest : FilePart) → SpellsOption part first here
     → ((more : List FileOption) → IsBytes here.bytes → options_among count here ≡ Ok (more, rest) → SpellsOptions here more rest)
     → option_then first (options_among count here) here ≡ Ok (found, rest) → SpellsOptions part found rest
 first_option_takes count part here None found rest one others e =
-    subst (λ x. SpellsOptions part x.0 x.1) (same_value ([], here) (found, rest) e) one
+    subst (λ x. SpellsOptions part x.0 x.1) (same_value ([], here) (found, rest) e) (one, tt)
 first_option_takes count part here (Some option) found rest one others e =
     let b = bind_ok (options_among count here) (λ rest. Ok (option ∷ rest.0, rest.1)) (found, rest) e in
     let same = same_value (option ∷ b.0.0, b.0.1) (found, rest) b.2 in
     let end : b.0.1 ≡ rest = ap (λ p. p.1) same in
     let read : options_among count here ≡ Ok (b.0.0, rest) = b.1 ∙ ap (λ r. Ok (b.0.0, r)) end in
-    let more : Takes here (options_bytes b.0.0) rest = others b.0.0 one.fits read in
+    let more : SpellsOptions here b.0.0 rest = others b.0.0 one.0.fits read in
     let whole : Takes part (option_bytes option ++ options_bytes b.0.0) rest =
-    Takes-then part (option_bytes option) here (options_bytes b.0.0) rest one more in
+    Takes-then part (option_bytes option) here (options_bytes b.0.0) rest one.0 more.0 in
     let joined : option_bytes option ++ options_bytes b.0.0 ≡ options_bytes (option ∷ b.0.0) =
     sym (append_assoc (option_bytes option) (flat_map option_bytes b.0.0) (to_le_bytes w16 DONE)) in
-    subst (λ xs. SpellsOptions part xs rest) (ap (λ p. p.0) same) (subst (λ bs. Takes part bs rest) joined whole)
+    subst (λ xs. SpellsOptions part xs rest) (ap (λ p. p.0) same) (subst (λ bs. Takes part bs rest) joined whole, (one.1, more.1))
 
 pub options_take : (count : ℕ) (part : FilePart) (found : List FileOption) (rest : FilePart) → IsBytes part.bytes
     → options_among count part ≡ Ok (found, rest) → SpellsOptions part found rest
@@ -90,34 +87,36 @@ options_take (suc count) part found rest fits e =
 stated_options_take : (part : FilePart) (found : List FileOption) (rest : FilePart) → IsBytes part.bytes
     → stated_options_at part ≡ Ok (found, rest)
     → (options : Option (List FileOption)) × Takes part (stated_bytes options) rest × (found ≡ unwrap_or options [])
+    × AllByRecursion OptionFits (unwrap_or options [])
 unfolding stated_options_at
 stated_options_take part found rest fits e =
     elim (chosen (starts_with nat_eq part.bytes options_word) (options_at (behind (length options_word) part)) (Ok ([], part)) (Ok (found, rest)) e) [
       | inl there ↦
           let word = word_takes options_word part fits there.0 in
           let t = options_take (length (drop (length options_word) part.bytes) + 1) (behind (length options_word) part) found rest word.fits there.1 in
-          (Some found, Takes-then part options_word (behind (length options_word) part) (options_bytes found) rest word t, refl)
-      | inr not_there ↦ subst (λ x. (options : Option (List FileOption)) × Takes part (stated_bytes options) x.1 × (x.0 ≡ unwrap_or options []))
-          (same_value ([], part) (found, rest) not_there.1) (None, record { whole = refl; fits = fits }, refl)
+          (Some found, Takes-then part options_word (behind (length options_word) part) (options_bytes found) rest word t.0, refl, t.1)
+      | inr not_there ↦ subst (λ x. (options : Option (List FileOption)) × Takes part (stated_bytes options) x.1 × (x.0 ≡ unwrap_or options []) × AllByRecursion OptionFits (unwrap_or options []))
+          (same_value ([], part) (found, rest) not_there.1) (None, record { whole = refl; fits = fits }, refl, tt)
     ]
 
 -- ---- pages
 
 pub pointer_takes : (file : List ℕ) (part there rest : FilePart) → IsBytes part.bytes → pointed_at file part ≡ Ok (there, rest)
     → Takes part (to_le_bytes w64 there.at) rest × (there.bytes ≡ drop there.at file) × (there.at ≤ length file)
+    × Fits w64 there.at
 unfolding pointed_at
 pointer_takes file part there rest fits e =
     let b = bind_ok (number_at w64 part) (λ offset. cond (ltb (length file) offset.0) (Err (record { cause = OutsideFile; at = part.at })) (Ok (record { at = offset.0; bytes = drop offset.0 file }, offset.1))) (there, rest) e in
     let n = number_takes w64 wide64 part b.0.0 b.0.1 fits b.1 in
     let g = guard_ok (ltb (length file) b.0.0) (record { cause = OutsideFile; at = part.at }) (record { at = b.0.0; bytes = drop b.0.0 file }, b.0.1) (there, rest) b.2 in
-    subst (λ x. Takes part (to_le_bytes w64 x.0.at) x.1 × (x.0.bytes ≡ drop x.0.at file) × (x.0.at ≤ length file)) g.1
-    (n, refl, ltb-false _ _ g.0)
+    subst (λ x. Takes part (to_le_bytes w64 x.0.at) x.1 × (x.0.bytes ≡ drop x.0.at file) × (x.0.at ≤ length file) × Fits w64 x.0.at) g.1
+    (n, refl, ltb-false _ _ g.0, number_fits w64 wide64 part b.0.0 b.0.1 fits b.1)
 
 -- the bytes that a range means are spelled by it
 abbrev SpellsRange : List ℕ → FilePart → List ℕ → FilePart → Type 0
 SpellsRange file part found rest =
     (range : Range) × Takes part (range_bytes range) rest × IsInside file range
-    × (found ≡ take range.size (drop range.offset file))
+    × (found ≡ take range.size (drop range.offset file)) × RangeFits range
 
 range_takes : (file : List ℕ) (part : FilePart) (found : List ℕ) (rest : FilePart) → IsBytes part.bytes
     → range_at file part ≡ Ok (found, rest) → SpellsRange file part found rest
@@ -136,18 +135,19 @@ range_takes file part found rest fits e =
       Takes-then part (to_le_bytes w64 a.0.0.at) a.0.1 (to_le_bytes w64 b.0.0) b.0.1 p.0 n,
       omega (arith, enough, len, p.2, length-drop a.0.0.at file),
       ap (λ bs. take b.0.0 bs) p.1,
+      (p.3, number_fits w64 wide64 a.0.1 b.0.0 b.0.1 p.0.fits b.1),
     )
 
 -- the pages of this count of CPUs are spelled by their ranges
 abbrev SpellsPages : List ℕ → ℕ → ℕ → FilePart → List Recorded → FilePart → Type 0
 SpellsPages file cpu count part found rest =
     (ranges : List Range) × (length ranges ≡ count) × Takes part (flat_map range_bytes ranges) rest
-    × AllByRecursion (IsInside file) ranges × (found ≡ numbered_pages file cpu ranges)
+    × AllByRecursion (IsInside file) ranges × (found ≡ numbered_pages file cpu ranges) × AllByRecursion RangeFits ranges
 
 one_cpu_takes : (file : List ℕ) (cpu : ℕ) (part : FilePart) (found : List Recorded) (rest : FilePart) → IsBytes part.bytes
     → pages_at file cpu part ≡ Ok (found, rest)
     → (range : Range) × Takes part (range_bytes range) rest × IsInside file range
-    × (found ≡ record { cpu = cpu; pages = take range.size (drop range.offset file) } ∷ [])
+    × (found ≡ record { cpu = cpu; pages = take range.size (drop range.offset file) } ∷ []) × RangeFits range
 unfolding pages_at
 one_cpu_takes file cpu part found rest fits e =
     let b = bind_ok (range_at file part) (λ range. Ok (record { cpu = cpu; pages = range.0 } ∷ [], range.1)) (found, rest) e in
@@ -157,6 +157,7 @@ one_cpu_takes file cpu part found rest fits e =
       subst (λ x. Takes part (range_bytes t.0) x) (ap (λ p. p.1) same) t.1,
       t.2,
       sym (ap (λ p. p.0) same) ∙ ap (λ bs. record { cpu = cpu; pages = bs } ∷ []) t.3,
+      t.4,
     )
 
 each_cpu_takes : (file : List ℕ) (count cpu : ℕ) (part : FilePart) (found : List Recorded) (rest : FilePart)
@@ -165,7 +166,7 @@ each_cpu_takes : (file : List ℕ) (count cpu : ℕ) (part : FilePart) (found : 
 unfolding all_at
 each_cpu_takes file zero cpu part found rest fits e =
     subst (λ x. SpellsPages file cpu 0 part x.0 x.1) (same_value ([], part) (found, rest) e)
-    ([], refl, record { whole = refl; fits = fits }, tt, refl)
+    ([], refl, record { whole = refl; fits = fits }, tt, refl, tt)
 each_cpu_takes file (suc count) cpu part found rest fits e =
     let b = bind_ok (pages_at file cpu part) (λ first. all_at (pages_at file) (cpu + 1) count first.1 >>= λ others. Ok (first.0 ++ others.0, others.1)) (found, rest) e in
     let d = bind_ok (all_at (pages_at file) (cpu + 1) count b.0.1) (λ others. Ok (b.0.0 ++ others.0, others.1)) (found, rest) b.2 in
@@ -179,6 +180,7 @@ each_cpu_takes file (suc count) cpu part found rest fits e =
       Takes-then part (range_bytes one.0) b.0.1 (flat_map range_bytes more.0) d.0.1 one.1 more.2,
       (one.2, more.3),
       lists,
+      (one.4, more.5),
     )
 
 -- the pages of the main buffer are spelled
@@ -187,6 +189,7 @@ SpellsBuffer file page_size count part found =
     (ranges : List Range) × (rest : FilePart) × (length ranges ≡ count)
     × Takes part (ranges_word ++ flat_map range_bytes ranges) rest × AllByRecursion (IsInside file) ranges
     × (found ≡ record { name = []; page_size = page_size; cpus = numbered_pages file 0 ranges } ∷ [])
+    × AllByRecursion RangeFits ranges
 
 buffer_takes : (file : List ℕ) (page_size count : ℕ) (part : FilePart) (found : List TraceBuffer) → IsBytes part.bytes
     → buffer_at file page_size count [] part ≡ Ok found → SpellsBuffer file page_size count part found
@@ -203,6 +206,7 @@ buffer_takes file page_size count part found fits e =
       t.3,
       sym (same_value (record { name = []; page_size = page_size; cpus = b.0.0 } ∷ []) found b.2)
           ∙ ap (λ cs. record { name = []; page_size = page_size; cpus = cs } ∷ []) t.4,
+      t.5,
     )
 
 -- ---- the whole
@@ -214,6 +218,10 @@ pub record SpellsSix (file : List ℕ) (page_size : ℕ) (part : FilePart) (cont
   pub ranges : List Range
   pub rest : FilePart
   pub takes : Takes part (six_bytes texts ++ (to_le_bytes w32 (length ranges) ++ (stated_bytes options ++ (ranges_word ++ flat_map range_bytes ranges)))) rest
+  pub texts_fit : SixTextsFit texts
+  pub cpus_fit : Fits w32 (length ranges)
+  pub options_fit : AllByRecursion OptionFits (unwrap_or options [])
+  pub ranges_fit : AllByRecursion RangeFits ranges
   pub inside : AllByRecursion (IsInside file) ranges
   pub formats : contents.formats ≡ six_formats texts
   pub instances : List TraceBuffer
@@ -249,6 +257,10 @@ six_takes file page_size part contents fits e =
       ranges = p.0;
       rest = p.1;
       takes = Takes-then part (six_bytes front.0) b.0 (to_le_bytes w32 (length p.0) ++ (stated_bytes o.0 ++ tail)) p.1 front.1 counted;
+      texts_fit = front.3;
+      cpus_fit = subst (λ k. Fits w32 k) (sym count) (number_fits w32 wide32 b.0 d.0.0 d.0.1 front.1.fits d.1);
+      options_fit = o.3;
+      ranges_fit = p.6;
       inside = p.4;
       formats = sym (ap (λ c. c.formats) same) ∙ front.2;
       instances = i.0;

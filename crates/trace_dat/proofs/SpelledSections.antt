@@ -9,16 +9,16 @@ use Rattle.trace_dat.specs.Parts.{FilePart}
 use Rattle.trace_dat.specs.Fields.{Reading, number_at, block_at, expected_at, pointed_at}
 use Rattle.trace_dat.specs.Entries.{FileOption, options_at}
 use Rattle.trace_dat.specs.Sections.{section_body_at, section_at, Place, linked_at, link_from, link_at}
-use Rattle.trace_dat.specs.Spelling.{IsBytes, block, options_bytes, HasSection, HasOptions, Linked, IsChain}
+use Rattle.trace_dat.specs.Spelling.{IsBytes, Fits, FitsBlock, block, options_bytes, HasSection, HasOptions, Linked, IsChain}
 use Rattle.trace_dat.proofs.Loops.{same_value}
-use Rattle.trace_dat.proofs.Spelled.{Takes, Takes-then, IsBytes-drop, bind_ok, guard_ok, wide32, wide64, number_takes, block_takes, expected_takes}
-use Rattle.trace_dat.proofs.SpelledFile.{wide16, chosen, options_take}
+use Rattle.trace_dat.proofs.Spelled.{Takes, Takes-then, IsBytes-drop, bind_ok, guard_ok, wide16, wide32, wide64, number_takes, number_fits, block_takes, expected_takes}
+use Rattle.trace_dat.proofs.SpelledFile.{chosen, options_take}
 
 -- ---- a section
 
 body_takes : (part body : FilePart) → IsBytes part.bytes → section_body_at part ≡ Ok body
     → (description : ℕ) × (rest : FilePart) × Takes part (to_le_bytes w32 description ++ block w64 body.bytes) rest
-    × IsBytes body.bytes
+    × IsBytes body.bytes × Fits w32 description × FitsBlock w64 body.bytes
 unfolding section_body_at
 body_takes part body fits e =
     let a = bind_ok (number_at w32 part) _ body e in
@@ -31,6 +31,8 @@ body_takes part body fits e =
       subst (λ x. Takes part (to_le_bytes w32 a.0.0 ++ block w64 x.bytes) b.0.1) same
           (Takes-then part (to_le_bytes w32 a.0.0) a.0.1 (block w64 b.0.0.bytes) b.0.1 n t.0),
       subst (λ x. IsBytes x.bytes) same t.1,
+      number_fits w32 wide32 part a.0.0 a.0.1 fits a.1,
+      subst (λ x. FitsBlock w64 x.bytes) same t.2,
     )
 
 failed_test : {A : Type 0} (b : Bool) (d : Fault) (r : Reading A) (y : A) → cond b (Err d) r ≡ Ok y → (b ≡ false) × (r ≡ Ok y)
@@ -57,6 +59,9 @@ section_takes file offset id body fits inside e =
         rest = t.1.bytes;
         inside = inside;
         plain = eqb-false _ _ g.0;
+        flags_fit = number_fits w16 wide16 a.0 b.0.0 b.0.1 named.fits b.1;
+        description_fits = t.4;
+        body_fits = t.5;
         whole = one.whole;
       },
       t.3,
@@ -81,18 +86,18 @@ linked_takes file offset options next fits inside e =
     let d = bind_ok (block_at w32 b.0.1) (λ found. Ok (b.0.0, Some (record { least = offset + 1; pointer = found.0 }))) (options, next) b.2 in
     let s = section_takes file offset OPTIONS a.0 fits inside a.1 in
     let o = options_take (length a.0.bytes + 1) a.0 b.0.0 b.0.1 s.1 b.1 in
-    let k = block_takes w32 wide32 b.0.1 d.0.0 d.0.1 o.fits d.1 in
-    let whole = Takes-then a.0 (options_bytes b.0.0) b.0.1 (block w32 d.0.0.bytes) d.0.1 o k.0 in
+    let k = block_takes w32 wide32 b.0.1 d.0.0 d.0.1 o.0.fits d.1 in
+    let whole = Takes-then a.0 (options_bytes b.0.0) b.0.1 (block w32 d.0.0.bytes) d.0.1 o.0 k.0 in
     subst (λ x. SpellsLinked file offset x.0 x.1)
     (same_value (b.0.0, Some (record { least = offset + 1; pointer = d.0.0 })) (options, next) d.2)
-    (record { body = a.0.bytes; rest = d.0.1.bytes; section = s.0; whole = whole.whole }, refl, k.1)
+    (record { body = a.0.bytes; rest = d.0.1.bytes; section = s.0; options_fit = o.1; next_fits = k.2; whole = whole.whole }, refl, k.1)
 
 -- a pointer leads to a section of options, or says that there is none
 abbrev pub SpellsLink : List ℕ → Place → List FileOption → Option Place → Type 0
 SpellsLink file place options next =
     ((options ≡ []) × (next ≡ None) × ((rest : List ℕ) × (place.pointer.bytes ≡ to_le_bytes w64 0 ++ rest)))
     ⊎ ((offset : ℕ) × (rest : List ℕ) × (place.pointer.bytes ≡ to_le_bytes w64 offset ++ rest) × (offset ≢ 0)
-    × (place.least ≤ offset) × SpellsLinked file offset options next)
+    × (place.least ≤ offset) × SpellsLinked file offset options next × Fits w64 offset)
 
 pointer_is : (file : List ℕ) (part there rest : FilePart) (offset : ℕ) (behind : FilePart)
     → number_at w64 part ≡ Ok (offset, behind) → pointed_at file part ≡ Ok (there, rest)
@@ -136,7 +141,7 @@ link_takes file place options next fits bytes e =
           )
       | inr some ↦
           let t = link_from_takes file place options next a.0.0 a.0.1 fits a.1 some.1 in
-          inr (a.0.0, a.0.1.bytes, n.whole, eqb-false _ _ some.0, t.0, t.1)
+          inr (a.0.0, a.0.1.bytes, n.whole, eqb-false _ _ some.0, t.0, t.1, number_fits w64 wide64 place.pointer a.0.0 a.0.1 bytes a.1)
     ]
 
 -- the options of a chain are those of its sections

@@ -12,9 +12,9 @@ use Rattle.trace_dat.specs.Entries.{FileOption}
 use Rattle.trace_dat.specs.Buffers.{ranges_word, buffer_of, counters_of}
 use Rattle.trace_dat.specs.Sections.{Place, link_at, chain_from, options_of_chain, formats_of}
 use Rattle.trace_dat.specs.Versions.{ended, magic, machine, plain_word, version_at, version_seven, contents_of, reading_of}
-use Rattle.trace_dat.specs.Spelling.{IsBytes, six_bytes, stated_bytes, range_bytes, Linked, IsChain, IsSix, IsSeven}
+use Rattle.trace_dat.specs.Spelling.{IsBytes, Fits, IsText, six_bytes, stated_bytes, range_bytes, Linked, IsChain, IsSix, IsSeven}
 use Rattle.trace_dat.proofs.Loops.{same_value}
-use Rattle.trace_dat.proofs.Spelled.{Takes, Takes-then, bind_ok, wide32, number_takes, text_takes, expected_takes}
+use Rattle.trace_dat.proofs.Spelled.{Takes, Takes-then, bind_ok, wide32, number_takes, number_fits, text_takes, text_ends, expected_takes}
 use Rattle.trace_dat.proofs.SpelledFile.{six_takes, SpellsVersion, version_takes, version_fits}
 use Rattle.trace_dat.proofs.SpelledSections.{SpellsLink, SpellsChain, link_takes}
 
@@ -37,7 +37,7 @@ chain_next file count place first others (Some later) (inr there) again e =
     let onward : IsChain file (there.0 + 1) later.pointer.bytes rest.0 =
     subst (λ k. IsChain file k later.pointer.bytes rest.0) there.5.1 rest.1 in (
       record { offset = there.0; options = first; next = later.pointer.bytes } ∷ rest.0,
-      (there.1, there.2, there.3, there.4, there.5.0, onward),
+      (there.1, there.2, there.3, there.4, there.5.0, onward, there.6),
       ap (λ xs. first ++ xs) rest.2,
     )
 
@@ -60,6 +60,7 @@ record SpellsSeven (file : List ℕ) (part : FilePart) (contents : Contents) : T
   release : List ℕ
   pointer : List ℕ
   links : List Linked
+  release_ends : IsText release
   whole : part.bytes ≡ plain_word ++ (ended release ++ pointer)
   chain : IsChain file 0 pointer links
   formats : each_of (formats_of file) (flat_map (λ link. link.options) links) ≡ Ok contents.formats
@@ -83,6 +84,7 @@ seven_takes file part contents fits bytes e =
       release = b.0.0;
       pointer = b.0.1.bytes;
       links = chain.0;
+      release_ends = text_ends a.0 b.0.0 b.0.1 b.1;
       whole = plain.whole ∙ ap (λ bs. plain_word ++ bs) release.whole;
       chain = chain.1;
       formats = subst (λ os. each_of (formats_of file) os ≡ Ok contents.formats) chain.2
@@ -95,9 +97,9 @@ seven_takes file part contents fits bytes e =
 -- by its version, the file is spelled as version 6 or as version 7 is
 spelled_by : (file : List ℕ) (found : Version) (a b d f : FilePart) (page_size : ℕ) (contents : Contents)
     → IsBytes file → Takes (record { at = 0; bytes = file }) magic a → SpellsVersion a found b → Takes b machine d
-    → Takes d (to_le_bytes w32 page_size) f → contents_of found file page_size f ≡ Ok contents
+    → Takes d (to_le_bytes w32 page_size) f → Fits w32 page_size → contents_of found file page_size f ≡ Ok contents
     → IsSix file contents ⊎ IsSeven file contents
-spelled_by file Seven a b d f page_size contents fits m v h n e =
+spelled_by file Seven a b d f page_size contents fits m v h n bound e =
     let seven = seven_takes file f contents fits n.fits e in
     let tail = plain_word ++ (ended seven.release ++ seven.pointer) in
     inr (record {
@@ -105,6 +107,8 @@ spelled_by file Seven a b d f page_size contents fits m v h n e =
       release = seven.release;
       pointer = seven.pointer;
       links = seven.links;
+      page_size_fits = bound;
+      release_ends = seven.release_ends;
       whole = m.whole ∙ ap (λ bs. magic ++ bs) (v.whole ∙ ap (λ bs. ended (codes "7") ++ bs)
           (h.whole ∙ ap (λ bs. machine ++ bs) (n.whole ∙ ap (λ bs. to_le_bytes w32 page_size ++ bs) seven.whole)));
       chain = seven.chain;
@@ -112,7 +116,7 @@ spelled_by file Seven a b d f page_size contents fits m v h n e =
       buffers = seven.buffers;
       counters = seven.counters;
     })
-spelled_by file Six a b d f page_size contents fits m v h n e =
+spelled_by file Six a b d f page_size contents fits m v h n bound e =
     let six = six_takes file page_size f contents n.fits e in
     let tail = six_bytes six.texts ++ (to_le_bytes w32 (length six.ranges) ++ (stated_bytes six.options ++ (ranges_word ++ flat_map range_bytes six.ranges))) in
     let three = Takes-then d (to_le_bytes w32 page_size) f tail six.rest n six.takes in
@@ -122,6 +126,7 @@ spelled_by file Six a b d f page_size contents fits m v h n e =
     inl (record {
       parts = record { page_size = page_size; texts = six.texts; options = six.options; ranges = six.ranges };
       rest = six.rest.bytes;
+      fits = record { page_size = bound; texts = six.texts_fit; cpus = six.cpus_fit; options = six.options_fit; ranges = six.ranges_fit };
       whole = all.whole;
       inside = six.inside;
       formats = six.formats;
@@ -145,4 +150,4 @@ file_is_spelled file contents fits e =
     let v = version_takes a.0 b.0.0 b.0.1 m.fits b.1 in
     let h = expected_takes machine OtherMachine b.0.1 d.0 (version_fits a.0 b.0.0 b.0.1 v) d.1 in
     let n = number_takes w32 wide32 d.0 f.0.0 f.0.1 h.fits f.1 in
-    spelled_by file b.0.0 a.0 b.0.1 d.0 f.0.1 f.0.0 contents fits m v h n f.2
+    spelled_by file b.0.0 a.0 b.0.1 d.0 f.0.1 f.0.0 contents fits m v h n (number_fits w32 wide32 d.0 f.0.0 f.0.1 h.fits f.1) f.2

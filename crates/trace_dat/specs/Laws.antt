@@ -8,3 +8,8 @@ use Rattle.trace_dat.specs.Spelling.{IsBytes, IsSix, IsSeven}
 abbrev pub ReadIsSpelled : Type 0
 ReadIsSpelled = (file : List ℕ) (contents : Contents) → IsBytes file → reading_of file ≡ Ok contents
     → IsSix file contents ⊎ IsSeven file contents
+
+-- A file that is spelled as version 6 or as version 7 is, is read, and holds exactly what it is said to hold.
+abbrev pub SpelledIsRead : Type 0
+SpelledIsRead = (file : List ℕ) (contents : Contents) → IsSix file contents ⊎ IsSeven file contents
+    → reading_of file ≡ Ok contents

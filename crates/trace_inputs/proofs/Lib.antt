@@ -4,6 +4,7 @@ mod CpuLists
 mod Answers
 mod EachLoop
 mod LossSums
+mod TrueLosses
 mod Overruns
 mod Settled
 mod FirstRead

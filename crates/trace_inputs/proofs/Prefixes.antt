@@ -1,9 +1,9 @@
 -- How files begin.
-use Rattle.std.proofs.Common.{◌≡◌, ◌∙◌, ℕ, ◌≤◌, ◌<◌, true, false, List, [], ◌++◌, length, take, ap, arith, append-nil, ⊎_elim}
+use Rattle.std.proofs.Common.{◌≡◌, ◌∙◌, ℕ, ◌≤◌, ◌<◌, false, List, [], ◌++◌, length, ap, arith, append-nil, ⊎_elim}
 use Rattle.std.specs.Prelude.{nat_eq}
 use Rattle.std.proofs.lemmas.Bool.{cases_lt}
-use Rattle.std.proofs.lemmas.List.{length-take, take-append-le}
-use lib.Pointwise.{pointwise, pointwise_long}
+use Rattle.std.proofs.lemmas.List.{take-append-le}
+use lib.Pointwise.{pointwise}
 use Rattle.trace_dat.specs.Versions.{magic}
 use Rattle.trace_inputs.specs.Files.{is_dat}
 

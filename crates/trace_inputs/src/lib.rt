@@ -12,6 +12,7 @@ mod dat;
 mod fault;
 mod first;
 mod inputs;
+pub mod laws;
 mod parts;
 mod raw;
 mod settle;

@@ -1,26 +1,34 @@
-use Rattle.std.proofs.Common.{◌≡◌, ℕ, ◌+◌, List, sym, subst, ◌∙◌, arith}
+use Rattle.std.proofs.Common.{List, sym, subst, ◌∙◌}
 use Rattle.trace_inputs.specs.declared.captured.CpuCapture.{CpuCapture}
-use Rattle.trace_inputs.specs.Files.{all_formats, parts_of_cpu}
-use Rattle.trace_inputs.specs.Captures.{IsCpuCaptured}
+use Rattle.trace_inputs.specs.Files.{all_formats}
 use Rattle.trace_inputs.specs.Losses.{overrun_in}
 use Rattle.collect_command.specs.Asking.{asked_by}
 use Rattle.collect_command.specs.Gathered.{AreReadFrom}
 use Rattle.collect_command.specs.Runs.{formats_for}
-use Rattle.collect_command.proofs.PagesOfAll.{all_pages}
+use Rattle.collect_command.proofs.PagesOfAll.{pages_captured}
 use Rattle.collect_command.proofs.collect.list_captured.Goals as goal
+
+pub print_listing-requires-clause-read : goal.print_listing-requires-clause-read
+print_listing-requires-clause-read g c =
+    let (files, captured) = c.requires.read in
+    let all = pages_captured (overrun_in files) captured.parts c.args.captured.cpus.items captured.cpus_are in
+    let read = subst (λ (cpus : List CpuCapture). AreReadFrom captured.parts 0 cpus all.captures)
+    (sym c.deref.ensures.value) all.read in
+    (captured.parts, all.captures, read)
 
 pub returns-clause-listed : goal.returns-clause-listed
 returns-clause-listed g c files captured =
-    let overrun = overrun_in files in
     let parts = captured.parts in
-    let all = all_pages overrun parts 0 c.args.captured.cpus.items (λ k found at. subst (λ (n : ℕ). IsCpuCaptured n (overrun n) (parts_of_cpu n parts) found) (let e : k ≡ 0 + k = omega arith in e) (captured.cpus_are.each k found at)) in
+    let all = pages_captured (overrun_in files) parts c.args.captured.cpus.items captured.cpus_are in
     let names = c.shown_names-shown.ensures _ (c.in_ok-add.ensures.added (all_formats files) captured.names_are) in
-    let read = subst (λ (cpus : List CpuCapture). AreReadFrom parts 0 cpus all.captures) (sym c.deref.ensures.value) all.read in
+    let read = subst (λ (cpus : List CpuCapture). AreReadFrom parts 0 cpus all.captures)
+    (sym c.deref.ensures.value) all.read in
     record {
       parts = parts;
       parts_are = captured.parts_are;
       captures = all.captures;
       pages_are = all.pages_are;
       count = all.count ∙ captured.cpus_are.count;
-      listed = c.in_ok-ending.ensures.listed (formats_for (asked_by c.args.collecting.now) files) parts all.captures names read;
+      listed = c.in_ok-ending.ensures.listed (formats_for (asked_by c.args.collecting.now) files) parts all.captures
+          names read;
     }

@@ -17,7 +17,8 @@ returns-clause-listed g c formats parts captures names read =
     let form = c.args.form in
     let fresh = c.in_ok-printer.ensures.empty start formats names in
     let begun : HasPrinted form formats start start (failed c.args.writer.now) [] c.in_ok-printer.printer =
-    subst (λ (f : Bool). HasPrinted form formats start start f [] c.in_ok-printer.printer) (sym c.requires) fresh in
+    subst (λ (f : Bool). HasPrinted form formats start start f [] c.in_ok-printer.printer)
+    (sym c.requires.sound) fresh in
     let walk = c.in_ok-walk_lines.ensures.lines in
     let missing = c.put_missing.ensures.put in
     let shown : Shown = record { lines = walk.0; runs = missing.0 } in

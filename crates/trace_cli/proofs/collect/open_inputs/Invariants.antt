@@ -1,10 +1,9 @@
-use Rattle.std.proofs.Common.{◌≡◌, ◌<◌, false, All}
+use Rattle.std.proofs.Common.{◌≡◌, false, map, take, All}
 use Rattle.command_io.specs.Ends.{has_failed}
-use Rattle.trace_model.specs.declared.limits.TheConstants.{MAX_CPUS}
 use Rattle.trace_cli.proofs.collect.open_inputs.Given as goal
 
 abbrev pub invariant-loop-file : goal.invariant-loop-file
 invariant-loop-file l = record {
-  cpus : All (λ input. input.cpu.0 < MAX_CPUS) l.inputs.items;
+  cpus : map (λ input. input.cpu) l.inputs.items ≡ map (λ file. file.cpu) (take l.file-index l.files);
   sound : All (λ input. has_failed input.reader ≡ false) l.inputs.items;
 }

@@ -1,27 +1,31 @@
-use Rattle.std.proofs.Common.{◌≡◌, ◌≢◌, ◌++◌, ◌∷◌, [], List, ℕ, rules, ap, sym, subst}
+use Rattle.std.proofs.Common.{◌≡◌, ◌≢◌, ◌++◌, ◌∷◌, [], List, ℕ, refl, rules, ap, sym, subst, ◌∙◌}
 use Rattle.trace_model.specs.Image.{Missed, DecodesImage, FirstImageFault}
 use Rattle.page_image.specs.Images.{missed_of}
 use Rattle.page_image.specs.Contents.{records_of_page}
 use Rattle.page_image.specs.declared.image.ImageFault.TheVariants.{NoMemory}
-use Rattle.capture.specs.Pages.{Page, intact, damaged, told, IsPageOf, Fit}
-use Rattle.capture.specs.Captures.{page_read, IsCapture}
+use Rattle.capture.specs.Pages.{Page, intact, damaged, loss_stated, told, told_of, IsPageOf, Fit}
+use Rattle.capture.specs.Captures.{IsCapture}
 use Rattle.capture.proofs.Captured.{on_ok, cause-of}
 use Rattle.capture.proofs.pages.Capture.add_page.Goals as goal
 
 pub returns-in-Ok-clause-read : goal.returns-in-Ok-clause-read
 returns-in-Ok-clause-read c = λ pages was.
     let image = c.in-Ok.image in
-    let is : IsPageOf c.args.image.now (intact (page_read image)) = (
+    let page : Page = intact record { missed = loss_stated (missed_of image.missed); records = records_of_page image.page } in
+    let is : IsPageOf c.args.image.now page = (
       image.time,
       image.size,
+      missed_of image.missed,
       subst (λ (bytes : List ℕ). DecodesImage bytes image.time image.size (missed_of image.missed) (records_of_page image.page))
           c.restore_stamps.ensures c.in-Ok.ensures.reads,
+      refl,
     ) in
     let known : Page = intact record { missed = missed_of c.told-image.result; records = records_of_page image.page } in
-    let same : known ≡ told (missed_of c.args.unknown) (intact (page_read image)) =
-    ap (λ (m : Missed). intact record { missed = m; records = records_of_page image.page }) c.told-image.ensures in
+    let same : known ≡ told (missed_of c.args.unknown) page =
+    ap (λ (m : Missed). intact record { missed = m; records = records_of_page image.page })
+    (c.told-image.ensures ∙ ap (told_of (missed_of c.args.unknown)) c.loss_stated.ensures) in
     on_ok c.add_image.result (λ read. record {
-      page = intact (page_read image);
+      page = page;
       page_is = is;
       capture_is = subst (λ (p : Page). IsCapture c.add_image.new.self (pages ++ p ∷ [])) same read;
     }) (c.add_image.ensures.read pages was)
@@ -29,17 +33,21 @@ returns-in-Ok-clause-read c = λ pages was.
 pub returns-in-Ok-clause-numbers : goal.returns-in-Ok-clause-numbers
 returns-in-Ok-clause-numbers c = λ pages was numbers.
     let image = c.in-Ok.image in
-    let is : IsPageOf c.args.image.now (intact (page_read image)) = (
+    let page : Page = intact record { missed = loss_stated (missed_of image.missed); records = records_of_page image.page } in
+    let is : IsPageOf c.args.image.now page = (
       image.time,
       image.size,
+      missed_of image.missed,
       subst (λ (bytes : List ℕ). DecodesImage bytes image.time image.size (missed_of image.missed) (records_of_page image.page))
           c.restore_stamps.ensures c.in-Ok.ensures.reads,
+      refl,
     ) in
     let known : Page = intact record { missed = missed_of c.told-image.result; records = records_of_page image.page } in
-    let same : known ≡ told (missed_of c.args.unknown) (intact (page_read image)) =
-    ap (λ (m : Missed). intact record { missed = m; records = records_of_page image.page }) c.told-image.ensures in
+    let same : known ≡ told (missed_of c.args.unknown) page =
+    ap (λ (m : Missed). intact record { missed = m; records = records_of_page image.page })
+    (c.told-image.ensures ∙ ap (told_of (missed_of c.args.unknown)) c.loss_stated.ensures) in
     record {
-      page = intact (page_read image);
+      page = page;
       page_is = is;
       past = λ fit. c.add_image.ensures.numbers pages was numbers (subst (λ (p : Page). Fit (pages ++ p ∷ [])) (sym same) fit);
     }

@@ -1,0 +1,12 @@
+//! That files have one listing: the contract of a function with an empty body.
+ghost use Rattle.std.specs.Prelude.{◌≡◌, false, ℕ, List, Some};
+ghost use Rattle.trace_inputs.specs.Files.{File};
+ghost use Rattle.collect_command.specs.declared.ending.Ending.{Ending as EndingSeen};
+ghost use Rattle.collect_command.specs.Runs.{Asked, ListsFiles};
+
+/// The files and how they are listed decide what `collect` writes of them, and how it ends, if no write fails.
+pub fn one_output()
+    ensures { (asked : Asked) (files : List File) (start text other : List ℕ) (ending end : EndingSeen) →
+        ListsFiles asked files (Some start) (Some text) false ending →
+        ListsFiles asked files (Some start) (Some other) false end → (text ≡ other) × (ending ≡ end) }
+{}

@@ -1,0 +1,10 @@
+use Rattle.std.proofs.Common.{◌<◌, All, List, subst, sym}
+use Rattle.trace_model.specs.declared.limits.TheConstants.{MAX_CPUS}
+use Rattle.command_line.specs.declared.call.CpuFile.{CpuFile}
+use Rattle.trace_cli.proofs.SameCpus.{All-same}
+use Rattle.trace_cli.proofs.collect.list.Goals as goal
+
+pub collect_to-requires-clause-cpus : goal.collect_to-requires-clause-cpus
+collect_to-requires-clause-cpus c =
+    let asked = subst (λ (files : List CpuFile). All (λ file. file.cpu.0 < MAX_CPUS) files) (sym c.deref-2.ensures.value) c.requires.cpus in
+    rw c.as_mut_slice.ensures.value (All-same (λ input. input.cpu) (λ file. file.cpu) _ _ c.in_ok-inputs.ensures.cpus (λ cpu. cpu.0 < MAX_CPUS) asked)
