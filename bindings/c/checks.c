@@ -2,8 +2,8 @@
 // ring amid calls on the other end; and a writer's thread, a reader's thread, and a handler that writes between the
 // writer's calls, in the middle of them, and nested in records. The reader looks at each page's numbers and at each
 // payload. The pages that are taken are added to a collector, which has to miss what the reader missed, and to list the
-// others by moments that don't fall and numbers that rise. Prints the same whatever the schedule, and ends with 0 if all
-// is well. `checks RECORDS` says how many records the writer makes.
+// others by moments that don't fall and numbers that rise. Prints the same whatever the schedule, and ends with 0 if
+// all is well. `checks RECORDS` says how many records the writer makes.
 #define _DEFAULT_SOURCE
 #include "tracering.h"
 
@@ -219,8 +219,8 @@ static int alarms(void (*handler)(int), const struct itimerval *when)
     return sigaction(SIGALRM, &action, NULL) || setitimer(ITIMER_REAL, when, NULL);
 }
 
-// The thread writes while the handler takes and peeks, and then takes while the handler writes. Each record is on a page
-// that is taken, or counted as missed before one.
+// The thread writes while the handler takes and peeks, and then takes while the handler writes. Each record is on a
+// page that is taken, or counted as missed before one.
 static int crossed(uint64_t count)
 {
     static uint8_t out[TRACERING_HEADER + SIZE];
