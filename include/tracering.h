@@ -13,8 +13,8 @@
 // positive one: why it didn't (but `depth` also answers 1 to 4, which are none of these). What is changed all the same,
 // the call's own text says. `tracering_text` has a text for each. A call may answer these, which its own list leaves
 // out:
-//   TRACERING_NULL     a pointer is null (one to bytes or runs may be, if their number is 0; `out` of take and of
-//                      settle may not)
+//   TRACERING_NULL     a pointer is null (one to bytes or runs may be, if their number is 0; `out` of take, of peek
+//                      and of settle may not)
 //   TRACERING_ABSENT   the handle has nothing: it is new, or what it had was freed or settled
 //   TRACERING_BUSY     the handle is in another call, which this one interrupts
 // Then nothing is changed, but BUSY of write and begin is counted (`tracering_refused`).
@@ -26,8 +26,8 @@
 // handed to another thread by pthread_create, pthread_join, a lock, or a sequentially consistent atomic. Both ends of a
 // ring make sequentially consistent accesses of the words that they share; the proofs assume a memory that is so.
 //
-// Signals. A handler may call write, begin, put, finish, end, begin_close and depth on the handle of the thread that
-// it interrupts: its records are nested. Amid a call on that handle they answer BUSY: the handler's record isn't
+// Signals. A handler may call write, begin, put, finish, end, begin_close, depth and peek on the handle of the thread
+// that it interrupts: its records are nested. Amid a call on that handle they answer BUSY: the handler's record isn't
 // written, and the handle counts it. It may call take and wish on a reader's handle in the same way, and refused
 // always. It must not call new, settle, those that free, or any call on a collector: most of these take or release
 // memory. It completes what it begins.
@@ -160,11 +160,11 @@ enum {
     TRACERING_NO_MEMORY = 12,    // there is no memory
     TRACERING_BAD_SIZE = 13,     // a ring can't have this number of pages or this size
     TRACERING_BAD_CPU = 14,      // there is no such CPU
-    TRACERING_EMPTY = 15,        // no closed page is unread
+    TRACERING_EMPTY = 15,        // take: no closed page is unread; peek: the page that is written has no record
     TRACERING_MOVING = 16,       // a move of the head isn't finished, or `take` made all its steps: try again
-    TRACERING_NO_ROOM = 17,      // the buffer is too short; take and settle change nothing, missing gives what has
-                                 // room and sets `count`, next sets `line`
-    TRACERING_NOT_AT_REST = 18,  // settle: a frame is begun and not completed
+    TRACERING_NO_ROOM = 17,      // the buffer is too short; take, peek and settle change nothing, missing gives what
+                                 // has room and sets `count`, next sets `line`
+    TRACERING_NOT_AT_REST = 18,  // settle, peek: a frame is begun and not completed
     TRACERING_UNREAD = 19,       // settle: a closed page may be unread
     TRACERING_TOO_SHORT = 20,    // there are fewer bytes than TRACERING_HEADER
     TRACERING_BAD_IMAGE_SIZE = 21, // the size that the page states is above what follows, or the page is too long
@@ -239,6 +239,7 @@ int32_t tracering_raw_finish(struct tracering_held *);
 int32_t tracering_raw_put(struct tracering_held *, const uint8_t *, size_t);
 int32_t tracering_raw_end(struct tracering_held *);
 size_t tracering_raw_depth(struct tracering_held *);
+int32_t tracering_raw_peek(struct tracering_held *, uint8_t *, size_t, struct tracering_taken *);
 int32_t tracering_raw_take(struct tracering_held *, uint8_t *, size_t, struct tracering_taken *);
 int32_t tracering_raw_wish(struct tracering_held *);
 int32_t tracering_raw_settle(struct tracering_held *, struct tracering_held *, uint8_t *, size_t,
@@ -498,6 +499,27 @@ static inline int32_t tracering_refused(const struct tracering_writer *w, struct
     return TRACERING_DONE;
 }
 #pragma GCC diagnostic pop
+
+// peek: copies the page that is written, if no frame is begun: its parcel goes to the front of `out`, as `take` gives
+// one, with all records on it, which are complete, and nothing missing before them. `out` has room for TRACERING_HEADER
+// and the ring's `size` bytes at least. Nothing is closed, and no record is taken: a later `take` or `settle` gives
+// them, with those that are written until then on that page. NOT_AT_REST, NO_ROOM, EMPTY: the first of these that
+// holds; then `out` and `taken` are not changed.
+// Take until EMPTY first, and then peek; let no other thread write or take meanwhile (one thread does both, or a lock
+// is held around both). Then the pages that were taken and this one have all records that are complete, except those
+// that are counted as missed. The records that are peeked may be overwritten later, and then a page taken later counts
+// them as missed: so no collector gets a peeked page and pages that are taken after it. Each dump has one of its own.
+static inline int32_t tracering_peek(struct tracering_writer *w, void *out, size_t room, struct tracering_taken *taken)
+{
+    if (!(w && out && taken))
+        return TRACERING_NULL;
+    if (!tracering_enter_end(&w->in_call))
+        return TRACERING_BUSY;
+    int32_t code = tracering_leave_end(&w->in_call, tracering_raw_peek(&w->held, (uint8_t *)out, room, taken));
+    if (code == TRACERING_DONE)
+        TRACERING_WRITTEN(out, taken->len);
+    return code;
+}
 
 // ---- The reader's calls, of its thread and of handlers that interrupt it. None takes memory or waits.
 

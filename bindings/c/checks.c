@@ -1,9 +1,9 @@
-// Checks of the library for C: which misuse is refused; a signal's handler that calls one end of a ring amid calls on
-// the other end; and a writer's thread, a reader's thread, and a handler that writes between the writer's calls, in the
-// middle of them, and nested in records. The reader looks at each page's numbers and at each payload. The pages that
-// are taken are added to a collector, which has to miss what the reader missed, and to list the others by moments that
-// don't fall and numbers that rise. Prints the same whatever the schedule, and ends with 0 if all is well.
-// `checks RECORDS` says how many records the writer makes.
+// Checks of the library for C: which misuse is refused; what a peek gives; a signal's handler that calls one end of a
+// ring amid calls on the other end; and a writer's thread, a reader's thread, and a handler that writes between the
+// writer's calls, in the middle of them, and nested in records. The reader looks at each page's numbers and at each
+// payload. The pages that are taken are added to a collector, which has to miss what the reader missed, and to list the
+// others by moments that don't fall and numbers that rise. Prints the same whatever the schedule, and ends with 0 if
+// all is well. `checks RECORDS` says how many records the writer makes.
 #define _DEFAULT_SOURCE
 #include "tracering.h"
 
@@ -175,19 +175,33 @@ static void *read_pages(void *given)
     }
 }
 
-// The reader of the ring both ends of which belong to one thread; and how often the handler that calls one end
-// interrupted a call on the other one.
+// The reader of the ring both ends of which belong to one thread; how often the handler that calls one end interrupted
+// a call on the other one; and how often it peeked.
 static struct seen own;
-static _Atomic uint64_t amid_writes, amid_takes;
+static _Atomic uint64_t amid_writes, amid_takes, peeks;
 
+// Takes all pages that are closed, and then peeks: what is peeked comes right after what was taken. Amid a call of the
+// writer the peek is refused.
 static void on_alarm_take(int signal)
 {
     (void)signal;
     static uint8_t out[TRACERING_HEADER + SIZE];
     struct tracering_taken taken;
-    amid_writes += writer.in_call != 0;
-    int32_t code = take_page(&own, out, &taken);
-    faults += code != TRACERING_DONE && code != TRACERING_EMPTY && code != TRACERING_MOVING;
+    bool amid = writer.in_call != 0;
+    amid_writes += amid;
+    int32_t code;
+    do
+        code = take_page(&own, out, &taken);
+    while (code == TRACERING_DONE);
+    faults += code != TRACERING_EMPTY && !(amid && code == TRACERING_MOVING);
+    code = tracering_peek(&writer, out, sizeof out, &taken);
+    if (code == TRACERING_DONE) {
+        peeks++;
+        own.faults += amid || taken.first != own.next || taken.missed || taken.len != sizeof out;
+        look_at(&own, out, &taken);
+    } else {
+        faults += amid ? code != TRACERING_BUSY : code != TRACERING_EMPTY && code != TRACERING_NOT_AT_REST;
+    }
 }
 
 static void on_alarm_write(int signal)
@@ -212,8 +226,8 @@ static uint64_t refused_amid(void)
     return tracering_refused(&writer, &counts) == TRACERING_DONE ? counts.busy : UINT64_MAX;
 }
 
-// The thread writes while the handler takes, and then takes while the handler writes. Each record is on a page that is
-// taken, or counted as missed before one.
+// The thread writes while the handler takes and peeks, and then takes while the handler writes. Each record is on a page
+// that is taken, or counted as missed before one.
 static int crossed(uint64_t count)
 {
     static uint8_t out[TRACERING_HEADER + SIZE];
@@ -230,7 +244,7 @@ static int crossed(uint64_t count)
     while (take_page(&own, out, &taken) == TRACERING_DONE)
         ;
     bad += written != count || own.faults || own.records + own.missed != written + from_handler;
-    bad += count >= 200000 && (!amid_writes || !amid_takes);
+    bad += count >= 200000 && (!amid_writes || !amid_takes || !peeks);
     bad += refused_amid() != amid_calls;
     bad += tracering_writer_free(&writer) != TRACERING_DONE || tracering_reader_free(&own.reader) != TRACERING_DONE;
     from_handler = amid_calls = 0;
@@ -265,6 +279,7 @@ static int amid(void)
     bad += tracering_finish(&busy) != TRACERING_BUSY;
     bad += tracering_put(&busy, byte, 1) != TRACERING_BUSY;
     bad += tracering_end(&busy) != TRACERING_BUSY;
+    bad += tracering_peek(&busy, byte, sizeof byte, &taken) != TRACERING_BUSY;
     bad += tracering_take(&busy_reader, byte, sizeof byte, &taken) != TRACERING_BUSY;
     bad += tracering_wish(&busy_reader) != TRACERING_BUSY;
     bad += tracering_depth(&busy) != TRACERING_BUSY;
@@ -299,6 +314,9 @@ static int nulls(void)
     bad += tracering_depth(NULL) != TRACERING_NULL;
     bad += tracering_refused(NULL, &refused) != TRACERING_NULL;
     bad += tracering_refused(&w, NULL) != TRACERING_NULL;
+    bad += tracering_peek(NULL, byte, sizeof byte, &taken) != TRACERING_NULL;
+    bad += tracering_peek(&w, NULL, sizeof byte, &taken) != TRACERING_NULL;
+    bad += tracering_peek(&w, byte, sizeof byte, NULL) != TRACERING_NULL;
     bad += tracering_take(NULL, byte, sizeof byte, &taken) != TRACERING_NULL;
     bad += tracering_take(&r, NULL, sizeof byte, &taken) != TRACERING_NULL;
     bad += tracering_take(&r, byte, sizeof byte, NULL) != TRACERING_NULL;
@@ -371,6 +389,7 @@ static int refusals(void)
     bad += tracering_put(&none, byte, 1) != TRACERING_ABSENT;
     bad += tracering_end(&none) != TRACERING_ABSENT;
     bad += tracering_depth(&none) != TRACERING_ABSENT;
+    bad += tracering_peek(&none, byte, ROOM, &taken) != TRACERING_ABSENT;
     bad += tracering_take(&reader, byte, ROOM, &taken) != TRACERING_ABSENT;
     bad += tracering_wish(&reader) != TRACERING_ABSENT;
     bad += tracering_settle(&none, &reader, byte, ROOM, &taken) != TRACERING_ABSENT;
@@ -432,6 +451,72 @@ static int refusals(void)
     bad += tracering_writer_free(&made) != TRACERING_DONE || !is_zeros(&made);
     bad += tracering_wish(&reader) != TRACERING_DONE;
     bad += tracering_reader_free(&reader) != TRACERING_DONE;
+    return bad;
+}
+
+// Whether a page that is peeked is the one of this fill, with so many records from this number on, each of which has
+// its own number as its moment and its first byte.
+static bool is_peeked(struct tracering_writer *w, uint64_t fill, uint64_t first, uint64_t count)
+{
+    enum { ROOM = TRACERING_HEADER + 64 };
+    uint8_t out[ROOM + 1];
+    struct tracering_taken taken = {0};
+    out[ROOM] = 77;
+    bool is = tracering_peek(w, out, ROOM, &taken) == TRACERING_DONE && out[ROOM] == 77 && taken.fill == fill
+        && taken.first == first && taken.missed == 0 && taken.count == count && taken.len == ROOM
+        && number_at(out, 8) == 5 && number_at(out + 8, 8) == fill && number_at(out + 16, 8) == first
+        && number_at(out + 24, 8) == 0 && number_at(out + 32, 8) == first && number_at(out + 40, 8) == 8 * count;
+    for (uint64_t k = 0; k < count && is; k++)
+        is = out[TRACERING_HEADER + 8 * k + 4] == (uint8_t)(first + k);
+    return is;
+}
+
+static int32_t write_number(struct tracering_writer *w, uint64_t number)
+{
+    uint8_t byte = (uint8_t)number;
+    return tracering_write(w, number, &byte, 1);
+}
+
+// What a peek answers: each refusal, which leaves the buffer as it was; and between writes the newest records, which a
+// take gives again once their page is closed, and a settle if it isn't.
+static int peeked(void)
+{
+    enum { ROOM = TRACERING_HEADER + 64 };
+    struct tracering_writer w = {0};
+    struct tracering_reader r = {0};
+    struct tracering_taken taken = {7, 7, 7, 7, 7}, later;
+    uint8_t out[ROOM], kept[ROOM], given[ROOM];
+    int bad = tracering_new(&w, &r, 5, 2, 64) != TRACERING_DONE;
+    memset(out, 7, ROOM);
+    memset(kept, 7, ROOM);
+    bad += tracering_peek(&w, out, ROOM, &taken) != TRACERING_EMPTY;
+    bad += tracering_peek(&w, out, ROOM - 1, &taken) != TRACERING_NO_ROOM;
+    bad += tracering_begin(&w, 0, 1) != TRACERING_DONE;
+    bad += tracering_peek(&w, out, ROOM, &taken) != TRACERING_NOT_AT_REST;
+    bad += tracering_finish(&w) != TRACERING_RESERVED || tracering_end(&w) != TRACERING_DONE;
+    bad += tracering_peek(&w, out, ROOM - 1, &taken) != TRACERING_NOT_AT_REST;
+    bad += tracering_finish(&w) != TRACERING_DONE;
+    bad += tracering_peek(&w, out, ROOM - 1, &taken) != TRACERING_NO_ROOM;
+    bad += memcmp(out, kept, ROOM) != 0 || taken.fill != 7 || taken.first != 7 || taken.missed != 7;
+    bad += taken.count != 7 || taken.len != 7 || w.in_call;
+    // Eight such records fill a page. The ring of two keeps the page that is written and the one before it.
+    for (uint64_t number = 1; number < 30; number++) {
+        bad += !is_peeked(&w, (number - 1) / 8, (number - 1) / 8 * 8, (number - 1) % 8 + 1);
+        bad += write_number(&w, number) != TRACERING_DONE;
+    }
+    bad += tracering_take(&r, out, ROOM, &taken) != TRACERING_DONE || taken.fill != 2 || taken.missed != 16;
+    bad += tracering_take(&r, out, ROOM, &taken) != TRACERING_EMPTY;
+    bad += tracering_peek(&w, kept, ROOM, &taken) != TRACERING_DONE || taken.first != 24 || taken.count != 6;
+    bad += tracering_begin_close(&w) != TRACERING_DONE || tracering_finish(&w) != TRACERING_DONE;
+    bad += tracering_peek(&w, out, ROOM, &later) != TRACERING_EMPTY;
+    bad += tracering_take(&r, given, ROOM, &later) != TRACERING_DONE || memcmp(given, kept, ROOM) != 0;
+    bad += memcmp(&taken, &later, sizeof taken) != 0;
+    bad += write_number(&w, 30) != TRACERING_DONE || !is_peeked(&w, 4, 30, 1);
+    bad += tracering_peek(&w, kept, ROOM, &taken) != TRACERING_DONE;
+    bad += tracering_take(&r, out, ROOM, &later) != TRACERING_EMPTY;
+    bad += tracering_settle(&w, &r, given, ROOM, &later) != TRACERING_DONE || memcmp(given, kept, ROOM) != 0;
+    bad += memcmp(&taken, &later, sizeof taken) != 0;
+    bad += tracering_peek(&w, out, ROOM, &taken) != TRACERING_ABSENT;
     return bad;
 }
 
@@ -591,7 +676,7 @@ static int is_listed(struct seen *seen)
 int main(int argc, char **argv)
 {
     uint64_t count = argc > 1 ? strtoull(argv[1], NULL, 10) : 200000;
-    int bad = refusals() + amid() + nulls() + refused_frames();
+    int bad = refusals() + amid() + nulls() + refused_frames() + peeked();
     printf("refusals: %s\n", bad ? "wrong" : "as they are to be");
     int wrong = collected();
     printf("collectors: %s\n", wrong ? "wrong" : "as they are to be");
@@ -608,9 +693,9 @@ int main(int argc, char **argv)
     wrong = crossed(count) + faults;
     printf("handlers that call the other end: %s\n", wrong ? "wrong" : "as they are to be");
     if (wrong || argc > 2)
-        fprintf(stderr, "amid writes %llu, amid takes %llu, records %llu, missed %llu\n",
-            (unsigned long long)amid_writes, (unsigned long long)amid_takes, (unsigned long long)own.records,
-            (unsigned long long)own.missed);
+        fprintf(stderr, "amid writes %llu, amid takes %llu, peeks %llu, records %llu, missed %llu\n",
+            (unsigned long long)amid_writes, (unsigned long long)amid_takes, (unsigned long long)peeks,
+            (unsigned long long)own.records, (unsigned long long)own.missed);
     bad += wrong;
     // The alarms are for this thread alone: the reader's is made while they are blocked.
     if (tracering_new(&writer, &seen.reader, 3, PAGES, SIZE) != TRACERING_DONE

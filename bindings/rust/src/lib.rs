@@ -120,6 +120,7 @@ extern "C" {
     fn tracering_raw_put(w: *mut Handle, bytes: *const u8, len: usize) -> i32;
     fn tracering_raw_end(w: *mut Handle) -> i32;
     fn tracering_raw_depth(w: *mut Handle) -> usize;
+    fn tracering_raw_peek(w: *mut Handle, out: *mut u8, room: usize, taken: *mut Taken) -> i32;
     fn tracering_raw_take(r: *mut Handle, out: *mut u8, room: usize, taken: *mut Taken) -> i32;
     fn tracering_raw_wish(r: *mut Handle) -> i32;
     fn tracering_raw_settle(w: *mut Handle, r: *mut Handle, out: *mut u8, room: usize, taken: *mut Taken) -> i32;
@@ -199,6 +200,17 @@ impl Writer {
     /// Closes the page that is written, so that it can be taken; if that is refused, nothing of it is left.
     pub fn close(&mut self) -> Result<(), Fault> {
         Nested::from(self).close()
+    }
+
+    /// Copies the page that is written to the front of `out`, as a parcel, and closes nothing; or nothing, if the page
+    /// has no record. Take until `Fault::Empty` first, with no write in between: `include/tracering.h` says why, and
+    /// why no collector gets a peeked page and pages that are taken after it.
+    pub fn peek(&mut self, out: &mut [u8]) -> Result<Option<Taken>, Fault> {
+        let mut taken = Taken::default();
+        match done(unsafe { tracering_raw_peek(&mut self.0, out.as_mut_ptr(), out.len(), &mut taken) }) {
+            Err(Fault::Empty) => Ok(None),
+            answer => answer.map(|()| Some(taken)),
+        }
     }
 
     /// Finishes the frame on top of those of the open records, which leaves if it is refused.

@@ -176,6 +176,28 @@ fn what_is_left_is_settled() {
 }
 
 #[test]
+fn a_peek_gives_what_a_take_gives_later() {
+    let (mut writer, mut reader) = ring(9, 2, 64).unwrap();
+    let (mut peeked, mut out) = ([7u8; HEADER + 64], [0u8; HEADER + 64]);
+    assert_eq!(writer.peek(&mut peeked[..HEADER + 63]), Err(Fault::NoRoom));
+    assert_eq!(writer.peek(&mut peeked), Ok(None));
+    writer.write(1, b"one").unwrap();
+    {
+        let mut open = writer.begin(2, 4).unwrap();
+        assert_eq!(open.nested().peek(&mut peeked), Err(Fault::NotAtRest));
+        open.put(b"two").unwrap();
+    }
+    assert_eq!(peeked, [7; HEADER + 64]);
+    let taken = Taken { fill: 0, first: 0, missed: 0, count: 2, len: HEADER + 64 };
+    assert_eq!(writer.peek(&mut peeked), Ok(Some(taken)));
+    assert_eq!(writer.peek(&mut peeked), Ok(Some(taken)));
+    assert_eq!(reader.take(&mut out), Err(Fault::Empty));
+    writer.close().unwrap();
+    assert_eq!((reader.take(&mut out), out), (Ok(taken), peeked));
+    assert_eq!(writer.peek(&mut peeked), Ok(None));
+}
+
+#[test]
 fn two_threads_lose_no_number() {
     let (mut writer, mut reader) = ring(0, 8, 256).unwrap();
     let count = 100_000u64;

@@ -5,6 +5,7 @@ pub mod Reserving
 pub mod Keeping
 pub mod Leaving
 pub mod Releasing
+pub mod RestingTail
 pub mod Tops
 pub mod Bounds
 pub mod Plain

@@ -34,7 +34,7 @@ whole_prefix : (h : List HistoryEvent) → (writer_after h).stack ≡ [] → set
 whole_prefix h none = let settled : is_settled h ≡ true = rw (is_settled, none) refl in whole_front (length h) h (omega arith) settled
 
 -- all of them are committed
-all_committed : (h : List HistoryEvent) → (writer_after h).stack ≡ [] → committed_records h ≡ map as_record (reserved_records h)
+pub all_committed : (h : List HistoryEvent) → (writer_after h).stack ≡ [] → committed_records h ≡ map as_record (reserved_records h)
 all_committed h none = ap (λ (front : List HistoryEvent). map as_record (reserved_records front)) (whole_prefix h none)
 
 all_written : (h : List HistoryEvent) → IsHistory h → (writer_after h).stack ≡ [] → All HasItsBytes (reserved_records h)
@@ -159,7 +159,7 @@ pub all_left : (start : ℕ) (h : List HistoryEvent) (s : Stack) → s.frames �
 all_left start h s none k = k.stack_is ∙ ap (λ (fs : List Frame). pushed_of (model_frames fs)) none
 
 module _ (start : ℕ) (h : List HistoryEvent) (s : Stack) (none : s.frames ≡ []) (alone : s.older ≡ []) (k : IsStack start h s) where
-  last_fill : length (opens_of h) ≡ s.done - start
+  pub last_fill : length (opens_of h) ≡ s.done - start
   last_fill = let few : length s.older ≡ 0 = ap length alone in let begun = k.holds.begun in omega arith
 
   tail_page : IsPageOf s.size s.done (opens_of h) (reserved_records h) (s.done - start) s.tail

@@ -95,6 +95,14 @@ impl Payload {
         page
     }
 
+    /// The page, to be read.
+    #[inline(always)]
+    pub(crate) fn page(&self) -> &Page
+        ensures { result.now ≡ self.now.page }
+    {
+        &self.page
+    }
+
     /// Lends the payload at this place.
     #[inline(always)]
     pub(crate) fn lend(&mut self, place: Place)

@@ -8,6 +8,7 @@ pub mod NewWriter
 pub mod Onward
 pub mod PageMoves
 pub mod Privately
+pub mod RestingTail
 pub mod Settles
 pub mod Standing
 pub mod PageTaken

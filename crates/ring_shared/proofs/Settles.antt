@@ -23,6 +23,7 @@ use Rattle.ring_shared.specs.Value.{WriterValue, ReaderValue}
 use Rattle.ring_shared.specs.Calls.{AreWriterFields}
 use Rattle.ring_shared.specs.Takes.{IsReader}
 use Rattle.ring_shared.specs.declared.settling.Settled.{Settled}
+use Rattle.ring_shared.specs.TailLaws.{TailsAreTheRest}
 use Rattle.ring_shared.specs.Settling.{piece_unread, unread_page, WasTaken, IsOneRun, IsSettled}
 
 -- what is left as one piece more, before which nothing is skipped
@@ -61,8 +62,8 @@ one_run shape writing part p = record {
   reading_is = p.reading_is;
 }
 
-module _ (shape : Shape) (writing : Writing) (part : Reading) (settled : Settled) (p : AreParts shape writing part) (at_rest : writing.frames ≡ []) (hint : part.reader.hint ≡ writing.done)
-    (tail : IsWrittenPage shape.size writing.done (fill_of writing.history shape.start writing.done) settled.tail) where
+module _ (shape : Shape) (writing : Writing) (part : Reading) (page : Contents) (p : AreParts shape writing part) (at_rest : writing.frames ≡ []) (hint : part.reader.hint ≡ writing.done)
+    (tail : IsWrittenPage shape.size writing.done (fill_of writing.history shape.start writing.done) page) where
   kept : IsRingKept shape.pages shape.size shape.start p.core
   kept = reached_kept shape.pages shape.size shape.start p.core p.reached
 
@@ -81,7 +82,7 @@ module _ (shape : Shape) (writing : Writing) (part : Reading) (settled : Settled
       let same = ap (λ (r : Reader). r.hint) p.reading_is.reader_is in
       let done = done_is in omega arith
 
-  tail_records : map as_record (tail_of writing.history) ≡ records_of_page settled.tail
+  tail_records : map as_record (tail_of writing.history) ≡ records_of_page page
   tail_records =
       let begun = (reached_ring shape.pages shape.size shape.start p.core p.reached).begun in
       let alone = kept.stack.at_rest none_stand in
@@ -92,14 +93,14 @@ module _ (shape : Shape) (writing : Writing) (part : Reading) (settled : Settled
       ap (λ (i : ℕ). map as_record (get_or (fills_of writing.history) i [])) (let e : length (fills_of writing.history) - 1 ≡ writing.done - shape.start = omega arith in e)
       ∙ sym tail.records_are
 
-  left : IsPartition (committed_records writing.history) (pieces_of part.reader.taken) (records_of_page settled.tail)
+  pub left : IsPartition (committed_records writing.history) (pieces_of part.reader.taken) (records_of_page page)
   left =
       let whole = tail_is_the_rest shape.pages shape.size shape.start p.core kept none_stand all_read in
       subst (IsPartition (committed_records writing.history) (pieces_of part.reader.taken)) tail_records
       (subst (λ (h : List HistoryEvent). IsPartition (committed_records h) (pieces_of part.reader.taken) (map as_record (tail_of h))) history_is
       (subst (λ (r : Reader). IsPartition (committed_records p.core.history) (pieces_of r.taken) (map as_record (tail_of p.core.history))) (sym p.reading_is.reader_is) whole))
 
-  passed : (f : ℕ) → shape.start ≤ f → f < writing.done → WasTaken part f ⊎ (f + shape.pages < writing.opened)
+  pub passed : (f : ℕ) → shape.start ≤ f → f < writing.done → WasTaken part f ⊎ (f + shape.pages < writing.opened)
   passed f low high =
       let ring = reached_ring shape.pages shape.size shape.start p.core p.reached in
       let head = all_read in let done = done_is in
@@ -108,20 +109,25 @@ module _ (shape : Shape) (writing : Writing) (part : Reading) (settled : Settled
       (λ (lost : f + shape.pages < p.core.opened). inr (omega arith))
       (ring.lost_at_rest f low (omega arith) none_stand)
 
-  fills : AreFillsOf shape.start writing.history part.reader.taken
+  pub fills : AreFillsOf shape.start writing.history part.reader.taken
   fills =
       subst (λ (h : List HistoryEvent). AreFillsOf shape.start h part.reader.taken) history_is
       (subst (λ (r : Reader). AreFillsOf shape.start p.core.history r.taken) (sym p.reading_is.reader_is) kept.partition.fills)
 
-  pub settles : IsSettled shape writing part settled
-  settles = record {
-    partition = with_unread (committed_records writing.history) (pieces_of part.reader.taken) settled left tail.page_reads.counted;
-    tail = tail;
-    passed = passed;
-    fills = fills;
-    parts = p;
-    one_run = one_run shape writing part p;
-  }
+pub settles : (shape : Shape) (writing : Writing) (part : Reading) (settled : Settled) → AreParts shape writing part → writing.frames ≡ [] → part.reader.hint ≡ writing.done
+    → IsWrittenPage shape.size writing.done (fill_of writing.history shape.start writing.done) settled.tail → IsSettled shape writing part settled
+settles shape writing part settled p at_rest hint tail = record {
+  partition = with_unread (committed_records writing.history) (pieces_of part.reader.taken) settled (left shape writing part settled.tail p at_rest hint tail) tail.page_reads.counted;
+  tail = tail;
+  passed = passed shape writing part settled.tail p at_rest hint tail;
+  fills = fills shape writing part settled.tail p at_rest hint tail;
+  parts = p;
+  one_run = one_run shape writing part p;
+}
+
+-- what is left is the tail of a writer at rest
+pub tails_are_the_rest : TailsAreTheRest
+tails_are_the_rest shape writing part page p at_rest hint tail = left shape writing part page p at_rest hint tail.written
 
 -- ---- by the fields of both ends
 

@@ -15,4 +15,5 @@ pub mod Laws
 pub mod Turning
 pub mod WholeLaws
 pub mod TakenLaws
+pub mod TailLaws
 pub mod RunLaws

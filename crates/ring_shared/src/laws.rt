@@ -1,6 +1,7 @@
 //! What holds of any call of a running ring's ends, and of all calls of both.
 ghost use Rattle.ring_shared.specs.Laws.{CallsAppend, ClosesAppend, EndsAppend, NumbersAreReportedAgain, PushesAppend, RefusalsAppend, ReservationsAppend};
 ghost use Rattle.ring_shared.specs.RunLaws.{ReaderStepsEndRuns, ReaderStepsStand, RunsAreReached, WriterCallsEndRuns, WriterStepsStand};
+ghost use Rattle.ring_shared.specs.TailLaws.{TailsAreTheRest};
 ghost use Rattle.ring_shared.specs.TakenLaws.{TakesAreMade};
 ghost use Rattle.ring_shared.specs.WholeLaws.{FinishesClose, FinishesLeft, FinishesRefused, FinishesReserve, PaddedTwice, RefusedWritesAppend, RefusedWritesKeepFrames, RefusedWritesReserveNone, WritersHaveHistories, WritesAppend, WritesReserve};
 
@@ -44,6 +45,13 @@ pub fn writers_have_histories()
 /// else.
 pub fn takes_are_made()
     ensures { TakesAreMade }
+{}
+
+/// If a take has found that all closed fills are passed, the writer has no frame, and neither end has made a step since,
+/// the pages that were taken, and then the tail as it can be read, have all records that are committed, except those that
+/// are counted as missed.
+pub fn tails_are_the_rest()
+    ensures { TailsAreTheRest }
 {}
 
 /// Whatever calls were made on the two ends of a ring, in whatever threads: once the ends are settled, the steps of all

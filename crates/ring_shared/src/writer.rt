@@ -9,6 +9,7 @@ mod top;
 mod turning;
 mod write;
 
+use page_image::Page;
 use ring_frames::Frames;
 use ring_steps::WriterSeat;
 use std::collections::VecDeque;
@@ -46,8 +47,27 @@ impl Model for Writer {
 }
 
 impl Writer {
-    ghost use Rattle.std.specs.Prelude.{◌≡◌, [], length};
+    ghost use Rattle.std.specs.Prelude.{◌≡◌, ◌↔◌, ◌+◌, ◌^◌, ◌<◌, [], length, IsSome, IfSome};
+    ghost use Rattle.trace_model.specs.Ring.{fill_of};
+    ghost use Rattle.nested_writer.specs.Released.{IsRestingTail};
     ghost use Rattle.ring_shared.specs.Calls.{IsWriter};
+
+    /// The tail page, to be read, if no frame is on the stack: all records that are committed from its first number on.
+    #[inline(always)]
+    pub fn resting_tail(&self) -> Option<&Page>
+        requires writer { IsWriter self.now }
+        ensures at_rest { IsSome result ↔ (self.now.part.frames ≡ []) }
+        ensures tail { IfSome result (λ page. page.now ≡ self.now.frames.stack.tail) }
+        ensures rests { IfSome result (λ page. IsRestingTail self.now.shape.size self.now.part.done
+            (fill_of self.now.part.history self.now.shape.start self.now.part.done)
+            self.now.part.history page.now) }
+        ensures numbers_fit { IfSome result (λ page. page.now.first + page.now.count < 2 ^ 64) }
+    {
+        if !self.frames.is_empty() {
+            return None;
+        }
+        Some(self.frames.resting_tail())
+    }
 
     /// The number of frames on the stack.
     #[inline(always)]

@@ -10,6 +10,7 @@ use Rattle.tracering_c.specs.declared.ends.HeldReader.{HeldReader}
 use Rattle.tracering_c.specs.declared.taken.Taken.{Taken}
 use Rattle.tracering_c.specs.Codes.{fault_code}
 use Rattle.tracering_c.specs.Calls.{WritesSo, TakesSo, is_page, is_empty, is_moving, has_no_room}
+use Rattle.tracering_c.specs.Peeks.{AnswersPeek, not_at_rest, no_room, empty, peeks}
 
 abbrev fault_or : WriteFault → Option WriteFault → WriteFault
 fault_or fault None = fault
@@ -39,6 +40,17 @@ takes_so old out was code left reported new (is_page page missed c t a g d) = is
 takes_so old out was code left reported new (is_empty done back c e a o w) = is_empty done back (ap (λ (n : ℤ). to_z w32 (of_z w32 n)) c) e a o w
 takes_so old out was code left reported new (is_moving fill back c m a o w) = is_moving fill back (ap (λ (n : ℤ). to_z w32 (of_z w32 n)) c) m a o w
 takes_so old out was code left reported new (has_no_room c s n o w) = has_no_room (ap (λ (k : ℤ). to_z w32 (of_z w32 k)) c) s n o w
+
+-- so does a number that is one which fits
+fits_by : (code number : ℤ) → code ≡ number → to_z w32 (of_z w32 number) ≡ number → to_z w32 (of_z w32 code) ≡ code
+fits_by code number is fits = subst (λ (n : ℤ). to_z w32 (of_z w32 n) ≡ n) (sym is) fits
+
+-- and that of a peek's answer
+pub peek_fits : (writer : WriterValue) (room : ℕ) (code : ℤ) → AnswersPeek writer room code → to_z w32 (of_z w32 code) ≡ code
+peek_fits writer room code (not_at_rest is frames) = fits_by code (pos 18) is refl
+peek_fits writer room code (no_room is none short) = fits_by code (pos 17) is refl
+peek_fits writer room code (empty is none long nothing) = fits_by code (pos 15) is refl
+peek_fits writer room code (peeks is none long some) = fits_by code (pos 0) is refl
 
 -- an end that was taken out is what the handle held
 pub held_is : {V B : Type 0} (value : B → V) (held : Option V) (result : Option B) (end : B) → result ≡ Some end → (held ≡ None → result ≡ None) → ((x : V) → held ≡ Some x → IsSomeAnd result (λ (b : B). value b ≡ x)) → held ≡ Some (value end)

@@ -4,3 +4,4 @@ pub mod HeldKinds
 pub mod FaultCodes
 pub mod Unread
 pub mod CallAnswers
+pub mod NewestRecords

@@ -36,6 +36,8 @@ pub record OnWriter (old new : WriterHandle) (so : WriterValue → WriterValue �
   pub is : Becomes (writer_of old.held.value) (writer_of new.held.value) (λ was is. so was.writer is.writer)
   -- it is still the writer of the same ring
   pub ring : Becomes (writer_of old.held.value) (writer_of new.held.value) (λ was is. SameWriter was.writer is.writer)
+  -- its parcels are still of the same CPU
+  pub cpu : Becomes (writer_of old.held.value) (writer_of new.held.value) (λ was is. is.cpu ≡ was.cpu)
   -- the next call is made on a writer of a ring, too
   pub writer : IsWriterHandle new
 

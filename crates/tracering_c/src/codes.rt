@@ -39,7 +39,7 @@ pub const NO_MEMORY: i32 = 12;
 pub const BAD_SIZE: i32 = 13;
 /// There is no such CPU.
 pub const BAD_CPU: i32 = 14;
-/// No closed page is unread.
+/// No closed page is unread; or the page that is written has no record.
 pub const EMPTY: i32 = 15;
 /// A move of the head isn't finished, or the take has made as many steps as it may.
 pub const MOVING: i32 = 16;

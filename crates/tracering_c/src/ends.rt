@@ -1,14 +1,20 @@
 //! A ring's two ends, each with what its calls need, and a collector.
+ghost use Rattle.std.specs.Prelude.{◌<◌};
+ghost use Rattle.trace_model.specs.declared.limits.TheConstants.{MAX_CPUS};
+
 use listed_collector::ListedCollector;
 use page_image::Body;
 use ring_shared::{Reader, Writer};
 use trace_model::CpuId;
 
-/// The writer.
+/// The writer, and the CPU under which its pages are parcels.
 #[derive(Drop)]
 pub struct HeldWriter {
     /// The ring's writer.
     pub writer: Writer,
+    /// The CPU under which the pages are parcels.
+    pub cpu: CpuId,
+    pub ghost cpu_known: { cpu.0 < MAX_CPUS },
 }
 
 /// The reader, the CPU under which its pages are parcels, and the body that its next take hands in.

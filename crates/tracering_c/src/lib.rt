@@ -12,6 +12,7 @@ pub mod ends;
 pub mod handle;
 pub mod held;
 mod making;
+mod peeking;
 mod reading;
 mod settling;
 pub mod taken;

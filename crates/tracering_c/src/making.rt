@@ -35,6 +35,7 @@ pub extern "C" fn tracering_raw_new(
         → IsSomeAnd (writer_of w.new.held.value) (λ left. IsSomeAnd (reader_of r.new.held.value) (λ right.
         AreNewEnds (record { pages = pages; size = size; start = START_FILL }) left.writer right.reader)) }
     ensures cpu { result ≡ pos 0 → IsSomeAnd (reader_of r.new.held.value) (λ right. right.cpu.0 ≡ cpu) }
+    ensures writer_cpu { result ≡ pos 0 → IsSomeAnd (writer_of w.new.held.value) (λ left. left.cpu.0 ≡ cpu) }
     ensures writer_stays { result ≢ pos 0 → w.new ≡ w.old }
     ensures reader_stays { result ≢ pos 0 → r.new ≡ r.old }
     ensures answers { writer_of w.old.held.value ≡ None → reader_of r.old.held.value ≡ None
@@ -73,12 +74,13 @@ fn new_ends(
     ensures ring { IfOk result (λ ends. AreNewEnds (record { pages = pages; size = size; start = START_FILL })
         ends.0.value.writer ends.1.value.reader) }
     ensures cpu { IfOk result (λ ends. ends.1.value.cpu.0 ≡ cpu.0) }
+    ensures writer_cpu { IfOk result (λ ends. ends.0.value.cpu.0 ≡ cpu.0) }
     ensures writer { IfOk result (λ ends. IsWriter ends.0.value.writer) }
     ensures reader { IfOk result (λ ends. IsHeldReader ends.1.value) }
 {
     let (writer, reader) = ring_shared::ring(alloc, pages, size)?;
     let body = Some(Body::new(alloc, size)?);
-    let left = Box::new(alloc, HeldWriter { writer })?;
+    let left = Box::new(alloc, HeldWriter { writer, cpu })?;
     let right = Box::new(alloc, HeldReader { cpu, reader, body })?;
     Ok((left, right))
 }

@@ -18,7 +18,7 @@ impl WriterStack {
     ghost use Rattle.nested_writer.specs.Stack.{opened, next_number, blank_page};
     ghost use Rattle.nested_writer.specs.Calls.{with_tail, MayAddPage, IsAtBottom};
     ghost use Rattle.nested_writer.specs.Allotted.{HasEvents};
-    ghost use Rattle.nested_writer.specs.Released.{IsWrittenPage, AreCommitted};
+    ghost use Rattle.nested_writer.specs.Released.{IsWrittenPage, AreCommitted, IsRestingTail};
     ghost use Rattle.nested_writer.specs.Kept.{SameShape};
     ghost use Rattle.nested_writer.specs.IsStack.{IsStack, IsReachedStack};
 
@@ -86,6 +86,18 @@ impl WriterStack {
             }
             None => unreachable!(),
         }
+    }
+
+    /// The tail page of an empty stack, to be read: the only open one, of which all records are committed.
+    #[inline(always)]
+    pub fn resting_tail(&self) -> &Page
+        requires none { self.now.frames ≡ [] }
+        ensures tail { result.now ≡ self.now.tail }
+        ensures rests { (start : ℕ) (history : List HistoryEvent)
+            → IsStack start history self.now
+            → IsRestingTail self.now.size self.now.done (fill_of history start self.now.done) history result.now }
+    {
+        self.tail.page()
     }
 
     /// The tail page of an empty stack, the only open one, of which all records are committed.

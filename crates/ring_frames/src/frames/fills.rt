@@ -12,7 +12,7 @@ impl Frames {
     ghost use Rattle.trace_model.specs.Ring.{fill_of};
     ghost use Rattle.nested_writer.specs.Stack.{opened};
     ghost use Rattle.nested_writer.specs.IsStack.{IsStack};
-    ghost use Rattle.nested_writer.specs.Released.{IsWrittenPage};
+    ghost use Rattle.nested_writer.specs.Released.{IsWrittenPage, IsRestingTail};
     ghost use Rattle.ring_frames.specs.declared.phase.Phase.TheVariants.{Opening, Releasing};
     ghost use Rattle.ring_frames.specs.declared.answer.Answer.TheVariants.{Going};
     ghost use Rattle.ring_frames.specs.Answers.{KeepsPayloads};
@@ -46,6 +46,19 @@ impl Frames {
         let page = self.stack.drop_front();
         self.start_closing();
         page
+    }
+
+    /// The tail page, to be read, of a writer with no frame on its stack.
+    #[inline(always)]
+    pub fn resting_tail(&self) -> &Page
+        requires none { self.now.stack.frames ≡ [] }
+        ensures tail { result.now ≡ self.now.stack.tail }
+        ensures rests { (start : ℕ) (history : List HistoryEvent)
+            → IsStack start history self.now.stack
+            → IsRestingTail self.now.stack.size self.now.stack.done
+            (fill_of history start self.now.stack.done) history result.now }
+    {
+        self.stack.resting_tail()
     }
 
     /// The tail page, of a writer with no frame on its stack: all else that it wrote is closed.

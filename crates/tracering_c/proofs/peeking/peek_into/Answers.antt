@@ -1,0 +1,17 @@
+use Rattle.std.proofs.Common.{ℕ, sym, subst}
+use Rattle.tracering_c.specs.Calls.{AreNumbersOf}
+use Rattle.tracering_c.proofs.NewestRecords.{reads_newest}
+use Rattle.tracering_c.proofs.peeking.peek_into.Goals as goal
+
+pub returns-clause-peeked : goal.returns-clause-peeked
+returns-clause-peeked c = λ done.
+    let end = c.args.end.now in
+    let page = c.in-Some.page.now in
+    let put = c.put_parcel-len.ensures in
+    let found = c.in-Some.ensures in
+    record {
+      page = page;
+      tail = found.rests;
+      given = record { bytes = put.bytes; numbers = subst (λ (n : ℕ). AreNumbersOf page 0 n c.of.result) (sym put.len) c.of.ensures };
+      reads = reads_newest end.cpu.0 end.writer page found.rests end.cpu_known found.numbers_fit put.reads;
+    }
