@@ -318,8 +318,9 @@ static int refused_frames(void)
     struct tracering_writer w = {0};
     struct tracering_reader r = {0};
     int bad = tracering_new(&w, &r, 0, 2, 64) != TRACERING_DONE;
-    for (uint64_t moment = 1; moment <= 4; moment++)
+    for (uint64_t moment = 1; moment <= 3; moment++)
         bad += tracering_begin(&w, moment, 4) != TRACERING_DONE;
+    bad += tracering_begin_close(&w) != TRACERING_DONE;
     bad += tracering_begin(&w, 5, 4) != TRACERING_TOO_DEEP;
     bad += tracering_begin_close(&w) != TRACERING_TOO_DEEP;
     bad += tracering_write(&w, 5, "deep", 4) != TRACERING_TOO_DEEP;
