@@ -67,7 +67,7 @@ class Source:
                 data += word
         flags, count = chance.choice([0, 0, 0, 1 << 31, 3 << 30]), b""
         if flags == 3 << 30:
-            count = struct.pack("<Q", chance.choice([0, 1, 2, 500, chance.choice([1, (1 << 63) + 1, (1 << 64) - 1])]))
+            count = struct.pack("<Q", chance.choice([0, 1, 2, 500, chance.choice([(1 << 63) + 1, (1 << 64) - 2, (1 << 64) - 1])]))
             flags = flags if len(data) + 8 <= room else 1 << 31
         commit = (len(data) + chance.choice([0] * 12 + [4, -4, 1 << 20])) % (1 << 30) | flags
         page = bytearray((struct.pack("<QQ", time, commit) + data + count).ljust(size, b"\0")[:size])
