@@ -206,6 +206,7 @@ impl Writer {
     /// has no record. Take until `Fault::Empty` first, with no write in between: `include/tracering.h` says why, and
     /// why no collector gets a peeked page and pages that are taken after it.
     pub fn peek(&mut self, out: &mut [u8]) -> Result<Option<Taken>, Fault> {
+        self.complete_above(0);
         let mut taken = Taken::default();
         match done(unsafe { tracering_raw_peek(&mut self.0, out.as_mut_ptr(), out.len(), &mut taken) }) {
             Err(Fault::Empty) => Ok(None),
