@@ -18,7 +18,8 @@ use Rattle.collect_command.specs.declared.ending.Ending.TheVariants.{Done, Damag
 -- the losses of unknown number of each CPU, from this one on
 abbrev pub all_unknown : Form → (cpu : ℕ) → List (List Page) → List ℕ
 all_unknown form cpu [] = []
-all_unknown form cpu (own ∷ captures) = unknown_lines form cpu (unknown_from 0 own) ++ all_unknown form (suc cpu) captures
+all_unknown form cpu (own ∷ captures) =
+    unknown_lines form cpu (unknown_from 0 own) ++ all_unknown form (suc cpu) captures
 
 -- the damaged pages of each CPU, from this one on
 abbrev pub all_damaged : Form → List ModelPart → (cpu : ℕ) → List (List Page) → List ℕ

@@ -53,8 +53,10 @@ IsMemoryLine contents after failed ending = IsWritten contents after failed MEMO
 abbrev pub TellsFault : (index : ℕ) → InputFault → (contents after : Option (List ℕ)) (failed : Bool) → Ending → Type 0
 TellsFault index faults.Read contents after failed ending = IsUnwritten contents after failed × (ending ≡ NotRead index)
 TellsFault index (faults.File fault) contents after failed ending =
-    IsWritten contents after failed (fault_line fault) (Malformed index fault) ending ⊎ IsMemoryLine contents after failed ending
-TellsFault index faults.Numbers contents after failed ending = IsWritten contents after failed numbers_line Numbers ending
+    IsWritten contents after failed (fault_line fault) (Malformed index fault) ending
+    ⊎ IsMemoryLine contents after failed ending
+TellsFault index faults.Numbers contents after failed ending =
+    IsWritten contents after failed numbers_line Numbers ending
 TellsFault index faults.NoMemory contents after failed ending = IsMemoryLine contents after failed ending
 
 module _ {R : Type 0} (remaining : R → Option (List ℕ)) (has_failed : R → Bool) where
@@ -81,4 +83,5 @@ module _ {R : Type 0} (remaining : R → Option (List ℕ)) (has_failed : R → 
   abbrev pub IsCollectRun : (asked : Asked) (old new : List (Input R)) (contents after : Option (List ℕ))
       (failed : Bool) → Collected → Type 0
   IsCollectRun asked old new contents after failed collected =
-      CollectsAll asked old new contents after failed collected ⊎ CollectsNone asked old new contents after failed collected
+      CollectsAll asked old new contents after failed collected
+      ⊎ CollectsNone asked old new contents after failed collected

@@ -4,7 +4,8 @@ use Rattle.command_io.specs.declared.status.TheConstants.{DONE, REFUSED, NO_MEMO
 use Rattle.collect_command.specs.declared.ending.Ending.{Ending}
 use Rattle.collect_command.specs.declared.ending.Ending.TheVariants.{Done, Damaged, Malformed, Numbers, NoMemory, NotRead, NotWritten}
 
--- 0 if all is listed; 1 for a damaged page, a malformed file or numbers that don't fit; 3 and 4 as for the other commands
+-- 0 if all is listed; 1 for a damaged page, a malformed file or numbers that don't fit; 3 and 4 as for the other
+-- commands
 abbrev pub status_for : Ending → ℕ
 status_for Done = DONE
 status_for Damaged = REFUSED

@@ -69,5 +69,5 @@ with_one_input files = if nat_le (count_inputs files) 1 then Some files else Non
 -- CPUs, and standard input once at most.
 abbrev pub file_list : (words : List (List ℕ)) → Option (List (ℕ × List ℕ))
 file_list words =
-    if nat_lt 0 (length words) && nat_le (length words) MAX_CPUS then option_and_then with_one_input (file_words 0 words)
-    else None
+    if nat_lt 0 (length words) && nat_le (length words) MAX_CPUS
+    then option_and_then with_one_input (file_words 0 words) else None

@@ -47,9 +47,9 @@ pub fn takes_are_made()
     ensures { TakesAreMade }
 {}
 
-/// If a take has found that all closed fills are passed, the writer has no frame, and neither end has made a step since,
-/// the pages that were taken, and then the tail as it can be read, have all records that are committed, except those that
-/// are counted as missed.
+/// If a take has found that all closed fills are passed, the writer has no frame, and neither end has made a step
+/// since, the pages that were taken, and then the tail as it can be read, have all records that are committed, except
+/// those that are counted as missed.
 pub fn tails_are_the_rest()
     ensures { TailsAreTheRest }
 {}
