@@ -102,8 +102,7 @@ class Ring:
     def sections(self):
         made = u32(self.number, self.slot, self.level, self.tail) + u64(self.written, self.lacking, *self.refused)
         made += u64(self.dropped) + u32(len(self.leases))
-        for first, thread, name in self.leases:
-            made += u64(first) + u32(thread) + text(name)
+        made += b"".join(u64(first) + u32(thread) + text(name) for first, thread, name in self.leases)
         return [(b"RING", made)] + [(b"PAGE", page.parcel(self.number)) for page in self.pages]
 
 

@@ -265,7 +265,7 @@ static void ctf_record(void *self, const struct record *record)
         stream->end = time;
     add_record(ctf, &stream->packet, record, stream->end);
     // What is kept of a packet is bounded.
-    if (stream->packet.len > (size_t)1 << 20)
+    if (stream->packet.len > (size_t)1 << 16)
         write_packet(ctf, record->ring, stream);
 }
 
