@@ -73,7 +73,8 @@ BRACES_ROWS = [
     ("[{:5}|{:<5}|{:^5}|{:>5}|{:*^5}]", [(TEXT, "ab")] * 5, "[ab   |ab   | ab  |   ab|*ab**]"),
     ("[{:5}|{:<5}|{:05}|{:+}]", [(I32, 42)] * 4, "[   42|42   |00042|+42]"),
     ("[{:ä>4}|{:4}]", [(I32, 1), (TEXT, "ö")], "[äää1|ö   ]"),
-    ("{:#x} {:#010b} {:x} {:X} {:o}", [(U8, 255), (U8, 5), (I8, -1), (U16, 0xABC), (I16, 8)], "0xff 0b00000101 ff ABC 10"),
+    ("{:#x} {:#010b} {:x} {:X}", [(U8, 255), (U8, 5), (I8, -1), (U16, 0xABC)], "0xff 0b00000101 ff ABC"),
+    ("{:o} {:#o}", [(I16, 8), (U8, 8)], "10 0o10"),
     ("{:?} {:?} {:?}", [(TEXT, 'a"\n'), (I32, -1), (F64, 1.0)], '"a\\"\\n" -1 1.0'),
     ("[{:.1}|{:.0}]", [(TEXT, "äb"), (TEXT, "ab")], "[ä|]"),
     ("{} {} {} {}", [(F64, 1.0), (F64, 0.1), (F64, 1e21), (F64, -0.0)], "1 0.1 1000000000000000000000 -0"),
@@ -150,9 +151,10 @@ def random_conversion(chance):
         return f"%{fields}{chance.choice('fFeEgGaA')}", [*arguments, (F64, random_double(chance))]
     if way == 6:
         return f"%{random_fields(chance, '-', arguments)}s", [*arguments, (TEXT, random_text(chance))]
+    fields = random_fields(chance, "-", arguments, False)
     if chance.random() < 0.5:
-        return f"%{random_fields(chance, '-', arguments, False)}c", [*arguments, (I32, ord(chance.choice(LETTERS)))]
-    return f"%{random_fields(chance, '-', arguments, False)}p", [*arguments, (ADDRESS, chance.choice([0, random_integer(chance, U64)]))]
+        return f"%{fields}c", [*arguments, (I32, ord(chance.choice(LETTERS)))]
+    return f"%{fields}p", [*arguments, (ADDRESS, chance.choice([0, random_integer(chance, U64)]))]
 
 
 def random_printf(chance, count):
@@ -197,7 +199,8 @@ def printed_by_c(rows, folder):
     return printed_by(["cc", "-w"], source, "c", rows, folder)
 
 
-RUST = {I8: "i8", I16: "i16", I32: "i32", I64: "i64", U8: "u8", U16: "u16", U32: "u32", U64: "u64", F32: "f32", F64: "f64"}
+RUST = {I8: "i8", I16: "i16", I32: "i32", I64: "i64", U8: "u8", U16: "u16", U32: "u32", U64: "u64"}
+RUST |= {F32: "f32", F64: "f64"}
 
 
 def random_braces(chance, count):
@@ -236,5 +239,5 @@ def rust_value(kind, value):
 
 
 def printed_by_rust(rows, folder):
-    lines = [f'print!("{format}\\u{{1}}", {", ".join(rust_value(*each) for each in values)});' for format, values in rows]
+    lines = [f'print!("{format}\\u{{1}}", {rust_value(*values[0])});' for format, values in rows]
     return printed_by(["rustc"], "fn main() {\n" + "\n".join(lines) + "\n}\n", "rs", rows, folder)

@@ -107,7 +107,7 @@ static void add_environment(struct text *text, const struct process *process)
     add_format(text, "%" PRIu64 ";\n};\n", process->no_ring & INT64_MAX);
     add_string(text, "clock {\n    name = flight;\n    freq = 1000000000;\n");
     if (has_time(process))
-        add_string(text, "    offset = 0;\n    absolute = true;\n    description = \"nanoseconds from 1970 on\";\n};\n");
+        add_string(text, "    offset = 0;\n    absolute = true;\n    description = \"nanoseconds from 1970\";\n};\n");
     else
         add_string(text, "    description = \"the moments of the program's own clock\";\n};\n");
 }

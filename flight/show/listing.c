@@ -119,8 +119,8 @@ static size_t give_losses(struct listing *listing, const struct ring *ring)
     uint64_t end = ring->written - ring->lacking;
     if (end < progress->next)
         end = progress->next;
-    // A page that was dropped had a count of what is missing before it, which is dropped with it. So what is missing and
-    // wasn't dropped was overwritten, though no page says so.
+    // A page that was dropped had a count of what is missing before it, which is dropped with it. So what is missing
+    // and wasn't dropped was overwritten, though no page says so.
     uint64_t gaps = end - progress->listed, missing = count_missing(listing->dump, ring);
     uint64_t overwritten = gaps > ring->dropped ? gaps - ring->dropped : 0;
     if (overwritten < missing)

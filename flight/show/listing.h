@@ -40,8 +40,8 @@ struct viewer {
     void (*end)(void *self, size_t losses);
 };
 
-// Gives the viewer the dump: its records by moment, then ring, then number, of which the last `most` are given, each gap
-// before its ring's next record, or after all records, and then each loss.
+// Gives the viewer the dump: its records by moment, then ring, then number, of which the last `most` are given, each
+// gap before its ring's next record, or after all records, and then each loss.
 void list_dump(struct dump *dump, size_t most, const struct viewer *viewer);
 
 // Formats a record as its site says.
