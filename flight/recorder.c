@@ -37,7 +37,7 @@ static inline void count_record(struct ring *ring)
 static void copy_words(uint64_t *to, const uint64_t *from, size_t words)
 {
     for (size_t at = 0; at < words; at++)
-        __atomic_store_n(&to[at], __atomic_load_n(&from[at], __ATOMIC_RELAXED), __ATOMIC_RELAXED);
+        __atomic_store_n(&to[at], __atomic_load_n(&from[at], __ATOMIC_ACQUIRE), __ATOMIC_RELEASE);
 }
 
 // Begins a lease of this thread, which has the slot; one without a record gives way to it. All signals are blocked.
@@ -67,7 +67,6 @@ void flight_copy_leases(struct leases *to, const struct slot *slot)
     for (int tries = 0; tries < 10000; tries++) {
         uint32_t version = load(&slot->lease_version);
         copy_words((uint64_t *)to, (const uint64_t *)&slot->leases, LEASE_WORDS);
-        __atomic_thread_fence(__ATOMIC_ACQUIRE);
         if (!(version & 1) && version == load(&slot->lease_version))
             return;
     }
