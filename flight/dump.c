@@ -244,21 +244,28 @@ static struct sigaction former[CRASHES];
 static bool has_handlers;
 static char crash_path[PATH_MAX];
 
+// Whether the signal is a fault of the instruction that it interrupts, which happens again when the handler returns.
+static bool is_fault(int signal, const siginfo_t *info)
+{
+    bool is_of_fault = signal == SIGSEGV || signal == SIGBUS || signal == SIGILL || signal == SIGFPE;
+    return is_of_fault && info->si_code > 0 && !(signal == SIGBUS && info->si_code == BUS_MCEERR_AO);
+}
+
 // Whether the former action of this signal ends the process. (A fault that is ignored does so, too.)
 static bool ends_process(const struct sigaction *action, int signal, const siginfo_t *info)
 {
-    bool is_fault = info->si_code > 0 && signal != SIGABRT && signal != SIGTERM;
     if (action->sa_flags & SA_SIGINFO)
         return false;
-    return action->sa_handler == SIG_DFL || (action->sa_handler == SIG_IGN && is_fault);
+    return action->sa_handler == SIG_DFL || (action->sa_handler == SIG_IGN && is_fault(signal, info));
 }
 
-// The process dies by the signal as soon as its handler returns, with what the kernel said of it.
-static void die(int signal, siginfo_t *info)
+// The process dies by the signal as soon as its handler returns: by the same fault, so that the kernel says the same of
+// it in a core file, or by another such signal.
+static void die(int signal, const siginfo_t *info)
 {
     struct sigaction action = {.sa_handler = SIG_DFL};
     (void)sigaction(signal, &action, NULL);
-    if (syscall(SYS_rt_tgsigqueueinfo, getpid(), this_thread(), signal, info))
+    if (!is_fault(signal, info))
         (void)raise(signal);
 }
 
