@@ -7,6 +7,8 @@
 //! `include/tracering.h` says what each call does. What is a condition there is kept here by types: an end is in one
 //! call at a time, since calls borrow it, and it is freed when it is dropped. That two ends are of one ring is looked at
 //! when they are settled: both carry its number. What a writer refuses, it answers to its caller, so nothing counts it.
+pub mod flight;
+
 use std::error::Error;
 use std::fmt;
 use std::os::raw::c_void;
