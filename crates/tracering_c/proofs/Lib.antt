@@ -5,3 +5,4 @@ pub mod FaultCodes
 pub mod Unread
 pub mod CallAnswers
 pub mod NewestRecords
+pub mod NextPages
