@@ -150,7 +150,7 @@ struct tracering_line {
 // What calls answer.
 enum {
     TRACERING_DIFFERENT = -3,    // same: the collectors don't have and miss the same
-    TRACERING_KNOWN = -2,        // add: all that the parcel has and misses was there already
+    TRACERING_KNOWN = -2,        // add, collector_take: all that the parcel has and misses was there already
     TRACERING_RESERVED = -1,     // finish: the record of the frame on top is reserved
     TRACERING_DONE = 0,          // the call did what it says
     TRACERING_TOO_DEEP = 1,      // four frames are begun and not completed
@@ -168,7 +168,8 @@ enum {
     TRACERING_NO_MEMORY = 12,    // there is no memory
     TRACERING_BAD_SIZE = 13,     // a ring can't have this number of pages or this size
     TRACERING_BAD_CPU = 14,      // there is no such CPU
-    TRACERING_EMPTY = 15,        // take: no closed page is unread; peek: the page that is written has no record
+    TRACERING_EMPTY = 15,        // take, collector_take: no closed page is unread; peek: the page that is written has no
+                                 // record
     TRACERING_MOVING = 16,       // a move of the head isn't finished, or `take` made all its steps: try again
     TRACERING_NO_ROOM = 17,      // the buffer is too short; take, peek and settle change nothing, missing gives what
                                  // has room and sets `count`, next sets `line`
@@ -258,6 +259,8 @@ int32_t tracering_raw_writer_free(struct tracering_held *);
 int32_t tracering_raw_reader_free(struct tracering_held *);
 int32_t tracering_raw_collector_new(struct tracering_held *);
 int32_t tracering_raw_collector_add(struct tracering_held *, const uint8_t *, size_t, struct tracering_fault_at *);
+int32_t tracering_raw_collector_take(struct tracering_held *, struct tracering_held *, struct tracering_taken *,
+    struct tracering_fault_at *);
 int32_t tracering_raw_collector_missing(struct tracering_held *, uint32_t, struct tracering_run *, size_t, size_t *);
 int32_t tracering_raw_collector_list(struct tracering_held *, size_t *);
 int32_t tracering_raw_collector_next(struct tracering_held *, uint8_t *, size_t, struct tracering_line *);
@@ -584,9 +587,10 @@ static inline int32_t tracering_peek(struct tracering_writer *w, void *out, size
 
 // ---- The reader's calls, of its thread and of handlers that interrupt it. None takes memory or waits.
 
-// Takes the oldest page that is closed and unread: its parcel goes to the front of `out`. `out` has room for
-// TRACERING_HEADER and the ring's `size` bytes at least, and so many are written. EMPTY, MOVING, NO_ROOM: then
-// `out` and `taken` are not changed, and no page is taken (NO_ROOM doesn't look whether there is one).
+// Takes the oldest page that is closed and unread, or gives the one that `collector_take` didn't add: its parcel goes
+// to the front of `out`. `out` has room for TRACERING_HEADER and the ring's `size` bytes at least, and so many are
+// written. EMPTY, MOVING, NO_ROOM: then `out` and `taken` are not changed, and no page is taken (NO_ROOM doesn't look
+// whether there is one).
 static inline int32_t tracering_take(struct tracering_reader *r, void *out, size_t room, struct tracering_taken *taken)
 {
     if (!(r && out && taken))
@@ -717,6 +721,25 @@ static inline int32_t tracering_collector_add(struct tracering_collector *c, con
     if (!tracering_enter(&c->in_call))
         return TRACERING_BUSY;
     return tracering_leave(&c->in_call, tracering_raw_collector_add(&c->held, tracering_bytes(bytes), len, at));
+}
+
+// Takes the next page of a ring, the one that `take` would give, and adds its parcel as `add` does, without writing and
+// reading its bytes. DONE, KNOWN: it is added, or all of it was there already; `taken` is as `take` sets it. EMPTY,
+// MOVING: no page is next. CLASH, TAKEN_AND_MISSING, NO_MEMORY: the page isn't added, and isn't lost: it stays with the
+// reader, whose next call of `take` or of this one gives it, before any other page (`settle` answers UNREAD until
+// then). `at` is changed by CLASH and TAKEN_AND_MISSING, as `add` does. If it answers a positive number, the collector
+// and `taken` are as they were. A handler that calls `take` amid it is answered BUSY.
+static inline int32_t tracering_collector_take(struct tracering_collector *c, struct tracering_reader *r,
+    struct tracering_taken *taken, struct tracering_fault_at *at)
+{
+    if (!(c && r && taken && at))
+        return TRACERING_NULL;
+    if (!tracering_enter_both(&c->in_call, &r->in_call))
+        return TRACERING_BUSY;
+    TRACERING_HIDE();
+    int32_t code = tracering_raw_collector_take(&c->held, &r->held, taken, at);
+    TRACERING_SHOW();
+    return tracering_leave_both(&c->in_call, &r->in_call, code);
 }
 
 // The runs of a CPU's missing numbers, which rise, and of which none touches the next. As many as there is room for go

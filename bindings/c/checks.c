@@ -149,35 +149,55 @@ static void look_at(struct seen *seen, const uint8_t *parcel, const struct trace
     seen->faults += count != taken->count;
 }
 
+// Counts a page that was taken.
+static void count_page(struct seen *seen, const struct tracering_taken *taken)
+{
+    seen->faults += taken->first != seen->next + taken->missed;
+    seen->next = taken->first + taken->count;
+    seen->pages++;
+    seen->records += taken->count;
+    seen->missed += taken->missed;
+}
+
 // Takes a page into this parcel, if there is one, and looks at it.
 static int32_t take_page(struct seen *seen, uint8_t parcel[TRACERING_HEADER + SIZE], struct tracering_taken *taken)
 {
     int32_t code = tracering_take(&seen->reader, parcel, TRACERING_HEADER + SIZE, taken);
     if (code != TRACERING_DONE)
         return code;
-    seen->faults += taken->first != seen->next + taken->missed;
-    seen->next = taken->first + taken->count;
-    seen->pages++;
-    seen->records += taken->count;
-    seen->missed += taken->missed;
+    count_page(seen, taken);
     look_at(seen, parcel, taken);
+    return code;
+}
+
+// Adds the next page to the collector; every second one as the bytes of a parcel.
+static int32_t collect_page(struct seen *seen)
+{
+    static uint8_t out[TRACERING_HEADER + SIZE];
+    struct tracering_taken taken;
+    struct tracering_fault_at at;
+    if (seen->pages % 2) {
+        int32_t code = tracering_collector_take(&seen->collector, &seen->reader, &taken, &at);
+        if (code == TRACERING_DONE)
+            count_page(seen, &taken);
+        return code;
+    }
+    int32_t code = take_page(seen, out, &taken);
+    if (code == TRACERING_DONE)
+        seen->faults += tracering_collector_add(&seen->collector, out, taken.len, &at) != TRACERING_DONE;
     return code;
 }
 
 static void *read_pages(void *given)
 {
-    static uint8_t out[TRACERING_HEADER + SIZE];
     struct seen *seen = given;
     for (;;) {
         int last = atomic_load(&done);
-        struct tracering_taken taken;
-        int32_t code = take_page(seen, out, &taken);
-        if (code == TRACERING_DONE) {
-            struct tracering_fault_at at;
-            seen->faults += tracering_collector_add(&seen->collector, out, taken.len, &at) != TRACERING_DONE;
-        } else if (code == TRACERING_EMPTY && last) {
+        int32_t code = collect_page(seen);
+        if (code == TRACERING_EMPTY && last)
             return NULL;
-        } else {
+        if (code != TRACERING_DONE) {
+            seen->faults += code != TRACERING_EMPTY && code != TRACERING_MOVING;
             sched_yield();
         }
     }
@@ -658,6 +678,60 @@ static int collected(void)
     return bad;
 }
 
+// A ring of CPU 3 with a closed page of two records of 4 bytes; the one that is written has a third.
+static int make_ring(struct tracering_writer *w, struct tracering_reader *r, const char *second)
+{
+    int bad = tracering_new(w, r, 3, 2, 64) != TRACERING_DONE;
+    bad += tracering_write(w, 10, "abcd", 4) != TRACERING_DONE || tracering_write(w, 20, second, 4) != TRACERING_DONE;
+    bad += tracering_begin_close(w) != TRACERING_DONE || tracering_finish(w) != TRACERING_DONE;
+    return bad + (tracering_write(w, 30, "abcd", 4) != TRACERING_DONE);
+}
+
+// What a collector answers as it takes pages: each refusal; and a page that it doesn't add stays with the reader.
+static int pages_collected(void)
+{
+    enum { ROOM = TRACERING_HEADER + 64 };
+    struct tracering_collector none = {0}, c = {0}, busy = {.in_call = 1};
+    struct tracering_writer w = {0}, twin = {0}, other = {0};
+    struct tracering_reader r = {0}, twin_r = {0}, other_r = {0}, busy_r = {.in_call = 1};
+    struct tracering_taken taken = {7, 7, 7, 7, 7};
+    struct tracering_fault_at at = {7, 7};
+    uint8_t out[ROOM];
+    int bad = make_ring(&w, &r, "abcd") + make_ring(&twin, &twin_r, "abcd") + make_ring(&other, &other_r, "abcD");
+    bad += tracering_collector_take(&none, &r, &taken, &at) != TRACERING_ABSENT;
+    bad += tracering_collector_new(&c) != TRACERING_DONE;
+    bad += tracering_collector_take(&c, NULL, &taken, &at) != TRACERING_NULL;
+    bad += tracering_collector_take(NULL, &r, &taken, &at) != TRACERING_NULL;
+    bad += tracering_collector_take(&c, &r, NULL, &at) != TRACERING_NULL;
+    bad += tracering_collector_take(&c, &r, &taken, NULL) != TRACERING_NULL;
+    bad += tracering_collector_take(&busy, &r, &taken, &at) != TRACERING_BUSY || r.in_call;
+    bad += tracering_collector_take(&c, &busy_r, &taken, &at) != TRACERING_BUSY || c.in_call;
+    bad += tracering_collector_take(&c, &(struct tracering_reader){0}, &taken, &at) != TRACERING_ABSENT;
+    bad += taken.fill != 7 || taken.len != 7 || at.number != 7 || at.cpu != 7;
+
+    bad += tracering_collector_take(&c, &r, &taken, &at) != TRACERING_DONE || c.in_call || r.in_call;
+    bad += taken.fill != 0 || taken.first != 0 || taken.missed != 0 || taken.count != 2 || taken.len != TRACERING_HEADER + 16;
+    taken.fill = 7;
+    bad += tracering_collector_take(&c, &r, &taken, &at) != TRACERING_EMPTY || taken.fill != 7 || at.number != 7;
+    bad += tracering_collector_take(&c, &twin_r, &taken, &at) != TRACERING_KNOWN || taken.fill != 0;
+    // The page stays, before the one that is closed after it.
+    taken.fill = 7;
+    for (int turn = 0; turn < 2; turn++) {
+        bad += tracering_collector_take(&c, &other_r, &taken, &at) != TRACERING_CLASH || at.number != 1 || at.cpu != 3;
+        bad += tracering_settle(&other, &other_r, out, ROOM, &taken) != TRACERING_UNREAD || taken.fill != 7;
+    }
+    bad += tracering_begin_close(&other) != TRACERING_DONE || tracering_finish(&other) != TRACERING_DONE;
+    bad += tracering_take(&other_r, out, ROOM - 1, &taken) != TRACERING_NO_ROOM;
+    bad += tracering_take(&other_r, out, ROOM, &taken) != TRACERING_DONE || taken.fill != 0 || taken.count != 2;
+    bad += memcmp(out + TRACERING_HEADER + 12, "abcD", 4) != 0;
+    bad += tracering_collector_take(&c, &other_r, &taken, &at) != TRACERING_DONE || taken.fill != 1 || taken.first != 2;
+    bad += tracering_settle(&w, &r, out, ROOM, &taken) != TRACERING_DONE || taken.first != 2;
+    bad += tracering_collector_add(&c, out, ROOM, &at) != TRACERING_KNOWN;
+    bad += tracering_writer_free(&twin) != TRACERING_DONE || tracering_reader_free(&twin_r) != TRACERING_DONE;
+    bad += tracering_writer_free(&other) != TRACERING_DONE || tracering_reader_free(&other_r) != TRACERING_DONE;
+    return bad + (tracering_collector_free(&c) != TRACERING_DONE);
+}
+
 // All that was taken is listed by moment and number, and what was missed is missing.
 static int is_listed(struct seen *seen)
 {
@@ -687,7 +761,7 @@ int main(int argc, char **argv)
     uint64_t count = argc > 1 ? strtoull(argv[1], NULL, 10) : 200000;
     int bad = refusals() + amid() + nulls() + refused_frames() + peeked();
     printf("refusals: %s\n", bad ? "wrong" : "as they are to be");
-    int wrong = collected();
+    int wrong = collected() + pages_collected();
     printf("collectors: %s\n", wrong ? "wrong" : "as they are to be");
     bad += wrong;
 

@@ -63,13 +63,16 @@ static int start_timer(int level)
 // Takes the closed pages of all rings, before they are overwritten.
 static int take_all(struct tracering_collector *collector)
 {
-    static uint8_t parcel[TRACERING_HEADER + SIZE];
     struct tracering_taken taken;
     struct tracering_fault_at at;
-    for (int level = 0; level < LEVELS; level++)
-        while (tracering_take(&readers[level], parcel, sizeof parcel, &taken) == TRACERING_DONE)
-            if (tracering_collector_add(collector, parcel, taken.len, &at) != TRACERING_DONE)
-                return 1;
+    for (int level = 0; level < LEVELS; level++) {
+        int32_t code;
+        do
+            code = tracering_collector_take(collector, &readers[level], &taken, &at);
+        while (code == TRACERING_DONE);
+        if (code != TRACERING_EMPTY && code != TRACERING_MOVING)
+            return 1;
+    }
     return 0;
 }
 

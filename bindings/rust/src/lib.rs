@@ -130,6 +130,7 @@ extern "C" {
     fn tracering_raw_reader_free(r: *mut Handle) -> i32;
     fn tracering_raw_collector_new(c: *mut Handle) -> i32;
     fn tracering_raw_collector_add(c: *mut Handle, bytes: *const u8, len: usize, at: *mut FaultAt) -> i32;
+    fn tracering_raw_collector_take(c: *mut Handle, r: *mut Handle, taken: *mut Taken, at: *mut FaultAt) -> i32;
     fn tracering_raw_collector_missing(c: *mut Handle, cpu: u32, out: *mut Run, room: usize, count: *mut usize) -> i32;
     fn tracering_raw_collector_list(c: *mut Handle, count: *mut usize) -> i32;
     fn tracering_raw_collector_next(c: *mut Handle, out: *mut u8, room: usize, line: *mut Line) -> i32;
@@ -300,7 +301,8 @@ impl Reader {
         self.2
     }
 
-    /// Takes the oldest page that is closed and unread: its parcel goes to the front of `out`.
+    /// Takes the oldest page that is closed and unread, or gives the one that `Collector::take` didn't add: its parcel
+    /// goes to the front of `out`.
     pub fn take(&mut self, out: &mut [u8]) -> Result<Taken, Fault> {
         let mut taken = Taken::default();
         done(unsafe { tracering_raw_take(&mut self.0, out.as_mut_ptr(), out.len(), &mut taken) }).map(|()| taken)
@@ -375,6 +377,14 @@ impl Collector {
         let mut at = FaultAt::default();
         let code = unsafe { tracering_raw_collector_add(&mut self.0, bytes.as_ptr(), bytes.len(), &mut at) };
         done(code).map(|()| code == 0).map_err(|fault| (fault, at))
+    }
+
+    /// Takes the next page of a ring, as `Reader::take` does, and adds it. Whether it has or misses something that
+    /// wasn't there. A page that isn't added stays with the reader, which gives it next.
+    pub fn take(&mut self, reader: &mut Reader) -> Result<(Taken, bool), (Fault, FaultAt)> {
+        let (mut taken, mut at) = (Taken::default(), FaultAt::default());
+        let code = unsafe { tracering_raw_collector_take(&mut self.0, &mut reader.0, &mut taken, &mut at) };
+        done(code).map(|()| (taken, code == 0)).map_err(|fault| (fault, at))
     }
 
     /// The runs of a CPU's missing numbers.

@@ -52,6 +52,19 @@ pub fn put_parcel(out: &mut [u8], cpu: CpuId, page: &Page, missed: u64) -> usize
     used
 }
 
+/// How many bytes of the page's parcel are used, as `put_parcel` answers.
+pub fn parcel_len(page: &Page, missed: u64) -> usize
+    requires fits { length page.now.bytes ≤ page.now.size }
+    requires limit { page.now.size ≤ MAX_SIZE }
+    ensures { result ≡ PARCEL_HEADER + used_size page.now missed }
+{
+    let end = page.end();
+    if stores_count(end, missed, end + room(page)) {
+        return PARCEL_HEADER + end + NUMBER;
+    }
+    PARCEL_HEADER + end
+}
+
 /// How many bytes of the page its records leave.
 fn room(page: &Page) -> usize
     requires fits { length page.now.bytes ≤ page.now.size }

@@ -5,4 +5,5 @@ pub mod FaultCodes
 pub mod Unread
 pub mod CallAnswers
 pub mod Given
-mod NewestRecords
+pub mod NewestRecords
+pub mod NextPages

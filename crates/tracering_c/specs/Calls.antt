@@ -34,6 +34,9 @@ use Rattle.ring_shared.specs.Takes.{IsPageTaken, IsEmptyFound, IsMovingFound, An
 use Rattle.ring_shared.specs.Settling.{IsSettled, unread_page}
 use Rattle.ring_shared.specs.declared.settling.Settled.{Settled}
 use Rattle.tracering_c.specs.declared.ends.HeldReader.{HeldReader}
+use Rattle.tracering_c.specs.declared.ends.Next.{Next}
+use Rattle.tracering_c.specs.declared.ends.Next.TheVariants.{Page as NextPage, Empty as NoneUnread, Moving as StillMoving}
+use Rattle.tracering_c.specs.Ends.{IsUnadded, IsHeldReader}
 use Rattle.tracering_c.specs.declared.taken.Taken.{Taken}
 use Rattle.tracering_c.specs.Codes.{fault_code, answer_code}
 
@@ -128,31 +131,55 @@ pub record ReadsAs (cpu : ℕ) (page : Contents) (missed : ℕ) (parcel : Parcel
   pub whole : DecodesParcel (bytes_of_page cpu page missed) parcel
   pub used : DecodesParcel (bytes_of_page cpu (used_page page missed) missed) parcel
 
--- A page is taken and given, and the answer is 0; or nothing is taken and nothing is given: no closed page is unread,
--- or a move of the head isn't finished, or the take has made as many steps as it may, or the buffer is shorter than a
+-- The page that is next, and how many records are missing before it: the one that a collector didn't add, if there is
+-- such a page; else the oldest one that is closed and unread, which is taken.
+pub data IsNext (old : HeldReader) (page : Contents) (missed : ℕ) (new : HeldReader) : Type 0 where
+  was_unadded : old.unadded ≡ Some record { page = page; missed = missed }
+      → new.reader ≡ old.reader
+      → IsNext old page missed new
+  is_taken : old.unadded ≡ None
+      → IsPageTaken old.reader.shape old.reader.part page missed new.reader.part
+      → AnswersTake old.reader (Page page missed) new.reader
+      → IsNext old page missed new
+
+-- No page is next: no closed page is unread, and the answer is 15; or a move of the head isn't finished, or the take has
+-- made as many steps as it may, and the answer is 16.
+pub data HasNoNext (old : HeldReader) (code : ℤ) (new : HeldReader) : Type 0 where
+  is_empty : (done : ℕ)
+      → (back : List ℕ)
+      → code ≡ pos 15
+      → old.unadded ≡ None
+      → IsEmptyFound old.reader.shape old.reader.part done new.reader.part
+      → AnswersTake old.reader (Empty done back) new.reader
+      → HasNoNext old code new
+  is_moving : (fill : FillNo)
+      → (back : List ℕ)
+      → code ≡ pos 16
+      → old.unadded ≡ None
+      → IsMovingFound old.reader.shape old.reader.part fill.0 new.reader.part
+      → AnswersTake old.reader (Moving fill back) new.reader
+      → HasNoNext old code new
+
+-- what the reader gives next, and what it is then
+abbrev pub GivesNext : HeldReader → Next → HeldReader → Type 0
+GivesNext old (NextPage page missed) new =
+    IsNext old page missed new × IsUnadded new.reader record { page = page; missed = missed }
+GivesNext old NoneUnread new = HasNoNext old (pos 15) new × IsHeldReader new
+GivesNext old StillMoving new = HasNoNext old (pos 16) new × IsHeldReader new
+
+-- The next page is given, and the answer is 0; or nothing is given: no page is next, or the buffer is shorter than a
 -- parcel of the ring.
 pub data TakesSo (old : HeldReader) (out : List ℕ) (was : Taken) (code : ℤ) (left : List ℕ) (reported : Taken)
     (new : HeldReader) : Type 0 where
   is_page : (page : Contents) (missed : ℕ)
       → code ≡ pos 0
-      → IsPageTaken old.reader.shape old.reader.part page missed new.reader.part
-      → AnswersTake old.reader (Page page missed) new.reader
+      → IsNext old page missed new
+      → new.unadded ≡ None
       → IsGiven old.cpu.0 page missed out left reported
       → ReadsAs old.cpu.0 page missed (parcel_of_page old.cpu.0 page missed)
       → TakesSo old out was code left reported new
-  is_empty : (done : ℕ)
-      → (back : List ℕ)
-      → code ≡ pos 15
-      → IsEmptyFound old.reader.shape old.reader.part done new.reader.part
-      → AnswersTake old.reader (Empty done back) new.reader
-      → left ≡ out
-      → reported ≡ was
-      → TakesSo old out was code left reported new
-  is_moving : (fill : FillNo)
-      → (back : List ℕ)
-      → code ≡ pos 16
-      → IsMovingFound old.reader.shape old.reader.part fill.0 new.reader.part
-      → AnswersTake old.reader (Moving fill back) new.reader
+  is_none : HasNoNext old code new
+      → new.unadded ≡ None
       → left ≡ out
       → reported ≡ was
       → TakesSo old out was code left reported new

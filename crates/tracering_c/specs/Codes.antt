@@ -8,6 +8,7 @@ use Rattle.page_numbers.specs.declared.fault.ParcelFault.{ParcelFault}
 use Rattle.page_numbers.specs.declared.fault.ParcelFault.TheVariants.{Image, NumberOverflow, MissedTooMany, MissedDiffers, BadCpu, NoMemory}
 use Rattle.collector.specs.declared.added.Added.{Added}
 use Rattle.collector.specs.declared.added.Added.TheVariants.{New, Known}
+use Rattle.collector.specs.declared.fault.AddFault.{AddFault}
 use Rattle.collector.specs.declared.fault.AddFault.TheVariants.{Clash, TakenAndMissing, NoMemory as NoMemoryToAdd}
 use Rattle.listed_collector.specs.declared.adding.AddRefusal.{AddRefusal}
 use Rattle.listed_collector.specs.declared.adding.AddRefusal.TheVariants.{Parcel as NoParcel, Add as NotAdded}
@@ -83,6 +84,11 @@ add_code (Err (NoParcel fault)) = parcel_code fault
 add_code (Err (NotAdded (Clash cpu number))) = pos 29
 add_code (Err (NotAdded (TakenAndMissing cpu number))) = pos 30
 add_code (Err (NotAdded NoMemoryToAdd)) = pos 12
+
+-- what is answered to a page that is to be added, as it is to bytes
+abbrev pub page_answer : Result Added AddFault → Result Added AddRefusal
+page_answer (Ok added) = Ok added
+page_answer (Err fault) = Err (NotAdded fault)
 
 -- where the bytes of a parcel are refused: at a bad word, or under the number at odds
 abbrev pub parcel_fault_at : FaultAt → ParcelFault → FaultAt

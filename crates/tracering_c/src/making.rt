@@ -81,7 +81,13 @@ fn new_ends(
     let (writer, reader) = ring_shared::ring(alloc, pages, size)?;
     let body = Some(Body::new(alloc, size)?);
     let left = Box::new(alloc, HeldWriter { writer, cpu })?;
-    let right = Box::new(alloc, HeldReader { cpu, reader, body })?;
+    let end = HeldReader {
+        cpu,
+        reader,
+        body,
+        unadded: None,
+    };
+    let right = Box::new(alloc, end)?;
     Ok((left, right))
 }
 
