@@ -131,7 +131,7 @@ static long refuse_ring(int *bad)
         long left = granted;
         granted = -1;
         if (left >= 0) {
-            *bad += code != TRACERING_DONE || tracering_writer_free(&w) || tracering_reader_free(&r);
+            *bad += code != TRACERING_DONE || tracering_writer_free(&w, NULL) || tracering_reader_free(&r);
             return refused;
         }
         *bad += code != TRACERING_NO_MEMORY || w.held.at || w.held.live || r.held.at || r.held.live || blocks;

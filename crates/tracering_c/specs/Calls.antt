@@ -33,7 +33,7 @@ use Rattle.ring_shared.specs.Settling.{IsSettled, unread_page}
 use Rattle.ring_shared.specs.declared.settling.Settled.{Settled}
 use Rattle.tracering_c.specs.declared.ends.HeldReader.{HeldReader}
 use Rattle.tracering_c.specs.declared.taken.Taken.{Taken}
-use Rattle.tracering_c.specs.Codes.{fault_code, answer_code}
+use Rattle.tracering_c.specs.Codes.{fault_code, answer_code, finish_code}
 
 -- ---- the writer
 
@@ -58,12 +58,12 @@ pub record BeginsSo (old : WriterValue) (event : model.Event) (room : Option ℕ
   pub room_is : answer ≡ Pushed → rooms new ≡ room ∷ rooms old
   pub refused : (fault : WriteFault) → answer ≡ Refused fault → rooms new ≡ rooms old
 
--- The frame on top is stepped as far as it gets, and the number is that of its answer. The payloads that aren't ended
--- stay in their slots, and a slot that is reserved holds only zeros.
+-- The frame on top is stepped as far as it gets, and the number is that of its answer, or says that it is a close that
+-- closed nothing. The payloads that aren't ended stay in their slots, and a slot that is reserved holds only zeros.
 pub record FinishesSo (old : WriterValue) (code : ℤ) (new : WriterValue) : Type 0 where
   pub answer : Answer
   pub finishes : Finishes old.shape old.part answer new.part
-  pub code_is : code ≡ answer_code answer
+  pub code_is : code ≡ finish_code old answer new
   pub slots : KeepsSlots old answer new
 
 -- The frame on top ends with the payload in its slot; the payloads of the others stay in theirs.
