@@ -277,7 +277,7 @@ static void release_memory(void)
     for (uint32_t slot = 0; slot < flight_recorder.config.threads; slot++)
         for (uint32_t level = 0; level < flight_recorder.config.levels; level++) {
             struct ring *ring = &flight_recorder.slots[slot].rings[level];
-            (void)tracering_writer_free(&ring->writer);
+            (void)tracering_writer_free(&ring->writer, NULL);
             (void)tracering_reader_free(&ring->reader);
         }
     (void)munmap(flight_recorder.memory, flight_recorder.memory_len);

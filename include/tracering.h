@@ -14,7 +14,7 @@
 // the call's own text says. `tracering_text` has a text for each. A call may answer these, which its own list leaves
 // out:
 //   TRACERING_NULL     a pointer is null (one to bytes or runs may be, if their number is 0; `out` of take, of peek
-//                      and of settle may not)
+//                      and of settle may not; `lost` of writer_free may)
 //   TRACERING_ABSENT   the handle has nothing: it is new, or what it had was freed or settled
 //   TRACERING_BUSY     the handle is in another call, which this one interrupts
 // Then nothing is changed, but BUSY of write and begin is counted (`tracering_refused`).
@@ -149,6 +149,7 @@ struct tracering_line {
 
 // What calls answer.
 enum {
+    TRACERING_NOTHING_CLOSED = -4, // finish: the close is completed, and closed nothing: the page has no record
     TRACERING_DIFFERENT = -3,    // same: the collectors don't have and miss the same
     TRACERING_KNOWN = -2,        // add, collector_take: all that the parcel has and misses was there already
     TRACERING_RESERVED = -1,     // finish: the record of the frame on top is reserved
@@ -194,6 +195,7 @@ enum {
 static inline const char *tracering_text(int32_t code)
 {
     switch (code) {
+    case TRACERING_NOTHING_CLOSED: return "the page that is written has no record, so nothing is closed";
     case TRACERING_DIFFERENT: return "the collectors don't have and miss the same";
     case TRACERING_KNOWN: return "all that the parcel has and misses was there already";
     case TRACERING_RESERVED: return "the record is reserved";
@@ -255,7 +257,7 @@ int32_t tracering_raw_take(struct tracering_held *, uint8_t *, size_t, struct tr
 int32_t tracering_raw_wish(struct tracering_held *);
 int32_t tracering_raw_settle(struct tracering_held *, struct tracering_held *, uint8_t *, size_t,
     struct tracering_taken *);
-int32_t tracering_raw_writer_free(struct tracering_held *);
+int32_t tracering_raw_writer_free(struct tracering_held *, uint64_t *);
 int32_t tracering_raw_reader_free(struct tracering_held *);
 int32_t tracering_raw_collector_new(struct tracering_held *);
 int32_t tracering_raw_collector_add(struct tracering_held *, const uint8_t *, size_t, struct tracering_fault_at *);
@@ -463,7 +465,7 @@ static inline int32_t tracering_begin(struct tracering_writer *w, uint64_t momen
 }
 
 // begin_close: a close of the page that is written, so that it can be taken; `finish` carries it out. In a full ring
-// that overwrites the oldest page, so take the full pages first. TOO_DEEP.
+// that overwrites the oldest page, so take the full pages first. A page without a record isn't closed. TOO_DEEP.
 static inline int32_t tracering_begin_close(struct tracering_writer *w)
 {
     if (!w)
@@ -478,7 +480,8 @@ static inline int32_t tracering_begin_close(struct tracering_writer *w)
 
 // finish: reserves the record of the frame on top (RESERVED), in a slot of zeros, or says so again of one that is
 // reserved, and leaves its slot as it is; or completes a frame that was ended, a close, or one that was refused (DONE).
-// CROWDED, WORN: the frame on top is refused, and its record isn't written; if `depth` still counts the frame, one more
+// NOTHING_CLOSED: the frame on top was a close, which is completed; the page that is written has no record, and isn't
+// closed. CROWDED, WORN: the frame on top is refused, and its record isn't written; if `depth` still counts the frame, one more
 // `finish` completes it. NO_FRAME.
 static inline int32_t tracering_finish(struct tracering_writer *w)
 {
@@ -645,16 +648,24 @@ static inline int32_t tracering_settle(struct tracering_writer *w, struct tracer
 
 // Each frees its end; the ring's memory is released with the second. The handle is all zeros afterwards, a writer's
 // counts of refused records included.
-static inline int32_t tracering_writer_free(struct tracering_writer *w)
+// writer_free: if no frame is begun, the page that is written is closed first, as begin_close and finish do, so that
+// the reader can take all records. (In a full ring that overwrites the oldest page, whose records the reader finds
+// counted as missed.) `lost`, which may be null, is set to how many records are lost: those that are written or
+// reserved, and on no closed page. It is 0 if no frame is begun, unless no number is left for the page's close (WORN).
+static inline int32_t tracering_writer_free(struct tracering_writer *w, uint64_t *lost)
 {
     if (!w)
         return TRACERING_NULL;
-    if (!tracering_enter(&w->in_call))
+    if (!tracering_enter_end(&w->in_call))
         return TRACERING_BUSY;
-    int32_t code = tracering_leave(&w->in_call, tracering_raw_writer_free(&w->held));
-    if (code == TRACERING_DONE)
-        tracering_forget(w);
-    return code;
+    uint64_t count = 0;
+    int32_t code = tracering_leave_end(&w->in_call, tracering_raw_writer_free(&w->held, &count));
+    if (code != TRACERING_DONE)
+        return code;
+    tracering_forget(w);
+    if (lost)
+        *lost = count;
+    return TRACERING_DONE;
 }
 
 static inline int32_t tracering_reader_free(struct tracering_reader *r)

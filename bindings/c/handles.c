@@ -139,7 +139,7 @@ static void strangers(void)
     IS(tracering_settle(&w[1], &r[0], out, sizeof out, &taken) == TRACERING_OTHER_RING);
     IS(taken.len == 7 && !w[0].in_call && !w[1].in_call && !r[0].in_call && !r[1].in_call);
     // The first ring's writer is gone, and others are made, mostly where it was.
-    IS(tracering_writer_free(&w[0]) == TRACERING_DONE);
+    IS(tracering_writer_free(&w[0], NULL) == TRACERING_DONE);
     for (int k = 0; k < 100; k++) {
         IS(tracering_new(&w[0], &r[1], 1, PAGES, SIZE) == TRACERING_IN_USE);
         struct tracering_reader own = TRACERING_READER_INIT;
@@ -181,7 +181,7 @@ static void jumped(void)
             (void)tracering_write(&interrupted, 1, "record", 6);
     IS(setitimer(ITIMER_REAL, &never, NULL) == 0);
     IS(tracering_write(&interrupted, 1, "record", 6) == TRACERING_BUSY);
-    IS(tracering_writer_free(&interrupted) == TRACERING_BUSY);
+    IS(tracering_writer_free(&interrupted, NULL) == TRACERING_BUSY);
     IS(tracering_writer_abandon(&interrupted) == TRACERING_DONE);
     IS(are_zeros(&interrupted, sizeof interrupted));
     int32_t code;

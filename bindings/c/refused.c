@@ -179,8 +179,8 @@ static long refuse_takes(int *bad)
         *bad += tracering_collector_add(&other, out, taken.len, &at) != TRACERING_DONE;
         *bad += tracering_collector_same(&c, &other) != TRACERING_DONE;
     }
-    *bad += tracering_writer_free(&w) || tracering_reader_free(&r);
-    *bad += tracering_writer_free(&twin) || tracering_reader_free(&twin_r);
+    *bad += tracering_writer_free(&w, NULL) || tracering_reader_free(&r);
+    *bad += tracering_writer_free(&twin, NULL) || tracering_reader_free(&twin_r);
     *bad += tracering_collector_free(&c) != TRACERING_DONE || tracering_collector_free(&other) != TRACERING_DONE;
     return growths;
 }
@@ -195,7 +195,7 @@ static long refuse_ring(int *bad)
         long left = granted;
         granted = -1;
         if (left >= 0) {
-            *bad += code != TRACERING_DONE || tracering_writer_free(&w) || tracering_reader_free(&r);
+            *bad += code != TRACERING_DONE || tracering_writer_free(&w, NULL) || tracering_reader_free(&r);
             return refused;
         }
         *bad += code != TRACERING_NO_MEMORY || w.held.at || w.held.live || r.held.at || r.held.live || blocks;

@@ -118,16 +118,16 @@ int main(int argc, char **argv)
         if (made[0] % 64 == 0 && take_all(&collector))
             return 1;
     }
-    // No handler writes any more, and the last page of each ring is closed.
+    // No handler writes any more, and the last page of each ring is closed, if it has a record.
     if (sigprocmask(SIG_BLOCK, &all, NULL))
         return 1;
     for (int level = 0; level < LEVELS; level++)
         if (tracering_begin_close(&writers[level]) != TRACERING_DONE
-            || tracering_finish(&writers[level]) != TRACERING_DONE)
+            || tracering_finish(&writers[level]) > TRACERING_DONE)
             return 1;
     int status = take_all(&collector) || check(&collector);
     for (int level = 0; level < LEVELS; level++) {
-        (void)tracering_writer_free(&writers[level]);
+        (void)tracering_writer_free(&writers[level], NULL);
         (void)tracering_reader_free(&readers[level]);
     }
     (void)tracering_collector_free(&collector);

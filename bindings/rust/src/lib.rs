@@ -45,6 +45,9 @@ pub struct Taken {
     pub len: usize,
 }
 
+/// What the library answers to a close of a page that has no record.
+const NOTHING_CLOSED: i32 = -4;
+
 /// The bytes of a parcel before its page's data.
 pub const HEADER: usize = 48;
 
@@ -126,7 +129,7 @@ extern "C" {
     fn tracering_raw_take(r: *mut Handle, out: *mut u8, room: usize, taken: *mut Taken) -> i32;
     fn tracering_raw_wish(r: *mut Handle) -> i32;
     fn tracering_raw_settle(w: *mut Handle, r: *mut Handle, out: *mut u8, room: usize, taken: *mut Taken) -> i32;
-    fn tracering_raw_writer_free(w: *mut Handle) -> i32;
+    fn tracering_raw_writer_free(w: *mut Handle, lost: *mut u64) -> i32;
     fn tracering_raw_reader_free(r: *mut Handle) -> i32;
     fn tracering_raw_collector_new(c: *mut Handle) -> i32;
     fn tracering_raw_collector_add(c: *mut Handle, bytes: *const u8, len: usize, at: *mut FaultAt) -> i32;
@@ -138,7 +141,8 @@ extern "C" {
     fn tracering_raw_collector_free(c: *mut Handle) -> i32;
 }
 
-/// The end at which records are written, its ring's number, and how many of its records are open.
+/// The end at which records are written, its ring's number, and how many of its records are open. A drop frees it as
+/// `free` does, so that the reader can take all records.
 pub struct Writer(Handle, u64, usize);
 /// The end at which pages are taken, its ring's number, and how many bytes a parcel of it has room for.
 pub struct Reader(Handle, u64, usize);
@@ -200,9 +204,23 @@ impl Writer {
         Nested::from(self).begin(moment, len)
     }
 
-    /// Closes the page that is written, so that it can be taken; if that is refused, nothing of it is left.
-    pub fn close(&mut self) -> Result<(), Fault> {
+    /// Closes the page that is written, so that it can be taken; if that is refused, nothing of it is left. Whether the
+    /// page was closed: one that has no record isn't.
+    pub fn close(&mut self) -> Result<bool, Fault> {
         Nested::from(self).close()
+    }
+
+    /// Frees this end, as a drop does too: the page that is written is closed first, so that the reader can take it. How
+    /// many records are lost: 0, unless that close is refused (`Fault::Worn`).
+    pub fn free(mut self) -> u64 {
+        self.free_end()
+    }
+
+    fn free_end(&mut self) -> u64 {
+        self.complete_above(0);
+        let mut lost = 0;
+        let _code = unsafe { tracering_raw_writer_free(&mut self.0, &mut lost) };
+        lost
     }
 
     /// Copies the page that is written to the front of `out`, as a parcel, and closes nothing; or nothing, if the page
@@ -217,9 +235,10 @@ impl Writer {
         }
     }
 
-    /// Finishes the frame on top of those of the open records, which leaves if it is refused.
-    fn finish(&mut self) -> Result<(), Fault> {
-        let finished = done(unsafe { tracering_raw_finish(&mut self.0) });
+    /// Finishes the frame on top of those of the open records, which leaves if it is refused: what was answered.
+    fn finish(&mut self) -> Result<i32, Fault> {
+        let code = unsafe { tracering_raw_finish(&mut self.0) };
+        let finished = done(code).map(|()| code);
         if finished.is_err() && unsafe { tracering_raw_depth(&mut self.0) } > self.2 {
             let _refusal = unsafe { tracering_raw_finish(&mut self.0) };
         }
@@ -263,11 +282,12 @@ impl<'a> Nested<'a> {
         Ok(Open(writer, open + 1))
     }
 
-    /// Closes the page that is written, so that it can be taken; if that is refused, nothing of it is left.
-    pub fn close(&mut self) -> Result<(), Fault> {
+    /// Closes the page that is written, so that it can be taken; if that is refused, nothing of it is left. Whether the
+    /// page was closed: one that has no record isn't.
+    pub fn close(&mut self) -> Result<bool, Fault> {
         self.0.complete_above(self.1);
         done(unsafe { tracering_raw_begin_close(&mut self.0 .0) })?;
-        self.0.finish()
+        self.0.finish().map(|code| code != NOTHING_CLOSED)
     }
 
     /// The same, lent for a while.
@@ -316,8 +336,7 @@ impl Reader {
 
 impl Drop for Writer {
     fn drop(&mut self) {
-        self.complete_above(0);
-        let _code = unsafe { tracering_raw_writer_free(&mut self.0) };
+        self.free_end();
     }
 }
 

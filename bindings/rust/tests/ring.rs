@@ -110,14 +110,52 @@ fn a_writer_with_a_forgotten_record_is_settled() {
 
 #[test]
 fn a_writer_that_is_dropped_leaves_no_forgotten_record_open() {
-    let (mut writer, mut reader) = ring(0, 2, 64).unwrap();
+    let (mut writer, mut reader) = ring(0, 4, 64).unwrap();
     let mut out = [0u8; HEADER + 64];
     let mut open = writer.begin(1, 60).unwrap();
     open.nested().write(2, &[0; 60]).unwrap();
     forget(open);
     assert_eq!(reader.take(&mut out), Err(Fault::Empty));
     drop(writer);
+    assert_eq!(reader.take(&mut out).unwrap().first, 0);
+    assert_eq!(reader.take(&mut out).unwrap().first, 1);
+    assert_eq!(reader.take(&mut out), Err(Fault::Empty));
+}
+
+#[test]
+fn a_writer_that_is_freed_leaves_all_records_to_the_reader() {
+    let (mut writer, mut reader) = ring(0, 4, 64).unwrap();
+    let mut out = [0u8; HEADER + 64];
+    for moment in 0..11 {
+        writer.write(moment, &[1]).unwrap();
+    }
+    forget(writer.begin(11, 1).unwrap());
+    assert_eq!(writer.free(), 0);
+    assert_eq!(reader.take(&mut out).unwrap().count, 8);
+    let taken = Taken { fill: 1, first: 8, missed: 0, count: 4, len: HEADER + 64 };
+    assert_eq!(reader.take(&mut out), Ok(taken));
+    assert_eq!(reader.take(&mut out), Err(Fault::Empty));
+    let (writer, mut reader) = ring(0, 2, 64).unwrap();
+    assert_eq!((writer.free(), reader.take(&mut out)), (0, Err(Fault::Empty)));
+}
+
+#[test]
+fn a_close_says_whether_it_closed_the_page() {
+    let (mut writer, mut reader) = ring(0, 4, 64).unwrap();
+    let mut out = [0u8; HEADER + 64];
+    assert_eq!(writer.close(), Ok(false));
+    assert_eq!(reader.take(&mut out), Err(Fault::Empty));
+    writer.write(1, b"one").unwrap();
+    assert_eq!((writer.close(), writer.close()), (Ok(true), Ok(false)));
     assert_eq!(reader.take(&mut out).unwrap().count, 1);
+    let mut open = writer.begin(2, 1).unwrap();
+    assert_eq!((open.nested().close(), open.nested().close()), (Ok(true), Ok(false)));
+    drop(open);
+    // The close ends a record that was forgotten.
+    forget(writer.begin(3, 1).unwrap());
+    assert_eq!((writer.close(), writer.close()), (Ok(true), Ok(false)));
+    assert_eq!(reader.take(&mut out).unwrap().first, 1);
+    assert_eq!(reader.take(&mut out).unwrap().first, 2);
 }
 
 #[test]

@@ -38,7 +38,7 @@ use Rattle.tracering_c.specs.declared.ends.Next.{Next}
 use Rattle.tracering_c.specs.declared.ends.Next.TheVariants.{Page as NextPage, Empty as NoneUnread, Moving as StillMoving}
 use Rattle.tracering_c.specs.Ends.{IsUnadded, IsHeldReader}
 use Rattle.tracering_c.specs.declared.taken.Taken.{Taken}
-use Rattle.tracering_c.specs.Codes.{fault_code, answer_code}
+use Rattle.tracering_c.specs.Codes.{fault_code, answer_code, finish_code}
 
 -- ---- the writer
 
@@ -63,12 +63,12 @@ pub record BeginsSo (old : WriterValue) (event : model.Event) (room : Option ℕ
   pub room_is : answer ≡ Pushed → rooms new ≡ room ∷ rooms old
   pub refused : (fault : WriteFault) → answer ≡ Refused fault → rooms new ≡ rooms old
 
--- The frame on top is stepped as far as it gets, and the number is that of its answer. The payloads that aren't ended
--- stay in their slots, and a slot that is reserved holds only zeros.
+-- The frame on top is stepped as far as it gets, and the number is that of its answer, or says that it is a close that
+-- closed nothing. The payloads that aren't ended stay in their slots, and a slot that is reserved holds only zeros.
 pub record FinishesSo (old : WriterValue) (code : ℤ) (new : WriterValue) : Type 0 where
   pub answer : Answer
   pub finishes : Finishes old.shape old.part answer new.part
-  pub code_is : code ≡ answer_code answer
+  pub code_is : code ≡ finish_code old answer new
   pub slots : KeepsSlots old answer new
 
 -- The frame on top ends with the payload in its slot; the payloads of the others stay in theirs.
