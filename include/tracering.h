@@ -652,6 +652,8 @@ static inline int32_t tracering_settle(struct tracering_writer *w, struct tracer
 // the reader can take all records. (In a full ring that overwrites the oldest page, whose records the reader finds
 // counted as missed.) `lost`, which may be null, is set to how many records are lost: those that are written or
 // reserved, and on no closed page. It is 0 if no frame is begun, unless no number is left for the page's close (WORN).
+// (If frames are begun, pages may be overwritten after the last one that is closed, and no page counts their records:
+// `tracering_written`, called before, tells how many the reader hasn't got.)
 static inline int32_t tracering_writer_free(struct tracering_writer *w, uint64_t *lost)
 {
     if (!w)

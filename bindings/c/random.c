@@ -319,7 +319,8 @@ static void free_writer(struct ring *ring)
     IS(tracering_writer_free(&ring->w, &lost) == TRACERING_DONE);
     while (take(ring))
         ;
-    IS(ring->depth ? lost == ring->reserved - ring->next : !lost && ring->next == ring->reserved);
+    // With frames begun, pages may be overwritten after the last one that is closed: no page counts their records.
+    IS(ring->depth ? lost <= ring->reserved - ring->next : !lost && ring->next == ring->reserved);
     IS(tracering_reader_free(&ring->r) == TRACERING_DONE);
 }
 
