@@ -119,11 +119,19 @@ static uint64_t number_at(const uint8_t *at, int bytes)
     return number;
 }
 
+// How many bytes a parcel uses: those before its page's data, the data, and the count of missed records, if one is stored.
+static size_t used_len(const uint8_t *parcel)
+{
+    uint64_t commit = number_at(parcel + 40, 8);
+    return TRACERING_HEADER + (commit & 0x3FFFFFFF) + (commit >> 30 & 1 ? 8 : 0);
+}
+
 // Looks at a parcel: its numbers, its image's header, how many records it has, and their payloads.
 static void look_at(struct seen *seen, const uint8_t *parcel, const struct tracering_taken *taken)
 {
     seen->faults += number_at(parcel, 8) != 3 || number_at(parcel + 8, 8) != taken->fill
-        || number_at(parcel + 16, 8) != taken->first || number_at(parcel + 24, 8) != taken->missed;
+        || number_at(parcel + 16, 8) != taken->first || number_at(parcel + 24, 8) != taken->missed
+        || taken->len != used_len(parcel);
     uint64_t commit = number_at(parcel + 40, 8), len = commit & 0x3fffffff, count = 0;
     seen->faults += len > SIZE || (commit >> 31 & 1) != (taken->missed > 0);
     const uint8_t *data = parcel + TRACERING_HEADER;
@@ -141,35 +149,55 @@ static void look_at(struct seen *seen, const uint8_t *parcel, const struct trace
     seen->faults += count != taken->count;
 }
 
+// Counts a page that was taken.
+static void count_page(struct seen *seen, const struct tracering_taken *taken)
+{
+    seen->faults += taken->first != seen->next + taken->missed;
+    seen->next = taken->first + taken->count;
+    seen->pages++;
+    seen->records += taken->count;
+    seen->missed += taken->missed;
+}
+
 // Takes a page into this parcel, if there is one, and looks at it.
 static int32_t take_page(struct seen *seen, uint8_t parcel[TRACERING_HEADER + SIZE], struct tracering_taken *taken)
 {
     int32_t code = tracering_take(&seen->reader, parcel, TRACERING_HEADER + SIZE, taken);
     if (code != TRACERING_DONE)
         return code;
-    seen->faults += taken->first != seen->next + taken->missed || taken->len != TRACERING_HEADER + SIZE;
-    seen->next = taken->first + taken->count;
-    seen->pages++;
-    seen->records += taken->count;
-    seen->missed += taken->missed;
+    count_page(seen, taken);
     look_at(seen, parcel, taken);
+    return code;
+}
+
+// Adds the next page to the collector; every second one as the bytes of a parcel.
+static int32_t collect_page(struct seen *seen)
+{
+    static uint8_t out[TRACERING_HEADER + SIZE];
+    struct tracering_taken taken;
+    struct tracering_fault_at at;
+    if (seen->pages % 2) {
+        int32_t code = tracering_collector_take(&seen->collector, &seen->reader, &taken, &at);
+        if (code == TRACERING_DONE)
+            count_page(seen, &taken);
+        return code;
+    }
+    int32_t code = take_page(seen, out, &taken);
+    if (code == TRACERING_DONE)
+        seen->faults += tracering_collector_add(&seen->collector, out, taken.len, &at) != TRACERING_DONE;
     return code;
 }
 
 static void *read_pages(void *given)
 {
-    static uint8_t out[TRACERING_HEADER + SIZE];
     struct seen *seen = given;
     for (;;) {
         int last = atomic_load(&done);
-        struct tracering_taken taken;
-        int32_t code = take_page(seen, out, &taken);
-        if (code == TRACERING_DONE) {
-            struct tracering_fault_at at;
-            seen->faults += tracering_collector_add(&seen->collector, out, taken.len, &at) != TRACERING_DONE;
-        } else if (code == TRACERING_EMPTY && last) {
+        int32_t code = collect_page(seen);
+        if (code == TRACERING_EMPTY && last)
             return NULL;
-        } else {
+        if (code != TRACERING_DONE) {
+            seen->faults += code != TRACERING_EMPTY && code != TRACERING_MOVING;
             sched_yield();
         }
     }
@@ -197,7 +225,7 @@ static void on_alarm_take(int signal)
     code = tracering_peek(&writer, out, sizeof out, &taken);
     if (code == TRACERING_DONE) {
         peeks++;
-        own.faults += amid || taken.first != own.next || taken.missed || taken.len != sizeof out;
+        own.faults += amid || taken.first != own.next || taken.missed || taken.len != used_len(out);
         look_at(&own, out, &taken);
     } else {
         faults += amid ? code != TRACERING_BUSY : code != TRACERING_EMPTY && code != TRACERING_NOT_AT_REST;
@@ -240,13 +268,15 @@ static int crossed(uint64_t count)
         (void)take_page(&own, out, &taken);
     // An alarm that is still to come does nothing.
     bad += alarms(SIG_IGN, &never);
-    bad += tracering_begin_close(&writer) != TRACERING_DONE || tracering_finish(&writer) != TRACERING_DONE;
+    bad += tracering_begin_close(&writer) != TRACERING_DONE || tracering_finish(&writer) > TRACERING_DONE;
     while (take_page(&own, out, &taken) == TRACERING_DONE)
         ;
     bad += written != count || own.faults || own.records + own.missed != written + from_handler;
     bad += count >= 200000 && (!amid_writes || !amid_takes || !peeks);
     bad += refused_amid() != amid_calls;
-    bad += tracering_writer_free(&writer) != TRACERING_DONE || tracering_reader_free(&own.reader) != TRACERING_DONE;
+    uint64_t lost = UINT64_MAX;
+    bad += tracering_writer_free(&writer, &lost) != TRACERING_DONE || lost;
+    bad += tracering_reader_free(&own.reader) != TRACERING_DONE;
     from_handler = amid_calls = 0;
     return bad;
 }
@@ -261,6 +291,15 @@ static bool is_counted(const struct tracering_writer *w, struct tracering_refuse
 static bool is_zeros(const struct tracering_writer *w)
 {
     return !w->held.at && !w->held.live && !w->in_call && !w->closes && is_counted(w, (struct tracering_refused){0});
+}
+
+static bool has_only_zeros(const void *handle, size_t len)
+{
+    const uint8_t *bytes = handle;
+    for (size_t k = 0; k < len; k++)
+        if (bytes[k])
+            return false;
+    return true;
 }
 
 // Amid a call on their handle all calls are refused, and two handles are marked together or not at all.
@@ -285,7 +324,7 @@ static int amid(void)
     bad += tracering_depth(&busy) != TRACERING_BUSY;
     bad += tracering_settle(&busy, &r, byte, sizeof byte, &taken) != TRACERING_BUSY || r.in_call;
     bad += tracering_settle(&w, &busy_reader, byte, sizeof byte, &taken) != TRACERING_BUSY || w.in_call;
-    bad += tracering_writer_free(&busy) != TRACERING_BUSY;
+    bad += tracering_writer_free(&busy, NULL) != TRACERING_BUSY;
     bad += tracering_reader_free(&busy_reader) != TRACERING_BUSY;
     // Of the calls on a writer only write and begin are counted, and the counts are there amid a call.
     bad += !is_counted(&busy, (struct tracering_refused){.busy = 2}) || !is_counted(&w, (struct tracering_refused){0});
@@ -325,7 +364,7 @@ static int nulls(void)
     bad += tracering_settle(&w, NULL, byte, sizeof byte, &taken) != TRACERING_NULL;
     bad += tracering_settle(&w, &r, NULL, sizeof byte, &taken) != TRACERING_NULL;
     bad += tracering_settle(&w, &r, byte, sizeof byte, NULL) != TRACERING_NULL;
-    bad += tracering_writer_free(NULL) != TRACERING_NULL;
+    bad += tracering_writer_free(NULL, NULL) != TRACERING_NULL;
     bad += tracering_reader_free(NULL) != TRACERING_NULL;
     return bad + !is_counted(&w, (struct tracering_refused){0});
 }
@@ -348,7 +387,7 @@ static int refused_frames(void)
     w.in_call = 0;
     // A close that is refused loses no record.
     bad += !is_counted(&w, (struct tracering_refused){.too_deep = 2});
-    bad += tracering_writer_free(&w) != TRACERING_DONE || tracering_reader_free(&r) != TRACERING_DONE;
+    bad += tracering_writer_free(&w, NULL) != TRACERING_DONE || tracering_reader_free(&r) != TRACERING_DONE;
     bad += !is_zeros(&w);
 
     bad += tracering_new(&w, &r, 0, 2, 64) != TRACERING_DONE;
@@ -369,7 +408,7 @@ static int refused_frames(void)
     bad += tracering_write(&w, 3, "long", 61) != TRACERING_TOO_LONG;
     bad += tracering_begin(&w, 1ull << 59, 4) != TRACERING_LATE_MOMENT;
     bad += !is_counted(&w, (struct tracering_refused){.too_long = 1, .late_moment = 1, .crowded = 4});
-    bad += tracering_writer_free(&w) != TRACERING_DONE || tracering_reader_free(&r) != TRACERING_DONE;
+    bad += tracering_writer_free(&w, NULL) != TRACERING_DONE || tracering_reader_free(&r) != TRACERING_DONE;
     return bad + !is_zeros(&w);
 }
 
@@ -394,7 +433,7 @@ static int refusals(void)
     bad += tracering_take(&reader, byte, ROOM, &taken) != TRACERING_ABSENT;
     bad += tracering_wish(&reader) != TRACERING_ABSENT;
     bad += tracering_settle(&none, &reader, byte, ROOM, &taken) != TRACERING_ABSENT;
-    bad += tracering_writer_free(&none) != TRACERING_ABSENT;
+    bad += tracering_writer_free(&none, NULL) != TRACERING_ABSENT;
     bad += tracering_reader_free(&reader) != TRACERING_ABSENT || !is_zeros(&none);
     bad += tracering_new(&made, &reader, 256, 2, 64) != TRACERING_BAD_CPU;
     bad += tracering_new(&made, &reader, 0, 1, 64) != TRACERING_BAD_SIZE;
@@ -433,7 +472,7 @@ static int refusals(void)
     bad += tracering_begin_close(&made) != TRACERING_DONE;
     bad += tracering_finish(&made) != TRACERING_DONE;
     bad += tracering_take(&reader, byte, ROOM, &taken) != TRACERING_DONE;
-    bad += taken.count != 2 || taken.first != 0 || taken.missed != 0 || taken.len != ROOM || taken.fill != 0;
+    bad += taken.count != 2 || taken.first != 0 || taken.missed != 0 || taken.len != used_len(byte) || taken.fill != 0;
     bad += memcmp(byte + 60, "abc", 4) != 0;
     bad += tracering_write(&made, 5, "last", 4) != TRACERING_DONE;
     bad += tracering_take(&reader, byte, ROOM, &taken) != TRACERING_EMPTY;
@@ -442,14 +481,15 @@ static int refusals(void)
     bad += taken.count != unset.count || taken.fill != unset.fill;
     bad += tracering_settle(&made, &no_reader, byte, ROOM, &taken) != TRACERING_ABSENT;
     bad += tracering_settle(&made, &reader, byte, ROOM, &taken) != TRACERING_DONE;
-    bad += taken.count != 1 || taken.first != 2 || taken.missed != 0 || taken.len != ROOM || taken.fill != 1;
+    bad += taken.count != 1 || taken.first != 2 || taken.missed != 0 || taken.len != used_len(byte) || taken.fill != 1;
     bad += memcmp(byte + 52, "last", 4) != 0 || !is_zeros(&made);
+    bad += !has_only_zeros(&made, sizeof made) || !has_only_zeros(&reader, sizeof reader);
     bad += tracering_write(&made, 9, byte, 1) != TRACERING_ABSENT;
-    bad += tracering_writer_free(&made) != TRACERING_ABSENT;
+    bad += tracering_writer_free(&made, NULL) != TRACERING_ABSENT;
     bad += tracering_reader_free(&reader) != TRACERING_ABSENT;
     bad += tracering_new(&made, &reader, 0, 2, 64) != TRACERING_DONE;
     bad += tracering_write(&made, 1, byte, 61) != TRACERING_TOO_LONG;
-    bad += tracering_writer_free(&made) != TRACERING_DONE || !is_zeros(&made);
+    bad += tracering_writer_free(&made, NULL) != TRACERING_DONE || !is_zeros(&made);
     bad += tracering_wish(&reader) != TRACERING_DONE;
     bad += tracering_reader_free(&reader) != TRACERING_DONE;
     return bad;
@@ -464,7 +504,7 @@ static bool is_peeked(struct tracering_writer *w, uint64_t fill, uint64_t first,
     struct tracering_taken taken = {0};
     out[ROOM] = 77;
     bool is = tracering_peek(w, out, ROOM, &taken) == TRACERING_DONE && out[ROOM] == 77 && taken.fill == fill
-        && taken.first == first && taken.missed == 0 && taken.count == count && taken.len == ROOM
+        && taken.first == first && taken.missed == 0 && taken.count == count && taken.len == TRACERING_HEADER + 8 * count
         && number_at(out, 8) == 5 && number_at(out + 8, 8) == fill && number_at(out + 16, 8) == first
         && number_at(out + 24, 8) == 0 && number_at(out + 32, 8) == first && number_at(out + 40, 8) == 8 * count;
     for (uint64_t k = 0; k < count && is; k++)
@@ -519,6 +559,99 @@ static int peeked(void)
     bad += memcmp(&taken, &later, sizeof taken) != 0;
     bad += tracering_peek(&w, out, ROOM, &taken) != TRACERING_ABSENT;
     return bad;
+}
+
+// What a close answers: whether it closed the page, which it does if that has a record, of whatever frame.
+static int closed(void)
+{
+    enum { ROOM = TRACERING_HEADER + 64 };
+    struct tracering_writer w = {0};
+    struct tracering_reader r = {0};
+    struct tracering_taken taken;
+    uint8_t out[ROOM];
+    int bad = tracering_new(&w, &r, 5, 8, 64) != TRACERING_DONE;
+    bad += tracering_begin_close(&w) != TRACERING_DONE || tracering_finish(&w) != TRACERING_NOTHING_CLOSED;
+    bad += tracering_depth(&w) != 0 || tracering_take(&r, out, ROOM, &taken) != TRACERING_EMPTY;
+    bad += write_number(&w, 0) != TRACERING_DONE;
+    bad += tracering_begin_close(&w) != TRACERING_DONE || tracering_finish(&w) != TRACERING_DONE;
+    bad += tracering_take(&r, out, ROOM, &taken) != TRACERING_DONE || taken.fill != 0 || taken.count != 1;
+    bad += tracering_begin_close(&w) != TRACERING_DONE || tracering_finish(&w) != TRACERING_NOTHING_CLOSED;
+    // Nested in a record: the page that has it is left, and the next one has none.
+    bad += tracering_begin(&w, 1, 1) != TRACERING_DONE || tracering_finish(&w) != TRACERING_RESERVED;
+    bad += tracering_begin_close(&w) != TRACERING_DONE || tracering_finish(&w) != TRACERING_DONE;
+    bad += tracering_begin_close(&w) != TRACERING_DONE || tracering_finish(&w) != TRACERING_NOTHING_CLOSED;
+    bad += tracering_depth(&w) != 1 || tracering_take(&r, out, ROOM, &taken) != TRACERING_EMPTY;
+    bad += tracering_end(&w) != TRACERING_DONE || tracering_finish(&w) != TRACERING_DONE;
+    bad += tracering_take(&r, out, ROOM, &taken) != TRACERING_DONE || taken.fill != 1 || taken.count != 1;
+    // A record above a close is on the page that it closes, and of two closes one has nothing to close.
+    bad += tracering_begin_close(&w) != TRACERING_DONE || tracering_begin_close(&w) != TRACERING_DONE;
+    bad += write_number(&w, 2) != TRACERING_DONE || tracering_finish(&w) != TRACERING_DONE;
+    bad += tracering_finish(&w) != TRACERING_NOTHING_CLOSED || tracering_finish(&w) != TRACERING_NO_FRAME;
+    bad += tracering_take(&r, out, ROOM, &taken) != TRACERING_DONE || taken.fill != 2 || taken.count != 1;
+    bad += !is_counted(&w, (struct tracering_refused){0});
+    return bad + (tracering_writer_free(&w, NULL) != TRACERING_DONE || tracering_reader_free(&r) != TRACERING_DONE);
+}
+
+// Eleven records, of which eight fill a page; so many frames, each with a record on a page of its own; and one record
+// more, if there may be a frame for it. Then the writer is freed, and the reader takes the pages that are closed.
+static int freed_above(int frames)
+{
+    enum { ROOM = TRACERING_HEADER + 64 };
+    struct tracering_writer w = {0};
+    struct tracering_reader r = {0};
+    struct tracering_taken taken;
+    uint8_t out[ROOM];
+    uint64_t lost = 77, number = 0;
+    int bad = tracering_new(&w, &r, 5, 16, 64) != TRACERING_DONE;
+    while (number < 11)
+        bad += write_number(&w, number++) != TRACERING_DONE;
+    for (int k = 0; k < frames; k++)
+        bad += tracering_begin(&w, number++, 60) != TRACERING_DONE || tracering_finish(&w) != TRACERING_RESERVED;
+    bad += write_number(&w, number) != (frames < 4 ? TRACERING_DONE : TRACERING_TOO_DEEP);
+    number += frames < 4;
+    bad += tracering_writer_free(&w, &lost) != TRACERING_DONE || lost != (frames ? number - 8 : 0);
+    bad += !has_only_zeros(&w, sizeof w);
+    bad += tracering_take(&r, out, ROOM, &taken) != TRACERING_DONE || taken.first != 0 || taken.count != 8;
+    if (!frames)
+        bad += tracering_take(&r, out, ROOM, &taken) != TRACERING_DONE || taken.first != 8 || taken.count != 4;
+    bad += tracering_take(&r, out, ROOM, &taken) != TRACERING_EMPTY;
+    lost = 77;
+    bad += tracering_writer_free(&w, &lost) != TRACERING_ABSENT || lost != 77;
+    bad += tracering_reader_free(&r) != TRACERING_DONE || !has_only_zeros(&r, sizeof r);
+    return bad;
+}
+
+// What is lost of a writer that is freed: nothing if no frame is begun, and else what is on no closed page. The close
+// of the last page of a full ring overwrites the oldest one. A frame that is begun has no record, and one that is ended
+// has its own.
+static int freed(void)
+{
+    enum { ROOM = TRACERING_HEADER + 64 };
+    struct tracering_writer w = {0};
+    struct tracering_reader r = {0};
+    struct tracering_taken taken;
+    uint8_t out[ROOM];
+    uint64_t lost = 77, number = 0;
+    int bad = 0;
+    for (int frames = 0; frames <= 4; frames++)
+        bad += freed_above(frames);
+    bad += tracering_new(&w, &r, 5, 2, 64) != TRACERING_DONE;
+    while (number < 16)
+        bad += write_number(&w, number++) != TRACERING_DONE;
+    bad += tracering_writer_free(&w, &lost) != TRACERING_DONE || lost != 0;
+    bad += tracering_take(&r, out, ROOM, &taken) != TRACERING_DONE || taken.first != 8 || taken.count != 8;
+    bad += taken.missed != 8 || tracering_take(&r, out, ROOM, &taken) != TRACERING_EMPTY;
+    bad += tracering_reader_free(&r) != TRACERING_DONE;
+    for (int ended = 0; ended < 3; ended++) {
+        bad += tracering_new(&w, &r, 5, 2, 64) != TRACERING_DONE || write_number(&w, 0) != TRACERING_DONE;
+        bad += tracering_begin(&w, 1, 1) != TRACERING_DONE;
+        bad += ended > 0 && tracering_finish(&w) != TRACERING_RESERVED;
+        bad += ended > 1 && tracering_end(&w) != TRACERING_DONE;
+        bad += tracering_writer_free(&w, &lost) != TRACERING_DONE || lost != (ended ? 2 : 1);
+        bad += tracering_take(&r, out, ROOM, &taken) != TRACERING_EMPTY;
+        bad += tracering_reader_free(&r) != TRACERING_DONE;
+    }
+    return bad + (!has_only_zeros(&w, sizeof w) || !has_only_zeros(&r, sizeof r));
 }
 
 // A parcel of CPU 3: so many records of 4 bytes from this number on, the first at moment 10 and each of the later ones
@@ -644,10 +777,64 @@ static int collected(void)
     bad += tracering_collector_next(&c, bytes, 8, &line) != TRACERING_DONE || !is_line(&line, 20, 3, bytes);
     bad += tracering_collector_next(&c, bytes, 8, &line) != TRACERING_DONE || !is_line(&line, 20, 7, bytes);
     bad += tracering_collector_next(&c, bytes, 8, &line) != TRACERING_END;
-    bad += tracering_collector_free(&c) != TRACERING_DONE || c.held.at || c.held.live || c.in_call;
+    bad += tracering_collector_free(&c) != TRACERING_DONE || !has_only_zeros(&c, sizeof c);
     bad += tracering_collector_next(&c, bytes, 8, &line) != TRACERING_ABSENT;
     bad += tracering_collector_free(&other) != TRACERING_DONE;
     return bad;
+}
+
+// A ring of CPU 3 with a closed page of two records of 4 bytes; the one that is written has a third.
+static int make_ring(struct tracering_writer *w, struct tracering_reader *r, const char *second)
+{
+    int bad = tracering_new(w, r, 3, 2, 64) != TRACERING_DONE;
+    bad += tracering_write(w, 10, "abcd", 4) != TRACERING_DONE || tracering_write(w, 20, second, 4) != TRACERING_DONE;
+    bad += tracering_begin_close(w) != TRACERING_DONE || tracering_finish(w) != TRACERING_DONE;
+    return bad + (tracering_write(w, 30, "abcd", 4) != TRACERING_DONE);
+}
+
+// What a collector answers as it takes pages: each refusal; and a page that it doesn't add stays with the reader.
+static int pages_collected(void)
+{
+    enum { ROOM = TRACERING_HEADER + 64 };
+    struct tracering_collector none = {0}, c = {0}, busy = {.in_call = 1};
+    struct tracering_writer w = {0}, twin = {0}, other = {0};
+    struct tracering_reader r = {0}, twin_r = {0}, other_r = {0}, busy_r = {.in_call = 1};
+    struct tracering_taken taken = {7, 7, 7, 7, 7};
+    struct tracering_fault_at at = {7, 7};
+    uint8_t out[ROOM];
+    int bad = make_ring(&w, &r, "abcd") + make_ring(&twin, &twin_r, "abcd") + make_ring(&other, &other_r, "abcD");
+    bad += tracering_collector_take(&none, &r, &taken, &at) != TRACERING_ABSENT;
+    bad += tracering_collector_new(&c) != TRACERING_DONE;
+    bad += tracering_collector_take(&c, NULL, &taken, &at) != TRACERING_NULL;
+    bad += tracering_collector_take(NULL, &r, &taken, &at) != TRACERING_NULL;
+    bad += tracering_collector_take(&c, &r, NULL, &at) != TRACERING_NULL;
+    bad += tracering_collector_take(&c, &r, &taken, NULL) != TRACERING_NULL;
+    bad += tracering_collector_take(&busy, &r, &taken, &at) != TRACERING_BUSY || r.in_call;
+    bad += tracering_collector_take(&c, &busy_r, &taken, &at) != TRACERING_BUSY || c.in_call;
+    bad += tracering_collector_take(&c, &(struct tracering_reader){0}, &taken, &at) != TRACERING_ABSENT;
+    bad += taken.fill != 7 || taken.len != 7 || at.number != 7 || at.cpu != 7;
+
+    bad += tracering_collector_take(&c, &r, &taken, &at) != TRACERING_DONE || c.in_call || r.in_call;
+    bad += taken.fill != 0 || taken.first != 0 || taken.missed != 0 || taken.count != 2 || taken.len != TRACERING_HEADER + 16;
+    taken.fill = 7;
+    bad += tracering_collector_take(&c, &r, &taken, &at) != TRACERING_EMPTY || taken.fill != 7 || at.number != 7;
+    bad += tracering_collector_take(&c, &twin_r, &taken, &at) != TRACERING_KNOWN || taken.fill != 0;
+    // The page stays, before the one that is closed after it.
+    taken.fill = 7;
+    for (int turn = 0; turn < 2; turn++) {
+        bad += tracering_collector_take(&c, &other_r, &taken, &at) != TRACERING_CLASH || at.number != 1 || at.cpu != 3;
+        bad += tracering_settle(&other, &other_r, out, ROOM, &taken) != TRACERING_UNREAD || taken.fill != 7;
+    }
+    bad += tracering_begin_close(&other) != TRACERING_DONE || tracering_finish(&other) != TRACERING_DONE;
+    bad += tracering_take(&other_r, out, ROOM - 1, &taken) != TRACERING_NO_ROOM;
+    bad += tracering_take(&other_r, out, ROOM, &taken) != TRACERING_DONE || taken.fill != 0 || taken.count != 2;
+    bad += memcmp(out + TRACERING_HEADER + 12, "abcD", 4) != 0;
+    bad += tracering_collector_take(&c, &other_r, &taken, &at) != TRACERING_DONE || taken.fill != 1 || taken.first != 2;
+    bad += tracering_settle(&w, &r, out, ROOM, &taken) != TRACERING_DONE || taken.first != 2;
+    bad += tracering_collector_add(&c, out, ROOM, &at) != TRACERING_KNOWN;
+    bad += tracering_writer_free(&twin, NULL) != TRACERING_DONE || tracering_reader_free(&twin_r) != TRACERING_DONE;
+    bad += tracering_writer_free(&other, NULL) != TRACERING_DONE || tracering_reader_free(&other_r) != TRACERING_DONE;
+    return bad + (tracering_collector_free(&c) != TRACERING_DONE);
 }
 
 // All that was taken is listed by moment and number, and what was missed is missing.
@@ -677,9 +864,9 @@ static int is_listed(struct seen *seen)
 int main(int argc, char **argv)
 {
     uint64_t count = argc > 1 ? strtoull(argv[1], NULL, 10) : 200000;
-    int bad = refusals() + amid() + nulls() + refused_frames() + peeked();
+    int bad = refusals() + amid() + nulls() + refused_frames() + peeked() + closed() + freed();
     printf("refusals: %s\n", bad ? "wrong" : "as they are to be");
-    int wrong = collected();
+    int wrong = collected() + pages_collected();
     printf("collectors: %s\n", wrong ? "wrong" : "as they are to be");
     bad += wrong;
 
@@ -708,7 +895,7 @@ int main(int argc, char **argv)
     // An alarm that is still to come would write after the close.
     if (setitimer(ITIMER_REAL, &never, NULL) || pthread_sigmask(SIG_BLOCK, &alarm, NULL))
         return 1;
-    if (tracering_begin_close(&writer) != TRACERING_DONE || tracering_finish(&writer) != TRACERING_DONE)
+    if (tracering_begin_close(&writer) != TRACERING_DONE || tracering_finish(&writer) > TRACERING_DONE)
         bad++;
     atomic_store(&done, 1);
     pthread_join(reader, NULL);
@@ -720,7 +907,7 @@ int main(int argc, char **argv)
             (unsigned long long)written, (unsigned long long)from_handler, (unsigned long long)amid_calls,
             (unsigned long long)seen.missed, (unsigned long long)seen.faults, faults);
     printf("records: each is taken or counted as missed: %s\n", bad ? "no" : "yes");
-    tracering_writer_free(&writer);
+    tracering_writer_free(&writer, NULL);
     tracering_reader_free(&seen.reader);
     return bad != 0;
 }

@@ -18,7 +18,7 @@ static int are_new(void)
     bad += refused.busy || refused.too_deep || refused.too_long || refused.late_moment;
     bad += refused.crowded || refused.worn;
     bad += tracering_new(&w, &r, 0, 2, 64) != TRACERING_DONE || tracering_collector_new(&c) != TRACERING_DONE;
-    bad += tracering_writer_free(&w) != TRACERING_DONE || tracering_reader_free(&r) != TRACERING_DONE;
+    bad += tracering_writer_free(&w, NULL) != TRACERING_DONE || tracering_reader_free(&r) != TRACERING_DONE;
     return bad + (tracering_collector_free(&c) != TRACERING_DONE);
 }
 
@@ -33,7 +33,7 @@ static int have_texts(void)
         for (int before = 0; before < k; before++)
             bad += answers[k] == answers[before] || strcmp(text, tracering_text(answers[before])) == 0;
     }
-    return bad + (COUNT < 35);
+    return bad + (COUNT < 36);
 }
 
 int main(void)

@@ -63,13 +63,16 @@ static int start_timer(int level)
 // Takes the closed pages of all rings, before they are overwritten.
 static int take_all(struct tracering_collector *collector)
 {
-    static uint8_t parcel[TRACERING_HEADER + SIZE];
     struct tracering_taken taken;
     struct tracering_fault_at at;
-    for (int level = 0; level < LEVELS; level++)
-        while (tracering_take(&readers[level], parcel, sizeof parcel, &taken) == TRACERING_DONE)
-            if (tracering_collector_add(collector, parcel, taken.len, &at) != TRACERING_DONE)
-                return 1;
+    for (int level = 0; level < LEVELS; level++) {
+        int32_t code;
+        do
+            code = tracering_collector_take(collector, &readers[level], &taken, &at);
+        while (code == TRACERING_DONE);
+        if (code != TRACERING_EMPTY && code != TRACERING_MOVING)
+            return 1;
+    }
     return 0;
 }
 
@@ -115,16 +118,16 @@ int main(int argc, char **argv)
         if (made[0] % 64 == 0 && take_all(&collector))
             return 1;
     }
-    // No handler writes any more, and the last page of each ring is closed.
+    // No handler writes any more, and the last page of each ring is closed, if it has a record.
     if (sigprocmask(SIG_BLOCK, &all, NULL))
         return 1;
     for (int level = 0; level < LEVELS; level++)
         if (tracering_begin_close(&writers[level]) != TRACERING_DONE
-            || tracering_finish(&writers[level]) != TRACERING_DONE)
+            || tracering_finish(&writers[level]) > TRACERING_DONE)
             return 1;
     int status = take_all(&collector) || check(&collector);
     for (int level = 0; level < LEVELS; level++) {
-        (void)tracering_writer_free(&writers[level]);
+        (void)tracering_writer_free(&writers[level], NULL);
         (void)tracering_reader_free(&readers[level]);
     }
     (void)tracering_collector_free(&collector);

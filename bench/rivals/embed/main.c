@@ -90,7 +90,7 @@ int main(int argc, char **argv)
         least = took < least ? took : least;
     }
     printf("%llu %llu\n", (unsigned long long)least, (unsigned long long)records_left(is_library));
-    tracering_writer_free(&writer);
+    tracering_writer_free(&writer, NULL);
     tracering_reader_free(&reader);
     return refused != 0;
 }

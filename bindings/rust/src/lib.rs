@@ -7,6 +7,8 @@
 //! `include/tracering.h` says what each call does. What is a condition there is kept here by types: an end is in one
 //! call at a time, since calls borrow it, and it is freed when it is dropped. That two ends are of one ring is looked at
 //! when they are settled: both carry its number. What a writer refuses, it answers to its caller, so nothing counts it.
+pub mod flight;
+
 use std::error::Error;
 use std::fmt;
 use std::os::raw::c_void;
@@ -42,6 +44,9 @@ pub struct Taken {
     pub count: u64,
     pub len: usize,
 }
+
+/// What the library answers to a close of a page that has no record.
+const NOTHING_CLOSED: i32 = -4;
 
 /// The bytes of a parcel before its page's data.
 pub const HEADER: usize = 48;
@@ -85,12 +90,12 @@ pub enum Fault {
     OtherRing,
 }
 
-const FAULTS: [Fault; 31] = {
+const FAULTS: [Fault; 32] = {
     use Fault::*;
     [
         TooDeep, TooLong, LateMoment, Crowded, Worn, NoFrame, NotReserved, Absent, InUse, Busy, Null, NoMemory, BadSize,
         BadCpu, Empty, Moving, NoRoom, NotAtRest, Unread, TooShort, BadImageSize, BadCount, Cut, BadLength,
-        TimeOverflow, NumberOverflow, MissedTooMany, MissedDiffers, Clash, TakenAndMissing, End,
+        TimeOverflow, NumberOverflow, MissedTooMany, MissedDiffers, Clash, TakenAndMissing, End, OtherRing,
     ]
 };
 
@@ -98,7 +103,7 @@ const _: () = assert!(TEXTS.len() == FAULTS.len());
 
 impl fmt::Display for Fault {
     fn fmt(&self, f: &mut fmt::Formatter<'_>) -> fmt::Result {
-        f.write_str(TEXTS.get(*self as usize).unwrap_or(&"these are ends of two rings"))
+        f.write_str(TEXTS[*self as usize])
     }
 }
 
@@ -124,10 +129,11 @@ extern "C" {
     fn tracering_raw_take(r: *mut Handle, out: *mut u8, room: usize, taken: *mut Taken) -> i32;
     fn tracering_raw_wish(r: *mut Handle) -> i32;
     fn tracering_raw_settle(w: *mut Handle, r: *mut Handle, out: *mut u8, room: usize, taken: *mut Taken) -> i32;
-    fn tracering_raw_writer_free(w: *mut Handle) -> i32;
+    fn tracering_raw_writer_free(w: *mut Handle, lost: *mut u64) -> i32;
     fn tracering_raw_reader_free(r: *mut Handle) -> i32;
     fn tracering_raw_collector_new(c: *mut Handle) -> i32;
     fn tracering_raw_collector_add(c: *mut Handle, bytes: *const u8, len: usize, at: *mut FaultAt) -> i32;
+    fn tracering_raw_collector_take(c: *mut Handle, r: *mut Handle, taken: *mut Taken, at: *mut FaultAt) -> i32;
     fn tracering_raw_collector_missing(c: *mut Handle, cpu: u32, out: *mut Run, room: usize, count: *mut usize) -> i32;
     fn tracering_raw_collector_list(c: *mut Handle, count: *mut usize) -> i32;
     fn tracering_raw_collector_next(c: *mut Handle, out: *mut u8, room: usize, line: *mut Line) -> i32;
@@ -135,10 +141,11 @@ extern "C" {
     fn tracering_raw_collector_free(c: *mut Handle) -> i32;
 }
 
-/// The end at which records are written, its ring's number, and how many of its records are open.
+/// The end at which records are written, its ring's number, and how many of its records are open. A drop frees it as
+/// `free` does, so that the reader can take all records.
 pub struct Writer(Handle, u64, usize);
-/// The end at which pages are taken, and its ring's number.
-pub struct Reader(Handle, u64);
+/// The end at which pages are taken, its ring's number, and how many bytes a parcel of it has room for.
+pub struct Reader(Handle, u64, usize);
 /// A record that is reserved and not ended: its slot is lent. Others may be written meanwhile, by `nested`; it ends
 /// when this is dropped. If this is forgotten instead (`std::mem::forget`), it ends when the writer, or the record that
 /// it is nested in, is used or dropped next. (The number is how many records are open up to this one.)
@@ -170,7 +177,7 @@ pub fn ring(cpu: u32, pages: usize, size: usize) -> Result<(Writer, Reader), Fau
     static RINGS: AtomicU64 = AtomicU64::new(0);
     let none = || Handle { at: null_mut(), live: false };
     let number = RINGS.fetch_add(1, Ordering::Relaxed);
-    let (mut w, mut r) = (Writer(none(), number, 0), Reader(none(), number));
+    let (mut w, mut r) = (Writer(none(), number, 0), Reader(none(), number, HEADER.saturating_add(size)));
     done(unsafe { tracering_raw_new(&mut w.0, &mut r.0, cpu, pages, size) }).map(|()| (w, r))
 }
 
@@ -197,9 +204,23 @@ impl Writer {
         Nested::from(self).begin(moment, len)
     }
 
-    /// Closes the page that is written, so that it can be taken; if that is refused, nothing of it is left.
-    pub fn close(&mut self) -> Result<(), Fault> {
+    /// Closes the page that is written, so that it can be taken; if that is refused, nothing of it is left. Whether the
+    /// page was closed: one that has no record isn't.
+    pub fn close(&mut self) -> Result<bool, Fault> {
         Nested::from(self).close()
+    }
+
+    /// Frees this end, as a drop does too: the page that is written is closed first, so that the reader can take it. How
+    /// many records are lost: 0, unless that close is refused (`Fault::Worn`).
+    pub fn free(mut self) -> u64 {
+        self.free_end()
+    }
+
+    fn free_end(&mut self) -> u64 {
+        self.complete_above(0);
+        let mut lost = 0;
+        let _code = unsafe { tracering_raw_writer_free(&mut self.0, &mut lost) };
+        lost
     }
 
     /// Copies the page that is written to the front of `out`, as a parcel, and closes nothing; or nothing, if the page
@@ -214,9 +235,10 @@ impl Writer {
         }
     }
 
-    /// Finishes the frame on top of those of the open records, which leaves if it is refused.
-    fn finish(&mut self) -> Result<(), Fault> {
-        let finished = done(unsafe { tracering_raw_finish(&mut self.0) });
+    /// Finishes the frame on top of those of the open records, which leaves if it is refused: what was answered.
+    fn finish(&mut self) -> Result<i32, Fault> {
+        let code = unsafe { tracering_raw_finish(&mut self.0) };
+        let finished = done(code).map(|()| code);
         if finished.is_err() && unsafe { tracering_raw_depth(&mut self.0) } > self.2 {
             let _refusal = unsafe { tracering_raw_finish(&mut self.0) };
         }
@@ -260,11 +282,12 @@ impl<'a> Nested<'a> {
         Ok(Open(writer, open + 1))
     }
 
-    /// Closes the page that is written, so that it can be taken; if that is refused, nothing of it is left.
-    pub fn close(&mut self) -> Result<(), Fault> {
+    /// Closes the page that is written, so that it can be taken; if that is refused, nothing of it is left. Whether the
+    /// page was closed: one that has no record isn't.
+    pub fn close(&mut self) -> Result<bool, Fault> {
         self.0.complete_above(self.1);
         done(unsafe { tracering_raw_begin_close(&mut self.0 .0) })?;
-        self.0.finish()
+        self.0.finish().map(|code| code != NOTHING_CLOSED)
     }
 
     /// The same, lent for a while.
@@ -293,7 +316,13 @@ impl Drop for Open<'_> {
 }
 
 impl Reader {
-    /// Takes the oldest page that is closed and unread: its parcel goes to the front of `out`.
+    /// How many bytes `take`, `peek` and `settle` want room for, of this ring: `HEADER`, and as many as a page has.
+    pub fn room(&self) -> usize {
+        self.2
+    }
+
+    /// Takes the oldest page that is closed and unread, or gives the one that `Collector::take` didn't add: its parcel
+    /// goes to the front of `out`.
     pub fn take(&mut self, out: &mut [u8]) -> Result<Taken, Fault> {
         let mut taken = Taken::default();
         done(unsafe { tracering_raw_take(&mut self.0, out.as_mut_ptr(), out.len(), &mut taken) }).map(|()| taken)
@@ -307,8 +336,7 @@ impl Reader {
 
 impl Drop for Writer {
     fn drop(&mut self) {
-        self.complete_above(0);
-        let _code = unsafe { tracering_raw_writer_free(&mut self.0) };
+        self.free_end();
     }
 }
 
@@ -368,6 +396,14 @@ impl Collector {
         let mut at = FaultAt::default();
         let code = unsafe { tracering_raw_collector_add(&mut self.0, bytes.as_ptr(), bytes.len(), &mut at) };
         done(code).map(|()| code == 0).map_err(|fault| (fault, at))
+    }
+
+    /// Takes the next page of a ring, as `Reader::take` does, and adds it. Whether it has or misses something that
+    /// wasn't there. A page that isn't added stays with the reader, which gives it next.
+    pub fn take(&mut self, reader: &mut Reader) -> Result<(Taken, bool), (Fault, FaultAt)> {
+        let (mut taken, mut at) = (Taken::default(), FaultAt::default());
+        let code = unsafe { tracering_raw_collector_take(&mut self.0, &mut reader.0, &mut taken, &mut at) };
+        done(code).map(|()| (taken, code == 0)).map_err(|fault| (fault, at))
     }
 
     /// The runs of a CPU's missing numbers.

@@ -1,4 +1,4 @@
-use tracering::{ring, Collector, Fault, FaultAt, Line, Run, HEADER};
+use tracering::{ring, settle, Collector, Fault, FaultAt, Line, Reader, Run, Taken, Writer, HEADER};
 
 /// The parcel of a page of 64 bytes with these records.
 fn parcel(cpu: u32, records: &[(u64, &[u8])]) -> [u8; HEADER + 64] {
@@ -90,6 +90,33 @@ fn what_is_at_odds_is_refused_under_its_number() {
     bytes = page;
     bytes[40] = 13;
     assert_eq!(collector.add(&bytes), Err((Fault::Cut, FaultAt { number: 8, cpu: 0 })));
+    assert_eq!(collector.list(), Ok(2));
+}
+
+/// The reader of a ring of CPU 3 with a closed page of two records, and its writer.
+fn two_records(second: &[u8]) -> (Writer, Reader) {
+    let (mut writer, reader) = ring(3, 2, 64).unwrap();
+    writer.write(1, b"one").unwrap();
+    writer.write(2, second).unwrap();
+    writer.close().unwrap();
+    (writer, reader)
+}
+
+#[test]
+fn a_page_is_taken_into_a_collector_or_stays() {
+    let (mut collector, mut out) = (Collector::new().unwrap(), [0; HEADER + 64]);
+    let ((_writer, mut reader), (_twin, mut twin)) = (two_records(b"two"), two_records(b"two"));
+    let (writer, mut other) = two_records(b"TWO");
+    let taken = Taken { fill: 0, first: 0, missed: 0, count: 2, len: HEADER + 16 };
+    assert_eq!(collector.take(&mut reader), Ok((taken, true)));
+    assert_eq!(collector.take(&mut reader), Err((Fault::Empty, FaultAt::default())));
+    assert_eq!(collector.take(&mut twin), Ok((taken, false)));
+    assert_eq!(collector.take(&mut other), Err((Fault::Clash, FaultAt { number: 1, cpu: 3 })));
+    let (_writer, mut other, fault) = settle(writer, other, &mut out).unwrap_err();
+    assert_eq!(fault, Fault::Unread);
+    assert_eq!(other.take(&mut out), Ok(taken));
+    assert_eq!(out, parcel(3, &[(1, b"one"), (2, b"TWO")]));
+    assert_eq!(other.take(&mut out), Err(Fault::Empty));
     assert_eq!(collector.list(), Ok(2));
 }
 

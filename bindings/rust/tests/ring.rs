@@ -9,10 +9,11 @@ fn a_record_goes_in_and_its_page_comes_out() {
     writer.write(7, b"one").unwrap();
     assert_eq!(reader.take(&mut out), Err(Fault::Empty));
     assert_eq!(reader.take(&mut out[..HEADER + 63]), Err(Fault::NoRoom));
+    assert_eq!(reader.room(), HEADER + 64);
     reader.wish().unwrap();
     writer.write(9, &[]).unwrap();
     let taken = reader.take(&mut out).unwrap();
-    assert_eq!(taken, Taken { fill: 0, first: 0, missed: 0, count: 2, len: HEADER + 64 });
+    assert_eq!(taken, Taken { fill: 0, first: 0, missed: 0, count: 2, len: HEADER + 16 });
     let mut wanted = [0u8; HEADER + 64];
     for (at, byte) in [(0, 5), (32, 7), (40, 16), (48, 1), (56, 0x41)] {
         wanted[at] = byte;
@@ -109,14 +110,52 @@ fn a_writer_with_a_forgotten_record_is_settled() {
 
 #[test]
 fn a_writer_that_is_dropped_leaves_no_forgotten_record_open() {
-    let (mut writer, mut reader) = ring(0, 2, 64).unwrap();
+    let (mut writer, mut reader) = ring(0, 4, 64).unwrap();
     let mut out = [0u8; HEADER + 64];
     let mut open = writer.begin(1, 60).unwrap();
     open.nested().write(2, &[0; 60]).unwrap();
     forget(open);
     assert_eq!(reader.take(&mut out), Err(Fault::Empty));
     drop(writer);
+    assert_eq!(reader.take(&mut out).unwrap().first, 0);
+    assert_eq!(reader.take(&mut out).unwrap().first, 1);
+    assert_eq!(reader.take(&mut out), Err(Fault::Empty));
+}
+
+#[test]
+fn a_writer_that_is_freed_leaves_all_records_to_the_reader() {
+    let (mut writer, mut reader) = ring(0, 4, 64).unwrap();
+    let mut out = [0u8; HEADER + 64];
+    for moment in 0..11 {
+        writer.write(moment, &[1]).unwrap();
+    }
+    forget(writer.begin(11, 1).unwrap());
+    assert_eq!(writer.free(), 0);
+    assert_eq!(reader.take(&mut out).unwrap().count, 8);
+    let taken = Taken { fill: 1, first: 8, missed: 0, count: 4, len: HEADER + 64 };
+    assert_eq!(reader.take(&mut out), Ok(taken));
+    assert_eq!(reader.take(&mut out), Err(Fault::Empty));
+    let (writer, mut reader) = ring(0, 2, 64).unwrap();
+    assert_eq!((writer.free(), reader.take(&mut out)), (0, Err(Fault::Empty)));
+}
+
+#[test]
+fn a_close_says_whether_it_closed_the_page() {
+    let (mut writer, mut reader) = ring(0, 4, 64).unwrap();
+    let mut out = [0u8; HEADER + 64];
+    assert_eq!(writer.close(), Ok(false));
+    assert_eq!(reader.take(&mut out), Err(Fault::Empty));
+    writer.write(1, b"one").unwrap();
+    assert_eq!((writer.close(), writer.close()), (Ok(true), Ok(false)));
     assert_eq!(reader.take(&mut out).unwrap().count, 1);
+    let mut open = writer.begin(2, 1).unwrap();
+    assert_eq!((open.nested().close(), open.nested().close()), (Ok(true), Ok(false)));
+    drop(open);
+    // The close ends a record that was forgotten.
+    forget(writer.begin(3, 1).unwrap());
+    assert_eq!((writer.close(), writer.close()), (Ok(true), Ok(false)));
+    assert_eq!(reader.take(&mut out).unwrap().first, 1);
+    assert_eq!(reader.take(&mut out).unwrap().first, 2);
 }
 
 #[test]
@@ -187,7 +226,7 @@ fn a_peek_gives_what_a_take_gives_later() {
     open.put(b"two").unwrap();
     // The peek ends a record that was forgotten.
     std::mem::forget(open);
-    let taken = Taken { fill: 0, first: 0, missed: 0, count: 2, len: HEADER + 64 };
+    let taken = Taken { fill: 0, first: 0, missed: 0, count: 2, len: HEADER + 16 };
     assert_eq!(writer.peek(&mut peeked), Ok(Some(taken)));
     assert_eq!(writer.peek(&mut peeked), Ok(Some(taken)));
     assert_eq!(reader.take(&mut out), Err(Fault::Empty));

@@ -1,1 +1,3 @@
 pub mod PutRuns
+pub mod ReadParts
+pub mod LinePlaces

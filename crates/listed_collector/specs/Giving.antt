@@ -18,7 +18,7 @@ pub record AreNumbersOf (line : Line) (numbers : LineNumbers) : Type 0 where
 pub record IsGiven (old : ListedCollector) (out : List ℕ) (numbers : LineNumbers) (left : List ℕ)
     (new : ListedCollector) : Type 0 where
   pub line : Line
-  pub is_next : slice_get old.lines.items old.given ≡ Some line
+  pub is_next : slice_get old.lines old.given ≡ Some line
   pub numbers_are : AreNumbersOf line numbers
   pub bytes : left ≡ line.bytes ++ drop (length line.bytes) out
   pub new_is : new ≡ record old { given = old.given + 1 }
@@ -27,7 +27,7 @@ pub record IsGiven (old : ListedCollector) (out : List ℕ) (numbers : LineNumbe
 pub record LacksRoom (old : ListedCollector) (out : List ℕ) (numbers : LineNumbers) (left : List ℕ)
     (new : ListedCollector) : Type 0 where
   pub line : Line
-  pub is_next : slice_get old.lines.items old.given ≡ Some line
+  pub is_next : slice_get old.lines old.given ≡ Some line
   pub numbers_are : AreNumbersOf line numbers
   pub short : length out < length line.bytes
   pub left_is : left ≡ out
@@ -35,7 +35,7 @@ pub record LacksRoom (old : ListedCollector) (out : List ℕ) (numbers : LineNum
 
 -- No line is left; nothing changes.
 pub record IsAtEnd (old : ListedCollector) (out left : List ℕ) (new : ListedCollector) : Type 0 where
-  pub none : slice_get old.lines.items old.given ≡ None
+  pub none : slice_get old.lines old.given ≡ None
   pub left_is : left ≡ out
   pub new_is : new ≡ old
 

@@ -1,3 +1,4 @@
 pub mod Adding
 pub mod Giving
 pub mod Missing
+pub mod OwnLines

@@ -7,7 +7,9 @@
 mod adding;
 mod listed;
 mod missing;
+mod own_lines;
 
 pub use adding::AddRefusal;
-pub use listed::{Given, LineNumbers, ListedCollector, ListedLine};
+pub use listed::{Given, LineNumbers, ListedCollector};
 pub use missing::Run;
+pub use own_lines::OwnLines;

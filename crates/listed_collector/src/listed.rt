@@ -1,67 +1,19 @@
 //! The listing, as a copy.
-ghost use Rattle.std.specs.Prelude.{◌≡◌, ◌<◌, ◌≤◌, ◌++◌, drop, length, map, IfOk};
+ghost use Rattle.std.specs.Prelude.{◌≡◌, ◌<◌, ◌≤◌, ◌++◌, drop, length, IfOk};
 ghost use Rattle.trace_model.specs.Listing.{IsListing};
-ghost use Rattle.time_merge.specs.Lines.{line_seen};
 
+use crate::own_lines::OwnLines;
 use collector::Collector;
 use std::alloc::Global;
-use std::marker::Model;
-use time_merge::{Line, listing};
+use time_merge::listing;
 use trace_model::{CpuId, Moment, NoMemory, RecordNo};
 
-/// A line of a listing, with bytes of its own. Contracts see its values.
-#[derive(Drop)]
-pub struct ListedLine {
-    moment: Moment,
-    cpu: CpuId,
-    number: RecordNo,
-    bytes: Vec<u8>,
-}
-
-impl Model for ListedLine {
-    ghost use Rattle.trace_model.specs.Listing.{Line as ModelLine};
-
-    ghost Value = { ModelLine };
-
-    ghost view = { λ l. record {
-      moment = l.moment.0;
-      cpu = l.cpu.0;
-      number = l.number.0;
-      bytes = l.bytes.items;
-    } };
-}
-
-impl ListedLine {
-    /// A copy of a line.
-    fn of(alloc: Global, line: &Line<'_>) -> Result<ListedLine, NoMemory>
-        ensures { IfOk result (λ copy. copy ≡ line_seen line.now) }
-    {
-        Ok(ListedLine {
-            moment: line.moment,
-            cpu: line.cpu,
-            number: line.number,
-            bytes: Vec::from_slice(alloc, line.bytes)?,
-        })
-    }
-}
-
-/// A copy of each line.
-fn copies(alloc: Global, lines: &[Line<'_>]) -> Result<Vec<ListedLine>, NoMemory>
-    ensures { IfOk result (λ copies. copies.items ≡ map line_seen lines.now) }
-{
-    let mut copies = Vec::with_capacity(alloc, lines.len())?;
-    for line in lines {
-        copies.push(ListedLine::of(alloc, line)?)?;
-    }
-    Ok(copies)
-}
-
 /// A copy of the collector's listing.
-fn copied_listing(alloc: Global, collector: &Collector) -> Result<Vec<ListedLine>, NoMemory>
-    ensures { IfOk result (λ copies. IsListing collector.now copies.items) }
+fn copied_listing(alloc: Global, collector: &Collector) -> Result<OwnLines, NoMemory>
+    ensures { IfOk result (λ copies. IsListing collector.now copies) }
 {
     let lines = listing(alloc, collector)?;
-    copies(alloc, &lines)
+    OwnLines::of(alloc, &lines)
 }
 
 /// The numbers of a line that is listed, and how many bytes it has.
@@ -94,7 +46,7 @@ pub struct ListedCollector {
     /// The collector.
     pub collector: Collector,
     /// The listing; no line, before one was made.
-    pub lines: Vec<ListedLine>,
+    pub lines: OwnLines,
     /// How many of its lines were given.
     pub given: usize,
 }
@@ -107,12 +59,12 @@ impl ListedCollector {
     /// A collector that keeps no parcel, and no listing.
     pub fn new(alloc: Global) -> ListedCollector
         ensures collector { result.collector ≡ [] }
-        ensures lines { result.lines.items ≡ [] }
+        ensures lines { result.lines ≡ [] }
         ensures given { result.given ≡ 0 }
     {
         ListedCollector {
             collector: Collector::new(alloc),
-            lines: Vec::new(alloc),
+            lines: OwnLines::new(alloc),
             given: 0,
         }
     }
@@ -120,8 +72,8 @@ impl ListedCollector {
     /// Lists what the collector has now: the lines are given from the first on. The answer is how many there are. If
     /// memory is refused, nothing has changed.
     pub fn list(&mut self, alloc: Global) -> Result<usize, NoMemory>
-        ensures listing { OnOk result (IsListing self.old.collector self.new.lines.items) }
-        ensures count { IfOk result (λ count. count ≡ length self.new.lines.items) }
+        ensures listing { OnOk result (IsListing self.old.collector self.new.lines) }
+        ensures count { IfOk result (λ count. count ≡ length self.new.lines) }
         ensures first { OnOk result (self.new.given ≡ 0) }
         ensures collector { self.new.collector ≡ self.old.collector }
         ensures refused { OnErr result (self.new ≡ self.old) }
@@ -149,7 +101,7 @@ impl ListedCollector {
         if out.len() < numbers.len {
             return Given::NoRoom(numbers);
         }
-        put_into(out, &line.bytes);
+        put_into(out, line.bytes);
         self.given += 1;
         Given::Line(numbers)
     }

@@ -1,5 +1,5 @@
 -- What calls answer, as numbers of C; and what a handle held, if its end was taken out.
-use Rattle.std.proofs.Common.{◌≡◌, ℕ, ℤ, pos, List, length, Option, Some, None, is_some, IsSomeAnd, refl, sym, ap, ◌∙◌, subst, w32, to_z, of_z}
+use Rattle.std.proofs.Common.{◌≡◌, ℕ, ℤ, pos, List, length, Option, Some, None, Result, Ok, Err, is_some, IsSomeAnd, refl, sym, ap, ◌∙◌, subst, w32, to_z, of_z}
 use Rattle.std.proofs.lemmas.Bool.{false≢true}
 use Rattle.nested_writer.specs.declared.fault.WriteFault.{WriteFault}
 use Rattle.ring_shared.specs.Value.{WriterValue}
@@ -8,8 +8,15 @@ use Rattle.ring_shared.specs.Rooms.{rooms}
 use Rattle.ring_frames.specs.Answers.{KeepsPayloads}
 use Rattle.tracering_c.specs.declared.ends.HeldReader.{HeldReader}
 use Rattle.tracering_c.specs.declared.taken.Taken.{Taken}
-use Rattle.tracering_c.specs.Codes.{fault_code}
-use Rattle.tracering_c.specs.Calls.{WritesSo, TakesSo, is_page, is_empty, is_moving, has_no_room}
+use Rattle.collector.specs.declared.added.Added.{Added}
+use Rattle.collector.specs.declared.added.Added.TheVariants.{New, Known}
+use Rattle.collector.specs.declared.fault.AddFault.{AddFault}
+use Rattle.collector.specs.declared.fault.AddFault.TheVariants.{Clash, TakenAndMissing, NoMemory}
+use Rattle.listed_collector.specs.declared.listed.ListedCollector.{ListedCollector}
+use Rattle.tracering_c.specs.declared.collected.FaultAt.{FaultAt}
+use Rattle.tracering_c.specs.Codes.{fault_code, add_code, page_answer}
+use Rattle.tracering_c.specs.Calls.{WritesSo, TakesSo, is_page, is_none, has_no_room, HasNoNext, is_empty, is_moving}
+use Rattle.tracering_c.specs.CollectorCalls.{CollectsSo, adds_page, adds_none}
 use Rattle.tracering_c.specs.Peeks.{AnswersPeek, not_at_rest, no_room, empty, peeks}
 
 abbrev fault_or : WriteFault → Option WriteFault → WriteFault
@@ -34,11 +41,29 @@ refused_so old moment payload code new fault code_is is payloads same = record {
   rooms_are = same;
 }
 
+-- the number of an answer without a page fits its type
+none_so : (old : HeldReader) (code : ℤ) (new : HeldReader) → HasNoNext old code new → HasNoNext old (to_z w32 (of_z w32 code)) new
+none_so old code new (is_empty done back c n e a) = is_empty done back (ap (λ (k : ℤ). to_z w32 (of_z w32 k)) c) n e a
+none_so old code new (is_moving fill back c n m a) = is_moving fill back (ap (λ (k : ℤ). to_z w32 (of_z w32 k)) c) n m a
+
+-- so does the number of a page that is to be added
+pub add_fits : (answer : Result Added AddFault) → to_z w32 (of_z w32 (add_code (page_answer answer))) ≡ add_code (page_answer answer)
+add_fits (Ok New) = refl
+add_fits (Ok Known) = refl
+add_fits (Err (Clash cpu number)) = refl
+add_fits (Err (TakenAndMissing cpu number)) = refl
+add_fits (Err NoMemory) = refl
+
+-- so does that of what a collector takes
+pub collects_so : (old : HeldReader) (listed : ListedCollector) (was : Taken) (was_at : FaultAt) (code : ℤ) (reported : Taken) (at : FaultAt) (new : HeldReader) (left : ListedCollector) → CollectsSo old listed was was_at code reported at new left
+    → CollectsSo old listed was was_at (to_z w32 (of_z w32 code)) reported at new left
+collects_so old listed was was_at code reported at new left (adds_page page missed answer c n a l t r) = adds_page page missed answer (ap (λ (k : ℤ). to_z w32 (of_z w32 k)) c ∙ add_fits answer) n a l t r
+collects_so old listed was was_at code reported at new left (adds_none n u l t r) = adds_none (none_so old code new n) u l t r
+
 -- the number of a take's answer fits its type
 pub takes_so : (old : HeldReader) (out : List ℕ) (was : Taken) (code : ℤ) (left : List ℕ) (reported : Taken) (new : HeldReader) → TakesSo old out was code left reported new → TakesSo old out was (to_z w32 (of_z w32 code)) left reported new
-takes_so old out was code left reported new (is_page page missed c t a g d) = is_page page missed (ap (λ (n : ℤ). to_z w32 (of_z w32 n)) c) t a g d
-takes_so old out was code left reported new (is_empty done back c e a o w) = is_empty done back (ap (λ (n : ℤ). to_z w32 (of_z w32 n)) c) e a o w
-takes_so old out was code left reported new (is_moving fill back c m a o w) = is_moving fill back (ap (λ (n : ℤ). to_z w32 (of_z w32 n)) c) m a o w
+takes_so old out was code left reported new (is_page page missed c n u g d) = is_page page missed (ap (λ (n : ℤ). to_z w32 (of_z w32 n)) c) n u g d
+takes_so old out was code left reported new (is_none n u o w) = is_none (none_so old code new n) u o w
 takes_so old out was code left reported new (has_no_room c s n o w) = has_no_room (ap (λ (k : ℤ). to_z w32 (of_z w32 k)) c) s n o w
 
 -- so does a number that is one which fits

@@ -4,4 +4,6 @@ pub mod HeldKinds
 pub mod FaultCodes
 pub mod Unread
 pub mod CallAnswers
+pub mod Given
 pub mod NewestRecords
+pub mod NextPages

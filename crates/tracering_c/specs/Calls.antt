@@ -1,7 +1,8 @@
 -- What the calls of C make of a ring's ends.
-use Rattle.std.specs.Prelude.{◌≡◌, ◌≢◌, ◌↔◌, ◌+◌, ◌<◌, ◌≤◌, ℕ, ℤ, pos, ◌++◌, List, [], ◌∷◌, drop, length, Option, Some, None}
+use Rattle.std.specs.Prelude.{◌≡◌, ◌≢◌, ◌↔◌, ◌+◌, ◌<◌, ◌≤◌, ℕ, ℤ, pos, ◌++◌, List, [], ◌∷◌, take, drop, length, Option, Some, None}
 use Rattle.trace_model.specs.declared.numbers.FillNo.{FillNo}
 use Rattle.trace_model.specs.Steps as model
+use Rattle.trace_model.specs.Parcel.{Parcel}
 use Rattle.trace_model.specs.ParcelBytes.{DecodesParcel}
 use Rattle.nested_writer.specs.declared.fault.WriteFault.{WriteFault}
 use Rattle.nested_writer.specs.declared.frame.Slot.{Slot}
@@ -15,6 +16,7 @@ use Rattle.ring_frames.specs.Answers.{top_bytes, KeepsPayloads, EndsPayload}
 use Rattle.ring_frames.specs.Lens.{IsOneMore}
 use Rattle.page_image.specs.Contents.{Contents}
 use Rattle.parcel_buffer.specs.Fronts.{HasAtFront}
+use Rattle.parcel_buffer.specs.Used.{used_size, used_page}
 use Rattle.page_numbers.specs.Written.{bytes_of_page}
 use Rattle.page_numbers.specs.Parcels.{parcel_of_page}
 use Rattle.trace_model.specs.declared.limits.TheConstants.{MAX_CPUS}
@@ -32,8 +34,11 @@ use Rattle.ring_shared.specs.Takes.{IsPageTaken, IsEmptyFound, IsMovingFound, An
 use Rattle.ring_shared.specs.Settling.{IsSettled, unread_page}
 use Rattle.ring_shared.specs.declared.settling.Settled.{Settled}
 use Rattle.tracering_c.specs.declared.ends.HeldReader.{HeldReader}
+use Rattle.tracering_c.specs.declared.ends.Next.{Next}
+use Rattle.tracering_c.specs.declared.ends.Next.TheVariants.{Page as NextPage, Empty as NoneUnread, Moving as StillMoving}
+use Rattle.tracering_c.specs.Ends.{IsUnadded, IsHeldReader}
 use Rattle.tracering_c.specs.declared.taken.Taken.{Taken}
-use Rattle.tracering_c.specs.Codes.{fault_code, answer_code}
+use Rattle.tracering_c.specs.Codes.{fault_code, answer_code, finish_code}
 
 -- ---- the writer
 
@@ -58,12 +63,12 @@ pub record BeginsSo (old : WriterValue) (event : model.Event) (room : Option ℕ
   pub room_is : answer ≡ Pushed → rooms new ≡ room ∷ rooms old
   pub refused : (fault : WriteFault) → answer ≡ Refused fault → rooms new ≡ rooms old
 
--- The frame on top is stepped as far as it gets, and the number is that of its answer. The payloads that aren't ended
--- stay in their slots, and a slot that is reserved holds only zeros.
+-- The frame on top is stepped as far as it gets, and the number is that of its answer, or says that it is a close that
+-- closed nothing. The payloads that aren't ended stay in their slots, and a slot that is reserved holds only zeros.
 pub record FinishesSo (old : WriterValue) (code : ℤ) (new : WriterValue) : Type 0 where
   pub answer : Answer
   pub finishes : Finishes old.shape old.part answer new.part
-  pub code_is : code ≡ answer_code answer
+  pub code_is : code ≡ finish_code old answer new
   pub slots : KeepsSlots old answer new
 
 -- The frame on top ends with the payload in its slot; the payloads of the others stay in theirs.
@@ -114,36 +119,67 @@ pub record AreNumbersOf (page : Contents) (missed len : ℕ) (taken : Taken) : T
   pub count : taken.count ≡ page.count
   pub len_is : taken.len ≡ len
 
--- The page is given as parcel bytes, at the front of the buffer, with its numbers.
+-- The page is given as parcel bytes, at the front of the buffer, with its numbers. The bytes that `len` counts are those
+-- of its parcel without the room that isn't used.
 pub record IsGiven (cpu : ℕ) (page : Contents) (missed : ℕ) (out left : List ℕ) (reported : Taken) : Type 0 where
   pub bytes : HasAtFront out (bytes_of_page cpu page missed) left
-  pub numbers : AreNumbersOf page missed (length (bytes_of_page cpu page missed)) reported
+  pub numbers : AreNumbersOf page missed (48 + used_size page missed) reported
+  pub used : take reported.len left ≡ bytes_of_page cpu (used_page page missed) missed
 
--- A page is taken and given, and the answer is 0; or nothing is taken and nothing is given: no closed page is unread,
--- or a move of the head isn't finished, or the take has made as many steps as it may, or the buffer is shorter than a
+-- The bytes that a page is given as read as this parcel, and so do those of them that are used.
+pub record ReadsAs (cpu : ℕ) (page : Contents) (missed : ℕ) (parcel : Parcel) : Type 0 where
+  pub whole : DecodesParcel (bytes_of_page cpu page missed) parcel
+  pub used : DecodesParcel (bytes_of_page cpu (used_page page missed) missed) parcel
+
+-- The page that is next, and how many records are missing before it: the one that a collector didn't add, if there is
+-- such a page; else the oldest one that is closed and unread, which is taken.
+pub data IsNext (old : HeldReader) (page : Contents) (missed : ℕ) (new : HeldReader) : Type 0 where
+  was_unadded : old.unadded ≡ Some record { page = page; missed = missed }
+      → new.reader ≡ old.reader
+      → IsNext old page missed new
+  is_taken : old.unadded ≡ None
+      → IsPageTaken old.reader.shape old.reader.part page missed new.reader.part
+      → AnswersTake old.reader (Page page missed) new.reader
+      → IsNext old page missed new
+
+-- No page is next: no closed page is unread, and the answer is 15; or a move of the head isn't finished, or the take has
+-- made as many steps as it may, and the answer is 16.
+pub data HasNoNext (old : HeldReader) (code : ℤ) (new : HeldReader) : Type 0 where
+  is_empty : (done : ℕ)
+      → (back : List ℕ)
+      → code ≡ pos 15
+      → old.unadded ≡ None
+      → IsEmptyFound old.reader.shape old.reader.part done new.reader.part
+      → AnswersTake old.reader (Empty done back) new.reader
+      → HasNoNext old code new
+  is_moving : (fill : FillNo)
+      → (back : List ℕ)
+      → code ≡ pos 16
+      → old.unadded ≡ None
+      → IsMovingFound old.reader.shape old.reader.part fill.0 new.reader.part
+      → AnswersTake old.reader (Moving fill back) new.reader
+      → HasNoNext old code new
+
+-- what the reader gives next, and what it is then
+abbrev pub GivesNext : HeldReader → Next → HeldReader → Type 0
+GivesNext old (NextPage page missed) new =
+    IsNext old page missed new × IsUnadded new.reader record { page = page; missed = missed }
+GivesNext old NoneUnread new = HasNoNext old (pos 15) new × IsHeldReader new
+GivesNext old StillMoving new = HasNoNext old (pos 16) new × IsHeldReader new
+
+-- The next page is given, and the answer is 0; or nothing is given: no page is next, or the buffer is shorter than a
 -- parcel of the ring.
 pub data TakesSo (old : HeldReader) (out : List ℕ) (was : Taken) (code : ℤ) (left : List ℕ) (reported : Taken)
     (new : HeldReader) : Type 0 where
   is_page : (page : Contents) (missed : ℕ)
       → code ≡ pos 0
-      → IsPageTaken old.reader.shape old.reader.part page missed new.reader.part
-      → AnswersTake old.reader (Page page missed) new.reader
+      → IsNext old page missed new
+      → new.unadded ≡ None
       → IsGiven old.cpu.0 page missed out left reported
-      → DecodesParcel (bytes_of_page old.cpu.0 page missed) (parcel_of_page old.cpu.0 page missed)
+      → ReadsAs old.cpu.0 page missed (parcel_of_page old.cpu.0 page missed)
       → TakesSo old out was code left reported new
-  is_empty : (done : ℕ)
-      → (back : List ℕ)
-      → code ≡ pos 15
-      → IsEmptyFound old.reader.shape old.reader.part done new.reader.part
-      → AnswersTake old.reader (Empty done back) new.reader
-      → left ≡ out
-      → reported ≡ was
-      → TakesSo old out was code left reported new
-  is_moving : (fill : FillNo)
-      → (back : List ℕ)
-      → code ≡ pos 16
-      → IsMovingFound old.reader.shape old.reader.part fill.0 new.reader.part
-      → AnswersTake old.reader (Moving fill back) new.reader
+  is_none : HasNoNext old code new
+      → new.unadded ≡ None
       → left ≡ out
       → reported ≡ was
       → TakesSo old out was code left reported new

@@ -1,5 +1,5 @@
 -- The numbers by which C is answered.
-use Rattle.std.specs.Prelude.{ℕ, ℤ, pos, negsuc, Result, Ok, Err}
+use Rattle.std.specs.Prelude.{ℕ, ℤ, pos, negsuc, Bool, true, false, ◌==◌, ◌&&◌, if◌then◌else◌, Result, Ok, Err}
 use Rattle.record_words.specs.declared.next.WordFault.{WordFault}
 use Rattle.record_words.specs.declared.next.WordFault.TheVariants.{Cut, BadLength, TimeOverflow}
 use Rattle.page_image.specs.declared.image.ImageFault.{ImageFault}
@@ -8,6 +8,7 @@ use Rattle.page_numbers.specs.declared.fault.ParcelFault.{ParcelFault}
 use Rattle.page_numbers.specs.declared.fault.ParcelFault.TheVariants.{Image, NumberOverflow, MissedTooMany, MissedDiffers, BadCpu, NoMemory}
 use Rattle.collector.specs.declared.added.Added.{Added}
 use Rattle.collector.specs.declared.added.Added.TheVariants.{New, Known}
+use Rattle.collector.specs.declared.fault.AddFault.{AddFault}
 use Rattle.collector.specs.declared.fault.AddFault.TheVariants.{Clash, TakenAndMissing, NoMemory as NoMemoryToAdd}
 use Rattle.listed_collector.specs.declared.adding.AddRefusal.{AddRefusal}
 use Rattle.listed_collector.specs.declared.adding.AddRefusal.TheVariants.{Parcel as NoParcel, Add as NotAdded}
@@ -18,6 +19,8 @@ use Rattle.tracering_c.specs.declared.collected.FaultAt.{FaultAt}
 use Rattle.tracering_c.specs.declared.collected.Listed.{Listed}
 use Rattle.nested_writer.specs.declared.fault.WriteFault.{WriteFault}
 use Rattle.nested_writer.specs.declared.fault.WriteFault.TheVariants.{TooDeep, TooLong, LateMoment, Crowded, Worn, NoFrame, NotReserved}
+use Rattle.ring_shared.specs.Value.{WriterValue}
+use Rattle.ring_shared.specs.Calls.{closes_first}
 use Rattle.ring_frames.specs.declared.answer.Answer.{Answer}
 use Rattle.ring_frames.specs.declared.answer.Answer.TheVariants.{Pushed, Going, Reserved, Ended, Gone, Refused, Looking, Empty, Moving, Taken, Wished}
 
@@ -44,6 +47,30 @@ answer_code (Empty done body) = pos 0
 answer_code (Moving fill body) = pos 0
 answer_code (Taken page missed) = pos 0
 answer_code (Wished fill) = pos 0
+
+-- whether the answer is that the frame on top is gone, and it wasn't refused
+abbrev pub is_gone : Answer → Bool
+is_gone Pushed = false
+is_gone Going = false
+is_gone (Reserved number) = false
+is_gone (Ended how) = false
+is_gone Gone = true
+is_gone (Refused fault) = false
+is_gone (Looking body) = false
+is_gone (Empty done body) = false
+is_gone (Moving fill body) = false
+is_gone (Taken page missed) = false
+is_gone (Wished fill) = false
+
+-- Whether what was finished is a close that closed nothing: the frame on top is a close, it is gone and not refused,
+-- and as many fills are begun as before.
+abbrev pub closed_nothing : WriterValue → Answer → WriterValue → Bool
+closed_nothing old answer new =
+    closes_first old.part.frames && is_gone answer && (new.part.opened == old.part.opened)
+
+-- The number of the answer to what is finished: -4 for a close that closed nothing, else that of the writer's answer.
+abbrev pub finish_code : WriterValue → Answer → WriterValue → ℤ
+finish_code old answer new = if closed_nothing old answer new then negsuc 3 else answer_code answer
 
 -- ---- collectors
 
@@ -83,6 +110,11 @@ add_code (Err (NoParcel fault)) = parcel_code fault
 add_code (Err (NotAdded (Clash cpu number))) = pos 29
 add_code (Err (NotAdded (TakenAndMissing cpu number))) = pos 30
 add_code (Err (NotAdded NoMemoryToAdd)) = pos 12
+
+-- what is answered to a page that is to be added, as it is to bytes
+abbrev pub page_answer : Result Added AddFault → Result Added AddRefusal
+page_answer (Ok added) = Ok added
+page_answer (Err fault) = Err (NotAdded fault)
 
 -- where the bytes of a parcel are refused: at a bad word, or under the number at odds
 abbrev pub parcel_fault_at : FaultAt → ParcelFault → FaultAt

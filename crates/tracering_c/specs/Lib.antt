@@ -1,8 +1,10 @@
 pub mod Held
+pub mod Zeros
 pub mod Codes
 pub mod Ends
 pub mod Handles
 pub mod Calls
 pub mod Peeks
+pub mod Frees
 pub mod CollectorCalls
 pub mod Lending

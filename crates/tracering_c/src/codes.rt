@@ -7,6 +7,8 @@ use page_image::ImageFault;
 use page_numbers::ParcelFault;
 use record_words::WordFault;
 
+/// The close is completed, and the page that is written had no record: nothing is closed.
+pub const NOTHING_CLOSED: i32 = -4;
 /// The two collectors don't have and miss the same.
 pub const DIFFERENT: i32 = -3;
 /// All that the parcel has and misses was there already.

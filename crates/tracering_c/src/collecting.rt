@@ -3,6 +3,7 @@ ghost use Rattle.std.specs.Prelude.{◌≡◌, ◌≢◌, ◌↔◌, Some, None,
 ghost use Rattle.trace_model.specs.Collection.{IsSame};
 ghost use Rattle.tracering_c.specs.declared.ends.HeldCollector.{HeldCollector as EndValue};
 ghost use Rattle.tracering_c.specs.Held.{collector_of};
+ghost use Rattle.tracering_c.specs.Zeros.{AreZeros};
 ghost use Rattle.tracering_c.specs.Handles.{SaysAbsent, OnCollector};
 ghost use Rattle.tracering_c.specs.CollectorCalls.{IsEmpty, AddsBytes, MissesSo, IsListed, NextSo};
 
@@ -195,6 +196,7 @@ pub extern "C" fn tracering_raw_collector_free(alloc: Global, c: &mut CollectorH
     ensures absent { SaysAbsent (collector_of c.old.held.value) result c.old c.new }
     ensures freed { (x : EndValue) → collector_of c.old.held.value ≡ Some x → result ≡ pos 0 }
     ensures none { collector_of c.new.held.value ≡ None }
+    ensures cleared { (x : EndValue) → collector_of c.old.held.value ≡ Some x → AreZeros c.new.held.at c.new.live }
 {
     let Some(_end) = c.take_out(alloc) else {
         return ABSENT;

@@ -4,6 +4,7 @@ ghost use Rattle.tracering_c.specs.declared.ends.HeldWriter.{HeldWriter as Write
 ghost use Rattle.tracering_c.specs.declared.ends.HeldReader.{HeldReader as ReaderValue};
 ghost use Rattle.tracering_c.specs.declared.ends.HeldCollector.{HeldCollector as CollectorValue};
 ghost use Rattle.tracering_c.specs.Held.{writer_of, reader_of, collector_of};
+ghost use Rattle.tracering_c.specs.Zeros.{AreZeros};
 
 use crate::ends::{HeldCollector, HeldReader, HeldWriter};
 use crate::held::Held;
@@ -24,7 +25,8 @@ pub struct WriterHandle {
 impl WriterHandle {
     /// No writer.
     pub(crate) fn none() -> WriterHandle
-        ensures { writer_of result.held.value ≡ None }
+        ensures none { writer_of result.held.value ≡ None }
+        ensures zeros { AreZeros result.held.at result.live }
     {
         WriterHandle {
             held: Held::none(),
@@ -48,6 +50,8 @@ impl WriterHandle {
         ensures none { writer_of self.old.held.value ≡ None → result ≡ None }
         ensures left { (x : WriterValue) → writer_of self.old.held.value ≡ Some x
             → writer_of self.new.held.value ≡ None }
+        ensures zeros { (x : WriterValue) → writer_of self.old.held.value ≡ Some x
+            → AreZeros self.new.held.at self.new.live }
         ensures some { (x : WriterValue) → writer_of self.old.held.value ≡ Some x
             → IsSomeAnd result (λ end. end.value ≡ x) }
     {
@@ -72,7 +76,8 @@ pub struct ReaderHandle {
 impl ReaderHandle {
     /// No reader.
     pub(crate) fn none() -> ReaderHandle
-        ensures { reader_of result.held.value ≡ None }
+        ensures none { reader_of result.held.value ≡ None }
+        ensures zeros { AreZeros result.held.at result.live }
     {
         ReaderHandle {
             held: Held::none(),
@@ -96,6 +101,8 @@ impl ReaderHandle {
         ensures none { reader_of self.old.held.value ≡ None → result ≡ None }
         ensures left { (x : ReaderValue) → reader_of self.old.held.value ≡ Some x
             → reader_of self.new.held.value ≡ None }
+        ensures zeros { (x : ReaderValue) → reader_of self.old.held.value ≡ Some x
+            → AreZeros self.new.held.at self.new.live }
         ensures some { (x : ReaderValue) → reader_of self.old.held.value ≡ Some x
             → IsSomeAnd result (λ end. end.value ≡ x) }
     {
@@ -120,7 +127,8 @@ pub struct CollectorHandle {
 impl CollectorHandle {
     /// No collector.
     pub(crate) fn none() -> CollectorHandle
-        ensures { collector_of result.held.value ≡ None }
+        ensures none { collector_of result.held.value ≡ None }
+        ensures zeros { AreZeros result.held.at result.live }
     {
         CollectorHandle {
             held: Held::none(),
@@ -144,6 +152,8 @@ impl CollectorHandle {
         ensures none { collector_of self.old.held.value ≡ None → result ≡ None }
         ensures left { (x : CollectorValue) → collector_of self.old.held.value ≡ Some x
             → collector_of self.new.held.value ≡ None }
+        ensures zeros { (x : CollectorValue) → collector_of self.old.held.value ≡ Some x
+            → AreZeros self.new.held.at self.new.live }
         ensures some { (x : CollectorValue) → collector_of self.old.held.value ≡ Some x
             → IsSomeAnd result (λ end. end.value ≡ x) }
     {

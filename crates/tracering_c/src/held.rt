@@ -1,4 +1,5 @@
 //! A ring's end, or a collector, as a pointer that owns it, or null.
+ghost use denote.RawPtr.{null_ptr};
 ghost use Rattle.std.specs.Borrow.{sem};
 ghost use Rattle.std.specs.Prelude.{◌≡◌, Some, None, Option, is_some, true};
 ghost use Rattle.tracering_c.specs.Held.{End, held, writer_of, reader_of, collector_of};
@@ -34,7 +35,7 @@ impl Held {
     /// Nothing.
     #[inline(always)]
     pub(crate) fn none() -> Held
-        ensures { result.value ≡ None }
+        ensures { result ≡ record { at = null_ptr; value = None } }
     {
         Held {
             at: std::ptr::null_mut(),

@@ -5,6 +5,7 @@
 //! that make a ring or a collector fill such handles, and `depth` answers 0.
 #![tactic(auto)]
 
+mod adding_pages;
 mod codes;
 pub mod collected;
 mod collecting;

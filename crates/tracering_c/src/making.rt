@@ -1,5 +1,5 @@
 //! A new ring; and its ends, freed.
-ghost use Rattle.std.specs.Prelude.{◌≡◌, ◌≢◌, ◌<◌, ◌↔◌, Some, None, IfOk, IsSomeAnd, is_some, true, pos};
+ghost use Rattle.std.specs.Prelude.{◌≡◌, ◌≢◌, ◌<◌, ◌↔◌, [], Some, None, IfOk, IsSomeAnd, is_some, true, pos};
 ghost use Rattle.trace_model.specs.declared.limits.TheConstants.{MAX_CPUS, START_FILL};
 ghost use Rattle.trace_model.specs.Ring.{HasRingLimits};
 ghost use Rattle.ring_shared.specs.NewEnds.{AreNewEnds};
@@ -7,14 +7,17 @@ ghost use Rattle.ring_shared.specs.Calls.{IsWriter};
 ghost use Rattle.tracering_c.specs.declared.ends.HeldWriter.{HeldWriter as WriterValue};
 ghost use Rattle.tracering_c.specs.declared.ends.HeldReader.{HeldReader as ReaderValue};
 ghost use Rattle.tracering_c.specs.Held.{writer_of, reader_of};
+ghost use Rattle.tracering_c.specs.Zeros.{AreZeros};
 ghost use Rattle.tracering_c.specs.Handles.{IsWriterHandle, IsReaderHandle, SaysAbsent};
 ghost use Rattle.tracering_c.specs.Ends.{IsHeldReader};
 ghost use Rattle.tracering_c.specs.Calls.{AnswersNew};
+ghost use Rattle.tracering_c.specs.Frees.{ClosesSo, FreesSo};
 
 use crate::codes::{ABSENT, BAD_CPU, BAD_SIZE, DONE, IN_USE, NO_MEMORY};
 use crate::ends::{HeldReader, HeldWriter};
 use crate::handle::{ReaderHandle, WriterHandle};
 use page_image::Body;
+use ring_shared::Writer;
 use std::alloc::Global;
 use trace_model::{CpuId, MAX_CPUS, MAX_PAGES, MAX_SIZE, MIN_PAGES, MIN_SIZE, NoMemory};
 
@@ -81,7 +84,13 @@ fn new_ends(
     let (writer, reader) = ring_shared::ring(alloc, pages, size)?;
     let body = Some(Body::new(alloc, size)?);
     let left = Box::new(alloc, HeldWriter { writer, cpu })?;
-    let right = Box::new(alloc, HeldReader { cpu, reader, body })?;
+    let end = HeldReader {
+        cpu,
+        reader,
+        body,
+        unadded: None,
+    };
+    let right = Box::new(alloc, end)?;
     Ok((left, right))
 }
 
@@ -96,18 +105,52 @@ fn has_limits(pages: usize, size: usize) -> bool
         && size % 4 == 0
 }
 
-/// Frees the writer: it is freed at most once. That its memory is released is tested, and not proved.
+/// Frees the writer: it is freed at most once. If nothing is begun, the page that is written is closed first. It is told
+/// how many records are lost: those that have a number, and are on no closed page. That the writer's memory is released
+/// is tested, and not proved.
 #[unsafe(no_mangle)]
-pub extern "C" fn tracering_raw_writer_free(alloc: Global, w: &mut WriterHandle) -> i32
+pub extern "C" fn tracering_raw_writer_free(
+    alloc: Global,
+    w: &mut WriterHandle,
+    lost: &mut u64,
+) -> i32
     requires writer { IsWriterHandle w.old }
     ensures absent { SaysAbsent (writer_of w.old.held.value) result w.old w.new }
+    ensures lost_stays { writer_of w.old.held.value ≡ None → lost.new ≡ lost.old }
     ensures freed { (x : WriterValue) → writer_of w.old.held.value ≡ Some x → result ≡ pos 0 }
+    ensures frees { (x : WriterValue) → writer_of w.old.held.value ≡ Some x → FreesSo x.writer lost.new }
     ensures none { writer_of w.new.held.value ≡ None }
+    ensures cleared { (x : WriterValue) → writer_of w.old.held.value ≡ Some x → AreZeros w.new.held.at w.new.live }
 {
-    let Some(_end) = w.take_out(alloc) else {
+    let Some(end) = w.take_out(alloc) else {
         return ABSENT;
     };
+    *lost = close_last(Box::into_inner(end));
     DONE
+}
+
+/// Closes the page that is written, if nothing is begun, and drops the writer: how many records are lost.
+fn close_last(end: HeldWriter) -> u64
+    requires writer { IsWriter end.writer }
+    ensures { FreesSo end.writer result }
+{
+    let HeldWriter { mut writer, .. } = end;
+    close_page(&mut writer);
+    writer.unclosed()
+}
+
+/// Closes the page that is written, if nothing is begun.
+fn close_page(writer: &mut Writer)
+    requires writer { IsWriter writer.old }
+    ensures closes { writer.old.part.frames ≡ [] → ClosesSo writer.old writer.new }
+    ensures stays { writer.old.part.frames ≢ [] → writer.new ≡ writer.old }
+    ensures writer { IsWriter writer.new }
+{
+    if writer.depth() > 0 {
+        return;
+    }
+    writer.begin_close();
+    writer.finish_top();
 }
 
 /// Frees the reader: it is freed at most once. That its memory is released is tested, and not proved.
@@ -117,6 +160,7 @@ pub extern "C" fn tracering_raw_reader_free(alloc: Global, r: &mut ReaderHandle)
     ensures absent { SaysAbsent (reader_of r.old.held.value) result r.old r.new }
     ensures freed { (x : ReaderValue) → reader_of r.old.held.value ≡ Some x → result ≡ pos 0 }
     ensures none { reader_of r.new.held.value ≡ None }
+    ensures cleared { (x : ReaderValue) → reader_of r.old.held.value ≡ Some x → AreZeros r.new.held.at r.new.live }
 {
     let Some(_end) = r.take_out(alloc) else {
         return ABSENT;

@@ -7,13 +7,12 @@ ghost use Rattle.tracering_c.specs.Ends.{IsHeldReader};
 ghost use Rattle.tracering_c.specs.Calls.{TakesSo, WishesSo};
 
 use crate::codes::{ABSENT, DONE, EMPTY, MOVING, NO_ROOM};
-use crate::ends::HeldReader;
+use crate::ends::{HeldReader, Next};
 use crate::handle::ReaderHandle;
 use crate::taken::Taken;
 use parcel_buffer::{PARCEL_HEADER, put_parcel};
-use ring_shared::Take;
 
-/// Takes the oldest page that is closed and unread, and puts its parcel to the front of `out`.
+/// Takes the next page, and puts its parcel to the front of `out`.
 #[unsafe(no_mangle)]
 pub extern "C" fn tracering_raw_take(r: &mut ReaderHandle, out: &mut [u8], taken: &mut Taken) -> i32
     requires reader { IsReaderHandle r.old }
@@ -36,28 +35,19 @@ fn take_into(end: &mut HeldReader, out: &mut [u8], taken: &mut Taken) -> i32
     ensures cpu { end.new.cpu ≡ end.old.cpu }
     ensures reader { IsHeldReader end.new }
 {
-    let Some(body) = end.body.take() else {
-        unreachable!()
-    };
-    if out.len() < PARCEL_HEADER + body.size() {
-        end.body = Some(body);
+    if out.len() < PARCEL_HEADER + end.size() {
         return NO_ROOM;
     }
-    match end.reader.take(body) {
-        Take::Page(page, missed) => {
-            let len = put_parcel(out, end.cpu, &page, missed);
+    let cpu = end.cpu;
+    match end.next() {
+        Next::Page(page, missed) => {
+            let len = put_parcel(out, cpu, &page, missed);
             *taken = Taken::of(&page, missed, len);
-            end.body = Some(end.reader.give_back(page));
+            end.put_back(page);
             DONE
         }
-        Take::Empty(_, back) => {
-            end.body = Some(back);
-            EMPTY
-        }
-        Take::Moving(_, back) => {
-            end.body = Some(back);
-            MOVING
-        }
+        Next::Empty => EMPTY,
+        Next::Moving => MOVING,
     }
 }
 

@@ -4,6 +4,7 @@ ghost use Rattle.ring_shared.specs.Calls.{IsWriter};
 ghost use Rattle.tracering_c.specs.declared.ends.HeldWriter.{HeldWriter as WriterValue};
 ghost use Rattle.tracering_c.specs.declared.ends.HeldReader.{HeldReader as ReaderValue};
 ghost use Rattle.tracering_c.specs.Held.{writer_of, reader_of};
+ghost use Rattle.tracering_c.specs.Zeros.{AreZeros};
 ghost use Rattle.tracering_c.specs.Handles.{IsWriterHandle, IsReaderHandle};
 ghost use Rattle.tracering_c.specs.Ends.{IsHeldReader, AreOfOneRing};
 ghost use Rattle.tracering_c.specs.Calls.{SettlesSo, AnswersSettle};
@@ -41,6 +42,8 @@ pub extern "C" fn tracering_raw_settle(
         → AnswersSettle left.writer right (length out.old) result }
     ensures gone { result ≡ pos 0 → writer_of w.new.held.value ≡ None }
     ensures reader_gone { result ≡ pos 0 → reader_of r.new.held.value ≡ None }
+    ensures cleared { result ≡ pos 0 → AreZeros w.new.held.at w.new.live }
+    ensures reader_cleared { result ≡ pos 0 → AreZeros r.new.held.at r.new.live }
     ensures stays { result ≢ pos 0 → writer_of w.new.held.value ≡ writer_of w.old.held.value }
     ensures reader_stays { result ≢ pos 0 → reader_of r.new.held.value ≡ reader_of r.old.held.value }
     ensures out_stays { result ≢ pos 0 → out.new ≡ out.old }

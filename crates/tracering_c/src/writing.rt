@@ -1,16 +1,16 @@
 //! The calls on a ring's writer.
-ghost use Rattle.std.specs.Prelude.{◌≡◌, ◌≤◌, ◌++◌, drop, length, None, Some};
+ghost use Rattle.std.specs.Prelude.{◌≡◌, ◌≤◌, ◌++◌, true, drop, length, None, Some};
 ghost use Rattle.trace_model.specs.Steps as model;
 ghost use Rattle.trace_model.specs.Words.{slot_len};
 ghost use Rattle.ring_shared.specs.Value.{SameWriter};
-ghost use Rattle.ring_shared.specs.Calls.{IsWriter};
+ghost use Rattle.ring_shared.specs.Calls.{closes_first, IsWriter};
 ghost use Rattle.tracering_c.specs.declared.ends.HeldWriter.{HeldWriter as EndValue};
-ghost use Rattle.tracering_c.specs.Codes.{answer_code};
+ghost use Rattle.tracering_c.specs.Codes.{answer_code, is_gone};
 ghost use Rattle.tracering_c.specs.Held.{writer_of};
 ghost use Rattle.tracering_c.specs.Handles.{IsWriterHandle, SaysAbsent, OnWriter};
 ghost use Rattle.tracering_c.specs.Calls.{WritesSo, BeginsSo, FinishesSo, EndsSo, PutsSo};
 
-use crate::codes::{ABSENT, DONE, RESERVED, TOO_LONG, code_of};
+use crate::codes::{ABSENT, DONE, NOTHING_CLOSED, RESERVED, TOO_LONG, code_of};
 use crate::handle::WriterHandle;
 use ring_shared::{Answer, Writer};
 
@@ -80,7 +80,8 @@ pub extern "C" fn tracering_raw_begin_close(w: &mut WriterHandle) -> i32
     code_of_answer(w.held.writer().writer.begin_close())
 }
 
-/// Steps the frame on top until its record is reserved, or it is gone or refused. One that has reserved says so again.
+/// Steps the frame on top until its record is reserved, or it is gone or refused. One that has reserved says so again,
+/// and a close that closed nothing says that.
 #[unsafe(no_mangle)]
 pub extern "C" fn tracering_raw_finish(w: &mut WriterHandle) -> i32
     requires writer { IsWriterHandle w.old }
@@ -90,7 +91,46 @@ pub extern "C" fn tracering_raw_finish(w: &mut WriterHandle) -> i32
     if !w.live {
         return ABSENT;
     }
-    code_of_answer(w.held.writer().writer.finish_top())
+    finish_on(&mut w.held.writer().writer)
+}
+
+/// `tracering_raw_finish`, of the writer itself.
+#[inline(always)]
+fn finish_on(writer: &mut Writer) -> i32
+    requires writer { IsWriter writer.old }
+    ensures finishes { FinishesSo writer.old result writer.new }
+    ensures ring { SameWriter writer.old writer.new }
+    ensures writer { IsWriter writer.new }
+{
+    if writer.tops_close() {
+        return finish_close(writer);
+    }
+    code_of_answer(writer.finish_top())
+}
+
+/// `finish_on`, if the frame on top is a close.
+#[cold]
+#[inline(never)]
+fn finish_close(writer: &mut Writer) -> i32
+    requires writer { IsWriter writer.old }
+    requires close { closes_first writer.old.part.frames ≡ true }
+    ensures finishes { FinishesSo writer.old result writer.new }
+    ensures ring { SameWriter writer.old writer.new }
+    ensures writer { IsWriter writer.new }
+{
+    let opened = writer.opened();
+    let answer = writer.finish_top();
+    if has_gone(&answer) && writer.opened() == opened {
+        return NOTHING_CLOSED;
+    }
+    code_of_answer(answer)
+}
+
+/// Whether the answer is that the frame on top is gone, and it wasn't refused.
+fn has_gone(answer: &Answer) -> bool
+    ensures { result ≡ is_gone answer.now }
+{
+    matches!(answer, Answer::Gone)
 }
 
 /// Copies the bytes to the front of the slot of the record on top.

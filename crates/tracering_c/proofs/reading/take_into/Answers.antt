@@ -1,30 +1,27 @@
-use Rattle.std.proofs.Common.{ℕ, refl, sym, subst}
-use Rattle.ring_shared.specs.Value.{ReaderValue}
-use Rattle.ring_shared.specs.Takes.{IsPageTaken, AnswersTake}
-use Rattle.ring_shared.specs.declared.take.Take.TheVariants.{Page}
-use Rattle.tracering_c.specs.Calls.{AreNumbersOf, is_page, is_empty, is_moving}
+use Rattle.std.proofs.Common.{refl, sym, ◌∙◌}
+use Rattle.trace_model.specs.ParcelBytes.{IsParcel}
+use Rattle.page_numbers.specs.Parcels.{parcel_of_page}
+use Rattle.tracering_c.specs.Calls.{is_page, is_none}
+use Rattle.tracering_c.proofs.Given.{given_is}
+use Rattle.tracering_c.proofs.NextPages.{next_stays}
 use Rattle.tracering_c.proofs.reading.take_into.Goals as goal
 
 pub returns-in-Page-clause-takes : goal.returns-in-Page-clause-takes
 returns-in-Page-clause-takes c =
-    let old = c.args.end.now in
     let page = c.in-Page.page in
     let missed = c.in-Page.missed in
-    let took = c.in-Page.ensures.took in
+    let next = c.in-Page.ensures.next in
     let put = c.put_parcel-len.ensures in
+    let cpu = c.args.end.now.cpu.0 in
+    let sound : IsParcel (parcel_of_page cpu page missed) = record { cpu_known = c.requires.reader.cpu; numbers_fit = next.1.numbers_fit; missed_fit = next.1.missed_fit } in
     is_page page missed refl
-    (subst (λ (r : ReaderValue). IsPageTaken old.reader.shape old.reader.part page missed r.part) (sym c.give_back.ensures.stays) took)
-    (subst (λ (r : ReaderValue). AnswersTake old.reader (Page page missed) r) (sym c.give_back.ensures.stays)
-    (record { steps = c.in-Page.ensures.steps; empty_at = c.in-Page.ensures.empty_at }))
-    (record { bytes = put.bytes; numbers = subst (λ (n : ℕ). AreNumbersOf page missed n c.of.result) (sym put.len) c.of.ensures })
-    (put.reads took.is.written.page_reads (record { cpu_known = c.requires.reader.cpu; numbers_fit = took.numbers_fit; missed_fit = took.missed_fit }))
+    (next_stays c.args.end.now page missed c.next.new.self c.put_back.new.self c.put_back.ensures.reader next.0)
+    (c.put_back.ensures.unadded ∙ c.in-Page.ensures.added)
+    (given_is cpu page missed c.args.out.now c.put_parcel-len.new.out c.of.result c.put_parcel-len.result put.bytes put.len put.used c.of.ensures)
+    (record { whole = put.reads next.1.page sound; used = put.used_reads next.1.page sound })
 
 pub returns-in-Empty-clause-takes : goal.returns-in-Empty-clause-takes
-returns-in-Empty-clause-takes c =
-    is_empty c.in-Empty.field-0 c.in-Empty.back refl c.in-Empty.ensures.took.1
-    (record { steps = c.in-Empty.ensures.steps; empty_at = c.in-Empty.ensures.empty_at }) refl refl
+returns-in-Empty-clause-takes c = is_none c.in-Empty.ensures.next.0 c.in-Empty.ensures.added refl refl
 
 pub returns-in-Moving-clause-takes : goal.returns-in-Moving-clause-takes
-returns-in-Moving-clause-takes c =
-    is_moving c.in-Moving.field-0 c.in-Moving.back refl c.in-Moving.ensures.took.1
-    (record { steps = c.in-Moving.ensures.steps; empty_at = c.in-Moving.ensures.empty_at }) refl refl
+returns-in-Moving-clause-takes c = is_none c.in-Moving.ensures.next.0 c.in-Moving.ensures.added refl refl

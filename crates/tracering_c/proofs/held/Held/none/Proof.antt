@@ -14,13 +14,17 @@ use denote.Signature.{types_at}
 use denote.RawPtr.{null_ptr}
 use denote.Steps.{nothing}
 use denote.Triple.Walked.{walk_of}
-use Rattle.std.specs.Prelude.{None, Option}
+use Rattle.std.specs.Prelude.{None}
 use Rattle.std.proofs.raw_atomic.Walks.{proved_at, leaves}
 use Rattle.tracering_c.proofs.HeldSteps.{one_val, none_in}
-use Rattle.tracering_c.specs.Held.{End}
+use Rattle.tracering_c.specs.declared.held.Held.{Held}
 use Rattle.tracering_c.specs.contracts.held.Held.none as f
 use Rattle.tracering_c.proofs.held.Held.none.Statement.{statement}
 use Rattle.tracering_c.proofs.held.Held.none.Code as code
+
+-- what is made
+abbrev nothing_held : Held
+nothing_held = record { at = null_ptr; value = None }
 
 pub none_spec : {M : Type 1} → statement M
 none_spec 𝓤 𝓛 𝓜 𝓡 wired =
@@ -31,5 +35,5 @@ none_spec 𝓤 𝓛 𝓜 𝓡 wired =
     enter ! 𝓣.C 𝓣.Λ code.function [] Post $ alloc_all ! (λ l. pass_all ! refl tt $
     sets ! (agg ! (and_then ! (lit ! tt) (no_more !))) refl (tt, (record { fits = lit< tt }, tt)) $
     none_in ! $
-    use0 𝓛 (raw (fact 𝓤 (◌≡◌ {A = Option End} None None))) (fact_i 𝓤 (◌≡◌ {A = Option End} None None) (emp 𝓤) refl) $ nothing ! $ nothing ! $
-    returns ! (look_at ! 0 refl) $ free_all ! refl $ keep ! (0 ∷ 1 ∷ 3 ∷ 2 ∷ []) $ by ! (leaves 𝓛 f.ended tt c z (one_val (vint w64 0)) (record { at = null_ptr; value = None }) tt tt)))
+    use0 𝓛 (raw (fact 𝓤 (◌≡◌ {A = Held} nothing_held nothing_held))) (fact_i 𝓤 (◌≡◌ {A = Held} nothing_held nothing_held) (emp 𝓤) refl) $ nothing ! $ nothing ! $
+    returns ! (look_at ! 0 refl) $ free_all ! refl $ keep ! (0 ∷ 1 ∷ 3 ∷ 2 ∷ []) $ by ! (leaves 𝓛 f.ended tt c z (one_val (vint w64 0)) nothing_held tt tt)))

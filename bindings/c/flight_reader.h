@@ -1,0 +1,330 @@
+// A strict reader of flight dumps for the tests, written from docs/FORMATS.md alone: whatever isn't as it says there ends
+// the program. It shares no code with the recorder or with `tracering-flight`.
+#ifndef FLIGHT_READER_H
+#define FLIGHT_READER_H
+
+#include <stdbool.h>
+#include <stdint.h>
+#include <stdio.h>
+#include <stdlib.h>
+#include <string.h>
+
+enum { RINGS = 256, SITES = 4096, LEASES_LISTED = 8 };
+
+struct read_site {
+    bool is_there;
+    uint32_t line, count;
+    uint8_t kinds[16];
+    char file[256], format[256];
+};
+
+struct read_lease {
+    uint64_t first;
+    uint32_t thread;
+    char name[80];
+};
+
+struct read_record {
+    uint64_t number, moment;
+    const uint8_t *payload;
+    size_t len;
+};
+
+struct read_ring {
+    bool is_there;
+    uint32_t slot, level, tail, leases;
+    uint64_t written, lacking, refused[6], dropped, missed, pages;
+    struct read_lease lease[LEASES_LISTED];
+    struct read_record *records;
+    size_t count, room;
+    uint64_t next;      // the number after the last record
+    uint64_t last_page; // the number of the last page's first record
+};
+
+struct read_dump {
+    uint8_t *bytes;
+    size_t len, at;
+    uint32_t process, thread, signal, clock, sections;
+    uint64_t started, started_real, dumped, dumped_real, without_ring;
+    char program[80];
+    struct read_ring rings[RINGS];
+    struct read_site sites[SITES];
+};
+
+// What a check that fails ends with.
+static inline void bad(const char *what, uint64_t at)
+{
+    fprintf(stderr, "flight: %s (%llu)\n", what, (unsigned long long)at);
+    abort();
+}
+
+static inline void want(bool is_so, const char *what, uint64_t at)
+{
+    if (!is_so)
+        bad(what, at);
+}
+
+static inline uint64_t number_at(const uint8_t *bytes, unsigned len)
+{
+    uint64_t number = 0;
+    for (unsigned each = 0; each < len; each++)
+        number |= (uint64_t)bytes[each] << (8 * each);
+    return number;
+}
+
+static inline uint64_t get(struct read_dump *dump, unsigned len)
+{
+    want(dump->len - dump->at >= len, "a number is cut", dump->at);
+    dump->at += len;
+    return number_at(dump->bytes + dump->at - len, len);
+}
+
+static inline void get_text(struct read_dump *dump, char *text, size_t room)
+{
+    uint64_t len = get(dump, 4);
+    want(len <= dump->len - dump->at && len < room, "a text is cut or too long", dump->at);
+    memcpy(text, dump->bytes + dump->at, len);
+    text[len] = 0;
+    dump->at += len;
+}
+
+static inline void read_process(struct read_dump *dump)
+{
+    dump->process = (uint32_t)get(dump, 4);
+    dump->thread = (uint32_t)get(dump, 4);
+    dump->signal = (uint32_t)get(dump, 4);
+    dump->clock = (uint32_t)get(dump, 4);
+    dump->started = get(dump, 8);
+    dump->started_real = get(dump, 8);
+    dump->dumped = get(dump, 8);
+    dump->dumped_real = get(dump, 8);
+    dump->without_ring = get(dump, 8);
+    get_text(dump, dump->program, sizeof dump->program);
+}
+
+static inline struct read_ring *read_ring(struct read_dump *dump)
+{
+    uint64_t number = get(dump, 4);
+    want(number < RINGS && !dump->rings[number].is_there, "a ring's number", number);
+    struct read_ring *ring = &dump->rings[number];
+    ring->is_there = true;
+    ring->slot = (uint32_t)get(dump, 4);
+    ring->level = (uint32_t)get(dump, 4);
+    ring->tail = (uint32_t)get(dump, 4);
+    ring->written = get(dump, 8);
+    ring->lacking = get(dump, 8);
+    for (int each = 0; each < 6; each++)
+        ring->refused[each] = get(dump, 8);
+    ring->dropped = get(dump, 8);
+    ring->leases = (uint32_t)get(dump, 4);
+    want(ring->tail <= 5 && ring->leases <= LEASES_LISTED, "a tail or the leases", number);
+    for (uint32_t each = 0; each < ring->leases; each++) {
+        ring->lease[each].first = get(dump, 8);
+        ring->lease[each].thread = (uint32_t)get(dump, 4);
+        get_text(dump, ring->lease[each].name, sizeof ring->lease[each].name);
+        want(ring->lease[each].first <= ring->written, "a lease begins after the last record", number);
+        want(!each || ring->lease[each - 1].first <= ring->lease[each].first, "leases fall", number);
+    }
+    return ring;
+}
+
+static inline void add_record(struct read_ring *ring, uint64_t moment, const uint8_t *payload, size_t len)
+{
+    if (ring->count == ring->room) {
+        ring->room = ring->room ? 2 * ring->room : 64;
+        ring->records = realloc(ring->records, ring->room * sizeof *ring->records);
+        want(ring->records != NULL, "no memory", ring->room);
+    }
+    want(!ring->count || ring->records[ring->count - 1].moment <= moment, "moments fall", ring->next);
+    ring->records[ring->count++] = (struct read_record){ring->next++, moment, payload, len};
+}
+
+// The words of a page's data, which end exactly where it does.
+static inline void read_words(struct read_ring *ring, const uint8_t *data, uint64_t len, uint64_t time)
+{
+    for (uint64_t at = 0; at < len;) {
+        want(len - at >= 8, "a word is cut", at);
+        uint64_t word = number_at(data + at, 4), kind = word & 31, second = number_at(data + at + 4, 4);
+        time += word >> 5;
+        if (kind == 30) {
+            time += second << 27;
+            at += 8;
+            continue;
+        }
+        want(kind <= 28, "a kind of word that no recorder writes", kind);
+        uint64_t header = kind ? 4 : 8, payload = kind ? 4 * kind : second - 4;
+        want(kind || (second >= 8 && second % 4 == 0), "a length", second);
+        want(payload <= len - at - header, "a payload is cut", at);
+        add_record(ring, time, data + at + header, payload);
+        at += header + payload;
+    }
+}
+
+static inline void read_page(struct read_dump *dump, uint64_t number, struct read_ring *ring, uint64_t len)
+{
+    const uint8_t *page = dump->bytes + dump->at;
+    want(len >= 48 && len <= dump->len - dump->at, "a page is cut", dump->at);
+    uint64_t first = number_at(page + 16, 8), missed = number_at(page + 24, 8), commit = number_at(page + 40, 8);
+    want(number_at(page, 8) == number, "a page of another ring", number);
+    want((commit >> 31 & 1) == (missed != 0), "a page's bit for missed records", commit);
+    want((commit & 0x3fffffff) <= len - 48, "a page has more data than bytes", commit);
+    want(missed <= first, "more are missed than there were", missed);
+    if (ring->pages)
+        want(first - missed == ring->next, "a page doesn't follow the one before", first);
+    else
+        want(ring->dropped ? first - missed >= ring->dropped : first == missed, "the first page", first);
+    ring->pages++;
+    ring->missed += missed;
+    ring->next = ring->last_page = first;
+    read_words(ring, page + 48, commit & 0x3fffffff, number_at(page + 32, 8));
+    want(ring->next > first, "a page without a record", first);
+    dump->at += len;
+}
+
+static inline void read_site(struct read_dump *dump)
+{
+    uint64_t id = get(dump, 4);
+    want(id < SITES && !dump->sites[id].is_there, "a site's id", id);
+    struct read_site *site = &dump->sites[id];
+    site->is_there = true;
+    site->line = (uint32_t)get(dump, 4);
+    want(get(dump, 4) <= 1, "a site's style", id);
+    site->count = (uint32_t)get(dump, 4);
+    want(site->count <= 8, "a site has too many arguments", site->count);
+    for (uint32_t each = 0; each < site->count; each++) {
+        uint8_t kind = site->kinds[each] = (uint8_t)get(dump, 1), len = kind & 15, what = kind >> 4;
+        want(what <= 4 && (what == 4 ? len == 0 : len == 1 || len == 2 || len == 4 || len == 8), "a kind", kind);
+    }
+    get_text(dump, site->file, sizeof site->file);
+    get_text(dump, site->format, sizeof site->format);
+}
+
+// Where an argument of a record is, with its bytes; a text's are without its length. `index` may be one too many: then it
+// is where the arguments end.
+static inline const uint8_t *argument(const struct read_dump *dump, const struct read_record *record, uint32_t index,
+    size_t *len, bool *is_cut)
+{
+    want(record->len >= 4, "a payload without an id", record->number);
+    uint64_t id = number_at(record->payload, 4);
+    want(id < SITES && dump->sites[id].is_there, "a record of no site", id);
+    const struct read_site *site = &dump->sites[id];
+    size_t at = 4;
+    *len = 0;
+    for (uint32_t each = 0; each <= index && each < site->count; each++) {
+        at += *len;
+        *len = site->kinds[each] & 15;
+        if (site->kinds[each] >> 4 == 4) {
+            want(record->len - at >= 2, "a text's length is cut", record->number);
+            uint64_t head = number_at(record->payload + at, 2);
+            *len = head & 0x7fff;
+            *is_cut = head >> 15;
+            want(*len <= 255, "a text is too long", head);
+            at += 2;
+        }
+        want(*len <= record->len - at, "an argument is cut", record->number);
+    }
+    if (index >= site->count)
+        at += *len;
+    return record->payload + at;
+}
+
+static inline uint64_t argument_number(const struct read_dump *dump, const struct read_record *record, uint32_t index)
+{
+    size_t len;
+    bool is_cut;
+    const uint8_t *bytes = argument(dump, record, index, &len, &is_cut);
+    want(len >= 1 && len <= 8, "no number", len);
+    return number_at(bytes, (unsigned)len);
+}
+
+static inline const struct read_site *site_of(const struct read_dump *dump, const struct read_record *record)
+{
+    return &dump->sites[number_at(record->payload, 4)];
+}
+
+// Each record has exactly the arguments of its site, and zeros up to a multiple of 4. Nothing of a ring is unaccounted.
+static inline void check_ring(const struct read_dump *dump, const struct read_ring *ring)
+{
+    for (size_t each = 0; each < ring->count; each++) {
+        const struct read_record *record = &ring->records[each];
+        size_t len;
+        bool is_cut;
+        const uint8_t *end = argument(dump, record, UINT32_MAX, &len, &is_cut);
+        size_t rest = record->len - (size_t)(end - record->payload);
+        want(rest < 4, "a payload is longer than its arguments", record->number);
+        while (rest--)
+            want(*end++ == 0, "bytes after the arguments", record->number);
+    }
+    uint64_t after = ring->pages ? ring->next : ring->written - ring->lacking;
+    want(after + ring->lacking == ring->written, "records are lacking that aren't stated", ring->lacking);
+    want(ring->tail >= 2 || !ring->lacking, "records are lacking though all was read", ring->lacking);
+    uint64_t overwritten = ring->written - ring->count - ring->dropped - ring->lacking;
+    want(overwritten <= ring->written, "more records than were written", ring->written);
+    want(ring->dropped ? overwritten >= ring->missed : overwritten == ring->missed, "missed records", overwritten);
+}
+
+static inline void read_sections(struct read_dump *dump)
+{
+    struct read_ring *ring = NULL;
+    uint64_t number = 0;
+    int stage = 0; // 0: PROC is next; 1: rings; 2: sites; 3: the end
+    for (; stage < 3; dump->sections++) {
+        const char *kind = (const char *)dump->bytes + dump->at;
+        uint64_t name = get(dump, 4), zeros = get(dump, 4), len = get(dump, 8), end = dump->at + len;
+        (void)name;
+        want(!zeros && len <= dump->len - dump->at, "a section's header", dump->at);
+        bool is_site = !memcmp(kind, "SITE", 4), is_end = !memcmp(kind, "ENDS", 4);
+        if (stage == 0) {
+            want(!memcmp(kind, "PROC", 4), "the first section", dump->at);
+            read_process(dump);
+            stage = 1;
+        } else if (stage == 1 && !memcmp(kind, "RING", 4)) {
+            uint64_t next = number_at(dump->bytes + dump->at, 4);
+            want(!ring || next > number, "rings fall", next);
+            ring = read_ring(dump);
+            number = next;
+        } else if (stage == 1 && ring && !memcmp(kind, "PAGE", 4))
+            read_page(dump, number, ring, len);
+        else if (is_site) {
+            read_site(dump);
+            stage = 2;
+        } else {
+            want(is_end && get(dump, 4) == dump->sections && !get(dump, 4), "an unknown section, or a wrong end", dump->at);
+            stage = 3;
+        }
+        want(dump->at == end, "a section's length", dump->at);
+    }
+}
+
+static inline void free_dump(struct read_dump *dump)
+{
+    for (int each = 0; each < RINGS; each++)
+        free(dump->rings[each].records);
+    free(dump->bytes);
+    free(dump);
+}
+
+// Reads a dump, and checks all that a dump can be checked for.
+static inline struct read_dump *read_dump(const char *path)
+{
+    struct read_dump *dump = calloc(1, sizeof *dump);
+    FILE *file = fopen(path, "rb");
+    want(dump && file, "no dump", 0);
+    want(!fseek(file, 0, SEEK_END), "no seek", 0);
+    dump->len = (size_t)ftell(file);
+    rewind(file);
+    dump->bytes = malloc(dump->len + 1);
+    want(dump->bytes && fread(dump->bytes, 1, dump->len, file) == dump->len, "no read", dump->len);
+    fclose(file);
+    want(dump->len >= 16 && !memcmp(dump->bytes, "TRFLIGHT", 8), "no dump", dump->len);
+    dump->at = 8;
+    want(get(dump, 4) == 1 && get(dump, 4) == 0, "the version", 8);
+    read_sections(dump);
+    want(dump->at == dump->len, "bytes after the end", dump->at);
+    for (int each = 0; each < RINGS; each++)
+        if (dump->rings[each].is_there)
+            check_ring(dump, &dump->rings[each]);
+    return dump;
+}
+
+#endif

@@ -1,0 +1,372 @@
+// The flight recorder: dumps, which docs/FORMATS.md, "Flight dump", describes, and those that are made in a crash.
+#define _GNU_SOURCE
+#include "recorder.h"
+
+#include <fcntl.h>
+#include <sys/mman.h>
+#include <sys/stat.h>
+#include <ucontext.h>
+
+// ---- The file. After a write that fails nothing more is written.
+
+static void flush(struct output *out)
+{
+    for (size_t at = 0; at < out->filled && !out->fault;) {
+        ssize_t wrote = write(out->file, out->bytes + at, out->filled - at);
+        if (wrote > 0)
+            at += (size_t)wrote;
+        else if (wrote == 0)
+            out->fault = EIO;
+        else if (errno != EINTR)
+            out->fault = errno;
+    }
+    out->filled = 0;
+}
+
+static void put_bytes(const void *bytes, size_t len)
+{
+    struct output *out = &flight_recorder.out;
+    const uint8_t *at = bytes;
+    while (len) {
+        size_t part = sizeof out->bytes - out->filled;
+        part = part < len ? part : len;
+        memcpy(out->bytes + out->filled, at, part);
+        out->filled += part;
+        at += part;
+        len -= part;
+        if (out->filled == sizeof out->bytes)
+            flush(out);
+    }
+}
+
+static void put_32(uint32_t number)
+{
+    put_bytes(&number, sizeof number);
+}
+
+static void put_64(uint64_t number)
+{
+    put_bytes(&number, sizeof number);
+}
+
+static void put_text(const char *text, size_t len)
+{
+    put_32((uint32_t)len);
+    put_bytes(text, len);
+}
+
+static void begin_section(const char *kind, uint64_t len)
+{
+    put_bytes(kind, 4);
+    put_32(0);
+    put_64(len);
+    flight_recorder.out.sections++;
+}
+
+// ---- The sections.
+
+static void put_process(int signal)
+{
+    size_t len = strnlen(flight_recorder.program, sizeof flight_recorder.program);
+    begin_section("PROC", 4 * 4 + 5 * 8 + 4 + len);
+    put_32((uint32_t)getpid());
+    put_32(this_thread());
+    put_32((uint32_t)signal);
+    put_32(flight_recorder.config.clock);
+    put_64(flight_recorder.started);
+    put_64(flight_recorder.started_real);
+    put_64(flight_moment());
+    put_64(nanoseconds(CLOCK_REALTIME));
+    put_64(__atomic_load_n(&flight_recorder.without_ring, __ATOMIC_RELAXED));
+    put_text(flight_recorder.program, len);
+}
+
+static size_t name_len(const struct lease *lease)
+{
+    return strnlen((const char *)lease->name, NAME_SIZE);
+}
+
+// The last leases of a slot, with the number of the first record of each on the ring of this level.
+static void put_leases(const struct leases *leases, uint32_t level)
+{
+    uint64_t first = leases->count > LEASES ? leases->count - LEASES : 0;
+    put_32((uint32_t)(leases->count - first));
+    for (uint64_t at = first; at < leases->count; at++) {
+        const struct lease *lease = &leases->of[at % LEASES];
+        put_64(lease->first[level]);
+        put_32((uint32_t)lease->thread);
+        put_text((const char *)lease->name, name_len(lease));
+    }
+}
+
+static size_t leases_len(const struct leases *leases)
+{
+    size_t len = 4;
+    for (uint64_t at = leases->count > LEASES ? leases->count - LEASES : 0; at < leases->count; at++)
+        len += 8 + 4 + 4 + name_len(&leases->of[at % LEASES]);
+    return len;
+}
+
+static void put_refused(const struct ring *ring)
+{
+    struct tracering_refused refused = {0};
+    (void)tracering_refused(&ring->writer, &refused);
+    put_64(refused.busy);
+    put_64(refused.too_deep);
+    put_64(refused.too_long);
+    put_64(refused.late_moment);
+    put_64(refused.crowded);
+    put_64(refused.worn);
+}
+
+// A ring, its kept pages, and the one that is written.
+static void put_ring(uint32_t number, uint32_t level, const struct ring *ring, const struct leases *leases)
+{
+    const struct found *found = &flight_recorder.found[level];
+    bool has_tail = found->tail == TAIL_READ;
+    uint64_t after = has_tail ? found->taken.first + found->taken.count : ring->after;
+    uint64_t written = found->written > after ? found->written : after;
+    begin_section("RING", 4 * 4 + 2 * 8 + 6 * 8 + 8 + leases_len(leases));
+    put_32(number);
+    put_32(number / flight_recorder.config.levels);
+    put_32(level);
+    put_32(found->tail);
+    put_64(written);
+    put_64(written - after);
+    put_refused(ring);
+    put_64(ring->dropped);
+    put_leases(leases, level);
+    for (uint32_t at = ring->first; at != NO_PAGE; at = flight_recorder.kept[at].next) {
+        begin_section("PAGE", flight_recorder.kept[at].len);
+        put_bytes(flight_recorder.parcels + at * flight_recorder.parcel_size, flight_recorder.kept[at].len);
+    }
+    if (has_tail) {
+        begin_section("PAGE", found->taken.len);
+        put_bytes(flight_recorder.tails + level * flight_recorder.parcel_size, found->taken.len);
+    }
+}
+
+// The rings of a slot, if a thread has had it.
+static void put_slot(struct slot *slot)
+{
+    struct leases leases;
+    if (!__atomic_load_n(&slot->leases.count, __ATOMIC_SEQ_CST))
+        return;
+    flight_gather(slot);
+    flight_copy_leases(&leases, slot);
+    uint32_t levels = flight_recorder.config.levels;
+    for (uint32_t level = 0; level < levels; level++)
+        put_ring((uint32_t)(slot - flight_recorder.slots) * levels + level, level, &slot->rings[level], &leases);
+    flight_drop_pages();
+}
+
+// The place of an id, if it has one already.
+static void put_site(uint32_t id)
+{
+    const struct flight_site *site = __atomic_load_n(&flight_sites[id], __ATOMIC_SEQ_CST);
+    if (!site)
+        return;
+    begin_section("SITE", 4 * 4 + (uint64_t)site->count + 4 + site->file_len + 4 + site->format_len);
+    put_32(id);
+    put_32(site->line);
+    put_32(site->style);
+    put_32(site->count);
+    for (unsigned each = 0; each < site->count; each++) {
+        uint8_t kind = __atomic_load_n(&site->kinds[each], __ATOMIC_RELAXED);
+        put_bytes(&kind, sizeof kind);
+    }
+    put_text(site->file, site->file_len);
+    put_text(site->format, site->format_len);
+}
+
+static void put_all(int signal)
+{
+    put_bytes("TRFLIGHT", 8);
+    put_32(1);
+    put_32(0);
+    put_process(signal);
+    for (uint32_t at = 0; at < flight_recorder.config.threads; at++)
+        put_slot(&flight_recorder.slots[at]);
+    uint32_t sites = load(&flight_site_count);
+    for (uint32_t id = 0; id < sites; id++)
+        put_site(id);
+    uint32_t sections = flight_recorder.out.sections;
+    begin_section("ENDS", 8);
+    put_32(sections);
+    put_32(0);
+}
+
+static int write_dump(const char *path, int signal)
+{
+    struct output *out = &flight_recorder.out;
+    out->file = open(path, O_WRONLY | O_CREAT | O_TRUNC | O_CLOEXEC, S_IRUSR | S_IWUSR);
+    if (out->file < 0)
+        return errno;
+    out->fault = 0;
+    out->sections = 0;
+    out->filled = 0;
+    put_all(signal);
+    flush(out);
+    if (close(out->file) && !out->fault && errno != EINTR)
+        out->fault = errno;
+    return out->fault;
+}
+
+// Dumps, if nobody else does. If `is_last`, nobody dumps after it.
+static int dump(const char *path, int signal, bool is_last)
+{
+    sigset_t signals;
+    int before = errno, fault = ENODEV;
+    block_signals(&signals);
+    if (!exchange_if(&flight_is_dumping, 0, 1))
+        fault = EBUSY;
+    else {
+        if (load(&flight_running))
+            fault = write_dump(path, signal);
+        if (!is_last)
+            __atomic_store_n(&flight_is_dumping, 0, __ATOMIC_SEQ_CST);
+    }
+    unblock_signals(&signals);
+    errno = before;
+    return fault;
+}
+
+int flight_dump(const char *path)
+{
+    return path ? dump(path, 0, false) : EINVAL;
+}
+
+// ---- Crashes.
+
+static const int crashes[] = {SIGSEGV, SIGBUS, SIGILL, SIGFPE, SIGABRT, SIGTERM};
+enum { CRASHES = sizeof crashes / sizeof *crashes };
+static struct sigaction former[CRASHES];
+static bool has_handlers;
+static char crash_path[PATH_MAX];
+
+// Whether the signal is a fault of the instruction that it interrupts, which happens again when the handler returns.
+static bool is_fault(int signal, const siginfo_t *info)
+{
+    bool is_of_fault = signal == SIGSEGV || signal == SIGBUS || signal == SIGILL || signal == SIGFPE;
+    return is_of_fault && info->si_code > 0 && !(signal == SIGBUS && info->si_code == BUS_MCEERR_AO);
+}
+
+// Whether the former action of this signal ends the process. (A fault that is ignored does so, too.)
+static bool ends_process(const struct sigaction *action, int signal, const siginfo_t *info)
+{
+    if (action->sa_flags & SA_SIGINFO)
+        return false;
+    return action->sa_handler == SIG_DFL || (action->sa_handler == SIG_IGN && is_fault(signal, info));
+}
+
+// The process dies by the signal as soon as its handler returns: by the same fault, so that the kernel says the same of
+// it in a core file, or by another such signal.
+static void die(int signal, const siginfo_t *info)
+{
+    struct sigaction action = {.sa_handler = SIG_DFL};
+    (void)sigaction(signal, &action, NULL);
+    if (!is_fault(signal, info))
+        (void)raise(signal);
+}
+
+// Calls the former handler, with those signals blocked that it asked for.
+static void call_former(const struct sigaction *action, int signal, siginfo_t *info, void *context)
+{
+    sigset_t blocked = ((ucontext_t *)context)->uc_sigmask;
+    for (int each = 1; each < NSIG; each++)
+        if (sigismember(&action->sa_mask, each) == 1)
+            (void)sigaddset(&blocked, each);
+    if (!(action->sa_flags & SA_NODEFER))
+        (void)sigaddset(&blocked, signal);
+    if (action->sa_handler == SIG_IGN)
+        return;
+    unblock_signals(&blocked);
+    if (action->sa_flags & SA_SIGINFO)
+        action->sa_sigaction(signal, info, context);
+    else
+        action->sa_handler(signal);
+}
+
+// A thread that is hit while another one dumps waits until that is done, and answers it meanwhile. If the process is to
+// end then, it waits for that.
+static void on_crash(int signal, siginfo_t *info, void *context)
+{
+    int before = errno;
+    size_t at = 0;
+    while (crashes[at] != signal)
+        at++;
+    struct slot *slot = slot_of_caller();
+    if (slot && exchange_if(&slot->request, ANSWERING, BROKEN))
+        change(&slot->request, BROKEN);
+    bool is_last = ends_process(&former[at], signal, info);
+    while (dump(crash_path, signal, is_last) == EBUSY) {
+        if (slot)
+            flight_answer(slot);
+        wait_for_change(&flight_is_dumping, 1, 1000000);
+    }
+    errno = before;
+    if (is_last)
+        die(signal, info);
+    else
+        call_former(&former[at], signal, info, context);
+}
+
+// Gives the calling thread a stack for handlers, unless it has one.
+static int get_stack(void)
+{
+    stack_t stack;
+    if (sigaltstack(NULL, &stack))
+        return errno;
+    if (!(stack.ss_flags & SS_DISABLE))
+        return 0;
+    void *memory = mmap(NULL, STACK_SIZE, PROT_READ | PROT_WRITE, MAP_PRIVATE | MAP_ANONYMOUS, -1, 0);
+    if (memory == MAP_FAILED)
+        return ENOMEM;
+    stack = (stack_t){.ss_sp = memory, .ss_size = STACK_SIZE};
+    if (!sigaltstack(&stack, NULL))
+        return 0;
+    int fault = errno;
+    (void)munmap(memory, STACK_SIZE);
+    return fault;
+}
+
+static int install_handlers(void)
+{
+    struct sigaction action = {.sa_sigaction = on_crash, .sa_flags = SA_SIGINFO | SA_ONSTACK};
+    sigfillset(&action.sa_mask);
+    for (size_t at = 0; at < CRASHES; at++)
+        if (sigaction(crashes[at], NULL, &former[at]) || sigaction(crashes[at], &action, NULL))
+            return errno;
+    has_handlers = true;
+    return 0;
+}
+
+void flight_forget_crashes(void)
+{
+    struct sigaction now;
+    for (size_t at = 0; at < CRASHES && has_handlers; at++)
+        if (!sigaction(crashes[at], NULL, &now) && (now.sa_flags & SA_SIGINFO) && now.sa_sigaction == on_crash)
+            (void)sigaction(crashes[at], &former[at], NULL);
+    has_handlers = false;
+}
+
+int flight_dump_on_crash(const char *path)
+{
+    if (!path)
+        return EINVAL;
+    size_t len = strnlen(path, sizeof crash_path);
+    if (len == sizeof crash_path)
+        return ENAMETOOLONG;
+    if (!load(&flight_running))
+        return ENODEV;
+    sigset_t signals;
+    int before = errno;
+    block_signals(&signals);
+    memcpy(crash_path, path, len + 1);
+    int fault = get_stack();
+    if (!fault && !has_handlers)
+        fault = install_handlers();
+    unblock_signals(&signals);
+    errno = before;
+    return fault;
+}

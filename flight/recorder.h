@@ -1,0 +1,252 @@
+// What the parts of the flight recorder share. Names that begin with flight_ are those of its functions that other
+// files call; nothing outside the library sees those of this file.
+#ifndef RECORDER_H
+#define RECORDER_H
+
+#include "tracering.h"
+#include "tracering_flight.h"
+
+#include <errno.h>
+#include <limits.h>
+#include <linux/futex.h>
+#include <pthread.h>
+#include <signal.h>
+#include <sys/syscall.h>
+#include <time.h>
+#include <unistd.h>
+#if defined(__x86_64__)
+#include <x86intrin.h>
+#endif
+
+#pragma GCC visibility push(hidden)
+
+enum {
+    MOST_RINGS = 256,
+    MOST_LEVELS = 4,
+    MOST_SITES = 1 << 16,
+    MOST_KEPT = 1 << 24,
+    LATER_PAGES = 2, // of a ring of level 1 and above
+    LEASES = 8,      // that are kept of each slot
+    NAME_SIZE = 64,  // a thread's name and a zero
+    OUTPUT_SIZE = 1 << 16,
+    STACK_SIZE = 1 << 16,
+    MOVING_TRIES = 100
+};
+
+// A ring of one slot. The thread that has the slot writes it. Who dumps has the rest.
+struct ring {
+    struct tracering_writer writer;
+    uint64_t written; // how many of its records are complete
+    struct tracering_reader reader;
+    uint64_t after;       // the number after the last record that a dump took
+    uint64_t dropped;     // how many records of its kept pages were dropped
+    uint32_t first, last; // its kept pages, or NO_PAGE
+};
+
+enum { NO_PAGE = UINT32_MAX };
+
+// The time in which one thread has a slot: words, since a dump may read them while the thread changes them.
+struct lease {
+    uint64_t first[MOST_LEVELS]; // the number of its first record on each ring
+    uint64_t thread;
+    uint64_t name[NAME_SIZE / 8];
+};
+
+struct leases {
+    uint64_t count; // how many there were
+    struct lease of[LEASES];
+};
+
+enum { LEASE_WORDS = sizeof(struct leases) / 8 };
+
+// Who has a slot: a thread, by its number, or one of these.
+enum { NOBODY = 0, DUMPER = UINT32_MAX };
+
+// What a dump asks the thread of a slot, and what that answers.
+enum request {
+    NOT_ASKED,
+    ASKED_AT_REST, // to answer only if it is amid no call
+    ASKED_ANYWAY,
+    ANSWERING,
+    IS_AMID,
+    ANSWERED,
+    BROKEN // the thread was hit by a fault while it answered
+};
+
+// What a thread has while it records.
+struct slot {
+    struct ring rings[MOST_LEVELS];
+    uint32_t owner;
+    uint32_t request;
+    uint32_t lease_version; // odd while the leases are changed
+    uint64_t freed;         // by how many returns of slots it was handed back
+    struct leases leases;
+} __attribute__((aligned(128)));
+
+// What became of the page that is written, as dumps have it.
+enum tail { TAIL_READ, TAIL_EMPTY, TAIL_AMID_CALL, TAIL_BEGUN, TAIL_NO_ANSWER, TAIL_GONE };
+
+// What was found on one ring of the slot that is dumped.
+struct found {
+    uint32_t tail;
+    uint64_t written;
+    struct tracering_taken taken;
+};
+
+// A page that a dump took: its parcel is in `parcels`, at the same index.
+struct kept {
+    uint32_t ring, next; // the next page of its ring
+    uint64_t count;      // how many records it has
+    size_t len;
+};
+
+struct output {
+    int file, fault;
+    uint32_t sections;
+    size_t filled;
+    uint8_t bytes[OUTPUT_SIZE];
+};
+
+struct recorder {
+    struct flight_config config;
+    uint64_t started, started_real; // the clock, and the time of day
+    uint64_t without_ring;          // how many events found no ring
+    uint64_t returns;               // how often a slot was handed back
+    char program[NAME_SIZE];
+    void *memory;
+    size_t memory_len;
+    struct slot *slots;
+    // What follows belongs to the thread that dumps, and to the one that answers it: the kept pages are a queue of
+    // `room` places, and `used` of them from `begin` on are filled.
+    struct kept *kept;
+    uint8_t *parcels, *tails;
+    size_t parcel_size;
+    uint32_t room, begin, used;
+    struct found found[MOST_LEVELS];
+    struct output out;
+};
+
+extern struct recorder flight_recorder;
+// Which recorder runs, by its number, or 0.
+extern uint32_t flight_running;
+// Whether a dump is made.
+extern uint32_t flight_is_dumping;
+// What starts, stops and switches holds this.
+extern pthread_mutex_t flight_lock;
+// The places that record, by their ids.
+extern struct flight_site *flight_sites[MOST_SITES];
+extern uint32_t flight_site_count;
+
+// The slot of this thread, if it is one of the recorder that runs; and the name that it gave itself.
+struct mine {
+    struct slot *slot;
+    uint32_t running;
+    char name[NAME_SIZE];
+};
+extern _Thread_local __attribute__((tls_model("initial-exec"))) struct mine flight_mine;
+
+// Gathers from a slot, whoever has it, what the next section of a dump has.
+void flight_gather(struct slot *slot);
+// Answers a dump, if it asks for this slot, which is the calling thread's. All signals are blocked.
+void flight_answer(struct slot *slot);
+// Hands back a slot, as the one that is to be claimed after all that are free now.
+void flight_hand_back(struct slot *slot);
+// Drops the oldest pages that are more than are to be kept.
+void flight_drop_pages(void);
+// Copies the leases of a slot.
+void flight_copy_leases(struct leases *to, const struct slot *slot);
+// The handler of the signal by which a dump asks.
+void flight_on_request(int signal);
+// What SIGSEGV and others did before, is done again.
+void flight_forget_crashes(void);
+
+// ---- Clocks, signals, words that threads share, and waiting.
+
+static inline uint64_t nanoseconds(clockid_t clock)
+{
+    struct timespec time;
+    (void)clock_gettime(clock, &time);
+    return (uint64_t)time.tv_sec * 1000000000 + (uint64_t)time.tv_nsec;
+}
+
+static inline uint64_t counter(void)
+{
+#if defined(__x86_64__)
+    return __rdtsc();
+#elif defined(__aarch64__)
+    uint64_t count;
+    __asm__ volatile("mrs %0, cntvct_el0" : "=r"(count));
+    return count;
+#else
+    return 0;
+#endif
+}
+
+// The clock of events.
+static inline uint64_t flight_moment(void)
+{
+    if (flight_recorder.config.clock == FLIGHT_TSC)
+        return counter();
+    return flight_recorder.config.clock == FLIGHT_CALLER ? flight_recorder.config.now() : nanoseconds(CLOCK_MONOTONIC);
+}
+
+static inline void block_signals(sigset_t *before)
+{
+    sigset_t all;
+    sigfillset(&all);
+    (void)pthread_sigmask(SIG_SETMASK, &all, before);
+}
+
+static inline void unblock_signals(const sigset_t *before)
+{
+    (void)pthread_sigmask(SIG_SETMASK, before, NULL);
+}
+
+static inline uint32_t this_thread(void)
+{
+    return (uint32_t)syscall(SYS_gettid);
+}
+
+// Waits until the word is changed, or for this long.
+static inline void wait_for_change(const uint32_t *word, uint32_t from, uint64_t ns)
+{
+    struct timespec most = {.tv_sec = (time_t)(ns / 1000000000), .tv_nsec = (long)(ns % 1000000000)};
+    (void)syscall(SYS_futex, word, FUTEX_WAIT_PRIVATE, from, &most, NULL, 0);
+}
+
+static inline void change(uint32_t *word, uint32_t to)
+{
+    __atomic_store_n(word, to, __ATOMIC_SEQ_CST);
+    (void)syscall(SYS_futex, word, FUTEX_WAKE_PRIVATE, INT_MAX, NULL, NULL, 0);
+}
+
+static inline bool exchange_if(uint32_t *word, uint32_t from, uint32_t to)
+{
+    return __atomic_compare_exchange_n(word, &from, to, false, __ATOMIC_SEQ_CST, __ATOMIC_SEQ_CST);
+}
+
+static inline uint32_t load(const uint32_t *word)
+{
+    return __atomic_load_n(word, __ATOMIC_SEQ_CST);
+}
+
+// How many records of a ring are complete.
+static inline uint64_t records_of(const struct ring *ring)
+{
+    return __atomic_load_n(&ring->written, __ATOMIC_RELAXED);
+}
+
+// How many pages the rings of this level have.
+static inline uint32_t pages_of(uint32_t level)
+{
+    return level ? LATER_PAGES : flight_recorder.config.pages;
+}
+
+// The slot of the calling thread, or null.
+static inline struct slot *slot_of_caller(void)
+{
+    return flight_mine.running == load(&flight_running) ? flight_mine.slot : NULL;
+}
+
+#pragma GCC visibility pop
+#endif
