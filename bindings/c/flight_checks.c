@@ -358,7 +358,7 @@ static void *block_and_work(void *given)
 static void blocked_body(uint64_t unused)
 {
     (void)unused;
-    struct flight_config config = {.wait_ms = 20, .pages = 4, .size = 1024};
+    struct flight_config config = {.wait_ms = 400, .pages = 4, .size = 1024};
     start(&config);
     want(!sem_init(&go_on, 0, 0), "no semaphore", 0);
     let_go(block_and_work, 1);
