@@ -78,17 +78,23 @@ struct tracering_refused {
     uint64_t worn;        // the same
 };
 
-// A handle: `in_call` is set as long as it is in a call, so that one which interrupts it is refused.
+// A handle: `in_call` is set as long as it is in a call, so that one which interrupts it is refused. `other` is where the
+// other end of its ring was made, so that settle knows the two.
 struct tracering_writer {
     struct tracering_held held;
     volatile sig_atomic_t in_call;
     uint32_t closes; // bit D: of the frames that are begun, the one above D - 1 others is a close
+    const void *other;
+    size_t room;      // what tracering_writer_room answers
+    uint64_t written; // how many records are complete
     struct tracering_refused refused;
 };
 
 struct tracering_reader {
     struct tracering_held held;
     volatile sig_atomic_t in_call;
+    const void *other;
+    size_t room; // what tracering_reader_room answers
 };
 
 struct tracering_collector {
@@ -102,8 +108,8 @@ struct tracering_collector {
 #define TRACERING_READER_INIT {}
 #define TRACERING_COLLECTOR_INIT {}
 #else
-#define TRACERING_WRITER_INIT {{0, 0}, 0, 0, {0, 0, 0, 0, 0, 0}}
-#define TRACERING_READER_INIT {{0, 0}, 0}
+#define TRACERING_WRITER_INIT {{0, 0}, 0, 0, 0, 0, 0, {0, 0, 0, 0, 0, 0}}
+#define TRACERING_READER_INIT {{0, 0}, 0, 0, 0}
 #define TRACERING_COLLECTOR_INIT {{0, 0}, 0}
 #endif
 
@@ -113,7 +119,8 @@ struct tracering_taken {
     uint64_t first;  // the number of its first record
     uint64_t missed; // how many records were lost between the page taken before and this one
     uint64_t count;  // how many records it has
-    size_t len;      // how many bytes its parcel takes: TRACERING_HEADER and the ring's `size`
+    size_t len;      // how many bytes its parcel takes: TRACERING_HEADER, its data, and a count of lost records if one
+                     // is stored. Zeros follow them, up to TRACERING_HEADER and the ring's `size` bytes.
 };
 
 // Where a parcel is refused.
@@ -148,7 +155,8 @@ enum {
     TRACERING_DONE = 0,          // the call did what it says
     TRACERING_TOO_DEEP = 1,      // four frames are begun and not completed
     TRACERING_TOO_LONG = 2,      // the record has no room on an empty page; put: the bytes don't fit the slot
-    TRACERING_LATE_MOMENT = 3,   // the moment is 2^59 or later
+    TRACERING_LATE_MOMENT = 3,   // the moment is 2^59 or later; nanoseconds since 1970 are (use CLOCK_MONOTONIC, or
+                                 // count from the program's start)
     TRACERING_CROWDED = 4,       // a page is needed, and all are begun and not closed
     TRACERING_WORN = 5,          // a page is needed, and no number is left for its use: there are 2^48 - `pages`
     TRACERING_NO_FRAME = 6,      // nothing is begun
@@ -177,7 +185,8 @@ enum {
     TRACERING_MISSED_DIFFERS = 28, // the page states other missed records than the number before it
     TRACERING_CLASH = 29,        // there are two different records of one CPU's number
     TRACERING_TAKEN_AND_MISSING = 30, // a CPU's number has a record and is missing
-    TRACERING_END = 31           // next: all lines of the listing were given
+    TRACERING_END = 31,          // next: all lines of the listing were given
+    TRACERING_OTHER_RING = 32    // settle: these are ends of two rings
 };
 
 // A short text for what a call answered. (bindings/rust/build.rs reads these lines.)
@@ -190,7 +199,7 @@ static inline const char *tracering_text(int32_t code)
     case TRACERING_DONE: return "done";
     case TRACERING_TOO_DEEP: return "four frames are begun and not completed";
     case TRACERING_TOO_LONG: return "the record has no room on an empty page, or the bytes have none in the slot";
-    case TRACERING_LATE_MOMENT: return "the moment is 2^59 or later";
+    case TRACERING_LATE_MOMENT: return "the moment is 2^59 or later (nanoseconds since 1970 are)";
     case TRACERING_CROWDED: return "a page is needed, and all are begun and not closed";
     case TRACERING_WORN: return "a page is needed, and no number is left for its use";
     case TRACERING_NO_FRAME: return "nothing is begun";
@@ -219,6 +228,7 @@ static inline const char *tracering_text(int32_t code)
     case TRACERING_CLASH: return "there are two different records of one number";
     case TRACERING_TAKEN_AND_MISSING: return "a number has a record and is missing";
     case TRACERING_END: return "all lines of the listing were given";
+    case TRACERING_OTHER_RING: return "these are ends of two rings";
     default: return "no call answers this";
     }
 }
@@ -358,12 +368,27 @@ static inline void tracering_forget(struct tracering_writer *w)
 {
     __atomic_signal_fence(__ATOMIC_SEQ_CST);
     w->closes = 0;
+    w->other = NULL;
+    w->room = 0;
+    __atomic_store_n(&w->written, 0, __ATOMIC_RELAXED);
     __atomic_store_n(&w->refused.busy, 0, __ATOMIC_RELAXED);
     __atomic_store_n(&w->refused.too_deep, 0, __ATOMIC_RELAXED);
     __atomic_store_n(&w->refused.too_long, 0, __ATOMIC_RELAXED);
     __atomic_store_n(&w->refused.late_moment, 0, __ATOMIC_RELAXED);
     __atomic_store_n(&w->refused.crowded, 0, __ATOMIC_RELAXED);
     __atomic_store_n(&w->refused.worn, 0, __ATOMIC_RELAXED);
+}
+
+static inline void tracering_forget_reader(struct tracering_reader *r)
+{
+    r->other = NULL;
+    r->room = 0;
+}
+
+// Counts a record that is complete. Its call is still marked, so no handler counts amid it.
+static inline void tracering_complete(struct tracering_writer *w)
+{
+    __atomic_store_n(&w->written, __atomic_load_n(&w->written, __ATOMIC_RELAXED) + 1, __ATOMIC_RELAXED);
 }
 
 // A new ring of `pages` pages (2 to 1,024), and a spare one, of `size` bytes of data each (32 to 65,520, a multiple of
@@ -377,7 +402,24 @@ static inline int32_t tracering_new(struct tracering_writer *w, struct tracering
     if (!tracering_enter_both(&w->in_call, &r->in_call))
         return TRACERING_BUSY;
     int32_t code = tracering_raw_new(&w->held, &r->held, cpu, pages, size);
+    if (code == TRACERING_DONE) {
+        w->other = r->held.at;
+        r->other = w->held.at;
+        w->room = r->room = TRACERING_HEADER + size;
+    }
     return tracering_leave_both(&w->in_call, &r->in_call, code);
+}
+
+// How many bytes `out` of take, of peek and of settle has room for at least: TRACERING_HEADER and the ring's `size`. It
+// is 0 if the handle has nothing, or is null. They may be made amid a call on the handle.
+static inline size_t tracering_writer_room(const struct tracering_writer *w)
+{
+    return w ? w->room : 0;
+}
+
+static inline size_t tracering_reader_room(const struct tracering_reader *r)
+{
+    return r ? r->room : 0;
 }
 
 // ---- The writer's calls, of its thread and of handlers that interrupt it. None takes memory or waits.
@@ -394,7 +436,10 @@ static inline int32_t tracering_write(struct tracering_writer *w, uint64_t momen
     struct tracering_payload given;
     given.bytes = tracering_bytes(payload);
     given.len = len;
-    int32_t code = tracering_leave_end(&w->in_call, tracering_raw_write(&w->held, moment, given));
+    int32_t code = tracering_raw_write(&w->held, moment, given);
+    if (code == TRACERING_DONE)
+        tracering_complete(w);
+    (void)tracering_leave_end(&w->in_call, code);
     if (code != TRACERING_DONE)
         return tracering_lost(w, code);
     TRACERING_READ(payload, len);
@@ -466,7 +511,23 @@ static inline int32_t tracering_end(struct tracering_writer *w)
         return TRACERING_NULL;
     if (!tracering_enter_end(&w->in_call))
         return TRACERING_BUSY;
-    return tracering_leave_end(&w->in_call, tracering_raw_end(&w->held));
+    int32_t code = tracering_raw_end(&w->held);
+    if (code == TRACERING_DONE)
+        tracering_complete(w);
+    return tracering_leave_end(&w->in_call, code);
+}
+
+// Copies to `records` how many records are complete: written, or ended. Whoever has taken pages, of which the last one
+// has the numbers `first` to `first + count - 1`, has got, or seen counted as missed, all but *records - first - count
+// of them. (While a frame is begun, its record's number may be before theirs.) It may be made amid a call on the handle,
+// by any handler, and by another thread. settle, writer_free and writer_abandon set the number to 0. It answers DONE, of
+// a handle that has nothing too.
+static inline int32_t tracering_written(const struct tracering_writer *w, uint64_t *records)
+{
+    if (!(w && records))
+        return TRACERING_NULL;
+    *records = __atomic_load_n(&w->written, __ATOMIC_RELAXED);
+    return TRACERING_DONE;
 }
 
 // How many frames are begun and not completed: 0 to 4. ABSENT, BUSY, NULL: these are above 4.
@@ -552,11 +613,11 @@ static inline int32_t tracering_wish(struct tracering_reader *r)
 
 // ---- The calls of whoever has both ends, or is done with one. They release memory: no handler may make them.
 
-// Joins the two ends of a ring. (No call can find out whether they are of one.) The pages that were taken, and then the
-// one that is given here, have all records that were written, except those that are counted as missed. It is given as
-// `take` does; if it has no record, `taken->len` is 0. Both handles are all zeros afterwards, the counts of refused
-// records included. NOT_AT_REST: a frame is begun and not completed. UNREAD: take until EMPTY first. NO_ROOM: `room` is
-// less than `take` wants. Then neither handle is changed, nor `out`, nor `taken`.
+// Joins the two ends of a ring. The pages that were taken, and then the one that is given here, have all records that
+// were written, except those that are counted as missed. It is given as `take` does; if it has no record, `taken->len`
+// is 0. Both handles are all zeros afterwards, the counts of records included. OTHER_RING: these are ends of two rings.
+// NOT_AT_REST: a frame is begun and not completed. UNREAD: take until EMPTY first. NO_ROOM: `room` is less than `take`
+// wants. Then neither handle is changed, nor `out`, nor `taken`.
 static inline int32_t tracering_settle(struct tracering_writer *w, struct tracering_reader *r, void *out, size_t room,
     struct tracering_taken *taken)
 {
@@ -564,6 +625,8 @@ static inline int32_t tracering_settle(struct tracering_writer *w, struct tracer
         return TRACERING_NULL;
     if (!tracering_enter_both(&w->in_call, &r->in_call))
         return TRACERING_BUSY;
+    if (w->held.live && r->held.live && !(w->other == r->held.at && r->other == w->held.at))
+        return tracering_leave_both(&w->in_call, &r->in_call, TRACERING_OTHER_RING);
     TRACERING_HIDE();
     int32_t code = tracering_raw_settle(&w->held, &r->held, (uint8_t *)out, room, taken);
     TRACERING_SHOW();
@@ -572,6 +635,7 @@ static inline int32_t tracering_settle(struct tracering_writer *w, struct tracer
         return code;
     TRACERING_WRITTEN(out, taken->len);
     tracering_forget(w);
+    tracering_forget_reader(r);
     return TRACERING_DONE;
 }
 
@@ -595,7 +659,33 @@ static inline int32_t tracering_reader_free(struct tracering_reader *r)
         return TRACERING_NULL;
     if (!tracering_enter(&r->in_call))
         return TRACERING_BUSY;
-    return tracering_leave(&r->in_call, tracering_raw_reader_free(&r->held));
+    int32_t code = tracering_leave(&r->in_call, tracering_raw_reader_free(&r->held));
+    if (code == TRACERING_DONE)
+        tracering_forget_reader(r);
+    return code;
+}
+
+// Each gives up a handle that stays in a call for ever: a handler that interrupted the call never came back to it (it
+// left by siglongjmp, or the thread was cancelled in it). What the handle had is not released, since the call may be
+// amid anything; the other end may be used and freed. The handle is all zeros afterwards, and can be made new.
+static inline int32_t tracering_writer_abandon(struct tracering_writer *w)
+{
+    if (!w)
+        return TRACERING_NULL;
+    w->held.at = NULL;
+    w->held.live = false;
+    tracering_forget(w);
+    return tracering_leave(&w->in_call, TRACERING_DONE);
+}
+
+static inline int32_t tracering_reader_abandon(struct tracering_reader *r)
+{
+    if (!r)
+        return TRACERING_NULL;
+    r->held.at = NULL;
+    r->held.live = false;
+    tracering_forget_reader(r);
+    return tracering_leave(&r->in_call, TRACERING_DONE);
 }
 
 // ---- The calls on collectors, of any thread that has the handle. Some take or release memory: no handler may make

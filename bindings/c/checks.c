@@ -119,11 +119,19 @@ static uint64_t number_at(const uint8_t *at, int bytes)
     return number;
 }
 
+// How many bytes a parcel uses: those before its page's data, the data, and the count of missed records, if one is stored.
+static size_t used_len(const uint8_t *parcel)
+{
+    uint64_t commit = number_at(parcel + 40, 8);
+    return TRACERING_HEADER + (commit & 0x3FFFFFFF) + (commit >> 30 & 1 ? 8 : 0);
+}
+
 // Looks at a parcel: its numbers, its image's header, how many records it has, and their payloads.
 static void look_at(struct seen *seen, const uint8_t *parcel, const struct tracering_taken *taken)
 {
     seen->faults += number_at(parcel, 8) != 3 || number_at(parcel + 8, 8) != taken->fill
-        || number_at(parcel + 16, 8) != taken->first || number_at(parcel + 24, 8) != taken->missed;
+        || number_at(parcel + 16, 8) != taken->first || number_at(parcel + 24, 8) != taken->missed
+        || taken->len != used_len(parcel);
     uint64_t commit = number_at(parcel + 40, 8), len = commit & 0x3fffffff, count = 0;
     seen->faults += len > SIZE || (commit >> 31 & 1) != (taken->missed > 0);
     const uint8_t *data = parcel + TRACERING_HEADER;
@@ -147,7 +155,7 @@ static int32_t take_page(struct seen *seen, uint8_t parcel[TRACERING_HEADER + SI
     int32_t code = tracering_take(&seen->reader, parcel, TRACERING_HEADER + SIZE, taken);
     if (code != TRACERING_DONE)
         return code;
-    seen->faults += taken->first != seen->next + taken->missed || taken->len != TRACERING_HEADER + SIZE;
+    seen->faults += taken->first != seen->next + taken->missed;
     seen->next = taken->first + taken->count;
     seen->pages++;
     seen->records += taken->count;
@@ -197,7 +205,7 @@ static void on_alarm_take(int signal)
     code = tracering_peek(&writer, out, sizeof out, &taken);
     if (code == TRACERING_DONE) {
         peeks++;
-        own.faults += amid || taken.first != own.next || taken.missed || taken.len != sizeof out;
+        own.faults += amid || taken.first != own.next || taken.missed || taken.len != used_len(out);
         look_at(&own, out, &taken);
     } else {
         faults += amid ? code != TRACERING_BUSY : code != TRACERING_EMPTY && code != TRACERING_NOT_AT_REST;
@@ -433,7 +441,7 @@ static int refusals(void)
     bad += tracering_begin_close(&made) != TRACERING_DONE;
     bad += tracering_finish(&made) != TRACERING_DONE;
     bad += tracering_take(&reader, byte, ROOM, &taken) != TRACERING_DONE;
-    bad += taken.count != 2 || taken.first != 0 || taken.missed != 0 || taken.len != ROOM || taken.fill != 0;
+    bad += taken.count != 2 || taken.first != 0 || taken.missed != 0 || taken.len != used_len(byte) || taken.fill != 0;
     bad += memcmp(byte + 60, "abc", 4) != 0;
     bad += tracering_write(&made, 5, "last", 4) != TRACERING_DONE;
     bad += tracering_take(&reader, byte, ROOM, &taken) != TRACERING_EMPTY;
@@ -442,7 +450,7 @@ static int refusals(void)
     bad += taken.count != unset.count || taken.fill != unset.fill;
     bad += tracering_settle(&made, &no_reader, byte, ROOM, &taken) != TRACERING_ABSENT;
     bad += tracering_settle(&made, &reader, byte, ROOM, &taken) != TRACERING_DONE;
-    bad += taken.count != 1 || taken.first != 2 || taken.missed != 0 || taken.len != ROOM || taken.fill != 1;
+    bad += taken.count != 1 || taken.first != 2 || taken.missed != 0 || taken.len != used_len(byte) || taken.fill != 1;
     bad += memcmp(byte + 52, "last", 4) != 0 || !is_zeros(&made);
     bad += tracering_write(&made, 9, byte, 1) != TRACERING_ABSENT;
     bad += tracering_writer_free(&made) != TRACERING_ABSENT;
@@ -464,7 +472,7 @@ static bool is_peeked(struct tracering_writer *w, uint64_t fill, uint64_t first,
     struct tracering_taken taken = {0};
     out[ROOM] = 77;
     bool is = tracering_peek(w, out, ROOM, &taken) == TRACERING_DONE && out[ROOM] == 77 && taken.fill == fill
-        && taken.first == first && taken.missed == 0 && taken.count == count && taken.len == ROOM
+        && taken.first == first && taken.missed == 0 && taken.count == count && taken.len == TRACERING_HEADER + 8 * count
         && number_at(out, 8) == 5 && number_at(out + 8, 8) == fill && number_at(out + 16, 8) == first
         && number_at(out + 24, 8) == 0 && number_at(out + 32, 8) == first && number_at(out + 40, 8) == 8 * count;
     for (uint64_t k = 0; k < count && is; k++)

@@ -53,7 +53,8 @@ static void dump(struct tracering_reader *reader)
     struct tracering_taken taken;
     for (int page = 0; page < PAGES; page++) {
         int32_t code = tracering_take(reader, parcel, sizeof parcel, &taken);
-        if (code == TRACERING_DONE && write(STDOUT_FILENO, parcel, taken.len) != (ssize_t)taken.len)
+        // All parcels of the dump have one length: what a page leaves of it is zeros.
+        if (code == TRACERING_DONE && write(STDOUT_FILENO, parcel, sizeof parcel) != (ssize_t)sizeof parcel)
             _exit(1);
         if (code != TRACERING_DONE && code != TRACERING_MOVING)
             return;

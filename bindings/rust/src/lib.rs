@@ -85,12 +85,12 @@ pub enum Fault {
     OtherRing,
 }
 
-const FAULTS: [Fault; 31] = {
+const FAULTS: [Fault; 32] = {
     use Fault::*;
     [
         TooDeep, TooLong, LateMoment, Crowded, Worn, NoFrame, NotReserved, Absent, InUse, Busy, Null, NoMemory, BadSize,
         BadCpu, Empty, Moving, NoRoom, NotAtRest, Unread, TooShort, BadImageSize, BadCount, Cut, BadLength,
-        TimeOverflow, NumberOverflow, MissedTooMany, MissedDiffers, Clash, TakenAndMissing, End,
+        TimeOverflow, NumberOverflow, MissedTooMany, MissedDiffers, Clash, TakenAndMissing, End, OtherRing,
     ]
 };
 
@@ -98,7 +98,7 @@ const _: () = assert!(TEXTS.len() == FAULTS.len());
 
 impl fmt::Display for Fault {
     fn fmt(&self, f: &mut fmt::Formatter<'_>) -> fmt::Result {
-        f.write_str(TEXTS.get(*self as usize).unwrap_or(&"these are ends of two rings"))
+        f.write_str(TEXTS[*self as usize])
     }
 }
 
@@ -137,8 +137,8 @@ extern "C" {
 
 /// The end at which records are written, its ring's number, and how many of its records are open.
 pub struct Writer(Handle, u64, usize);
-/// The end at which pages are taken, and its ring's number.
-pub struct Reader(Handle, u64);
+/// The end at which pages are taken, its ring's number, and how many bytes a parcel of it has room for.
+pub struct Reader(Handle, u64, usize);
 /// A record that is reserved and not ended: its slot is lent. Others may be written meanwhile, by `nested`; it ends
 /// when this is dropped. If this is forgotten instead (`std::mem::forget`), it ends when the writer, or the record that
 /// it is nested in, is used or dropped next. (The number is how many records are open up to this one.)
@@ -170,7 +170,7 @@ pub fn ring(cpu: u32, pages: usize, size: usize) -> Result<(Writer, Reader), Fau
     static RINGS: AtomicU64 = AtomicU64::new(0);
     let none = || Handle { at: null_mut(), live: false };
     let number = RINGS.fetch_add(1, Ordering::Relaxed);
-    let (mut w, mut r) = (Writer(none(), number, 0), Reader(none(), number));
+    let (mut w, mut r) = (Writer(none(), number, 0), Reader(none(), number, HEADER.saturating_add(size)));
     done(unsafe { tracering_raw_new(&mut w.0, &mut r.0, cpu, pages, size) }).map(|()| (w, r))
 }
 
@@ -293,6 +293,11 @@ impl Drop for Open<'_> {
 }
 
 impl Reader {
+    /// How many bytes `take`, `peek` and `settle` want room for, of this ring: `HEADER`, and as many as a page has.
+    pub fn room(&self) -> usize {
+        self.2
+    }
+
     /// Takes the oldest page that is closed and unread: its parcel goes to the front of `out`.
     pub fn take(&mut self, out: &mut [u8]) -> Result<Taken, Fault> {
         let mut taken = Taken::default();

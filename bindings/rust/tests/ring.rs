@@ -9,10 +9,11 @@ fn a_record_goes_in_and_its_page_comes_out() {
     writer.write(7, b"one").unwrap();
     assert_eq!(reader.take(&mut out), Err(Fault::Empty));
     assert_eq!(reader.take(&mut out[..HEADER + 63]), Err(Fault::NoRoom));
+    assert_eq!(reader.room(), HEADER + 64);
     reader.wish().unwrap();
     writer.write(9, &[]).unwrap();
     let taken = reader.take(&mut out).unwrap();
-    assert_eq!(taken, Taken { fill: 0, first: 0, missed: 0, count: 2, len: HEADER + 64 });
+    assert_eq!(taken, Taken { fill: 0, first: 0, missed: 0, count: 2, len: HEADER + 16 });
     let mut wanted = [0u8; HEADER + 64];
     for (at, byte) in [(0, 5), (32, 7), (40, 16), (48, 1), (56, 0x41)] {
         wanted[at] = byte;
@@ -187,7 +188,7 @@ fn a_peek_gives_what_a_take_gives_later() {
     open.put(b"two").unwrap();
     // The peek ends a record that was forgotten.
     std::mem::forget(open);
-    let taken = Taken { fill: 0, first: 0, missed: 0, count: 2, len: HEADER + 64 };
+    let taken = Taken { fill: 0, first: 0, missed: 0, count: 2, len: HEADER + 16 };
     assert_eq!(writer.peek(&mut peeked), Ok(Some(taken)));
     assert_eq!(writer.peek(&mut peeked), Ok(Some(taken)));
     assert_eq!(reader.take(&mut out), Err(Fault::Empty));

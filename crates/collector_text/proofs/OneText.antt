@@ -1,6 +1,6 @@
 -- What a collector has and misses decides its text.
 use Rattle.std.proofs.Common.{◌≡◌, ◌⊎◌, inl, inr, ⊎_elim, ℕ, zero, suc, ◌+◌, ◌<◌, ◌≤◌, List, [], ◌∷◌, ◌++◌, flat_map, Some, refl}
-use Rattle.std.proofs.Common.{sym, ap, ◌∙◌, subst, arith}
+use Rattle.std.proofs.Common.{sym, ap, ap₂, ◌∙◌, subst, arith}
 use Rattle.std.specs.Prelude.{⊤, Bool, if◌then◌else◌, slice_index_or}
 use Rattle.std.specs.List.{AllZip, enumerate_from, slice_get}
 use Rattle.std.proofs.lemmas.Bool.{cases_lt}
@@ -121,7 +121,8 @@ same_from low other (a ∷ xs) (b ∷ ys) rise also there back =
     (behind_first low a b xs ys rise ends there) (behind_first other b a ys xs also (sym ends) back) in
     (λ i. (begins i, ends i) ∷ rest i)
 
-one_runs : (P : ℕ → Type 0) (xs ys : List (ℕ × ℕ)) → AreRuns P xs → AreRuns P ys → xs ≡ ys
+-- numbers have one list of runs
+pub one_runs : (P : ℕ → Type 0) (xs ys : List (ℕ × ℕ)) → AreRuns P xs → AreRuns P ys → xs ≡ ys
 one_runs P xs ys a b =
     let there : (n : ℕ) → In n xs → In n ys = λ n h.
     let i = b.whole n (a.of_them n (in_run n xs h)) in in_of n ys i.index i.run i.at i.from i.to in
@@ -130,27 +131,27 @@ one_runs P xs ys a b =
     same_from 0 0 xs ys (rise_of 0 xs a.forward a.apart (λ run at. omega arith))
     (rise_of 0 ys b.forward b.apart (λ run at. omega arith)) there here
 
--- ---- the text of runs
+-- ---- the lines of runs
 
--- the text of the runs of CPUs from this one on
-abbrev runs_text : ℕ → List (List (ℕ × ℕ)) → List ℕ
-runs_text cpu runs =
-    flat_map (λ (of : ℕ × List (ℕ × ℕ)). flat_map (printed_missing of.0) of.1) (enumerate_from cpu runs)
+-- the lines of the runs of CPUs from this one on
+abbrev lines_from : (ℕ → ℕ × ℕ → List ℕ) → ℕ → List (List (ℕ × ℕ)) → List ℕ
+lines_from line cpu runs = flat_map (λ (of : ℕ × List (ℕ × ℕ)). flat_map (line of.0) of.1) (enumerate_from cpu runs)
 
-no_text : (cpu : ℕ) (runs : List (List (ℕ × ℕ))) → ((k : ℕ) → slice_index_or runs k [] ≡ []) → runs_text cpu runs ≡ []
-no_text cpu [] none = refl
-no_text cpu (of_cpu ∷ runs) none =
-    let rest = no_text (cpu + 1) runs (λ k. none (suc k)) in
-    ap (λ (rs : List (ℕ × ℕ)). flat_map (printed_missing cpu) rs ++ runs_text (cpu + 1) runs) (none 0) ∙ rest
+no_lines : (line : ℕ → ℕ × ℕ → List ℕ) (cpu : ℕ) (runs : List (List (ℕ × ℕ)))
+    → ((k : ℕ) → slice_index_or runs k [] ≡ []) → lines_from line cpu runs ≡ []
+no_lines line cpu [] none = refl
+no_lines line cpu (of_cpu ∷ runs) none =
+    ap₂ (λ (rs : List (ℕ × ℕ)) (text : List ℕ). flat_map (line cpu) rs ++ text) (none 0)
+    (no_lines line (cpu + 1) runs (λ k. none (suc k)))
 
-one_runs_text : (cpu : ℕ) (xs ys : List (List (ℕ × ℕ))) → ((k : ℕ) → slice_index_or xs k [] ≡ slice_index_or ys k [])
-    → runs_text cpu xs ≡ runs_text cpu ys
-one_runs_text cpu [] ys same = sym (no_text cpu ys (λ k. sym (same k)))
-one_runs_text cpu (a ∷ xs) [] same = no_text cpu (a ∷ xs) same
-one_runs_text cpu (a ∷ xs) (b ∷ ys) same =
-    let rest = one_runs_text (cpu + 1) xs ys (λ k. same (suc k)) in
-    ap (λ (rs : List (ℕ × ℕ)). flat_map (printed_missing cpu) rs ++ runs_text (cpu + 1) xs) (same 0)
-    ∙ ap (λ (text : List ℕ). flat_map (printed_missing cpu) b ++ text) rest
+-- the same runs have one text
+pub one_runs_text : (line : ℕ → ℕ × ℕ → List ℕ) (cpu : ℕ) (xs ys : List (List (ℕ × ℕ)))
+    → ((k : ℕ) → slice_index_or xs k [] ≡ slice_index_or ys k []) → lines_from line cpu xs ≡ lines_from line cpu ys
+one_runs_text line cpu [] ys same = sym (no_lines line cpu ys (λ k. sym (same k)))
+one_runs_text line cpu (a ∷ xs) [] same = no_lines line cpu (a ∷ xs) same
+one_runs_text line cpu (a ∷ xs) (b ∷ ys) same =
+    ap₂ (λ (rs : List (ℕ × ℕ)) (text : List ℕ). flat_map (line cpu) rs ++ text) (same 0)
+    (one_runs_text line (cpu + 1) xs ys (λ k. same (suc k)))
 
 -- what shows a collector shows each that is the same
 pub same_are_reported : (parcels others : List Parcel) (shown : Shown) → IsSame parcels others → IsPrintOf parcels shown
@@ -177,7 +178,7 @@ one_text parcels shown other number reported also =
     let runs : (k : ℕ) → slice_index_or shown.runs k [] ≡ slice_index_or other.runs k [] = λ k.
     one_runs (Misses parcels k) (slice_index_or shown.runs k []) (slice_index_or other.runs k [])
     (reported.runs k) (also.runs k) in
-    let text = one_runs_text 0 shown.runs other.runs runs in
+    let text = one_runs_text printed_missing 0 shown.runs other.runs runs in
     rw (lines, text) refl
 
 -- the text of collectors from this number on

@@ -6,6 +6,7 @@ pub mod Keeping
 pub mod Leaving
 pub mod Releasing
 pub mod RestingTail
+pub mod Unclosed
 pub mod Tops
 pub mod Bounds
 pub mod Plain

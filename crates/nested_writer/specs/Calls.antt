@@ -1,5 +1,5 @@
 -- What each call makes of a writer's stack, and when it is refused.
-use Rattle.std.specs.Prelude.{◌≡◌, ◌≢◌, ℕ, ◌+◌, ◌-◌, ◌<◌, ◌≤◌, max, List, [], ◌∷◌, ◌++◌, length, replicate, Option, Some, None}
+use Rattle.std.specs.Prelude.{◌≡◌, ◌≢◌, ℕ, ◌+◌, ◌-◌, ◌<◌, ◌≤◌, max, Bool, true, false, List, [], ◌∷◌, ◌++◌, length, replicate, Option, Some, None}
 use Rattle.trace_model.specs.declared.limits.TheConstants.{LINK_FILLS}
 use Rattle.trace_model.specs.Words.{encoded_len, encoding, slot_len}
 use Rattle.record_words.specs.declared.put.Place.{Place}
@@ -168,3 +168,12 @@ slot_of (Left noted) = None
 abbrev pub top_slot : List Frame → Option Slot
 top_slot [] = None
 top_slot (top ∷ below) = slot_of top.progress
+
+-- whether the frame on top is a close
+abbrev pub is_close : Purpose → Bool
+is_close (Record moment len) = false
+is_close Close = true
+
+abbrev pub tops_close : List Frame → Bool
+tops_close [] = false
+tops_close (top ∷ below) = is_close top.purpose

@@ -4,6 +4,7 @@ pub mod Lent
 pub mod Calls
 pub mod IsStack
 pub mod Released
+pub mod Unclosed
 pub mod Allotted
 pub mod Answered
 pub mod Ends

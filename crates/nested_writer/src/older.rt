@@ -4,6 +4,7 @@ ghost use Rattle.std.specs.Borrow.{sem};
 ghost use Rattle.std.specs.List.{slice_get};
 ghost use Rattle.page_image.specs.Contents.{Contents};
 ghost use Rattle.nested_writer.specs.Lending.{LendsPage};
+ghost use Rattle.nested_writer.specs.Unclosed.{first_of_pages};
 
 use crate::payload::Payload;
 use page_image::Page;
@@ -44,6 +45,17 @@ impl Older {
         ensures { result ≡ length self.now.pages }
     {
         self.pages.len()
+    }
+
+    /// The number of the first record of the oldest page, if there is one.
+    #[inline(always)]
+    pub(crate) fn first_number(&self) -> Option<u64>
+        ensures { result ≡ first_of_pages self.now.pages }
+    {
+        match self.pages.front() {
+            Some(payload) => Some(payload.first_number().0),
+            None => None,
+        }
     }
 
     /// One page more, the newest.

@@ -10,6 +10,7 @@ ghost use Rattle.page_image.specs.Contents.{IsPage};
 ghost use Rattle.page_numbers.specs.Parcels.{parcel_of_page};
 ghost use Rattle.page_numbers.specs.Written.{bytes_of_page};
 ghost use Rattle.parcel_buffer.specs.Fronts.{HasAtFront};
+ghost use Rattle.parcel_buffer.specs.Used.{used_size, used_page};
 
 use page_image::{Page, commit_number, stores_count};
 use trace_model::CpuId;
@@ -21,17 +22,20 @@ pub const PARCEL_HEADER: usize = 48;
 const NUMBER: usize = 8;
 
 /// Puts the page to the front of `out` as a parcel of this CPU, with `missed` numbers missing before its records: the
-/// bytes that `Parcel::to_bytes` makes. The answer is how many they are: `PARCEL_HEADER`, and as many as the page's
-/// size.
+/// bytes that `Parcel::to_bytes` makes, `PARCEL_HEADER` and as many as the page's size. The answer is how many of them
+/// are used: these read as the same parcel, and the others are zeros.
 pub fn put_parcel(out: &mut [u8], cpu: CpuId, page: &Page, missed: u64) -> usize
     requires there { PARCEL_HEADER + page.now.size ≤ length out.old }
     requires fits { length page.now.bytes ≤ page.now.size }
     requires limit { page.now.size ≤ MAX_SIZE }
     ensures bytes { HasAtFront out.old (bytes_of_page cpu.0 page.now missed) out.new }
-    ensures len { length (bytes_of_page cpu.0 page.now missed) ≡ result }
-    ensures size { result ≡ PARCEL_HEADER + page.now.size }
+    ensures size { length (bytes_of_page cpu.0 page.now missed) ≡ PARCEL_HEADER + page.now.size }
+    ensures len { result ≡ PARCEL_HEADER + used_size page.now missed }
+    ensures used { take result out.new ≡ bytes_of_page cpu.0 (used_page page.now missed) missed }
     ensures reads { IsPage page.now → IsParcel (parcel_of_page cpu.0 page.now missed)
         → DecodesParcel (bytes_of_page cpu.0 page.now missed) (parcel_of_page cpu.0 page.now missed) }
+    ensures used_reads { IsPage page.now → IsParcel (parcel_of_page cpu.0 page.now missed)
+        → DecodesParcel (bytes_of_page cpu.0 (used_page page.now missed) missed) (parcel_of_page cpu.0 page.now missed) }
 {
     let size = page.end() + room(page);
     let stored = stores_count(page.end(), missed, size);
@@ -43,9 +47,9 @@ pub fn put_parcel(out: &mut [u8], cpu: CpuId, page: &Page, missed: u64) -> usize
     put_number(out, 40, commit_number(page.end(), missed, size));
     put(out, PARCEL_HEADER, page.data());
     let end = PARCEL_HEADER + page.end();
-    let behind = put_count(out, end, missed, stored);
-    put_zeros(out, behind, PARCEL_HEADER + size);
-    PARCEL_HEADER + size
+    let used = put_count(out, end, missed, stored);
+    put_zeros(out, used, PARCEL_HEADER + size);
+    used
 }
 
 /// How many bytes of the page its records leave.

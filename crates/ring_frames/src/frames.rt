@@ -38,15 +38,18 @@ impl Model for Frames {
 }
 
 impl Frames {
-    ghost use Rattle.std.specs.Prelude.{◌≡◌, ◌≢◌, true, false, ◌+◌, ◌≤◌, ◌<◌, ◌↔◌, [], length, IfOk, IsTrue};
+    ghost use Rattle.std.specs.Prelude.{◌≡◌, ◌≢◌, ℕ, true, false, ◌+◌, ◌≤◌, ◌<◌, ◌↔◌, List, [], length, IfOk, IsTrue};
     ghost use Rattle.trace_model.specs.declared.limits.TheConstants.{MIN_PAGES, MAX_PAGES, MIN_SIZE, MAX_SIZE, MAX_FRAMES, LINK_FILLS};
+    ghost use Rattle.trace_model.specs.History.{HistoryEvent};
     ghost use Rattle.trace_model.specs.Ring.{HasRingLimits};
     ghost use Rattle.trace_model.specs.Steps.{MayContinue};
     ghost use Rattle.nested_writer.specs.Stack.{opened};
-    ghost use Rattle.nested_writer.specs.Calls.{top_of};
+    ghost use Rattle.nested_writer.specs.Calls.{top_of, tops_close};
+    ghost use Rattle.nested_writer.specs.IsStack.{IsStack};
+    ghost use Rattle.nested_writer.specs.Unclosed.{AreUnclosed};
     ghost use Rattle.ring_frames.specs.declared.phase.Role.TheVariants.{Helper};
     ghost use Rattle.ring_frames.specs.Value.{role_of};
-    ghost use Rattle.ring_frames.specs.Steps.{AreNew};
+    ghost use Rattle.ring_frames.specs.Steps.{AreNew, AreSomeFrames};
 
     /// No frame, over the empty tail page of a new ring of `pages` pages of `size` bytes of data each, whose first fill
     /// has the number `start`. All room is made here: no other call takes memory.
@@ -119,6 +122,16 @@ impl Frames {
         self.stack.opened()
     }
 
+    /// How many records are reserved and in no closed fill.
+    pub fn unclosed(&self) -> u64
+        requires shown { AreSomeFrames self.now }
+        ensures { (start : ℕ) (history : List HistoryEvent)
+            → IsStack start history self.now.stack
+            → AreUnclosed start self.now.stack.done history result }
+    {
+        self.stack.unclosed()
+    }
+
     /// Whether a frame of this role, which noted this fill, stops: a helper does if another frame has begun a fill.
     #[inline(always)]
     pub fn stops(&self, role: Role, noted: u64) -> bool
@@ -137,6 +150,14 @@ impl Frames {
         ensures { result ≡ top_of self.now.stack.frames }
     {
         self.stack.top()
+    }
+
+    /// Whether the frame on top is a close.
+    #[inline(always)]
+    pub fn tops_close(&self) -> bool
+        ensures { result ≡ tops_close self.now.stack.frames }
+    {
+        self.stack.tops_close()
     }
 
     /// How far the frame on top has got. If there is none it says nothing.

@@ -9,6 +9,7 @@ pub mod Onward
 pub mod PageMoves
 pub mod Privately
 pub mod RestingTail
+pub mod OpenPart
 pub mod Settles
 pub mod Standing
 pub mod PageTaken

@@ -1,5 +1,6 @@
 -- What the calls of a writer make of a running ring.
-use Rattle.std.specs.Prelude.{◌≡◌, [], true}
+use Rattle.std.specs.Prelude.{◌≡◌, Bool, true, false, List, [], ◌∷◌}
+use Rattle.trace_model.specs.Frames.{Kind, for_record, for_close, Frame}
 use Rattle.trace_model.specs.Ring.{Core}
 use Rattle.trace_model.specs.Steps as model
 use Rattle.link_marks.specs.Reached.{IsReached}
@@ -43,3 +44,12 @@ pub record MakesSome (old : WriterValue) (event : model.Event) (result : Answer)
   pub table_is : new.table ≡ old.table
   pub call : IsCall old.shape old.part event result new.part
   pub writer : IsWriter new
+
+-- whether the first of these frames, which is the one on top, is a close
+abbrev pub is_for_close : Kind → Bool
+is_for_close (for_record moment len) = false
+is_for_close for_close = true
+
+abbrev pub closes_first : List Frame → Bool
+closes_first [] = false
+closes_first (top ∷ below) = is_for_close top.kind

@@ -50,7 +50,8 @@ impl Writer {
     ghost use Rattle.std.specs.Prelude.{◌≡◌, ◌↔◌, ◌+◌, ◌^◌, ◌<◌, [], length, IsSome, IfSome};
     ghost use Rattle.trace_model.specs.Ring.{fill_of};
     ghost use Rattle.nested_writer.specs.Released.{IsRestingTail};
-    ghost use Rattle.ring_shared.specs.Calls.{IsWriter};
+    ghost use Rattle.nested_writer.specs.Unclosed.{AreUnclosed};
+    ghost use Rattle.ring_shared.specs.Calls.{closes_first, IsWriter};
 
     /// The tail page, to be read, if no frame is on the stack: all records that are committed from its first number on.
     #[inline(always)]
@@ -87,6 +88,30 @@ impl Writer {
         ensures part { IsWriter self.now → result ≡ self.now.part.done }
     {
         self.frames.done()
+    }
+
+    /// The number of the next fill to be begun.
+    #[inline(always)]
+    pub fn opened(&self) -> u64
+        ensures { IsWriter self.now → result ≡ self.now.part.opened }
+    {
+        self.frames.opened()
+    }
+
+    /// How many records are reserved and in no closed fill.
+    pub fn unclosed(&self) -> u64
+        requires writer { IsWriter self.now }
+        ensures { AreUnclosed self.now.shape.start self.now.part.done self.now.part.history result }
+    {
+        self.frames.unclosed()
+    }
+
+    /// Whether the frame on top is a close.
+    #[inline(always)]
+    pub fn tops_close(&self) -> bool
+        ensures { IsWriter self.now → result ≡ closes_first self.now.part.frames }
+    {
+        self.frames.tops_close()
     }
 }
 

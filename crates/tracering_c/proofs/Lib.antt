@@ -4,4 +4,5 @@ pub mod HeldKinds
 pub mod FaultCodes
 pub mod Unread
 pub mod CallAnswers
-pub mod NewestRecords
+pub mod Given
+mod NewestRecords

@@ -1,7 +1,8 @@
 -- What the calls of C make of a ring's ends.
-use Rattle.std.specs.Prelude.{◌≡◌, ◌≢◌, ◌↔◌, ◌+◌, ◌<◌, ◌≤◌, ℕ, ℤ, pos, ◌++◌, List, [], ◌∷◌, drop, length, Option, Some, None}
+use Rattle.std.specs.Prelude.{◌≡◌, ◌≢◌, ◌↔◌, ◌+◌, ◌<◌, ◌≤◌, ℕ, ℤ, pos, ◌++◌, List, [], ◌∷◌, take, drop, length, Option, Some, None}
 use Rattle.trace_model.specs.declared.numbers.FillNo.{FillNo}
 use Rattle.trace_model.specs.Steps as model
+use Rattle.trace_model.specs.Parcel.{Parcel}
 use Rattle.trace_model.specs.ParcelBytes.{DecodesParcel}
 use Rattle.nested_writer.specs.declared.fault.WriteFault.{WriteFault}
 use Rattle.nested_writer.specs.declared.frame.Slot.{Slot}
@@ -15,6 +16,7 @@ use Rattle.ring_frames.specs.Answers.{top_bytes, KeepsPayloads, EndsPayload}
 use Rattle.ring_frames.specs.Lens.{IsOneMore}
 use Rattle.page_image.specs.Contents.{Contents}
 use Rattle.parcel_buffer.specs.Fronts.{HasAtFront}
+use Rattle.parcel_buffer.specs.Used.{used_size, used_page}
 use Rattle.page_numbers.specs.Written.{bytes_of_page}
 use Rattle.page_numbers.specs.Parcels.{parcel_of_page}
 use Rattle.trace_model.specs.declared.limits.TheConstants.{MAX_CPUS}
@@ -114,10 +116,17 @@ pub record AreNumbersOf (page : Contents) (missed len : ℕ) (taken : Taken) : T
   pub count : taken.count ≡ page.count
   pub len_is : taken.len ≡ len
 
--- The page is given as parcel bytes, at the front of the buffer, with its numbers.
+-- The page is given as parcel bytes, at the front of the buffer, with its numbers. The bytes that `len` counts are those
+-- of its parcel without the room that isn't used.
 pub record IsGiven (cpu : ℕ) (page : Contents) (missed : ℕ) (out left : List ℕ) (reported : Taken) : Type 0 where
   pub bytes : HasAtFront out (bytes_of_page cpu page missed) left
-  pub numbers : AreNumbersOf page missed (length (bytes_of_page cpu page missed)) reported
+  pub numbers : AreNumbersOf page missed (48 + used_size page missed) reported
+  pub used : take reported.len left ≡ bytes_of_page cpu (used_page page missed) missed
+
+-- The bytes that a page is given as read as this parcel, and so do those of them that are used.
+pub record ReadsAs (cpu : ℕ) (page : Contents) (missed : ℕ) (parcel : Parcel) : Type 0 where
+  pub whole : DecodesParcel (bytes_of_page cpu page missed) parcel
+  pub used : DecodesParcel (bytes_of_page cpu (used_page page missed) missed) parcel
 
 -- A page is taken and given, and the answer is 0; or nothing is taken and nothing is given: no closed page is unread,
 -- or a move of the head isn't finished, or the take has made as many steps as it may, or the buffer is shorter than a
@@ -129,7 +138,7 @@ pub data TakesSo (old : HeldReader) (out : List ℕ) (was : Taken) (code : ℤ) 
       → IsPageTaken old.reader.shape old.reader.part page missed new.reader.part
       → AnswersTake old.reader (Page page missed) new.reader
       → IsGiven old.cpu.0 page missed out left reported
-      → DecodesParcel (bytes_of_page old.cpu.0 page missed) (parcel_of_page old.cpu.0 page missed)
+      → ReadsAs old.cpu.0 page missed (parcel_of_page old.cpu.0 page missed)
       → TakesSo old out was code left reported new
   is_empty : (done : ℕ)
       → (back : List ℕ)

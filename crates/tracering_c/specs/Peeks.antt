@@ -5,13 +5,11 @@ use Rattle.trace_model.specs.History.{committed_records}
 use Rattle.trace_model.specs.Packing.{first_of_fill}
 use Rattle.trace_model.specs.Ring.{fill_of}
 use Rattle.trace_model.specs.Parcel.{Parcel}
-use Rattle.trace_model.specs.ParcelBytes.{DecodesParcel}
 use Rattle.page_image.specs.Contents.{Contents}
-use Rattle.page_numbers.specs.Written.{bytes_of_page}
 use Rattle.nested_writer.specs.Released.{IsRestingTail}
 use Rattle.ring_shared.specs.Value.{WriterValue}
 use Rattle.tracering_c.specs.declared.taken.Taken.{Taken}
-use Rattle.tracering_c.specs.Calls.{IsGiven}
+use Rattle.tracering_c.specs.Calls.{IsGiven, ReadsAs}
 
 -- The number of the first record that is in no closed fill.
 abbrev pub first_newest : WriterValue → ℕ
@@ -43,7 +41,7 @@ pub record IsPeeked (cpu : ℕ) (writer : WriterValue) (out left : List ℕ) (re
   pub page : Contents
   pub tail : IsTailOf writer page
   pub given : IsGiven cpu page 0 out left reported
-  pub reads : DecodesParcel (bytes_of_page cpu page 0) (newest_parcel cpu writer)
+  pub reads : ReadsAs cpu page 0 (newest_parcel cpu writer)
 
 -- Why a writer's newest records are given in a buffer of this room, or aren't: the first of these that holds is
 -- answered.

@@ -14,7 +14,7 @@ pub struct Taken {
     pub missed: u64,
     /// How many records it has.
     pub count: u64,
-    /// How many bytes its parcel takes.
+    /// How many bytes its parcel takes, without the room that its page has left.
     pub len: usize,
 }
 

@@ -3,10 +3,13 @@ use crate::frame::{Frame, Progress};
 use crate::stack::WriterStack;
 
 impl WriterStack {
-    ghost use Rattle.std.specs.Prelude.{◌≡◌, ◌+◌, ◌≤◌, ◌↔◌, [], length, IsTrue};
+    ghost use Rattle.std.specs.Prelude.{◌≡◌, ℕ, ◌+◌, ◌≤◌, ◌↔◌, List, [], length, IsTrue};
+    ghost use Rattle.trace_model.specs.History.{HistoryEvent};
     ghost use Rattle.trace_model.specs.declared.limits.TheConstants.{MIN_PAGES, MAX_PAGES, MIN_SIZE, MAX_SIZE, MAX_FRAMES, LINK_FILLS};
     ghost use Rattle.nested_writer.specs.Stack.{opened};
-    ghost use Rattle.nested_writer.specs.Calls.{top_of, IsAtBottom, MayAddPage};
+    ghost use Rattle.nested_writer.specs.Calls.{top_of, tops_close, IsAtBottom, MayAddPage};
+    ghost use Rattle.nested_writer.specs.Unclosed.{AreUnclosed};
+    ghost use Rattle.nested_writer.specs.IsStack.{IsStack, IsReachedStack};
 
     /// How many pages the ring has.
     #[inline(always)]
@@ -46,6 +49,18 @@ impl WriterStack {
         self.done + self.older.len() as u64 + 1
     }
 
+    /// How many records are reserved and in no closed fill.
+    pub fn unclosed(&self) -> u64
+        requires stack { IsReachedStack self.now }
+        ensures { (start : ℕ) (history : List HistoryEvent)
+            → IsStack start history self.now
+            → AreUnclosed start self.now.done history result }
+    {
+        let first = self.tail.first_number().0;
+        let next = first + self.tail.count();
+        next - self.older.first_number().unwrap_or(first)
+    }
+
     /// Whether the stack is empty.
     #[inline(always)]
     pub fn is_empty(&self) -> bool
@@ -73,6 +88,14 @@ impl WriterStack {
         ensures { result ≡ top_of self.now.frames }
     {
         self.top.get()
+    }
+
+    /// Whether the frame on top is a close.
+    #[inline(always)]
+    pub fn tops_close(&self) -> bool
+        ensures { result ≡ tops_close self.now.frames }
+    {
+        self.top.is_close()
     }
 
     /// Whether only the bottom frame is on the stack, ended or refused.

@@ -1,7 +1,7 @@
 //! The frame on top, kept so that the calls of a record move few words and test one.
 ghost use Rattle.std.specs.Prelude.{◌≡◌, ◌≤◌, ℕ, Option, Some, None, IfSome, IsTrue, ◌↔◌, ◌⊎◌, option_to_list};
 ghost use Rattle.record_words.specs.declared.format.TheConstants.{SHORT_LIMIT};
-ghost use Rattle.nested_writer.specs.Calls.{IsTopSlot, LacksSlot};
+ghost use Rattle.nested_writer.specs.Calls.{tops_close, IsTopSlot, LacksSlot};
 ghost use Rattle.nested_writer.specs.declared.frame.Frame.{Frame};
 ghost use Rattle.nested_writer.specs.declared.frame.Slot.{Slot};
 ghost use Rattle.nested_writer.specs.declared.frame.Purpose.TheVariants.{Record};
@@ -83,6 +83,18 @@ impl Top {
         ensures { IsTrue result ↔ self.now ≡ None }
     {
         matches!(self.tag, Tag::Empty)
+    }
+
+    /// Whether it is a close frame.
+    #[inline(always)]
+    pub(crate) fn is_close(&self) -> bool
+        ensures { result ≡ tops_close (option_to_list self.now) }
+    {
+        match self.tag {
+            Tag::Other => matches!(self.other.purpose, Purpose::Close),
+            Tag::HoldsClose => true,
+            _ => false,
+        }
     }
 
     /// The frame.

@@ -1,5 +1,4 @@
-use Rattle.std.proofs.Common.{ℕ, sym, subst}
-use Rattle.tracering_c.specs.Calls.{AreNumbersOf}
+use Rattle.tracering_c.proofs.Given.{given_is}
 use Rattle.tracering_c.proofs.NewestRecords.{reads_newest}
 use Rattle.tracering_c.proofs.peeking.peek_into.Goals as goal
 
@@ -12,6 +11,6 @@ returns-clause-peeked c = λ done.
     record {
       page = page;
       tail = found.rests;
-      given = record { bytes = put.bytes; numbers = subst (λ (n : ℕ). AreNumbersOf page 0 n c.of.result) (sym put.len) c.of.ensures };
-      reads = reads_newest end.cpu.0 end.writer page found.rests end.cpu_known found.numbers_fit put.reads;
+      given = given_is end.cpu.0 page 0 c.args.out.now c.put_parcel-len.new.out c.of.result c.put_parcel-len.result put.bytes put.len put.used c.of.ensures;
+      reads = reads_newest end.cpu.0 end.writer page found.rests end.cpu_known found.numbers_fit put.reads put.used_reads;
     }
