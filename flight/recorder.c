@@ -20,18 +20,6 @@ pthread_mutex_t flight_lock = PTHREAD_MUTEX_INITIALIZER;
 static pthread_once_t once = PTHREAD_ONCE_INIT;
 static pthread_key_t key;
 
-// ---- Rings: how many records are complete. A handler may count between two instructions of this thread, so a count is
-// one instruction.
-
-static inline void count_record(struct ring *ring)
-{
-#if defined(__x86_64__) && !defined(__SANITIZE_THREAD__)
-    __asm__ volatile("incq %0" : "+m"(ring->written));
-#else
-    (void)__atomic_fetch_add(&ring->written, 1, __ATOMIC_RELAXED);
-#endif
-}
-
 // ---- Leases.
 
 static void copy_words(uint64_t *to, const uint64_t *from, size_t words)
@@ -179,8 +167,7 @@ void flight_record(const struct flight_site *site, uint8_t *event, size_t len)
     struct ring *ring = slot->rings;
     for (uint32_t level = 1; ring->writer.in_call && level < flight_recorder.config.levels; level++)
         ring++;
-    if (tracering_write(&ring->writer, flight_moment(), event, len) == TRACERING_DONE)
-        count_record(ring);
+    (void)tracering_write(&ring->writer, flight_moment(), event, len);
 }
 
 int flight_name(const char *name)
