@@ -102,13 +102,14 @@ static struct slot *claim(void)
     return NULL;
 }
 
-// Gets a slot for this thread, which has none, from this recorder.
+// Gets a slot of this recorder for this thread, unless a handler has got it one meanwhile.
 static struct slot *get_slot(uint32_t number)
 {
     sigset_t signals;
     block_signals(&signals);
-    struct slot *slot = claim();
-    if (slot) {
+    bool has_slot = flight_mine.running == number;
+    struct slot *slot = has_slot ? flight_mine.slot : claim();
+    if (slot && !has_slot) {
         begin_lease(slot);
         flight_mine.slot = slot;
         flight_mine.running = number;
