@@ -1,0 +1,349 @@
+#include "dump.h"
+#include "text.h"
+
+#include <stdarg.h>
+#include <stdio.h>
+#include <stdlib.h>
+#include <string.h>
+
+enum { HEAD = 16, SECTION_HEAD = 16, VERSION = 1, LEAST_LEASE = 16 };
+
+// Where the reading is: in the whole file, or in one section.
+struct cursor {
+    const uint8_t *file;
+    size_t at, end;
+    struct fault *fault;
+};
+
+struct section {
+    const uint8_t *kind;
+    size_t offset; // of its head
+};
+
+// What was read before: which sections may come now.
+struct progress {
+    uint32_t sections;
+    bool process, pages, sites, ends; // `pages`: a page may come
+};
+
+static __attribute__((format(printf, 3, 4))) bool refuse(struct cursor *c, size_t offset, const char *format, ...)
+{
+    va_list values;
+    va_start(values, format);
+    vsnprintf(c->fault->text, sizeof c->fault->text, format, values);
+    va_end(values);
+    c->fault->offset = offset;
+    return false;
+}
+
+// The next `len` bytes, or null: there are fewer.
+static const uint8_t *take(struct cursor *c, size_t len, const char *what)
+{
+    if (c->end - c->at < len) {
+        refuse(c, c->at, "%zu bytes are expected (%s), and %zu are left", len, what, c->end - c->at);
+        return NULL;
+    }
+    c->at += len;
+    return c->file + c->at - len;
+}
+
+static bool take_text(struct cursor *c, const char *what, struct bytes *text)
+{
+    const uint8_t *len = take(c, 4, what);
+    if (!len)
+        return false;
+    text->len = number32_at(len);
+    if (text->len > LONGEST_TEXT)
+        return refuse(c, c->at - 4, "at most %d bytes are expected (%s), and not %zu", LONGEST_TEXT, what, text->len);
+    text->at = take(c, text->len, what);
+    return text->at != NULL;
+}
+
+static bool read_process(struct cursor *c, struct process *process)
+{
+    size_t begin = c->at;
+    const uint8_t *at = take(c, 56, "process");
+    if (!at)
+        return false;
+    *process = (struct process){number32_at(at), number32_at(at + 4), number32_at(at + 8), number32_at(at + 12),
+        number64_at(at + 16), number64_at(at + 24), number64_at(at + 32), number64_at(at + 40), number64_at(at + 48),
+        {NULL, 0}};
+    if (process->clock >= CLOCK_KINDS)
+        return refuse(c, begin + 12, "there is no clock %u", process->clock);
+    return take_text(c, "the program's name", &process->name);
+}
+
+static bool read_lease(struct cursor *c, const struct lease *before, struct lease *lease)
+{
+    const uint8_t *at = take(c, 12, "lease");
+    if (!at)
+        return false;
+    lease->first = number64_at(at);
+    lease->tid = number32_at(at + 8);
+    if (before && lease->first < before->first)
+        return refuse(c, c->at - 12, "a lease begins before the one that is stated first");
+    return take_text(c, "a thread's name", &lease->name);
+}
+
+static bool read_leases(struct cursor *c, struct ring *ring)
+{
+    const uint8_t *at = take(c, 4, "number of leases");
+    if (!at)
+        return false;
+    size_t count = number32_at(at);
+    if (count > (c->end - c->at) / LEAST_LEASE)
+        return refuse(c, c->at - 4, "%zu leases are stated, and %zu bytes are left", count, c->end - c->at);
+    ring->leases = allocate(count, sizeof *ring->leases);
+    ring->lease_count = count;
+    for (size_t k = 0; k < count; k++)
+        if (!read_lease(c, k ? &ring->leases[k - 1] : NULL, &ring->leases[k]))
+            return false;
+    return true;
+}
+
+// Checks the numbers of a ring, which begin at this offset.
+static bool check_ring(struct cursor *c, const struct dump *dump, const struct ring *ring, size_t begin)
+{
+    if (ring->number >= CPUS)
+        return refuse(c, begin, "there is no ring %u", ring->number);
+    if (dump->of_cpu[ring->number])
+        return refuse(c, begin, "ring %u is there twice", ring->number);
+    if (ring->tail >= TAILS)
+        return refuse(c, begin + 12, "there is no tail %u", ring->tail);
+    if (ring->lacking > ring->written)
+        return refuse(c, begin + 24, "more records lack than were written");
+    return true;
+}
+
+static bool read_ring(struct cursor *c, struct dump *dump)
+{
+    size_t begin = c->at;
+    const uint8_t *at = take(c, 88, "ring");
+    if (!at)
+        return false;
+    struct ring ring = {number32_at(at), number32_at(at + 4), number32_at(at + 8), number32_at(at + 12),
+        number64_at(at + 16), number64_at(at + 24), number64_at(at + 80), {0}, 0, NULL};
+    for (size_t k = 0; k < REASONS; k++)
+        ring.refused[k] = number64_at(at + 32 + 8 * k);
+    if (!check_ring(c, dump, &ring, begin))
+        return false;
+    struct ring *kept = &dump->rings[dump->ring_count++];
+    *kept = ring;
+    dump->of_cpu[ring.number] = kept;
+    return read_leases(c, kept);
+}
+
+static bool refuse_page(struct cursor *c, size_t begin, int32_t code, const struct tracering_fault_at *at)
+{
+    const char *text = tracering_text(code);
+    if (code == TRACERING_CLASH || code == TRACERING_TAKEN_AND_MISSING)
+        return refuse(c, begin, "page: %s: ring %u, number %llu", text, at->cpu, (unsigned long long)at->number);
+    bool within = code == TRACERING_CUT || code == TRACERING_BAD_LENGTH || code == TRACERING_TIME_OVERFLOW;
+    return refuse(c, begin + (within ? TRACERING_HEADER + (size_t)at->number : 0), "page: %s", text);
+}
+
+static bool read_page(struct cursor *c, struct dump *dump)
+{
+    size_t begin = c->at, len = c->end - c->at;
+    const struct ring *ring = &dump->rings[dump->ring_count - 1];
+    const uint8_t *bytes = take(c, len, "page");
+    if (len >= 8 && number64_at(bytes) != ring->number)
+        return refuse(c, begin, "page: it isn't of ring %u", ring->number);
+    struct tracering_fault_at at = {0, 0};
+    int32_t code = tracering_collector_add(&dump->records, bytes, len, &at);
+    if (code == TRACERING_NO_MEMORY)
+        end_without_memory();
+    return code > TRACERING_DONE ? refuse_page(c, begin, code, &at) : true;
+}
+
+// Checks the kinds of a site's arguments.
+static bool check_kinds(struct cursor *c, const struct site *site)
+{
+    for (size_t k = 0; k < site->kinds.len; k++) {
+        uint8_t kind = site->kinds.at[k], size = kind_size(kind);
+        bool is_whole = size == 4 || size == 8 || (kind_class(kind) != CLASS_FLOATING && (size == 1 || size == 2));
+        if (kind_class(kind) >= CLASSES || (kind_class(kind) == CLASS_TEXT ? size != 0 : !is_whole))
+            return refuse(c, (size_t)(site->kinds.at - c->file) + k, "there is no kind 0x%02x of argument", kind);
+    }
+    return true;
+}
+
+static struct site *add_site(struct dump *dump, size_t *room)
+{
+    if (dump->site_count == *room) {
+        struct site *grown = allocate(2 * *room + 16, sizeof *grown);
+        if (dump->site_count)
+            memcpy(grown, dump->sites, dump->site_count * sizeof *grown);
+        free(dump->sites);
+        dump->sites = grown;
+        *room = 2 * *room + 16;
+    }
+    return &dump->sites[dump->site_count++];
+}
+
+static bool read_site(struct cursor *c, struct site *site)
+{
+    size_t begin = c->at;
+    const uint8_t *at = take(c, 16, "site");
+    if (!at)
+        return false;
+    size_t count = number32_at(at + 12);
+    *site = (struct site){number32_at(at), number32_at(at + 4), number32_at(at + 8), {NULL, 0}, {NULL, 0}, {NULL, 0},
+        begin};
+    if (site->style >= STYLES)
+        return refuse(c, begin + 8, "there is no style %u", site->style);
+    if (count > MOST_ARGUMENTS)
+        return refuse(c, begin + 12, "at most %d arguments are expected, and not %zu", MOST_ARGUMENTS, count);
+    site->kinds = (struct bytes){take(c, count, "kinds of arguments"), count};
+    return site->kinds.at && check_kinds(c, site) && take_text(c, "file", &site->file)
+        && take_text(c, "format", &site->format);
+}
+
+static int compare_sites(const void *one, const void *other)
+{
+    const struct site *a = one, *b = other;
+    if (a->id != b->id)
+        return a->id < b->id ? -1 : 1;
+    return a->offset < b->offset ? -1 : a->offset > b->offset;
+}
+
+static bool sort_sites(struct cursor *c, struct dump *dump)
+{
+    if (dump->site_count)
+        qsort(dump->sites, dump->site_count, sizeof *dump->sites, compare_sites);
+    for (size_t k = 1; k < dump->site_count; k++)
+        if (dump->sites[k].id == dump->sites[k - 1].id)
+            return refuse(c, dump->sites[k].offset, "site %u is there twice", dump->sites[k].id);
+    return true;
+}
+
+static bool read_end(struct cursor *c, uint32_t sections)
+{
+    const uint8_t *at = take(c, 8, "end");
+    if (!at)
+        return false;
+    if (number32_at(at) != sections)
+        return refuse(c, c->at - 8, "%u sections are stated, and %u are there", number32_at(at), sections);
+    return number32_at(at + 4) ? refuse(c, c->at - 4, "0 is expected") : true;
+}
+
+static bool is_kind(const struct section *section, const char *kind)
+{
+    return !memcmp(section->kind, kind, 4);
+}
+
+// Reads what a section has, if it may come now.
+static bool read_section(struct cursor *c, struct dump *dump, const struct section *section, struct progress *progress,
+    size_t *room)
+{
+    if (!progress->process) {
+        progress->process = true;
+        return is_kind(section, "PROC") ? read_process(c, &dump->process)
+                                        : refuse(c, section->offset, "a section PROC is expected");
+    }
+    if (is_kind(section, "RING") && !progress->sites) {
+        progress->pages = true;
+        return read_ring(c, dump);
+    }
+    if (is_kind(section, "PAGE") && progress->pages)
+        return read_page(c, dump);
+    progress->pages = false;
+    if (is_kind(section, "SITE")) {
+        progress->sites = true;
+        return read_site(c, add_site(dump, room));
+    }
+    if (is_kind(section, "ENDS")) {
+        progress->ends = true;
+        return read_end(c, progress->sections);
+    }
+    return refuse(c, section->offset, "a section RING, PAGE, SITE or ENDS is expected, in this order");
+}
+
+// Reads a section's head, and then what it has.
+static bool read_next(struct cursor *c, struct dump *dump, struct progress *progress, size_t *room)
+{
+    struct section section = {NULL, c->at};
+    section.kind = take(c, SECTION_HEAD, "a section's head");
+    if (!section.kind)
+        return false;
+    uint64_t len = number64_at(section.kind + 8);
+    if (number32_at(section.kind + 4))
+        return refuse(c, section.offset + 4, "0 is expected");
+    if (len > c->end - c->at)
+        return refuse(c, section.offset + 8, "a section of %llu bytes is stated, and %zu are left",
+            (unsigned long long)len, c->end - c->at);
+    struct cursor within = {c->file, c->at, c->at + (size_t)len, c->fault};
+    if (!read_section(&within, dump, &section, progress, room))
+        return false;
+    if (within.at != within.end)
+        return refuse(c, within.at, "the section's end is expected, and it has %zu bytes more", within.end - within.at);
+    c->at = within.end;
+    progress->sections++;
+    return true;
+}
+
+static bool read_head(struct cursor *c)
+{
+    static const char magic[] = "TRFLIGHT";
+    size_t there = c->end < 8 ? c->end : 8;
+    if (!there || memcmp(c->file, magic, there))
+        return refuse(c, 0, "not a flight dump");
+    const uint8_t *at = take(c, HEAD, "the file's head");
+    if (!at)
+        return false;
+    if (number32_at(at + 8) != VERSION)
+        return refuse(c, 8, "version %d is expected, and not %u", VERSION, number32_at(at + 8));
+    return number32_at(at + 12) ? refuse(c, 12, "0 is expected") : true;
+}
+
+bool dump_read(struct dump *dump, struct bytes file, struct fault *fault)
+{
+    struct cursor c = {file.at, 0, file.len, fault};
+    struct progress progress = {0, false, false, false, false};
+    size_t room = 0;
+    memset(dump, 0, sizeof *dump);
+    if (tracering_collector_new(&dump->records) != TRACERING_DONE)
+        end_without_memory();
+    if (!read_head(&c))
+        return false;
+    while (!progress.ends)
+        if (!read_next(&c, dump, &progress, &room))
+            return false;
+    if (c.at != c.end)
+        return refuse(&c, c.at, "the file's end is expected, and it has %zu bytes more", c.end - c.at);
+    return sort_sites(&c, dump);
+}
+
+void dump_free(struct dump *dump)
+{
+    for (size_t k = 0; k < dump->ring_count; k++)
+        free(dump->rings[k].leases);
+    free(dump->sites);
+    (void)tracering_collector_free(&dump->records);
+}
+
+const struct site *dump_site(const struct dump *dump, uint32_t id)
+{
+    size_t low = 0, high = dump->site_count;
+    while (low < high) {
+        size_t middle = low + (high - low) / 2;
+        if (dump->sites[middle].id < id)
+            low = middle + 1;
+        else
+            high = middle;
+    }
+    return low < dump->site_count && dump->sites[low].id == id ? &dump->sites[low] : NULL;
+}
+
+const struct lease *ring_lease(const struct ring *ring, uint64_t number)
+{
+    size_t low = 0, high = ring->lease_count;
+    while (low < high) {
+        size_t middle = low + (high - low) / 2;
+        if (ring->leases[middle].first <= number)
+            low = middle + 1;
+        else
+            high = middle;
+    }
+    return low ? &ring->leases[low - 1] : NULL;
+}

@@ -1,0 +1,138 @@
+// The listing for programs: each line is an object. Numbers are exact, up to 2^64 - 1.
+#include "viewers.h"
+
+#include <inttypes.h>
+#include <math.h>
+
+static void add_time(struct text *line, nanoseconds time, bool is_known)
+{
+    size_t before = line->len;
+    add_string(line, "\"time\":\"");
+    if (!is_known || !add_date(line, time, "T", "Z\"")) {
+        line->len = before;
+        add_string(line, "\"time\":null");
+    }
+}
+
+static void add_lease(struct text *line, const struct lease *lease)
+{
+    if (!lease) {
+        add_string(line, "\"thread\":null,\"tid\":null");
+        return;
+    }
+    add_string(line, "\"thread\":");
+    add_json(line, lease->name);
+    add_format(line, ",\"tid\":%u", lease->tid);
+}
+
+static void json_head(void *self, const struct dump *dump)
+{
+    static const char *const clocks[CLOCK_KINDS] = {"monotonic", "tsc", "caller"};
+    struct lines *lines = self;
+    const struct process *process = lines->process = &dump->process;
+    add_string(&lines->line, "{\"program\":");
+    add_json(&lines->line, process->name);
+    add_format(&lines->line, ",\"pid\":%u,\"tid\":%u,\"signal\":%u,\"clock\":\"%s\",", process->pid, process->tid,
+        process->signal, clocks[process->clock]);
+    add_time(&lines->line, process->dump_time, true);
+    add_format(&lines->line, ",\"moment\":%" PRIu64 "}", process->dump_moment);
+    write_line(lines);
+}
+
+static void add_argument(struct text *line, const struct argument *argument)
+{
+    struct text text = {NULL, 0, 0};
+    switch (argument->class) {
+    case CLASS_SIGNED: add_format(line, "%" PRId64, (int64_t)argument->value); break;
+    case CLASS_FLOATING:
+        if (isfinite(double_of(argument)))
+            add_shortest(line, argument);
+        else
+            add_format(line, "\"%f\"", double_of(argument));
+        break;
+    case CLASS_TEXT:
+        add_argument_text(&text, argument);
+        add_json(line, bytes_of(&text));
+        free_text(&text);
+        break;
+    default: add_format(line, "%" PRIu64, argument->value);
+    }
+}
+
+static void add_site(struct text *line, const struct site *site)
+{
+    if (!site) {
+        add_string(line, ",\"file\":null,\"line\":null");
+        return;
+    }
+    add_string(line, ",\"file\":");
+    add_json(line, site->file);
+    add_format(line, ",\"line\":%u", site->line);
+}
+
+static void json_record(void *self, const struct record *record)
+{
+    struct lines *lines = self;
+    struct text *line = &lines->line, *formatted = &lines->formatted;
+    add_string(line, "{");
+    add_time(line, time_of(lines->process, record->moment), has_time(lines->process));
+    add_format(line, ",\"moment\":%" PRIu64 ",", record->moment);
+    add_lease(line, record->lease);
+    add_format(line, ",\"ring\":%u,\"number\":%" PRIu64, record->ring->number, record->number);
+    add_site(line, record->site);
+    formatted->len = 0;
+    format_record(formatted, record, &lines->arguments);
+    add_string(line, ",\"text\":");
+    add_json(line, bytes_of(formatted));
+    add_string(line, ",\"args\":[");
+    for (size_t k = 0; k < lines->arguments.count; k++) {
+        add_string(line, k ? "," : "");
+        add_argument(line, &lines->arguments.at[k]);
+    }
+    add_string(line, "]}");
+    write_line(lines);
+}
+
+static void json_gap(void *self, const struct gap *gap)
+{
+    struct lines *lines = self;
+    add_format(&lines->line, "{\"missing\":%" PRIu64 ",\"first\":%" PRIu64 ",\"last\":%" PRIu64 ",",
+        gap->last - gap->first + 1, gap->first, gap->last);
+    add_lease(&lines->line, gap->lease);
+    add_format(&lines->line, ",\"ring\":%u}", gap->ring->number);
+    write_line(lines);
+}
+
+static void json_loss(void *self, const struct loss *loss)
+{
+    static const char *const names[LOSS_KINDS] = {"overwritten", "dropped", "refused", "not read", "no ring"};
+    struct lines *lines = self;
+    struct text *line = &lines->line;
+    const struct ring *ring = loss->ring;
+    add_format(line, "{\"lost\":\"%s\",\"count\":%" PRIu64, names[loss->kind], loss->count);
+    if (loss->why)
+        add_format(line, ",\"why\":\"%s\"", loss->why);
+    if (ring)
+        add_format(line, ",\"ring\":%u,\"slot\":%u,\"level\":%u,\"threads\":[", ring->number, ring->slot, ring->level);
+    for (size_t k = 0; ring && k < ring->lease_count; k++) {
+        add_string(line, k ? ",{" : "{");
+        add_lease(line, &ring->leases[k]);
+        add_string(line, "}");
+    }
+    add_string(line, ring ? "]}" : "}");
+    write_line(lines);
+}
+
+static void json_end(void *self, size_t losses)
+{
+    struct lines *lines = self;
+    if (losses)
+        return;
+    add_string(&lines->line, "{\"lost\":null}");
+    write_line(lines);
+}
+
+struct viewer json_viewer(struct lines *lines)
+{
+    return (struct viewer){lines, json_head, json_record, json_gap, json_loss, json_end};
+}
