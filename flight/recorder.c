@@ -19,6 +19,7 @@ static uint32_t last_running;
 pthread_mutex_t flight_lock = PTHREAD_MUTEX_INITIALIZER;
 static pthread_once_t once = PTHREAD_ONCE_INIT;
 static pthread_key_t key;
+static int no_key; // why there is none
 
 // ---- Leases.
 
@@ -204,7 +205,7 @@ static void start_child(void)
 
 static void start_process(void)
 {
-    (void)pthread_key_create(&key, leave);
+    no_key = pthread_key_create(&key, leave);
     (void)pthread_atfork(NULL, NULL, start_child);
 }
 
@@ -336,7 +337,7 @@ int flight_start(const struct flight_config *given)
         return EINVAL;
     (void)pthread_once(&once, start_process);
     (void)pthread_mutex_lock(&flight_lock);
-    int fault = load(&flight_running) ? EALREADY : start(&config);
+    int fault = load(&flight_running) ? EALREADY : no_key ? no_key : start(&config);
     (void)pthread_mutex_unlock(&flight_lock);
     errno = before;
     return fault;
