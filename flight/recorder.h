@@ -36,7 +36,6 @@ enum {
 // A ring of one slot. The thread that has the slot writes it. Who dumps has the rest.
 struct ring {
     struct tracering_writer writer;
-    uint64_t written; // how many of its records are complete
     struct tracering_reader reader;
     uint64_t after;       // the number after the last record that a dump took
     uint64_t dropped;     // how many records of its kept pages were dropped
@@ -233,7 +232,9 @@ static inline uint32_t load(const uint32_t *word)
 // How many records of a ring are complete.
 static inline uint64_t records_of(const struct ring *ring)
 {
-    return __atomic_load_n(&ring->written, __ATOMIC_RELAXED);
+    uint64_t records = 0;
+    (void)tracering_written(&ring->writer, &records);
+    return records;
 }
 
 // How many pages the rings of this level have.
