@@ -46,6 +46,12 @@
 #ifndef TRACERING_H
 #define TRACERING_H
 
+// The library's version. (tools/version reads these lines, for whatever else states it.)
+#define TRACERING_VERSION "0.1.0"
+#define TRACERING_VERSION_MAJOR 0
+#define TRACERING_VERSION_MINOR 1
+#define TRACERING_VERSION_PATCH 0
+
 #if __SIZEOF_POINTER__ != 8
 #error "tracering: the library is made for machines with 64-bit pointers, and this one has others"
 #endif
@@ -191,9 +197,10 @@ enum {
     TRACERING_OTHER_RING = 32    // settle: these are ends of two rings
 };
 
-// A short text for what a call answered. (bindings/rust/build.rs reads these lines.)
+// A short text for what a call answered.
 static inline const char *tracering_text(int32_t code)
 {
+    // (bindings/rust/build.rs reads these lines.)
     switch (code) {
     case TRACERING_NOTHING_CLOSED: return "the page that is written has no record, so nothing is closed";
     case TRACERING_DIFFERENT: return "the collectors don't have and miss the same";
