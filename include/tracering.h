@@ -658,9 +658,10 @@ static inline int32_t tracering_settle(struct tracering_writer *w, struct tracer
 // writer_free: if no frame is begun, the page that is written is closed first, as begin_close and finish do, so that
 // the reader can take all records. (In a full ring that overwrites the oldest page, whose records the reader finds
 // counted as missed.) `lost`, which may be null, is set to how many records are lost: those that are written or
-// reserved, and on no closed page. It is 0 if no frame is begun, unless no number is left for the page's close (WORN).
-// (If frames are begun, pages may be overwritten after the last one that is closed, and no page counts their records:
-// `tracering_written`, called before, tells how many the reader hasn't got.)
+// reserved, and on a page that was never closed. It is 0 if no frame is begun, unless no number is left for the page's
+// close (WORN). It has no record of a closed page that was overwritten: that counts as missed before the next page that
+// is taken. If frames are begun, there may be no such page: then `tracering_written`, called before, tells how many
+// complete records the reader hasn't got.
 static inline int32_t tracering_writer_free(struct tracering_writer *w, uint64_t *lost)
 {
     if (!w)
