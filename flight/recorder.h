@@ -42,7 +42,8 @@ struct ring {
     uint32_t first, last; // its kept pages, or NO_PAGE
 };
 
-enum { NO_PAGE = UINT32_MAX };
+// No kept page.
+#define NO_PAGE UINT32_MAX
 
 // The time in which one thread has a slot: words, since a dump may read them while the thread changes them.
 struct lease {
@@ -59,7 +60,8 @@ struct leases {
 enum { LEASE_WORDS = sizeof(struct leases) / 8 };
 
 // Who has a slot: a thread, by its number, or one of these.
-enum { NOBODY = 0, DUMPER = UINT32_MAX };
+#define NOBODY 0
+#define DUMPER UINT32_MAX
 
 // What a dump asks the thread of a slot, and what that answers.
 enum request {

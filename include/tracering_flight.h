@@ -73,8 +73,8 @@ int flight_start(const struct flight_config *config);
 int flight_stop(void);
 
 // Dumps all events to a new file at this path, readable by its owner alone. May be called in handlers.
-// All signals of the thread are blocked meanwhile. ENODEV: no recorder runs. EBUSY: another dump is made. And what open,
-// write and close answer: then the file isn't whole, and the next dump has the same events and the newer ones.
+// All signals of the thread are blocked meanwhile. ENODEV: no recorder runs. EBUSY: another dump is made. And what
+// open, write and close answer: then the file isn't whole, and the next dump has the same events and the newer ones.
 int flight_dump(const char *path);
 
 // From now on SIGSEGV, SIGBUS, SIGILL, SIGFPE, SIGABRT and SIGTERM dump to this path, which is copied, and then do what

@@ -783,6 +783,11 @@ static char *at_edge(const char *bytes, size_t len)
     return memcpy(pages + 4096 - len, bytes, len);
 }
 
+// (clang has it that only a `void *` is for %p, and not any pointer to characters.)
+#ifdef __clang__
+#pragma clang diagnostic ignored "-Wformat-pedantic"
+#endif
+
 static void arguments_body(uint64_t unused)
 {
     char long_text[400];
@@ -1026,10 +1031,9 @@ static const struct {
     const char *name;
     void (*check)(void);
 } cases[] = {{"crashes", crashes}, {"busy", busy}, {"together", together}, {"idle", idle_threads}, {"blocked", blocked},
-    {"ended", ended}, {"crowded", crowded}, {"handlers", handlers},
-    {"first", first_events}, {"two_dumps", two_dumps}, {"switches", switches},
-    {"forked", forked}, {"answers", answers}, {"arguments", arguments}, {"former", former_actions}, {"amid", amid_calls},
-    {"hammer", hammer}};
+    {"ended", ended}, {"crowded", crowded}, {"handlers", handlers}, {"first", first_events}, {"two_dumps", two_dumps},
+    {"switches", switches}, {"forked", forked}, {"answers", answers}, {"arguments", arguments},
+    {"former", former_actions}, {"amid", amid_calls}, {"hammer", hammer}};
 
 int main(int argc, char **argv)
 {

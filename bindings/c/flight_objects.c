@@ -1,5 +1,5 @@
-// TRACE in several translation units and shared objects of one program: compiled with PART 1 and 2 into objects of their
-// own, and with PART 0 into the program, whose dump has the events and the sites of all three.
+// TRACE in several translation units and shared objects of one program: compiled with PART 1 and 2 into objects of
+// their own, and with PART 0 into the program, whose dump has the events and the sites of all three.
 #include "tracering_flight.h"
 
 void trace_one(int number);

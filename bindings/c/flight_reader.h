@@ -1,5 +1,5 @@
-// A strict reader of flight dumps for the tests, written from docs/FORMATS.md alone: whatever isn't as it says there ends
-// the program. It shares no code with the recorder or with `tracering-flight`.
+// A strict reader of flight dumps for the tests, written from docs/FORMATS.md alone: whatever isn't as it says there
+// ends the program. It shares no code with the recorder or with `tracering-flight`.
 #ifndef FLIGHT_READER_H
 #define FLIGHT_READER_H
 
@@ -203,7 +203,7 @@ static inline void get_site(struct read_dump *dump)
     get_text(dump, site->format, sizeof site->format);
 }
 
-// Where an argument of a record is, with its bytes; a text's are without its length. `index` may be one too many: then it
+// Where an argument of a record is, with its bytes; a text's are without its length. `index` may be too large: then it
 // is where the arguments end.
 static inline const uint8_t *argument(const struct read_dump *dump, const struct read_record *record, uint32_t index,
     size_t *len, bool *is_cut)
@@ -293,7 +293,7 @@ static inline void read_sections(struct read_dump *dump)
             get_site(dump);
             stage = 2;
         } else {
-            want(is_end && get(dump, 4) == dump->sections && !get(dump, 4), "an unknown section, or a wrong end", dump->at);
+            want(is_end && get(dump, 4) == dump->sections && !get(dump, 4), "an unknown section or end", dump->at);
             stage = 3;
         }
         want(dump->at == end, "a section's length", dump->at);
