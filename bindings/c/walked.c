@@ -35,10 +35,26 @@ static int collect(struct tracering_collector *c, const struct tracering_taken *
     return bad + (tracering_collector_free(c) != TRACERING_DONE) + (tracering_collector_free(&other) != TRACERING_DONE);
 }
 
+// A ring whose page a collector takes, and that is freed.
+static int take_and_free(void)
+{
+    struct tracering_writer w = TRACERING_WRITER_INIT;
+    struct tracering_reader r = TRACERING_READER_INIT;
+    struct tracering_collector c = TRACERING_COLLECTOR_INIT;
+    struct tracering_taken taken;
+    struct tracering_fault_at at;
+    uint64_t lost;
+    int bad = tracering_new(&w, &r, 0, PAGES, SIZE) != TRACERING_DONE || write_all(&w);
+    bad += tracering_collector_new(&c) != TRACERING_DONE;
+    bad += tracering_collector_take(&c, &r, &taken, &at) != TRACERING_DONE || taken.count != 1;
+    bad += tracering_writer_free(&w, &lost) != TRACERING_DONE || tracering_reader_free(&r) != TRACERING_DONE;
+    return bad + (tracering_collector_free(&c) != TRACERING_DONE);
+}
+
 int main(void)
 {
-    struct tracering_writer w = TRACERING_WRITER_INIT, freed = TRACERING_WRITER_INIT;
-    struct tracering_reader r = TRACERING_READER_INIT, freed_too = TRACERING_READER_INIT;
+    struct tracering_writer w = TRACERING_WRITER_INIT;
+    struct tracering_reader r = TRACERING_READER_INIT;
     struct tracering_collector c = TRACERING_COLLECTOR_INIT;
     struct tracering_taken taken, last;
     int bad = tracering_new(&w, &r, 0, PAGES, SIZE) != TRACERING_DONE || write_all(&w);
@@ -47,9 +63,7 @@ int main(void)
     bad += tracering_peek(&w, peeked, sizeof peeked, &taken) != TRACERING_DONE || taken.count != 1;
     bad += tracering_wish(&r) != TRACERING_DONE;
     bad += tracering_settle(&w, &r, rest, sizeof rest, &last) != TRACERING_DONE || last.count != 1;
-    bad += tracering_new(&freed, &freed_too, 0, PAGES, SIZE) != TRACERING_DONE;
-    bad += tracering_writer_free(&freed) != TRACERING_DONE || tracering_reader_free(&freed_too) != TRACERING_DONE;
-    bad += collect(&c, &last);
+    bad += collect(&c, &last) + take_and_free();
     printf("walked: %s\n", bad ? "answers are otherwise" : "as it is to be");
     return bad != 0;
 }
