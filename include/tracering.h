@@ -488,8 +488,8 @@ static inline int32_t tracering_begin_close(struct tracering_writer *w)
 // finish: reserves the record of the frame on top (RESERVED), in a slot of zeros, or says so again of one that is
 // reserved, and leaves its slot as it is; or completes a frame that was ended, a close, or one that was refused (DONE).
 // NOTHING_CLOSED: the frame on top was a close, which is completed; the page that is written has no record, and isn't
-// closed. CROWDED, WORN: the frame on top is refused, and its record isn't written; if `depth` still counts the frame, one more
-// `finish` completes it. NO_FRAME.
+// closed. CROWDED, WORN: the frame on top is refused, and its record isn't written; if `depth` still counts the frame,
+// one more `finish` completes it. NO_FRAME.
 static inline int32_t tracering_finish(struct tracering_writer *w)
 {
     if (!w)

@@ -210,8 +210,8 @@ impl Writer {
         Nested::from(self).close()
     }
 
-    /// Frees this end, as a drop does too: the page that is written is closed first, so that the reader can take it. How
-    /// many records are lost: 0, unless that close is refused (`Fault::Worn`).
+    /// Frees this end, as a drop does too: the page that is written is closed first, so that the reader can take it.
+    /// How many records are lost: 0, unless that close is refused (`Fault::Worn`).
     pub fn free(mut self) -> u64 {
         self.free_end()
     }

@@ -105,9 +105,9 @@ fn has_limits(pages: usize, size: usize) -> bool
         && size % 4 == 0
 }
 
-/// Frees the writer: it is freed at most once. If nothing is begun, the page that is written is closed first. It is told
-/// how many records are lost: those that have a number, and are on no closed page. That the writer's memory is released
-/// is tested, and not proved.
+/// Frees the writer: it is freed at most once. If nothing is begun, the page that is written is closed first. `lost` is
+/// set to how many records are lost: those that have a number, and are on no closed page. That the writer's memory is
+/// released is tested, and not proved.
 #[unsafe(no_mangle)]
 pub extern "C" fn tracering_raw_writer_free(
     alloc: Global,
