@@ -72,7 +72,7 @@ int main(int argc, char **argv)
 {
     static const char *const wanted[] = {"", "i4 i8 i8 u4 u8 u8 ", "f8 f8 f8 t0 t0 t0 ", "a8 a8 u1 u8 i1 u4 ",
         "i4 u4 t0 f8 ", "i2 u2 i1 u1 i4 t0 ", "i4 ", "i4 ", "i8 t0 "};
-    const std::string path = std::string(argc > 1 ? argv[1] : ".") + "/types";
+    const std::string path = std::string(argc > 1 ? argv[1] : ".") + "/types.flight";
     want(!flight_start(nullptr), "no start", 0);
     trace_all(1);
     want(!flight_dump(path.c_str()) && !flight_stop(), "no dump", 0);
