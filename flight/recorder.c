@@ -19,18 +19,7 @@ static uint32_t last_running;
 pthread_mutex_t flight_lock = PTHREAD_MUTEX_INITIALIZER;
 static pthread_once_t once = PTHREAD_ONCE_INIT;
 static pthread_key_t key;
-
-// ---- Rings: how many records are complete. A handler may count between two instructions of this thread, so a count is
-// one instruction.
-
-static inline void count_record(struct ring *ring)
-{
-#if defined(__x86_64__) && !defined(__SANITIZE_THREAD__)
-    __asm__ volatile("incq %0" : "+m"(ring->written));
-#else
-    (void)__atomic_fetch_add(&ring->written, 1, __ATOMIC_RELAXED);
-#endif
-}
+static int no_key; // why there is none
 
 // ---- Leases.
 
@@ -114,13 +103,14 @@ static struct slot *claim(void)
     return NULL;
 }
 
-// Gets a slot for this thread, which has none, from this recorder.
+// Gets a slot of this recorder for this thread, unless a handler has got it one meanwhile.
 static struct slot *get_slot(uint32_t number)
 {
     sigset_t signals;
     block_signals(&signals);
-    struct slot *slot = claim();
-    if (slot) {
+    bool has_slot = flight_mine.running == number;
+    struct slot *slot = has_slot ? flight_mine.slot : claim();
+    if (slot && !has_slot) {
         begin_lease(slot);
         flight_mine.slot = slot;
         flight_mine.running = number;
@@ -179,8 +169,7 @@ void flight_record(const struct flight_site *site, uint8_t *event, size_t len)
     struct ring *ring = slot->rings;
     for (uint32_t level = 1; ring->writer.in_call && level < flight_recorder.config.levels; level++)
         ring++;
-    if (tracering_write(&ring->writer, flight_moment(), event, len) == TRACERING_DONE)
-        count_record(ring);
+    (void)tracering_write(&ring->writer, flight_moment(), event, len);
 }
 
 int flight_name(const char *name)
@@ -216,7 +205,7 @@ static void start_child(void)
 
 static void start_process(void)
 {
-    (void)pthread_key_create(&key, leave);
+    no_key = pthread_key_create(&key, leave);
     (void)pthread_atfork(NULL, NULL, start_child);
 }
 
@@ -348,7 +337,7 @@ int flight_start(const struct flight_config *given)
         return EINVAL;
     (void)pthread_once(&once, start_process);
     (void)pthread_mutex_lock(&flight_lock);
-    int fault = load(&flight_running) ? EALREADY : start(&config);
+    int fault = load(&flight_running) ? EALREADY : no_key ? no_key : start(&config);
     (void)pthread_mutex_unlock(&flight_lock);
     errno = before;
     return fault;

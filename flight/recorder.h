@@ -36,14 +36,14 @@ enum {
 // A ring of one slot. The thread that has the slot writes it. Who dumps has the rest.
 struct ring {
     struct tracering_writer writer;
-    uint64_t written; // how many of its records are complete
     struct tracering_reader reader;
     uint64_t after;       // the number after the last record that a dump took
     uint64_t dropped;     // how many records of its kept pages were dropped
     uint32_t first, last; // its kept pages, or NO_PAGE
 };
 
-enum { NO_PAGE = UINT32_MAX };
+// No kept page.
+#define NO_PAGE UINT32_MAX
 
 // The time in which one thread has a slot: words, since a dump may read them while the thread changes them.
 struct lease {
@@ -60,7 +60,8 @@ struct leases {
 enum { LEASE_WORDS = sizeof(struct leases) / 8 };
 
 // Who has a slot: a thread, by its number, or one of these.
-enum { NOBODY = 0, DUMPER = UINT32_MAX };
+#define NOBODY 0
+#define DUMPER UINT32_MAX
 
 // What a dump asks the thread of a slot, and what that answers.
 enum request {
@@ -233,7 +234,9 @@ static inline uint32_t load(const uint32_t *word)
 // How many records of a ring are complete.
 static inline uint64_t records_of(const struct ring *ring)
 {
-    return __atomic_load_n(&ring->written, __ATOMIC_RELAXED);
+    uint64_t records = 0;
+    (void)tracering_written(&ring->writer, &records);
+    return records;
 }
 
 // How many pages the rings of this level have.

@@ -46,6 +46,12 @@
 #ifndef TRACERING_H
 #define TRACERING_H
 
+// The library's version. (tools/version reads these lines, for whatever else states it.)
+#define TRACERING_VERSION "0.1.0"
+#define TRACERING_VERSION_MAJOR 0
+#define TRACERING_VERSION_MINOR 1
+#define TRACERING_VERSION_PATCH 0
+
 #if __SIZEOF_POINTER__ != 8
 #error "tracering: the library is made for machines with 64-bit pointers, and this one has others"
 #endif
@@ -191,9 +197,10 @@ enum {
     TRACERING_OTHER_RING = 32    // settle: these are ends of two rings
 };
 
-// A short text for what a call answered. (bindings/rust/build.rs reads these lines.)
+// A short text for what a call answered.
 static inline const char *tracering_text(int32_t code)
 {
+    // (bindings/rust/build.rs reads these lines.)
     switch (code) {
     case TRACERING_NOTHING_CLOSED: return "the page that is written has no record, so nothing is closed";
     case TRACERING_DIFFERENT: return "the collectors don't have and miss the same";
@@ -651,9 +658,10 @@ static inline int32_t tracering_settle(struct tracering_writer *w, struct tracer
 // writer_free: if no frame is begun, the page that is written is closed first, as begin_close and finish do, so that
 // the reader can take all records. (In a full ring that overwrites the oldest page, whose records the reader finds
 // counted as missed.) `lost`, which may be null, is set to how many records are lost: those that are written or
-// reserved, and on no closed page. It is 0 if no frame is begun, unless no number is left for the page's close (WORN).
-// (If frames are begun, pages may be overwritten after the last one that is closed, and no page counts their records:
-// `tracering_written`, called before, tells how many the reader hasn't got.)
+// reserved, and on a page that was never closed. It is 0 if no frame is begun, unless no number is left for the page's
+// close (WORN). It has no record of a closed page that was overwritten: that counts as missed before the next page that
+// is taken. If frames are begun, there may be no such page: then `tracering_written`, called before, tells how many
+// complete records the reader hasn't got.
 static inline int32_t tracering_writer_free(struct tracering_writer *w, uint64_t *lost)
 {
     if (!w)

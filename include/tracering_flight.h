@@ -73,8 +73,8 @@ int flight_start(const struct flight_config *config);
 int flight_stop(void);
 
 // Dumps all events to a new file at this path, readable by its owner alone. May be called in handlers.
-// All signals of the thread are blocked meanwhile. ENODEV: no recorder runs. EBUSY: another dump is made. And what open,
-// write and close answer: then the file isn't whole, and the next dump has the same events and the newer ones.
+// All signals of the thread are blocked meanwhile. ENODEV: no recorder runs. EBUSY: another dump is made. And what
+// open, write and close answer: then the file isn't whole, and the next dump has the same events and the newer ones.
 int flight_dump(const char *path);
 
 // From now on SIGSEGV, SIGBUS, SIGILL, SIGFPE, SIGABRT and SIGTERM dump to this path, which is copied, and then do what
@@ -174,7 +174,7 @@ template <typename Given> constexpr uint8_t flight_kind_of()
     }
 }
 
-template <typename Kept> inline uint8_t *flight_put_bytes(uint8_t *at, const Kept &kept)
+template <typename Kept> inline uint8_t *flight_put_bytes(uint8_t *at, Kept kept)
 {
     memcpy(at, &kept, sizeof kept);
     return at + sizeof kept;
@@ -191,10 +191,10 @@ inline uint8_t *flight_put(uint8_t *at, const struct flight_site *site, unsigned
         return flight_put_text(at, site, index, reinterpret_cast<const char *>(&*given));
     else if constexpr (kind == FLIGHT_ADDRESS)
         return flight_put_bytes<const volatile void *>(at, given);
-    else if constexpr (std::is_same<Given, long double>::value)
+    else if constexpr (std::is_same<std::decay_t<Given>, long double>::value)
         return flight_put_bytes(at, static_cast<double>(given));
     else
-        return flight_put_bytes(at, given);
+        return flight_put_bytes<std::decay_t<Given>>(at, given);
 }
 
 #define FLIGHT_KIND(given) flight_kind_of<decltype(given)>()

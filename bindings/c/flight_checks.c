@@ -204,7 +204,7 @@ static void crashes(void)
     for (size_t at = 0; at < sizeof signals / sizeof *signals; at++) {
         int status = run(crash_body, (uint64_t)signals[at]);
         want(WIFSIGNALED(status) && WTERMSIG(status) == signals[at], "another end", (uint64_t)status);
-        struct read_dump *dump = read_dump(path);
+        struct read_dump *dump = open_dump(path);
         want(dump->signal == (uint32_t)signals[at] && !dump->without_ring, "another signal", dump->signal);
         for (uint64_t which = 0; which < 4; which++) {
             const struct read_ring *ring = ring_of_worker(dump, which);
@@ -245,7 +245,7 @@ static void busy(void)
     for (int round = 0; round < 10; round++) {
         int status = run(busy_body, SIGSEGV);
         want(WIFSIGNALED(status) && WTERMSIG(status) == SIGSEGV, "another end", (uint64_t)status);
-        struct read_dump *dump = read_dump(path);
+        struct read_dump *dump = open_dump(path);
         for (uint64_t which = 0; which < 3; which++) {
             const struct read_ring *ring = ring_of_worker(dump, which);
             check_worker(dump, ring, which);
@@ -287,7 +287,7 @@ static void together(void)
     for (int round = 0; round < 20; round++) {
         int status = run(together_body, 0);
         want(WIFSIGNALED(status) && WTERMSIG(status) == SIGSEGV, "another end", (uint64_t)status);
-        struct read_dump *dump = read_dump(path);
+        struct read_dump *dump = open_dump(path);
         for (uint64_t which = 0; which < 4; which++) {
             const struct read_ring *ring = ring_of_worker(dump, which);
             check_worker(dump, ring, which);
@@ -324,7 +324,7 @@ static void idle_body(uint64_t unused)
 static void idle_threads(void)
 {
     run_well(idle_body, 0);
-    struct read_dump *dump = read_dump(path);
+    struct read_dump *dump = open_dump(path);
     for (uint64_t which = 0; which < 8; which++) {
         const struct read_ring *ring = ring_of_worker(dump, which);
         check_worker(dump, ring, which);
@@ -358,7 +358,7 @@ static void *block_and_work(void *given)
 static void blocked_body(uint64_t unused)
 {
     (void)unused;
-    struct flight_config config = {.wait_ms = 20, .pages = 4, .size = 1024};
+    struct flight_config config = {.wait_ms = 400, .pages = 4, .size = 1024};
     start(&config);
     want(!sem_init(&go_on, 0, 0), "no semaphore", 0);
     let_go(block_and_work, 1);
@@ -372,7 +372,7 @@ static void blocked_body(uint64_t unused)
 static void blocked(void)
 {
     run_well(blocked_body, 0);
-    struct read_dump *dump = read_dump(path), *later = read_dump(second_path);
+    struct read_dump *dump = open_dump(path), *later = open_dump(second_path);
     const struct read_ring *ring = ring_of_worker(dump, 1), *whole = ring_of_worker(later, 1);
     check_worker(dump, ring, 1);
     check_worker(later, whole, 1);
@@ -408,7 +408,7 @@ static void ended_body(uint64_t threads)
 static void ended(void)
 {
     run_well(ended_body, 11);
-    struct read_dump *dump = read_dump(path);
+    struct read_dump *dump = open_dump(path);
     const struct read_ring *ring = &dump->rings[0];
     want(ring->is_there && ring->leases == 8 && !dump->without_ring, "the leases", ring->leases);
     want(ring->count == 11 * 10 + 55 && ring->tail == 0, "the events of threads that ended", ring->count);
@@ -454,7 +454,7 @@ static void crowded_body(uint64_t unused)
 static void crowded(void)
 {
     run_well(crowded_body, 0);
-    struct read_dump *dump = read_dump(path);
+    struct read_dump *dump = open_dump(path);
     uint64_t all = dump->rings[0].count + dump->rings[1].count;
     want(dump->without_ring == 100 && all == 150, "events without a ring", dump->without_ring);
     free_dump(dump);
@@ -507,7 +507,7 @@ static void handlers(void)
 {
     for (uint64_t levels = 1; levels <= 3; levels++) {
         run_well(handlers_body, levels);
-        struct read_dump *dump = read_dump(path);
+        struct read_dump *dump = open_dump(path);
         uint64_t written = 0, refused = 0, amid = 0;
         for (uint32_t level = 0; level < levels; level++) {
             const struct read_ring *ring = ring_named(dump, "worker-0", level);
@@ -521,6 +521,31 @@ static void handlers(void)
         want(levels == 1 || amid || scale > 1, "no event was amid another", 0);
         free_dump(dump);
     }
+}
+
+// ---- A handler that records while its thread's first event gets the thread a slot: the thread gets one alone.
+
+static void first_body(uint64_t rounds)
+{
+    start_timer(on_timer, 0, 0);
+    for (uint64_t round = 0; round < rounds; round++) {
+        struct itimerspec once = {{0, 0}, {0, 1000 + (long)(round * 97 % 20000)}};
+        truth->other = 0;
+        start(NULL);
+        want(!timer_settime(timer, 0, &once, NULL), "no timer", 0);
+        for (truth->counted[0] = 0; truth->counted[0] < 3 || !truth->other;)
+            record(0);
+        want(!flight_dump(path) && !flight_stop(), "no dump", 0);
+        struct read_dump *dump = open_dump(path);
+        want(dump->rings[0].is_there && dump->rings[1].is_there && !dump->rings[2].is_there, "two slots", round);
+        want(dump->rings[0].written + dump->rings[1].written == truth->counted[0] + 1, "an event", round);
+        free_dump(dump);
+    }
+}
+
+static void first_events(void)
+{
+    run_well(first_body, 400 / scale);
 }
 
 // ---- Two dumps, one after the other, with what is kept between them.
@@ -571,7 +596,7 @@ static void two_dumps(void)
     static const uint32_t keeps[] = {0, 1, 2, 3, FLIGHT_KEEP_NONE};
     for (int at = 0; at < 5; at++) {
         run_well(two_dumps_body, keeps[at]);
-        struct read_dump *dump = read_dump(path), *later = read_dump(second_path);
+        struct read_dump *dump = open_dump(path), *later = open_dump(second_path);
         for (uint64_t which = 0; which <= 4; which += 4) {
             check_worker(dump, ring_of_worker(dump, which), which);
             check_worker(later, ring_of_worker(later, which), which);
@@ -626,7 +651,7 @@ static void switches(void)
 {
     static const char *const wanted = "02|2|012|2|12|12|2|2|012|";
     run_well(switches_body, 0);
-    struct read_dump *dump = read_dump(path);
+    struct read_dump *dump = open_dump(path);
     const struct read_ring *ring = &dump->rings[0];
     char got[64] = "";
     for (size_t each = 0; each < ring->count && each < sizeof got - 1; each++)
@@ -671,7 +696,7 @@ static void fork_body(uint64_t unused)
 static void forked(void)
 {
     run_well(fork_body, 0);
-    struct read_dump *dump = read_dump(path), *of_child = read_dump(second_path);
+    struct read_dump *dump = open_dump(path), *of_child = open_dump(second_path);
     check_worker(dump, ring_of_worker(dump, 0), 0);
     check_worker(dump, ring_of_worker(dump, 1), 1);
     check_worker(of_child, ring_of_worker(of_child, 0), 0);
@@ -738,7 +763,7 @@ static void answers_body(uint64_t unused)
 static void answers(void)
 {
     run_well(answers_body, 0);
-    struct read_dump *dump = read_dump(path), *later = read_dump(second_path);
+    struct read_dump *dump = open_dump(path), *later = open_dump(second_path);
     want(dump->rings[0].count == 2 && later->rings[0].count == 1, "the events of each recorder", 0);
     want(argument_number(later, &later->rings[0].records[0], 0) == 3, "the second one's event", 0);
     want(dump->rings[0].dropped == 0, "kept after a dump to a full disk", 0);
@@ -757,6 +782,11 @@ static char *at_edge(const char *bytes, size_t len)
     want(pages != MAP_FAILED && !mprotect(pages + 4096, 4096, PROT_NONE), "no pages", 0);
     return memcpy(pages + 4096 - len, bytes, len);
 }
+
+// (clang has it that only a `void *` is for %p, and not any pointer to characters.)
+#ifdef __clang__
+#pragma clang diagnostic ignored "-Wformat-pedantic"
+#endif
 
 static void arguments_body(uint64_t unused)
 {
@@ -801,7 +831,7 @@ static void arguments(void)
     static const uint64_t numbers[2][8] = {{-1ull, 2, -3ull, 4, -5ull, 6, -7ull, 8},
         {'c', -2ull, 250, 1, -7ull, 4, 0x3ff8000000000000, 0x40200000}};
     run_well(arguments_body, 0);
-    struct read_dump *dump = read_dump(path);
+    struct read_dump *dump = open_dump(path);
     char long_text[256];
     memset(long_text, 'y', 255);
     long_text[255] = 0;
@@ -858,7 +888,7 @@ static void former_actions(void)
 {
     for (uint64_t is_ignored = 0; is_ignored < 2; is_ignored++) {
         run_well(former_body, is_ignored);
-        struct read_dump *dump = read_dump(path);
+        struct read_dump *dump = open_dump(path);
         want(dump->rings[0].count == 3 && dump->signal == SIGTERM, "the last dump", dump->rings[0].count);
         want(truth->number == (is_ignored ? 0 : 4), "calls of the former handler", truth->number);
         want(access(second_path, F_OK) != 0, "a dump to the former path", 0);
@@ -878,13 +908,13 @@ static void on_timer_dump(int signal)
 
 static void check_amid(void)
 {
-    struct read_dump *dump = read_dump(path);
+    struct read_dump *dump = open_dump(path);
     const struct read_ring *ring = &dump->rings[0];
     uint64_t counted = truth->at_crash[0];
     check_worker(dump, ring, 0);
     want(ring->written == counted || ring->written == counted + 1, "events", ring->written);
-    want(ring->tail == 0 || (ring->tail == 2 && ring->lacking > 0), "a tail", ring->tail);
-    truth->other += ring->tail == 2;
+    want(ring->tail == 0 || ring->tail == 2, "a tail", ring->tail);
+    truth->other += ring->lacking > 0;
     truth->number++;
     free_dump(dump);
 }
@@ -961,7 +991,7 @@ static void hammer_body(uint64_t dumps)
     for (uint64_t each = 0; each < dumps && now_and_interrupted() - begun < 20000000000; each++) {
         want(!flight_dump(path), "no dump", 0);
         count(&truth->ready);
-        struct read_dump *dump = read_dump(path);
+        struct read_dump *dump = open_dump(path);
         for (uint64_t which = 0; which < 7; which++) {
             const struct read_ring *ring = ring_of_worker(dump, which);
             check_worker(dump, ring, which);
@@ -978,14 +1008,14 @@ static void hammer_body(uint64_t dumps)
         want(!pthread_join(threads[which], NULL), "no end", which);
     want(!flight_dump(path), "no dump", 0);
     for (uint64_t which = 0; which < 7; which++)
-        compare(ring_of_worker(last, which), ring_of_worker(read_dump(path), which));
+        compare(ring_of_worker(last, which), ring_of_worker(open_dump(path), which));
     truth->number = unread;
 }
 
 static void hammer(void)
 {
     run_well(hammer_body, 200 / scale);
-    struct read_dump *dump = read_dump(path);
+    struct read_dump *dump = open_dump(path);
     for (uint64_t which = 0; which < 7; which++) {
         const struct read_ring *ring = ring_of_worker(dump, which);
         want(ring->written == truth->counted[which] && !ring->lacking, "an event isn't counted", which);
@@ -1001,9 +1031,9 @@ static const struct {
     const char *name;
     void (*check)(void);
 } cases[] = {{"crashes", crashes}, {"busy", busy}, {"together", together}, {"idle", idle_threads}, {"blocked", blocked},
-    {"ended", ended}, {"crowded", crowded}, {"handlers", handlers}, {"two_dumps", two_dumps}, {"switches", switches},
-    {"forked", forked}, {"answers", answers}, {"arguments", arguments}, {"former", former_actions}, {"amid", amid_calls},
-    {"hammer", hammer}};
+    {"ended", ended}, {"crowded", crowded}, {"handlers", handlers}, {"first", first_events}, {"two_dumps", two_dumps},
+    {"switches", switches}, {"forked", forked}, {"answers", answers}, {"arguments", arguments},
+    {"former", former_actions}, {"amid", amid_calls}, {"hammer", hammer}};
 
 int main(int argc, char **argv)
 {

@@ -1,5 +1,5 @@
-// A strict reader of flight dumps for the tests, written from docs/FORMATS.md alone: whatever isn't as it says there ends
-// the program. It shares no code with the recorder or with `tracering-flight`.
+// A strict reader of flight dumps for the tests, written from docs/FORMATS.md alone: whatever isn't as it says there
+// ends the program. It shares no code with the recorder or with `tracering-flight`.
 #ifndef FLIGHT_READER_H
 #define FLIGHT_READER_H
 
@@ -88,7 +88,7 @@ static inline void get_text(struct read_dump *dump, char *text, size_t room)
     dump->at += len;
 }
 
-static inline void read_process(struct read_dump *dump)
+static inline void get_process(struct read_dump *dump)
 {
     dump->process = (uint32_t)get(dump, 4);
     dump->thread = (uint32_t)get(dump, 4);
@@ -102,7 +102,7 @@ static inline void read_process(struct read_dump *dump)
     get_text(dump, dump->program, sizeof dump->program);
 }
 
-static inline struct read_ring *read_ring(struct read_dump *dump)
+static inline struct read_ring *get_ring(struct read_dump *dump)
 {
     uint64_t number = get(dump, 4);
     want(number < RINGS && !dump->rings[number].is_there, "a ring's number", number);
@@ -132,11 +132,15 @@ static inline void add_record(struct read_ring *ring, uint64_t moment, const uin
 {
     if (ring->count == ring->room) {
         ring->room = ring->room ? 2 * ring->room : 64;
-        ring->records = realloc(ring->records, ring->room * sizeof *ring->records);
+        ring->records = (struct read_record *)realloc(ring->records, ring->room * sizeof *ring->records);
         want(ring->records != NULL, "no memory", ring->room);
     }
     want(!ring->count || ring->records[ring->count - 1].moment <= moment, "moments fall", ring->next);
-    ring->records[ring->count++] = (struct read_record){ring->next++, moment, payload, len};
+    struct read_record *record = &ring->records[ring->count++];
+    record->number = ring->next++;
+    record->moment = moment;
+    record->payload = payload;
+    record->len = len;
 }
 
 // The words of a page's data, which end exactly where it does.
@@ -160,7 +164,7 @@ static inline void read_words(struct read_ring *ring, const uint8_t *data, uint6
     }
 }
 
-static inline void read_page(struct read_dump *dump, uint64_t number, struct read_ring *ring, uint64_t len)
+static inline void get_page(struct read_dump *dump, uint64_t number, struct read_ring *ring, uint64_t len)
 {
     const uint8_t *page = dump->bytes + dump->at;
     want(len >= 48 && len <= dump->len - dump->at, "a page is cut", dump->at);
@@ -181,7 +185,7 @@ static inline void read_page(struct read_dump *dump, uint64_t number, struct rea
     dump->at += len;
 }
 
-static inline void read_site(struct read_dump *dump)
+static inline void get_site(struct read_dump *dump)
 {
     uint64_t id = get(dump, 4);
     want(id < SITES && !dump->sites[id].is_there, "a site's id", id);
@@ -199,7 +203,7 @@ static inline void read_site(struct read_dump *dump)
     get_text(dump, site->format, sizeof site->format);
 }
 
-// Where an argument of a record is, with its bytes; a text's are without its length. `index` may be one too many: then it
+// Where an argument of a record is, with its bytes; a text's are without its length. `index` may be too large: then it
 // is where the arguments end.
 static inline const uint8_t *argument(const struct read_dump *dump, const struct read_record *record, uint32_t index,
     size_t *len, bool *is_cut)
@@ -276,20 +280,20 @@ static inline void read_sections(struct read_dump *dump)
         bool is_site = !memcmp(kind, "SITE", 4), is_end = !memcmp(kind, "ENDS", 4);
         if (stage == 0) {
             want(!memcmp(kind, "PROC", 4), "the first section", dump->at);
-            read_process(dump);
+            get_process(dump);
             stage = 1;
         } else if (stage == 1 && !memcmp(kind, "RING", 4)) {
             uint64_t next = number_at(dump->bytes + dump->at, 4);
             want(!ring || next > number, "rings fall", next);
-            ring = read_ring(dump);
+            ring = get_ring(dump);
             number = next;
         } else if (stage == 1 && ring && !memcmp(kind, "PAGE", 4))
-            read_page(dump, number, ring, len);
+            get_page(dump, number, ring, len);
         else if (is_site) {
-            read_site(dump);
+            get_site(dump);
             stage = 2;
         } else {
-            want(is_end && get(dump, 4) == dump->sections && !get(dump, 4), "an unknown section, or a wrong end", dump->at);
+            want(is_end && get(dump, 4) == dump->sections && !get(dump, 4), "an unknown section or end", dump->at);
             stage = 3;
         }
         want(dump->at == end, "a section's length", dump->at);
@@ -305,15 +309,15 @@ static inline void free_dump(struct read_dump *dump)
 }
 
 // Reads a dump, and checks all that a dump can be checked for.
-static inline struct read_dump *read_dump(const char *path)
+static inline struct read_dump *open_dump(const char *path)
 {
-    struct read_dump *dump = calloc(1, sizeof *dump);
+    struct read_dump *dump = (struct read_dump *)calloc(1, sizeof *dump);
     FILE *file = fopen(path, "rb");
     want(dump && file, "no dump", 0);
     want(!fseek(file, 0, SEEK_END), "no seek", 0);
     dump->len = (size_t)ftell(file);
     rewind(file);
-    dump->bytes = malloc(dump->len + 1);
+    dump->bytes = (uint8_t *)malloc(dump->len + 1);
     want(dump->bytes && fread(dump->bytes, 1, dump->len, file) == dump->len, "no read", dump->len);
     fclose(file);
     want(dump->len >= 16 && !memcmp(dump->bytes, "TRFLIGHT", 8), "no dump", dump->len);

@@ -2,5 +2,4 @@ mod Gathered
 mod Captures
 mod PagesOfAll
 mod Printing
-mod OneRuns
 mod OneOutput

@@ -11,16 +11,17 @@ use Rattle.capture.specs.Pages.{Page}
 use Rattle.capture.specs.Rings.{parcels_of_captures}
 use Rattle.capture.proofs.OneReading.{one-reading}
 use Rattle.collector_text.specs.Prints.{IsPrintOf}
+use Rattle.collector_text.proofs.OneText.{one_runs, one_runs_text}
 use Rattle.trace_inputs.specs.Files.{File, ModelPart, Checked, parts_of, parts_of_cpu, ArePartsOf}
 use Rattle.trace_inputs.specs.Captures.{CutsOf}
 use Rattle.trace_inputs.specs.Losses.{settled, overrun_in}
 use Rattle.capture_text.specs.declared.form.Form.{Form}
-use Rattle.capture_text.specs.Printing.{record_line}
+use Rattle.capture_text.specs.declared.form.Form.TheVariants.{Text, Json}
+use Rattle.capture_text.specs.Printing.{record_line, run_line, run_lines}
 use Rattle.collect_command.specs.declared.ending.Ending.{Ending}
 use Rattle.collect_command.specs.Gathered.{AreCpuPages, AreCpusPages}
 use Rattle.collect_command.specs.Listings.{all_unknown, all_damaged, listing_text, IsListed}
 use Rattle.collect_command.specs.Runs.{Asked, formats_for, ListsFiles}
-use Rattle.collect_command.proofs.OneRuns.{one_runs, one_run_lines}
 
 -- ---- the parts, and the pages of each CPU
 
@@ -62,6 +63,12 @@ one_captures overrun parts cpu (own ∷ captures) (other ∷ others) are too cou
     (one_captures overrun parts (suc cpu) captures others are.1 too.1 (omega arith))
 
 -- ---- what is printed of them
+
+-- the runs of each CPU have one text
+one_run_lines : (form : Form) (xs ys : List (List (ℕ × ℕ)))
+    → ((k : ℕ) → slice_index_or xs k [] ≡ slice_index_or ys k []) → run_lines form xs ≡ run_lines form ys
+one_run_lines Text xs ys same = one_runs_text (run_line Text) 0 xs ys same
+one_run_lines Json xs ys same = one_runs_text (run_line Json) 0 xs ys same
 
 one_text : (form : Form) (formats : Option (List EventFormat)) (parts : List ModelPart) (captures : List (List Page))
     (shown other : Shown) → IsPrintOf (parcels_of_captures 0 captures) shown

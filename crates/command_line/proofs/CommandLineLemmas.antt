@@ -10,7 +10,7 @@ use Rattle.clap.specs.declared.error.ErrorKind.{ErrorKind}
 use Rattle.clap.specs.declared.error.ErrorKind.TheVariants.{OutOfMemory}
 use Rattle.clap.proofs.OnLiterals.{clap_on_literals}
 use Rattle.clap.proofs.WalkLemmas.{one_text-rows}
-use Rattle.command_line.specs.CommandLine.{IsCallOf, IsAccepted, IsScript, command_line, fault_of_kind, flag_text, log_text, name_of, names_command, rows_found, rows_named}
+use Rattle.command_line.specs.CommandLine.{HasSource, IsCallOf, IsAccepted, command_line, fault_of_kind, flag_text, log_text, name_of, names_command, rows_found, rows_named}
 use Rattle.command_line.specs.Calls.{AreUnread, AsksFor, asked_of}
 use Rattle.command_line.specs.declared.call.CollectCall.{CollectCall}
 use Rattle.command_line.specs.declared.call.Call.{Call}
@@ -58,7 +58,7 @@ rows_of_found (Some p) found is = cc
 -- what is made of the matches of another command than `collect` is an answer to the words
 pub call_of_matches-words : (words : List Text) (m : ArgMatches) (call : Option Call) → HasMatchesOf command_line words m → IsAccepted words
     → subcommand_name_of m ≢ Some (codes "collect")
-    → IfSome call (λ x. IsScript x × (subcommand_name_of m ≡ Some (name_of x)))
+    → IfSome call (λ x. HasSource x × (subcommand_name_of m ≡ Some (name_of x)))
     → (call ≡ None → (subcommand_name_of m ≢ Some (codes "replay")) × (subcommand_name_of m ≢ Some (codes "run")) × (subcommand_name_of m ≢ Some (codes "dump")))
     → (flag_text (subcommand_rows_of m) ≡ Some (codes "true") → call ≢ Some (Replay false))
     → (flag_text (subcommand_rows_of m) ≡ Some (codes "false") → call ≢ Some (Replay true))
@@ -87,7 +87,7 @@ call_of_matches-words words m (Some x) has accepted other named none log no_log 
       no_replay = λ is. absurd (cc);
       no_run = λ is. absurd (cc);
       no_dump = λ is. absurd (cc);
-      collect = λ call is. let same : x ≡ Collect call = cc in absurd (subst IsScript same named.0);
+      collect = λ call is. let same : x ≡ Collect call = cc in absurd (subst HasSource same named.0);
       no_collect = λ is. absurd (cc);
     }
 

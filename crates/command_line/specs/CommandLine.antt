@@ -84,10 +84,10 @@ name_of Run = codes "run"
 name_of Dump = codes "dump"
 name_of (Collect call) = codes "collect"
 
--- the call is of another command than `collect`
-abbrev pub IsScript : Call → Type 0
-IsScript (Collect call) = ⊥
-IsScript _ = ⊤
+-- the command that is called reads one source; `collect` has files of its own
+abbrev pub HasSource : Call → Type 0
+HasSource (Collect call) = ⊥
+HasSource _ = ⊤
 
 -- What the program makes of its words: the command and what else the parse finds, if it accepts the words; if it
 -- doesn't, or finds no command, or what it finds for `collect` can't be read, the usage line. Memory is refused at any

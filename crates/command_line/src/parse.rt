@@ -4,7 +4,7 @@ ghost use Rattle.clap.specs.declared.builder.command.Command.TheViews.{out-Comma
 ghost use Rattle.clap.specs.Words.{app_of, subcommand_name_of, subcommand_rows_of, with_rule};
 ghost use Rattle.command_line.specs.Calls.{IsAsked, IsInRange};
 ghost use Rattle.command_line.specs.declared.call.CollectCall.{CollectCall};
-ghost use Rattle.command_line.specs.CommandLine.{IsCallOf, IsScript, collect_options, command_line, flag_rule, flag_text, image_commands, name_of, option_rule, script_commands, values_rule};
+ghost use Rattle.command_line.specs.CommandLine.{HasSource, IsCallOf, collect_options, command_line, flag_rule, flag_text, image_commands, name_of, option_rule, script_commands, values_rule};
 
 use crate::call::{Call, CallFault};
 use crate::collect::collect_call;
@@ -99,7 +99,7 @@ fn program<'a>(alloc: Global) -> Result<Command<'a>, AllocError>
 /// The call that these matches make, if they make one other than `collect`.
 fn call_of_matches<'a>(matches: &ArgMatches<'a>) -> Option<Call<'a>>
     ensures named { IfSome result (λ call.
-        IsScript call × (subcommand_name_of matches.now ≡ Some (name_of call))) }
+        HasSource call × (subcommand_name_of matches.now ≡ Some (name_of call))) }
     ensures none { result ≡ None → (subcommand_name_of matches.now ≢ Some (codes "replay"))
         × (subcommand_name_of matches.now ≢ Some (codes "run"))
         × (subcommand_name_of matches.now ≢ Some (codes "dump")) }

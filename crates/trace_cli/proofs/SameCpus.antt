@@ -1,5 +1,5 @@
 -- Two lists with the same CPUs.
-use Rattle.std.proofs.Common.{◌≡◌, ℕ, List, length, map, All, sym, subst, arith}
+use Rattle.std.proofs.Common.{◌≡◌, List, map, All, sym, subst, arith}
 use Rattle.std.proofs.lemmas.List.{get_or-map, length-map}
 use Rattle.std.proofs.lemmas.List.Elements.{All-map}
 

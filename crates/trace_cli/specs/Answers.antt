@@ -1,5 +1,5 @@
 -- What the program gives for what its command line asks for.
-use Rattle.std.specs.Prelude.{◌≡◌, ℕ, false, List, ⊤}
+use Rattle.std.specs.Prelude.{◌≡◌, ℕ, false, List}
 use Rattle.command_io.specs.CommandRun.{SourceRun, SinkRun}
 use Rattle.command_line.specs.declared.call.Call.{Call}
 use Rattle.command_line.specs.declared.call.Call.TheVariants.{Replay, Run, Dump, Collect}
@@ -13,13 +13,6 @@ CallGives (Replay log) = ReplayGives log
 CallGives Run = RunGives
 CallGives Dump = DumpGives
 CallGives (Collect call) = λ text bytes status. ⊥
-
--- the command reads one source
-abbrev pub HasSource : Call → Type 0
-HasSource (Replay log) = ⊤
-HasSource Run = ⊤
-HasSource Dump = ⊤
-HasSource (Collect call) = ⊥
 
 -- neither a read nor a write has failed
 pub record AreSound (source : SourceRun) (sink : SinkRun) : Type 0 where

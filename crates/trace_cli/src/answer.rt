@@ -2,7 +2,8 @@
 ghost use Rattle.std.specs.Prelude.{◌≡◌, false, Err, Ok};
 ghost use Rattle.command_io.specs.CommandRun.{IsCommandRun, IsRefusedCall, source_run, sink_run};
 ghost use Rattle.command_line.specs.declared.call.Call.{Call as CallSeen};
-ghost use Rattle.trace_cli.specs.Answers.{CallGives, HasSource};
+ghost use Rattle.command_line.specs.CommandLine.{HasSource};
+ghost use Rattle.trace_cli.specs.Answers.{CallGives};
 
 use command_io::{Sink, Source, USAGE, print_memory_line};
 use command_line::{Call, CallFault};

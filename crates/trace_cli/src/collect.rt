@@ -2,6 +2,8 @@
 ghost use Rattle.std.specs.Prelude.{◌≡◌, false, if◌then◌else◌, map, All, IfOk};
 ghost use Rattle.command_io.specs.Ends.{has_failed};
 ghost use Rattle.command_line.specs.Calls.{IsInRange};
+ghost use Rattle.trace_dat.specs.Contents.{format_seen};
+ghost use Rattle.trace_cli.specs.Formats.{format_read};
 
 use capture_text::Form;
 use collect_command::{Collected, Collecting, Ending, collect_to};
@@ -87,7 +89,9 @@ fn given_formats<'b>(
 }
 
 /// The formats, lent.
-fn lent<'a>(rt: &HostRuntime, texts: &'a [FormatText]) -> Result<Vec<Format<'a>>, Trial<'static>> {
+fn lent<'a>(rt: &HostRuntime, texts: &'a [FormatText]) -> Result<Vec<Format<'a>>, Trial<'static>>
+    ensures { IfOk result (λ formats. map format_seen formats.items ≡ map format_read texts.now) }
+{
     let mut formats = Vec::new(rt.alloc());
     for format in texts {
         let pushed = formats.push(Format {
