@@ -1,4 +1,4 @@
-"""The library for C: records written by a C program, beside a plain ring in C and LTTng-UST
+"""The library for C: records and events written by a C program, beside a plain ring in C and LTTng-UST
 
 A ring of 64 pages of 4,080 bytes; payloads of 8 to 112 bytes, of pseudo-random lengths. The plain ring has the same
 protocol: the two have to leave as many records for a reader. LTTng-UST is measured if its packages are there
@@ -16,6 +16,15 @@ from lib.programs import BENCH, TOP, Failure, call, tried
 NEEDS = ("rt", "cc", "valgrind")
 # How many records the program writes in a round.
 ROUND = 8_400
+# What `flight_speed` measures.
+EVENTS = (
+    ("write", "`tracering_write` of 16 bytes, a counter as its moment"),
+    ("counter", "`TRACE` with two numbers, a counter as its clock"),
+    ("tsc", "`TRACE` with two numbers, the processor's counter"),
+    ("monotonic", "`TRACE` with two numbers, CLOCK_MONOTONIC"),
+    ("text", "`TRACE` with a text of 24 bytes and a number, the processor's counter"),
+    ("off", "`TRACE` that is switched off"),
+)
 WAYS = (("library", "`tracering_write`"), ("plain", "plain ring in C"), ("copy", "only a copy of the same bytes"))
 
 
@@ -88,3 +97,20 @@ def run(folder):
     yield from tables.head("What", "Nanoseconds", "Millions a second")
     for what, _, took in found:
         yield tables.line([what, f"{took:.1f}", f"{1000 / took:.1f}"])
+    yield ""
+    yield from events(folder)
+
+
+def events(folder):
+    """Events of the flight recorder, beside records of as many bytes."""
+    program = folder / "flight_speed"
+    source = TOP / "bindings/c/flight_speed.c"
+    call(["cc", "-O2", f"-I{TOP}/include", "-o", program, source, TOP / "out/libtracering.a", "-lpthread"])
+    took = {words[0]: float(words[1]) for words in map(str.split, count.output([program]).splitlines())}
+    yield "Nanoseconds an event, the least of 200 runs, and how many times those of the record."
+    yield ""
+    yield from tables.head("What", "Nanoseconds", "Times")
+    for name, what in EVENTS:
+        yield tables.line([what, f"{took[name]:.1f}", f"{took[name] / took['write']:.2f}"])
+    if took["tsc"] > 2.5 * took["write"]:
+        raise Failure("embed: an event takes more than 2.5 times what a record takes")
