@@ -1,4 +1,4 @@
-use Rattle.std.proofs.Common.{refl, sym, ◌∙◌}
+use Rattle.std.proofs.Common.{refl, ◌∙◌}
 use Rattle.trace_model.specs.ParcelBytes.{IsParcel}
 use Rattle.page_numbers.specs.Parcels.{parcel_of_page}
 use Rattle.tracering_c.specs.Calls.{is_page, is_none}
