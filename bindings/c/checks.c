@@ -238,13 +238,23 @@ static void on_alarm_write(int signal)
     on_signal(signal);
 }
 
-// An alarm every 50 microseconds, and none.
-static const struct itimerval often = {.it_interval = {.tv_usec = 50}, .it_value = {.tv_usec = 50}}, never;
+// An alarm comes 50 microseconds after the handler of the last one is done: so the thread goes on, however slowly.
+static const struct itimerval soon = {.it_value = {.tv_usec = 50}}, never;
+static void (*volatile on_alarm)(int);
 
-static int alarms(void (*handler)(int), const struct itimerval *when)
+static void on_each_alarm(int signal)
 {
-    struct sigaction action = {.sa_handler = handler};
-    return sigaction(SIGALRM, &action, NULL) || setitimer(ITIMER_REAL, when, NULL);
+    if (!on_alarm)
+        return;
+    on_alarm(signal);
+    faults += setitimer(ITIMER_REAL, &soon, NULL) != 0;
+}
+
+static int alarms(void (*handler)(int))
+{
+    struct sigaction action = {.sa_handler = on_each_alarm};
+    on_alarm = handler;
+    return sigaction(SIGALRM, &action, NULL) || setitimer(ITIMER_REAL, handler ? &soon : &never, NULL);
 }
 
 // How many records of handlers the writer's handle says that it refused amid its calls.
@@ -261,13 +271,13 @@ static int crossed(uint64_t count)
     static uint8_t out[TRACERING_HEADER + SIZE];
     struct tracering_taken taken;
     int bad = tracering_new(&writer, &own.reader, 3, PAGES, SIZE) != TRACERING_DONE;
-    bad += alarms(on_alarm_take, &often);
+    bad += alarms(on_alarm_take);
     uint64_t written = write_records(count);
-    bad += alarms(on_alarm_write, &often);
+    bad += alarms(on_alarm_write);
     for (uint64_t i = 0; i < count; i++)
         (void)take_page(&own, out, &taken);
     // An alarm that is still to come does nothing.
-    bad += alarms(SIG_IGN, &never);
+    bad += alarms(NULL);
     bad += tracering_begin_close(&writer) != TRACERING_DONE || tracering_finish(&writer) > TRACERING_DONE;
     while (take_page(&own, out, &taken) == TRACERING_DONE)
         ;
@@ -888,12 +898,12 @@ int main(int argc, char **argv)
     // The alarms are for this thread alone: the reader's is made while they are blocked.
     if (tracering_new(&writer, &seen.reader, 3, PAGES, SIZE) != TRACERING_DONE
         || tracering_collector_new(&seen.collector) != TRACERING_DONE || pthread_sigmask(SIG_BLOCK, &alarm, NULL)
-        || pthread_create(&reader, NULL, read_pages, &seen) || alarms(on_signal, &often)
+        || pthread_create(&reader, NULL, read_pages, &seen) || alarms(on_signal)
         || pthread_sigmask(SIG_UNBLOCK, &alarm, NULL))
         return 1;
     uint64_t written = write_records(count);
     // An alarm that is still to come would write after the close.
-    if (setitimer(ITIMER_REAL, &never, NULL) || pthread_sigmask(SIG_BLOCK, &alarm, NULL))
+    if (alarms(NULL) || pthread_sigmask(SIG_BLOCK, &alarm, NULL))
         return 1;
     if (tracering_begin_close(&writer) != TRACERING_DONE || tracering_finish(&writer) > TRACERING_DONE)
         bad++;
