@@ -30,12 +30,23 @@ struct answers {
 static struct answers outer, inner;
 static uint64_t steps, amid, unmarked;
 
+static inline int32_t export(uint64_t call)
+{
+    begun = call;
+    ended = *from * divisor / divisor;
+    return answer;
+}
+
 int32_t tracering_raw_write(struct tracering_held *held, uint64_t moment, struct tracering_payload payload)
 {
     (void)held, (void)payload;
-    begun = moment;
-    ended = *from * divisor / divisor;
-    return answer;
+    return export(moment);
+}
+
+int32_t tracering_raw_put(struct tracering_held *held, const uint8_t *bytes, size_t len)
+{
+    (void)held, (void)bytes;
+    return export(len);
 }
 
 static void on_look(int signal)
@@ -46,9 +57,8 @@ static void on_look(int signal)
     unmarked += begun != ended && !writer.in_call;
 }
 
-static void write_one(struct answers *answers, uint64_t moment)
+static inline void count(struct answers *answers, int32_t code)
 {
-    int32_t code = tracering_write(&writer, moment, "", 0);
     *(code == answer ? &answers->answer : code == TRACERING_BUSY ? &answers->busy : &answers->other) += 1;
 }
 
@@ -57,17 +67,24 @@ static void on_write(int signal)
     (void)signal;
     steps++;
     amid += writer.in_call != 0;
-    write_one(&inner, steps);
+    count(&inner, tracering_write(&writer, steps, "", 0));
 }
 
 static __attribute__((noinline)) void write_often(void)
 {
     for (uint64_t moment = 1; moment <= CALLS; moment++)
-        write_one(&outer, moment);
+        count(&outer, tracering_write(&writer, moment, "", 0));
 }
 
-// Each instruction of `write_often` is followed by a trap, and so by a call of the handler.
-static bool is_trapped(void (*handler)(int))
+static __attribute__((noinline)) void put_often(void)
+{
+    static const uint8_t bytes[CALLS];
+    for (size_t len = 1; len <= CALLS; len++)
+        count(&outer, tracering_put(&writer, bytes, len));
+}
+
+// Each instruction of these calls is followed by a trap, and so by a call of the handler.
+static bool is_trapped(void (*calls)(void), void (*handler)(int))
 {
     struct sigaction action = {.sa_handler = handler};
     steps = amid = unmarked = 0;
@@ -76,7 +93,7 @@ static bool is_trapped(void (*handler)(int))
     if (sigaction(SIGTRAP, &action, NULL))
         return false;
     __asm__ volatile("pushfq\n\torq $0x100, (%%rsp)\n\tpopfq" ::: "memory", "cc");
-    write_often();
+    calls();
     __asm__ volatile("pushfq\n\tandq $~0x100, (%%rsp)\n\tpopfq" ::: "memory", "cc");
     return steps > 10 * CALLS && amid > CALLS && outer.answer == CALLS && !outer.busy && !outer.other;
 }
@@ -101,7 +118,7 @@ static bool are_counted(int32_t code)
     struct tracering_refused counts;
     memset(&writer, 0, sizeof writer);
     answer = code;
-    if (!is_trapped(on_write) || tracering_refused(&writer, &counts) != TRACERING_DONE)
+    if (!is_trapped(write_often, on_write) || tracering_refused(&writer, &counts) != TRACERING_DONE)
         return false;
     uint64_t sum = 0, refused = code == TRACERING_DONE ? 0 : CALLS + inner.answer;
     for (int32_t each = TRACERING_DONE; each <= TRACERING_BUSY; each++)
@@ -115,10 +132,14 @@ int main(int argc, char **argv)
     (void)argv;
     divisor = (uint64_t)argc + 2;
     from = &begun;
-    bool good = is_trapped(on_look) && !unmarked;
-    if (!good)
-        fprintf(stderr, "interrupted: of %llu steps %llu were unmarked\n", (unsigned long long)steps,
-            (unsigned long long)unmarked);
+    bool good = true;
+    static void (*const calls[])(void) = {write_often, put_often};
+    for (size_t each = 0; each < sizeof calls / sizeof *calls; each++)
+        if (!is_trapped(calls[each], on_look) || unmarked) {
+            fprintf(stderr, "interrupted: of %llu steps %llu were unmarked\n", (unsigned long long)steps,
+                (unsigned long long)unmarked);
+            good = false;
+        }
     for (int32_t code = TRACERING_DONE; code <= TRACERING_WORN; code++)
         if (!are_counted(code)) {
             fprintf(stderr, "interrupted: answers of %d are counted otherwise\n", code);
