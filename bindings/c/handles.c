@@ -35,8 +35,8 @@ static uint64_t written(const struct tracering_writer *w)
 // How much room is wanted: that much is enough, and one byte less is not.
 static void rooms(void)
 {
-    struct tracering_writer w = TRACERING_WRITER_INIT;
-    struct tracering_reader r = TRACERING_READER_INIT;
+    static struct tracering_writer w = TRACERING_WRITER_INIT;
+    static struct tracering_reader r = TRACERING_READER_INIT;
     uint8_t out[ROOM];
     struct tracering_taken taken;
     IS(tracering_writer_room(&w) == 0 && tracering_reader_room(&r) == 0);
@@ -127,8 +127,8 @@ static void counted(void)
 // Ends of two rings are told apart, also if one was made where the other was before.
 static void strangers(void)
 {
-    struct tracering_writer w[2] = {TRACERING_WRITER_INIT, TRACERING_WRITER_INIT};
-    struct tracering_reader r[2] = {TRACERING_READER_INIT, TRACERING_READER_INIT};
+    static struct tracering_writer w[2] = {TRACERING_WRITER_INIT, TRACERING_WRITER_INIT};
+    static struct tracering_reader r[2] = {TRACERING_READER_INIT, TRACERING_READER_INIT};
     uint8_t large[TRACERING_HEADER + 4096], out[ROOM];
     struct tracering_taken taken = {7, 7, 7, 7, 7};
     IS(tracering_settle(&w[0], &r[0], out, sizeof out, &taken) == TRACERING_ABSENT);
