@@ -132,7 +132,7 @@ fn a_writer_that_is_freed_leaves_all_records_to_the_reader() {
     forget(writer.begin(11, 1).unwrap());
     assert_eq!(writer.free(), 0);
     assert_eq!(reader.take(&mut out).unwrap().count, 8);
-    let taken = Taken { fill: 1, first: 8, missed: 0, count: 4, len: HEADER + 64 };
+    let taken = Taken { fill: 1, first: 8, missed: 0, count: 4, len: HEADER + 8 * 4 };
     assert_eq!(reader.take(&mut out), Ok(taken));
     assert_eq!(reader.take(&mut out), Err(Fault::Empty));
     let (writer, mut reader) = ring(0, 2, 64).unwrap();
