@@ -106,7 +106,8 @@ def events(folder):
     program = folder / "flight_speed"
     source = TOP / "bindings/c/flight_speed.c"
     call(["cc", "-O2", f"-I{TOP}/include", "-o", program, source, TOP / "out/libtracering.a", "-lpthread"])
-    took = {words[0]: float(words[1]) for words in map(str.split, count.output([program]).splitlines())}
+    lines = count.output([program]).decode().splitlines()
+    took = {name: float(nanoseconds) for name, nanoseconds, _ in map(str.split, lines)}
     yield "Nanoseconds an event, the least of 200 runs, and how many times those of the record."
     yield ""
     yield from tables.head("What", "Nanoseconds", "Times")
