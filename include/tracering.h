@@ -84,8 +84,8 @@ struct tracering_refused {
     uint64_t worn;        // the same
 };
 
-// A handle: `in_call` is set as long as it is in a call, so that one which interrupts it is refused. `other` is where the
-// other end of its ring was made, so that settle knows the two.
+// A handle: `in_call` is set as long as it is in a call, so that one which interrupts it is refused. `other` is where
+// the other end of its ring was made, so that settle knows the two.
 struct tracering_writer {
     struct tracering_held held;
     volatile sig_atomic_t in_call;
@@ -532,9 +532,9 @@ static inline int32_t tracering_end(struct tracering_writer *w)
 
 // Copies to `records` how many records are complete: written, or ended. Whoever has taken pages, of which the last one
 // has the numbers `first` to `first + count - 1`, has got, or seen counted as missed, all but *records - first - count
-// of them. (While a frame is begun, its record's number may be before theirs.) It may be made amid a call on the handle,
-// by any handler, and by another thread. settle, writer_free and writer_abandon set the number to 0. It answers DONE, of
-// a handle that has nothing too.
+// of them. (While a frame is begun, its record's number may be before theirs.) It may be made amid a call on the
+// handle, by any handler, and by another thread. settle, writer_free and writer_abandon set the number to 0. It answers
+// DONE, of a handle that has nothing too.
 static inline int32_t tracering_written(const struct tracering_writer *w, uint64_t *records)
 {
     if (!(w && records))

@@ -119,7 +119,7 @@ static uint64_t number_at(const uint8_t *at, int bytes)
     return number;
 }
 
-// How many bytes a parcel uses: those before its page's data, the data, and the count of missed records, if one is stored.
+// How many bytes a parcel uses: those before its page's data, the data, and the count of missed records if it is stored.
 static size_t used_len(const uint8_t *parcel)
 {
     uint64_t commit = number_at(parcel + 40, 8);
@@ -264,8 +264,8 @@ static uint64_t refused_amid(void)
     return tracering_refused(&writer, &counts) == TRACERING_DONE ? counts.busy : UINT64_MAX;
 }
 
-// The thread writes while the handler takes and peeks, and then takes while the handler writes. Each record is on a page
-// that is taken, or counted as missed before one.
+// The thread writes while the handler takes and peeks, and then takes while the handler writes. Each record is on a
+// page that is taken, or counted as missed before one.
 static int crossed(uint64_t count)
 {
     static uint8_t out[TRACERING_HEADER + SIZE];
@@ -514,7 +514,8 @@ static bool is_peeked(struct tracering_writer *w, uint64_t fill, uint64_t first,
     struct tracering_taken taken = {0};
     out[ROOM] = 77;
     bool is = tracering_peek(w, out, ROOM, &taken) == TRACERING_DONE && out[ROOM] == 77 && taken.fill == fill
-        && taken.first == first && taken.missed == 0 && taken.count == count && taken.len == TRACERING_HEADER + 8 * count
+        && taken.first == first && taken.missed == 0 && taken.count == count
+        && taken.len == TRACERING_HEADER + 8 * count
         && number_at(out, 8) == 5 && number_at(out + 8, 8) == fill && number_at(out + 16, 8) == first
         && number_at(out + 24, 8) == 0 && number_at(out + 32, 8) == first && number_at(out + 40, 8) == 8 * count;
     for (uint64_t k = 0; k < count && is; k++)
@@ -825,7 +826,8 @@ static int pages_collected(void)
     bad += taken.fill != 7 || taken.len != 7 || at.number != 7 || at.cpu != 7;
 
     bad += tracering_collector_take(&c, &r, &taken, &at) != TRACERING_DONE || c.in_call || r.in_call;
-    bad += taken.fill != 0 || taken.first != 0 || taken.missed != 0 || taken.count != 2 || taken.len != TRACERING_HEADER + 16;
+    bad += taken.fill != 0 || taken.first != 0 || taken.missed != 0 || taken.count != 2;
+    bad += taken.len != TRACERING_HEADER + 16;
     taken.fill = 7;
     bad += tracering_collector_take(&c, &r, &taken, &at) != TRACERING_EMPTY || taken.fill != 7 || at.number != 7;
     bad += tracering_collector_take(&c, &twin_r, &taken, &at) != TRACERING_KNOWN || taken.fill != 0;

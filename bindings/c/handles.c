@@ -1,5 +1,5 @@
-// What handles know by themselves: how much room their calls want, how many records are complete, whether two ends are of
-// one ring; and that a handle which a call left marked can be given up.
+// What handles know by themselves: how much room their calls want, how many records are complete, whether two ends are
+// of one ring; and that a handle which a call left marked can be given up.
 //
 //     handles
 //

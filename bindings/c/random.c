@@ -95,7 +95,8 @@ static uint64_t reserve(struct ring *ring, uint64_t moment, size_t len)
 
 static uint64_t some_moment(const struct ring *ring)
 {
-    return below(40) == 0 ? UINT64_MAX >> below(7) : below(10) ? ring->moment + below(9) : ring->moment + below(1u << 29);
+    uint64_t late = UINT64_MAX >> below(7), near = ring->moment + below(9), far = ring->moment + below(1u << 29);
+    return below(40) == 0 ? late : below(10) ? near : far;
 }
 
 static size_t some_len(const struct ring *ring)
@@ -223,7 +224,8 @@ static void look_at(const struct ring *ring, const uint8_t *parcel, const struct
     uint64_t numbers[] = {ring->cpu, taken->fill, taken->first, taken->missed};
     for (int k = 0; k < 4; k++)
         IS(number_at(parcel + 8 * k, 8) == numbers[k]);
-    uint64_t moment = number_at(parcel + 32, 8), commit = number_at(parcel + 40, 8), len = commit & 0x3FFFFFFF, count = 0;
+    uint64_t moment = number_at(parcel + 32, 8), commit = number_at(parcel + 40, 8);
+    uint64_t len = commit & 0x3FFFFFFF, count = 0;
     IS(taken->len == TRACERING_HEADER + len + (commit >> 30 & 1 ? 8 : 0) && len <= ring->size);
     const uint8_t *at = parcel + TRACERING_HEADER, *behind = at + len;
     while (at < behind) {

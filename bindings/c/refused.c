@@ -1,6 +1,6 @@
 // Refuses each growth of memory of a collector's calls in turn, and those of a new ring. The call answers NO_MEMORY,
-// nothing has changed, and the same call made once more does what it does otherwise. No block is left once all is freed;
-// a list that was given room before the refusal keeps it until then. It is linked with
+// nothing has changed, and the same call made once more does what it does otherwise. No block is left once all is
+// freed; a list that was given room before the refusal keeps it until then. It is linked with
 // -Wl,--wrap=malloc -Wl,--wrap=realloc -Wl,--wrap=free.
 #include "tracering.h"
 
