@@ -625,7 +625,7 @@ static inline int32_t tracering_wish(struct tracering_reader *r)
     return tracering_leave_end(&r->in_call, tracering_raw_wish(&r->held));
 }
 
-// ---- The calls of whoever has both ends, or is done with one. They release memory: no handler may make them.
+// ---- The calls of whoever has both ends, or is done with one. All but abandon release memory: no handler may make them.
 
 // Joins the two ends of a ring. The pages that were taken, and then the one that is given here, have all records that
 // were written, except those that are counted as missed. It is given as `take` does; if it has no record, `taken->len`
@@ -659,9 +659,9 @@ static inline int32_t tracering_settle(struct tracering_writer *w, struct tracer
 // the reader can take all records. (In a full ring that overwrites the oldest page, whose records the reader finds
 // counted as missed.) `lost`, which may be null, is set to how many records are lost: those that are written or
 // reserved, and on a page that was never closed. It is 0 if no frame is begun, unless no number is left for the page's
-// close (WORN). It has no record of a closed page that was overwritten: that counts as missed before the next page that
-// is taken. If frames are begun, there may be no such page: then `tracering_written`, called before, tells how many
-// complete records the reader hasn't got.
+// close (WORN). It doesn't count records of closed pages that were overwritten: they count as missed before the next
+// page that is taken. If frames are begun, there may be no such page: then `tracering_written`, called before, tells how
+// many complete records the reader hasn't got.
 static inline int32_t tracering_writer_free(struct tracering_writer *w, uint64_t *lost)
 {
     if (!w)
@@ -692,11 +692,14 @@ static inline int32_t tracering_reader_free(struct tracering_reader *r)
 
 // Each gives up a handle that stays in a call for ever: a handler that interrupted the call never came back to it (it
 // left by siglongjmp, or the thread was cancelled in it). What the handle had is not released, since the call may be
-// amid anything; the other end may be used and freed. The handle is all zeros afterwards, and can be made new.
+// amid anything; the other end may be used and freed. If the call was amid a move of the head, takes of the other end
+// answer MOVING for ever, and what is unread is lost: so whoever abandons a writer tries MOVING again only so often. The
+// handle is all zeros afterwards, and can be made new.
 static inline int32_t tracering_writer_abandon(struct tracering_writer *w)
 {
     if (!w)
         return TRACERING_NULL;
+    (void)tracering_enter(&w->in_call);
     w->held.at = NULL;
     w->held.live = false;
     tracering_forget(w);
@@ -707,6 +710,7 @@ static inline int32_t tracering_reader_abandon(struct tracering_reader *r)
 {
     if (!r)
         return TRACERING_NULL;
+    (void)tracering_enter(&r->in_call);
     r->held.at = NULL;
     r->held.live = false;
     tracering_forget_reader(r);
