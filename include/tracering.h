@@ -625,7 +625,8 @@ static inline int32_t tracering_wish(struct tracering_reader *r)
     return tracering_leave_end(&r->in_call, tracering_raw_wish(&r->held));
 }
 
-// ---- The calls of whoever has both ends, or is done with one. All but abandon release memory: no handler may make them.
+// ---- The calls of whoever has both ends, or is done with one. All but those that abandon release memory: no handler
+// may make them.
 
 // Joins the two ends of a ring. The pages that were taken, and then the one that is given here, have all records that
 // were written, except those that are counted as missed. It is given as `take` does; if it has no record, `taken->len`
