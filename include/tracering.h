@@ -175,8 +175,8 @@ enum {
     TRACERING_NO_MEMORY = 12,    // there is no memory
     TRACERING_BAD_SIZE = 13,     // a ring can't have this number of pages or this size
     TRACERING_BAD_CPU = 14,      // there is no such CPU
-    TRACERING_EMPTY = 15,        // take, collector_take: no closed page is unread; peek: the page that is written has no
-                                 // record
+    TRACERING_EMPTY = 15,        // take, collector_take: no closed page is unread; peek: the page that is written has
+                                 // no record
     TRACERING_MOVING = 16,       // a move of the head isn't finished, or `take` made all its steps: try again
     TRACERING_NO_ROOM = 17,      // the buffer is too short; take, peek and settle change nothing, missing gives what
                                  // has room and sets `count`, next sets `line`
@@ -661,8 +661,8 @@ static inline int32_t tracering_settle(struct tracering_writer *w, struct tracer
 // counted as missed.) `lost`, which may be null, is set to how many records are lost: those that are written or
 // reserved, and on a page that was never closed. It is 0 if no frame is begun, unless no number is left for the page's
 // close (WORN). It doesn't count records of closed pages that were overwritten: they count as missed before the next
-// page that is taken. If frames are begun, there may be no such page: then `tracering_written`, called before, tells how
-// many complete records the reader hasn't got.
+// page that is taken. If frames are begun, there may be no such page: then `tracering_written`, called before, tells
+// how many complete records the reader hasn't got.
 static inline int32_t tracering_writer_free(struct tracering_writer *w, uint64_t *lost)
 {
     if (!w)
@@ -694,8 +694,8 @@ static inline int32_t tracering_reader_free(struct tracering_reader *r)
 // Each gives up a handle that stays in a call for ever: a handler that interrupted the call never came back to it (it
 // left by siglongjmp, or the thread was cancelled in it). What the handle had is not released, since the call may be
 // amid anything; the other end may be used and freed. If the call was amid a move of the head, takes of the other end
-// answer MOVING for ever, and what is unread is lost: so whoever abandons a writer tries MOVING again only so often. The
-// handle is all zeros afterwards, and can be made new.
+// answer MOVING for ever, and what is unread is lost: so whoever abandons a writer tries MOVING again only so often.
+// The handle is all zeros afterwards, and can be made new.
 static inline int32_t tracering_writer_abandon(struct tracering_writer *w)
 {
     if (!w)

@@ -119,7 +119,7 @@ static uint64_t number_at(const uint8_t *at, int bytes)
     return number;
 }
 
-// How many bytes a parcel uses: those before its page's data, the data, and the count of missed records if it is stored.
+// How many bytes a parcel uses: those before its page's data, the data, and the count of missed records, if it has one.
 static size_t used_len(const uint8_t *parcel)
 {
     uint64_t commit = number_at(parcel + 40, 8);
