@@ -388,6 +388,15 @@ static void add_replacement(struct text *text, struct bytes body, struct argumen
     }
 }
 
+// The brace that ends a replacement which begins here, or null. It may have another as its fill: {:}>5}.
+static const uint8_t *end_of_replacement(struct rest rest)
+{
+    (void)read_digits(&rest);
+    if (skip(&rest, ':') && rest.at < rest.end && *rest.at == '}' && is_align(rest.at + 1, rest.end))
+        rest.at++;
+    return rest.at < rest.end ? memchr(rest.at, '}', (size_t)(rest.end - rest.at)) : NULL;
+}
+
 void format_braces(struct text *text, struct bytes format, struct arguments *arguments)
 {
     struct rest rest = {format.at, format.at + format.len};
@@ -398,7 +407,7 @@ void format_braces(struct text *text, struct bytes format, struct arguments *arg
             add_bytes(text, &letter, 1);
             continue;
         }
-        const uint8_t *end = memchr(rest.at, '}', (size_t)(rest.end - rest.at));
+        const uint8_t *end = end_of_replacement(rest);
         if (!end) {
             add_string(text, "<{");
             add_bytes(text, rest.at, (size_t)(rest.end - rest.at));

@@ -17,7 +17,7 @@ use std::io;
 use std::mem::{size_of, MaybeUninit};
 use std::os::unix::ffi::OsStrExt;
 use std::path::Path;
-use std::sync::atomic::{AtomicU16, AtomicU32, AtomicU8, Ordering};
+use std::sync::atomic::{AtomicU16, AtomicU32, AtomicU64, AtomicU8, Ordering};
 
 /// How many arguments an event has at most.
 pub const MOST_ARGUMENTS: usize = 8;
@@ -49,7 +49,7 @@ pub struct Config {
     pub pages: u32,
     /// How many bytes of data a page has (4,080).
     pub size: u32,
-    /// How many pages that a dump took are kept for the next one (as many as all threads' rings have), or `KEEP_NONE`.
+    /// How many pages that a dump took are kept for the next one (`threads * (pages + 1)`), or `KEEP_NONE`.
     pub keep: u32,
     /// The clock.
     pub clock: Clock,
@@ -141,7 +141,7 @@ const OFF: u32 = 1;
 const ON: u32 = 2;
 const BRACES: u8 = 1;
 
-/// A place that records, as the recorder has it.
+/// A place that records with arguments of certain kinds, as the recorder has it.
 #[repr(C)]
 pub struct Site {
     format: *const u8,
@@ -178,9 +178,9 @@ impl Site {
         }
     }
 
-    /// Whether the place records. At first it is made known.
+    /// Whether it records. At first it is made known.
     #[inline]
-    pub fn is_on(&'static self) -> bool {
+    fn is_on(&'static self) -> bool {
         match self.state.load(Ordering::Acquire) {
             ON => true,
             OFF => false,
@@ -188,27 +188,99 @@ impl Site {
         }
     }
 
-    /// States the kinds of the place's arguments, before its first event.
-    #[inline]
-    fn state_kinds(&self, kinds: &[u8]) {
-        for (kept, &kind) in self.kinds.iter().zip(kinds) {
-            if kept.load(Ordering::Relaxed) != kind {
-                kept.store(kind, Ordering::Relaxed);
-            }
+    /// States the kinds of the arguments, before the first event.
+    fn state_kinds(&self, kinds: u64) {
+        for (kept, kind) in self.kinds.iter().zip(kinds.to_le_bytes()) {
+            kept.store(kind, Ordering::Relaxed);
         }
     }
 }
 
-/// The most bytes of an event: the recorder's own, and eight texts.
-const ROOM: usize = 4 + MOST_ARGUMENTS * (2 + LONGEST_TEXT);
+/// How many lists of kinds a place can have.
+pub const MOST_LISTS: usize = 8;
 
-/// The bytes of an event, as far as they are put.
+/// A `trace!`. It is one place in all instances of a generic function, whose arguments may have other kinds in each: so
+/// it has a site for each list of kinds, in the order in which they first come. It takes 640 bytes of the program.
+pub struct Place {
+    sites: [Site; MOST_LISTS],
+    /// The kinds of each site, with CLAIMED, and with STATED once the site has them. 0: it is free.
+    lists: [AtomicU64; MOST_LISTS],
+    /// The site for all further lists. Its events are recorded without their arguments.
+    bare: Site,
+}
+
+const _: () = assert!(size_of::<Place>() == 640);
+
+// No kind has these bits.
+const CLAIMED: u64 = 1 << 63;
+const STATED: u64 = 1 << 55;
+
+impl Place {
+    /// The place with these sites, which are alike, and with `bare`, which is as they are without arguments.
+    pub const fn new(sites: [Site; MOST_LISTS], bare: Site) -> Place {
+        Place { sites, lists: [const { AtomicU64::new(0) }; MOST_LISTS], bare }
+    }
+
+    /// Whether the place records. All its sites are switched at once, since they have the same texts.
+    #[inline]
+    pub fn is_on(&'static self) -> bool {
+        self.sites[0].is_on()
+    }
+
+    /// The site of this list of kinds, if there is one.
+    #[inline]
+    fn site(&'static self, kinds: u64) -> Option<&'static Site> {
+        match self.lists[0].load(Ordering::Acquire) == kinds | CLAIMED | STATED {
+            true => Some(&self.sites[0]),
+            false => self.find(kinds | CLAIMED),
+        }
+    }
+
+    /// Finds the site of this list, or claims one. Whoever finds one whose kinds aren't stated yet, states them too.
+    #[cold]
+    fn find(&'static self, wanted: u64) -> Option<&'static Site> {
+        let claim = |list: &AtomicU64| match list.load(Ordering::Acquire) {
+            0 => list.compare_exchange(0, wanted, Ordering::AcqRel, Ordering::Acquire).err().unwrap_or(wanted),
+            found => found,
+        };
+        for (site, list) in self.sites.iter().zip(&self.lists) {
+            let found = claim(list);
+            if found == wanted {
+                site.state_kinds(wanted & !CLAIMED);
+                list.store(wanted | STATED, Ordering::Release);
+            }
+            if found & !STATED == wanted {
+                return Some(site);
+            }
+        }
+        None
+    }
+}
+
+/// The first bytes of an event, which the recorder puts.
+const HEAD: usize = 4;
+/// The most bytes of an event: the recorder's own, and eight texts.
+const ROOM: usize = HEAD + MOST_ARGUMENTS * (2 + LONGEST_TEXT);
+
+/// The bytes of an event, as far as they are put behind the head.
 pub struct Event {
     bytes: [MaybeUninit<u8>; ROOM],
     len: usize,
 }
 
 impl Event {
+    #[inline]
+    fn new() -> Event {
+        Event { bytes: [MaybeUninit::uninit(); ROOM], len: HEAD }
+    }
+
+    #[inline]
+    fn record(&mut self, site: &'static Site) {
+        if site.is_on() {
+            unsafe { flight_record(site, self.bytes.as_mut_ptr().cast(), self.len) }
+        }
+    }
+
     #[inline]
     fn put(&mut self, bytes: &[u8]) {
         for (room, byte) in self.bytes[self.len..][..bytes.len()].iter_mut().zip(bytes) {
@@ -305,16 +377,26 @@ impl<T: Argument + ?Sized> Argument for &T {
 /// All arguments of an event.
 pub trait Arguments: sealed::Sealed {
     #[doc(hidden)]
-    const KINDS: &'static [u8];
+    const KINDS: u64;
     #[doc(hidden)]
     fn put(&self, event: &mut Event);
+}
+
+/// The kinds as one number, the first one lowest.
+const fn packed(kinds: &[u8]) -> u64 {
+    let (mut packed, mut at) = (0, 0);
+    while at < kinds.len() {
+        packed |= (kinds[at] as u64) << (8 * at);
+        at += 1;
+    }
+    packed
 }
 
 macro_rules! tuples {
     ($($first:ident $($name:ident)*)?) => {
         impl<$($first: Argument, $($name: Argument),*)?> sealed::Sealed for ($($first, $($name,)*)?) {}
         impl<$($first: Argument, $($name: Argument),*)?> Arguments for ($($first, $($name,)*)?) {
-            const KINDS: &'static [u8] = &[$($first::KIND, $($name::KIND),*)?];
+            const KINDS: u64 = packed(&[$($first::KIND, $($name::KIND),*)?]);
             #[inline]
             #[allow(non_snake_case, unused_variables)]
             fn put(&self, event: &mut Event) {
@@ -330,12 +412,25 @@ tuples!(A B C D E F G H);
 
 /// Records an event of this place, which is on.
 #[inline]
-pub fn record<All: Arguments>(site: &'static Site, arguments: All) {
-    site.state_kinds(All::KINDS);
-    let mut event = Event { bytes: [MaybeUninit::uninit(); ROOM], len: 0 };
-    event.put(&[0; 4]);
+pub fn record<All: Arguments>(place: &'static Place, arguments: All) {
+    let Some(site) = place.site(All::KINDS) else {
+        return Event::new().record(&place.bare);
+    };
+    let mut event = Event::new();
     arguments.put(&mut event);
-    unsafe { flight_record(site, event.bytes.as_mut_ptr().cast(), event.len) }
+    event.record(site);
+}
+
+/// Where the fill ends that begins here: it is one character, if an alignment comes after it.
+const fn after_fill(bytes: &[u8], at: usize) -> usize {
+    let mut end = at + 1;
+    while end < bytes.len() && bytes[end] & 0xc0 == 0x80 {
+        end += 1;
+    }
+    match end < bytes.len() && matches!(bytes[end], b'<' | b'^' | b'>') {
+        true => end,
+        false => at,
+    }
 }
 
 /// Refuses a format whose arguments an event doesn't have in their order, when it is compiled.
@@ -352,6 +447,9 @@ pub const fn check(format: &str) {
             at += 1;
         }
         assert!(at < bytes.len() && (bytes[at] == b'}' || bytes[at] == b':'), "trace! has no arguments with names");
+        if bytes[at] == b':' {
+            at = after_fill(bytes, at + 1);
+        }
         while at < bytes.len() && bytes[at] != b'}' {
             assert!(bytes[at] != b'$' && bytes[at] != b'*', "trace! has no width or precision as an argument");
             at += 1;
@@ -361,6 +459,12 @@ pub const fn check(format: &str) {
 
 /// Records an event: a format of `format!`, and up to eight numbers, texts, characters, truth values or addresses. They
 /// are evaluated only if the event isn't switched off, and formatted when the dump is shown.
+///
+/// Characters and truth values are recorded as texts: so `{:?}` shows them in double quotes, as it does texts.
+///
+/// In a generic function, arguments may be of other types in each instance. A `trace!` there takes the arguments of up
+/// to `flight::MOST_LISTS` different lists of kinds (such as `u32, f64`); an event with a further list is recorded
+/// without its arguments, and its format's replacements are shown as they are written: `<{}>`.
 ///
 /// The compiler checks the format. It refuses too what an event doesn't have in its arguments' order:
 ///
@@ -375,6 +479,9 @@ pub const fn check(format: &str) {
 /// tracering::trace!("{:1$}", 1, 2);
 /// ```
 /// ```compile_fail
+/// tracering::trace!("{:.*}", 2, 1.5);
+/// ```
+/// ```compile_fail
 /// tracering::trace!("{:?}", [1, 2]);
 /// ```
 #[macro_export]
@@ -387,15 +494,22 @@ macro_rules! trace {
     };
     (@name $format:literal [$($names:ident)*] [$(($name:ident $argument:expr))*]) => {{
         const _: () = $crate::flight::check($format);
-        static SITE: $crate::flight::Site = $crate::flight::Site::new(
-            concat!($format, "\0"), concat!(file!(), "\0"), line!(), 0 $(+ { let _ = stringify!($name); 1 })*);
-        if SITE.is_on() {
+        // (The items are in a block of their own, so that no argument's name means one of them.)
+        let place = {
+            const fn site(count: usize) -> $crate::flight::Site {
+                $crate::flight::Site::new(concat!($format, "\0"), concat!(file!(), "\0"), line!(), count)
+            }
+            static PLACE: $crate::flight::Place = $crate::flight::Place::new(
+                [const { site(0 $(+ { let _ = stringify!($name); 1 })*) }; $crate::flight::MOST_LISTS], site(0));
+            &PLACE
+        };
+        if place.is_on() {
             match ($(&$argument,)*) {
                 ($($name,)*) => {
                     if false {
                         let _ = format_args!($format $(, $name)*);
                     }
-                    $crate::flight::record(&SITE, ($($name,)*));
+                    $crate::flight::record(place, ($($name,)*));
                 }
             }
         }

@@ -2,10 +2,11 @@
 #![forbid(unsafe_code)]
 
 use std::env::{temp_dir, var};
+use std::fmt::Display;
 use std::path::PathBuf;
 use std::process::{id, Command};
 use std::thread;
-use tracering::flight::{self, Clock, Config};
+use tracering::flight::{self, Argument, Clock, Config};
 use tracering::trace;
 
 /// What `tracering-flight show` prints of a dump, without the lines' times.
@@ -20,6 +21,53 @@ fn shown(dump: &PathBuf) -> Vec<String> {
 fn evaluated(count: &mut u32) -> u32 {
     *count += 1;
     *count
+}
+
+/// One place, whatever is given.
+fn trace_given<Given: Argument + Display>(given: Given) {
+    trace!("given {} and {}", given, 1);
+}
+
+/// The macro's own names are no argument's.
+fn trace_names() {
+    const PLACE: u8 = 3;
+    let (place, site, a) = ("a place", |count: u8| count + 1, 5);
+    trace!("names {} {} {} {}", PLACE, place, site(PLACE), a);
+}
+
+/// Gives one place eight kinds, twice each, and then two further ones.
+fn trace_kinds() {
+    for round in 0..2u8 {
+        trace_given(u32::MAX - round as u32);
+        trace_given(1.5f32 + round as f32);
+        trace_given(u64::MAX - round as u64);
+        trace_given(["a", "text"][round as usize]);
+        trace_given(-1i8 - round as i8);
+        trace_given(-1i16 - round as i16);
+        trace_given(-1i32 - round as i32);
+        trace_given(i64::MIN + round as i64);
+    }
+    trace_given(0.25f64);
+    trace_given(7u8);
+    trace_given(u32::MAX);
+}
+
+/// What is shown of two threads' `trace_kinds`: each value as it is, and none of the kinds for which there was no room.
+fn assert_kinds(lines: &[String]) {
+    let mut found: Vec<_> =
+        lines.iter().filter_map(|line| line.split_once("given ")?.1.strip_suffix(" and 1")).collect();
+    let mut wanted = [
+        ["4294967295", "1.5", "18446744073709551615", "a", "-1", "-1", "-1", "-9223372036854775808"],
+        ["4294967294", "2.5", "18446744073709551614", "text", "-2", "-2", "-2", "-9223372036854775807"],
+    ]
+    .concat();
+    wanted.push("4294967295");
+    let mut wanted = wanted.repeat(2);
+    found.sort();
+    wanted.sort();
+    assert_eq!(found, wanted);
+    assert_eq!(lines.iter().filter(|line| line.ends_with("given <{}> and <{}>")).count(), 4);
+    assert_eq!(lines.iter().filter(|line| line.contains("given ")).count(), 38);
 }
 
 #[test]
@@ -37,6 +85,7 @@ fn events_come_out_as_they_are_formatted() {
     trace!("{:>6}|{:<6}|{:^6}|{:06.2}|{:#x}", 'x', true, "mid", 2.5, 255);
     trace!("{}", "long ".repeat(100));
     trace!("{} of {}", &numbers[1], numbers.len());
+    trace!("{:*^7}|{:$<5}|{:.>4}|{:ä^4.1}|{:}>3}|{:{>3}", 'x', true, 7, 2.5, 1, 2);
     let mut count = 0;
     flight::switch("*is switched off*", false).unwrap();
     trace!("this is switched off, {}", evaluated(&mut count));
@@ -49,8 +98,14 @@ fn events_come_out_as_they_are_formatted() {
         .collect();
     threads.into_iter().for_each(|thread| thread.join().unwrap());
 
+    let threads = [thread::spawn(trace_kinds), thread::spawn(trace_kinds)];
+    threads.into_iter().for_each(|thread| thread.join().unwrap());
+    trace_names();
+
     flight::dump(&dump).unwrap();
     let lines = shown(&dump);
+    assert_kinds(&lines);
+    assert!(lines.iter().any(|line| line.ends_with("] names 3 a place 4 5")));
     let of_main: Vec<_> = lines.iter().filter_map(|line| line.split_once("main thread[")?.1.split_once("] ")).collect();
     let wanted = [
         "no argument, {}".to_string(),
@@ -62,7 +117,8 @@ fn events_come_out_as_they_are_formatted() {
         assert_eq!(line.1, wanted);
     }
     assert!(of_main[4].1.starts_with(&"long ".repeat(51)), "{}", of_main[4].1);
-    assert_eq!((of_main[5].1, of_main[6].1), ("2 of 3", "this is switched off, 1"));
+    let filled = format!("{:*^7}|{:$<5}|{:.>4}|{:ä^4.1}|{:}>3}|{:{>3}", 'x', true, 7, 2.5, 1, 2);
+    assert_eq!((of_main[5].1, of_main[6].1, of_main[7].1), ("2 of 3", &*filled, "this is switched off, 1"));
     for number in 0..3 {
         let events: Vec<_> = lines.iter().filter(|line| line.contains(&format!("thread {number} event"))).collect();
         assert_eq!(events.len(), 100);
