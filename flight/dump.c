@@ -3,6 +3,7 @@
 #include "recorder.h"
 
 #include <fcntl.h>
+#include <stdio.h>
 #include <sys/mman.h>
 #include <sys/stat.h>
 #include <ucontext.h>
@@ -196,21 +197,56 @@ static void put_all(int signal)
     put_32(0);
 }
 
-static int write_dump(const char *path, int signal)
+// Writes to this file, which is open.
+static int write_to(int file, int signal)
 {
     struct output *out = &flight_recorder.out;
-    out->file = open(path, O_WRONLY | O_CREAT | O_TRUNC | O_CLOEXEC, S_IRUSR | S_IWUSR);
-    if (out->file < 0)
-        return errno;
+    out->file = file;
     out->fault = 0;
     out->sections = 0;
     out->filled = 0;
     put_all(signal);
     flush(out);
-    if (close(out->file) && !out->fault && errno != EINTR)
+    if (close(file) && !out->fault && errno != EINTR)
         out->fault = errno;
     return out->fault;
 }
+
+// Writes a new file of another name, the path and a ~, which gets the path's name when it is whole. So what is at the
+// path is whole, even if the process is killed meanwhile. One that isn't whole stays only if there is none at the path.
+static int write_new(const char *path, bool has_file, int signal)
+{
+    static char other[PATH_MAX];
+    size_t len = strnlen(path, sizeof other);
+    if (len + 2 > sizeof other)
+        return ENAMETOOLONG;
+    memcpy(other, path, len);
+    memcpy(other + len, "~", 2);
+    (void)unlink(other);
+    int file = open(other, O_WRONLY | O_CREAT | O_EXCL | O_CLOEXEC, S_IRUSR | S_IWUSR);
+    if (file < 0)
+        return errno;
+    int fault = write_to(file, signal);
+    if (!fault && rename(other, path))
+        fault = errno;
+    if (fault && has_file)
+        (void)unlink(other);
+    return fault;
+}
+
+// A device, a pipe and other files that hold no bytes are written as they are.
+static int write_dump(const char *path, int signal)
+{
+    struct stat found;
+    bool is_there = !stat(path, &found);
+    if (!is_there || S_ISREG(found.st_mode))
+        return write_new(path, is_there, signal);
+    int file = open(path, O_WRONLY | O_CLOEXEC);
+    return file < 0 ? errno : write_to(file, signal);
+}
+
+// How many crashes were dumped whole, after which the process was not to end.
+static uint32_t crash_dumps;
 
 // Dumps, if nobody else does. If `is_last`, nobody dumps after it.
 static int dump(const char *path, int signal, bool is_last)
@@ -223,8 +259,10 @@ static int dump(const char *path, int signal, bool is_last)
     else {
         if (load(&flight_running))
             fault = write_dump(path, signal);
+        if (!fault && signal && !is_last)
+            (void)__atomic_add_fetch(&crash_dumps, 1, __ATOMIC_SEQ_CST);
         if (!is_last)
-            __atomic_store_n(&flight_is_dumping, 0, __ATOMIC_SEQ_CST);
+            change(&flight_is_dumping, 0);
     }
     unblock_signals(&signals);
     errno = before;
@@ -288,7 +326,20 @@ static void call_former(const struct sigaction *action, int signal, siginfo_t *i
 }
 
 // A thread that is hit while another one dumps waits until that is done, and answers it meanwhile. If the process is to
-// end then, it waits for that.
+// end then, it waits for that. It makes no dump of its own if it waited for that of a crash: the other thread's former
+// handler may end the process at any time now.
+static void dump_crash(struct slot *slot, int signal, bool is_last)
+{
+    uint32_t before = load(&crash_dumps);
+    while (dump(crash_path, signal, is_last) == EBUSY) {
+        if (slot)
+            flight_answer(slot);
+        wait_for_change(&flight_is_dumping, 1, 1000000);
+        if (load(&crash_dumps) != before)
+            return;
+    }
+}
+
 static void on_crash(int signal, siginfo_t *info, void *context)
 {
     int before = errno;
@@ -299,11 +350,7 @@ static void on_crash(int signal, siginfo_t *info, void *context)
     if (slot && exchange_if(&slot->request, ANSWERING, BROKEN))
         change(&slot->request, BROKEN);
     bool is_last = ends_process(&former[at], signal, info);
-    while (dump(crash_path, signal, is_last) == EBUSY) {
-        if (slot)
-            flight_answer(slot);
-        wait_for_change(&flight_is_dumping, 1, 1000000);
-    }
+    dump_crash(slot, signal, is_last);
     errno = before;
     if (is_last)
         die(signal, info);
@@ -355,7 +402,7 @@ int flight_dump_on_crash(const char *path)
     if (!path)
         return EINVAL;
     size_t len = strnlen(path, sizeof crash_path);
-    if (len == sizeof crash_path)
+    if (len + 2 > sizeof crash_path)
         return ENAMETOOLONG;
     if (!load(&flight_running))
         return ENODEV;

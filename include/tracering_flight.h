@@ -73,13 +73,18 @@ int flight_start(const struct flight_config *config);
 int flight_stop(void);
 
 // Dumps all events to a new file at this path, readable by its owner alone. May be called in handlers.
+// The file is written as PATH~, a new file as well, which gets the name PATH when it is whole, in place of what was
+// there (a symbolic link is replaced, and not followed). So the folder must let files be made. If the dump fails, what
+// was there stays; if there was none, or the process is killed meanwhile, PATH~ stays, which isn't whole. A device, a
+// pipe or another file at PATH that holds no bytes is written as it is. Processes that dump at once need paths of their
+// own.
 // All signals of the thread are blocked meanwhile. ENODEV: no recorder runs. EBUSY: another dump is made. And what
-// open, write and close answer: then the file isn't whole, and the next dump has the same events and the newer ones.
+// open, write, close and rename answer: then the next dump has the same events and the newer ones.
 int flight_dump(const char *path);
 
 // From now on SIGSEGV, SIGBUS, SIGILL, SIGFPE, SIGABRT and SIGTERM dump to this path, which is copied, and then do what
-// they did before: by default, the process dies by the signal. The calling thread gets an alternate stack, if it has
-// none; a thread that is to dump when its own stack is used up needs one too.
+// they did before: by default, the process dies by the signal. Of threads that are hit at once one dumps. The calling
+// thread gets an alternate stack, if it has none; a thread that is to dump when its own stack is used up needs one too.
 // ENODEV, ENAMETOOLONG, ENOMEM. If it is called again, only the path changes.
 int flight_dump_on_crash(const char *path);
 

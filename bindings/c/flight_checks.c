@@ -12,6 +12,8 @@
 #include <signal.h>
 #include <sys/mman.h>
 #include <sys/prctl.h>
+#include <sys/resource.h>
+#include <sys/stat.h>
 #include <sys/wait.h>
 #include <time.h>
 #include <unistd.h>
@@ -295,6 +297,84 @@ static void together(void)
         }
         free_dump(dump);
     }
+}
+
+// ---- The same in a program with a handler of its own, which lets the fault happen again: the first dump stays.
+
+static void let_die(int signal_number)
+{
+    want(signal(signal_number, SIG_DFL) != SIG_ERR, "no action", 0);
+}
+
+static void *hit_beside(void *given)
+{
+    uint64_t which = (uintptr_t)given;
+    name_worker(which);
+    for (int each = 0; each < 3000; each++)
+        record(which);
+    count(&truth->ready);
+    while (seen(&truth->ready) < 8)
+        continue;
+    nowhere[16 * which] = 1;
+    return NULL;
+}
+
+static void beside_body(uint64_t unused)
+{
+    (void)unused;
+    let_die(SIGSEGV);
+    want(signal(SIGSEGV, let_die) != SIG_ERR, "no handler", 0);
+    start(&patient);
+    want(!flight_dump_on_crash(path), "no handlers", 0);
+    for (uint64_t which = 0; which < 8; which++)
+        let_go(hit_beside, which);
+    idle();
+}
+
+static void beside(void)
+{
+    for (int round = 0; round < 40; round++) {
+        int status = run(beside_body, 0);
+        want(WIFSIGNALED(status) && WTERMSIG(status) == SIGSEGV, "another end", (uint64_t)status);
+        struct read_dump *dump = open_dump(path);
+        for (uint64_t which = 0; which < 8; which++)
+            check_worker(dump, ring_of_worker(dump, which), which);
+        free_dump(dump);
+    }
+}
+
+// ---- A dump that fails leaves what is at its path as it is; one that succeeds replaces it. Nothing stays beside it.
+
+static void replaced_body(uint64_t has_file)
+{
+    struct rlimit limit = {1000, 1000};
+    start(NULL);
+    for (int each = 0; each < 100; each++)
+        record(0);
+    if (has_file) {
+        FILE *file = fopen(second_path, "w");
+        want(file && !fclose(file) && !chmod(second_path, 0644) && !symlink(second_path, path), "no file", 0);
+        want(!flight_dump(path), "no dump", 0);
+    }
+    want(signal(SIGXFSZ, SIG_IGN) != SIG_ERR && !setrlimit(RLIMIT_FSIZE, &limit), "no limit", 0);
+    want(flight_dump(path) == EFBIG, "a dump that is too long", 0);
+}
+
+static void replaced(void)
+{
+    char other[sizeof path + 1];
+    struct stat found;
+    snprintf(other, sizeof other, "%s~", path);
+    run_well(replaced_body, true);
+    struct read_dump *dump = open_dump(path);
+    want(dump->rings[0].count == 100, "the dump before", dump->rings[0].count);
+    free_dump(dump);
+    want(!lstat(path, &found) && (found.st_mode & 07777) == 0600 && S_ISREG(found.st_mode), "its mode", found.st_mode);
+    want(!stat(second_path, &found) && !found.st_size, "a link is followed", (uint64_t)found.st_size);
+    want(access(other, F_OK) != 0, "a file beside it", 0);
+    run_well(replaced_body, false);
+    want(access(path, F_OK) != 0 && !stat(other, &found) && found.st_size == 1000, "a dump that is cut", 0);
+    want(!unlink(other), "no file", 0);
 }
 
 // ---- Idle threads: each record is there. One blocks the signal, and one has ended.
@@ -1030,7 +1110,8 @@ static void hammer(void)
 static const struct {
     const char *name;
     void (*check)(void);
-} cases[] = {{"crashes", crashes}, {"busy", busy}, {"together", together}, {"idle", idle_threads}, {"blocked", blocked},
+} cases[] = {{"crashes", crashes}, {"busy", busy}, {"together", together}, {"beside", beside},
+    {"replaced", replaced}, {"idle", idle_threads}, {"blocked", blocked},
     {"ended", ended}, {"crowded", crowded}, {"handlers", handlers}, {"first", first_events}, {"two_dumps", two_dumps},
     {"switches", switches}, {"forked", forked}, {"answers", answers}, {"arguments", arguments},
     {"former", former_actions}, {"amid", amid_calls}, {"hammer", hammer}};
