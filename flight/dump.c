@@ -8,12 +8,18 @@
 #include <sys/stat.h>
 #include <ucontext.h>
 
-// ---- The file. After a write that fails nothing more is written.
+// ---- The file. After a write that fails nothing more is written. (The C library's open, write and close would end a
+// thread that is to be cancelled, amid the dump; its other calls here don't.)
+
+static int open_file(const char *path, int flags)
+{
+    return (int)syscall(SYS_openat, AT_FDCWD, path, flags | O_WRONLY | O_CLOEXEC, S_IRUSR | S_IWUSR);
+}
 
 static void flush(struct output *out)
 {
     for (size_t at = 0; at < out->filled && !out->fault;) {
-        ssize_t wrote = write(out->file, out->bytes + at, out->filled - at);
+        long wrote = syscall(SYS_write, out->file, out->bytes + at, out->filled - at);
         if (wrote > 0)
             at += (size_t)wrote;
         else if (wrote == 0)
@@ -207,7 +213,7 @@ static int write_to(int file, int signal)
     out->filled = 0;
     put_all(signal);
     flush(out);
-    if (close(file) && !out->fault && errno != EINTR)
+    if (syscall(SYS_close, file) && !out->fault && errno != EINTR)
         out->fault = errno;
     return out->fault;
 }
@@ -223,7 +229,7 @@ static int write_new(const char *path, bool has_file, int signal)
     memcpy(other, path, len);
     memcpy(other + len, "~", 2);
     (void)unlink(other);
-    int file = open(other, O_WRONLY | O_CREAT | O_EXCL | O_CLOEXEC, S_IRUSR | S_IWUSR);
+    int file = open_file(other, O_CREAT | O_EXCL);
     if (file < 0)
         return errno;
     int fault = write_to(file, signal);
@@ -241,7 +247,7 @@ static int write_dump(const char *path, int signal)
     bool is_there = !stat(path, &found);
     if (!is_there || S_ISREG(found.st_mode))
         return write_new(path, is_there, signal);
-    int file = open(path, O_WRONLY | O_CLOEXEC);
+    int file = open_file(path, 0);
     return file < 0 ? errno : write_to(file, signal);
 }
 

@@ -78,8 +78,10 @@ int flight_stop(void);
 // was there stays; if there was none, or the process is killed meanwhile, PATH~ stays, which isn't whole. A device, a
 // pipe or another file at PATH that holds no bytes is written as it is. Processes that dump at once need paths of their
 // own.
-// All signals of the thread are blocked meanwhile. ENODEV: no recorder runs. EBUSY: another dump is made. And what
-// open, write, close and rename answer: then the next dump has the same events and the newer ones.
+// All signals of the thread are blocked meanwhile. A request to cancel the thread isn't acted on; but a thread whose
+// cancel type is asynchronous must not call it.
+// ENODEV: no recorder runs. EBUSY: another dump is made. And what open, write, close and rename answer: then the next
+// dump has the same events, as many of them as `keep` says, and the newer ones.
 int flight_dump(const char *path);
 
 // From now on SIGSEGV, SIGBUS, SIGILL, SIGFPE, SIGABRT and SIGTERM dump to this path, which is copied, and then do what

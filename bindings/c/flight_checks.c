@@ -343,6 +343,35 @@ static void beside(void)
     }
 }
 
+// ---- A thread that is to be cancelled dumps, and ends only afterwards.
+
+static void *dump_and_end(void *given)
+{
+    record((uintptr_t)given);
+    want(!pthread_cancel(pthread_self()) && !flight_dump(path), "no dump", 0);
+    count(&truth->ready);
+    pthread_testcancel();
+    return NULL;
+}
+
+static void cancelled_body(uint64_t unused)
+{
+    void *end;
+    (void)unused;
+    start(&patient);
+    want(!pthread_join(thread(dump_and_end, 0), &end) && end == PTHREAD_CANCELED && truth->ready == 1, "no end", 0);
+    want(!flight_dump(second_path) && !flight_stop(), "no dump afterwards", 0);
+}
+
+static void cancelled(void)
+{
+    run_well(cancelled_body, 0);
+    struct read_dump *dump = open_dump(path), *later = open_dump(second_path);
+    want(dump->rings[0].count == 1 && later->rings[0].count == 1, "its event", dump->rings[0].count);
+    free_dump(dump);
+    free_dump(later);
+}
+
 // ---- A dump that fails leaves what is at its path as it is; one that succeeds replaces it. Nothing stays beside it.
 
 static void replaced_body(uint64_t has_file)
@@ -1111,7 +1140,7 @@ static const struct {
     const char *name;
     void (*check)(void);
 } cases[] = {{"crashes", crashes}, {"busy", busy}, {"together", together}, {"beside", beside},
-    {"replaced", replaced}, {"idle", idle_threads}, {"blocked", blocked},
+    {"cancelled", cancelled}, {"replaced", replaced}, {"idle", idle_threads}, {"blocked", blocked},
     {"ended", ended}, {"crowded", crowded}, {"handlers", handlers}, {"first", first_events}, {"two_dumps", two_dumps},
     {"switches", switches}, {"forked", forked}, {"answers", answers}, {"arguments", arguments},
     {"former", former_actions}, {"amid", amid_calls}, {"hammer", hammer}};
