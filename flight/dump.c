@@ -4,6 +4,7 @@
 
 #include <fcntl.h>
 #include <stdio.h>
+#include <stdlib.h>
 #include <sys/mman.h>
 #include <sys/stat.h>
 #include <ucontext.h>
@@ -285,7 +286,7 @@ int flight_dump(const char *path)
 static const int crashes[] = {SIGSEGV, SIGBUS, SIGILL, SIGFPE, SIGABRT, SIGTERM};
 enum { CRASHES = sizeof crashes / sizeof *crashes };
 static struct sigaction former[CRASHES];
-static bool has_handlers;
+static bool has_handlers, is_in_valgrind;
 static char crash_path[PATH_MAX];
 
 // Whether the signal is a fault of the instruction that it interrupts, which happens again when the handler returns.
@@ -303,13 +304,16 @@ static bool ends_process(const struct sigaction *action, int signal, const sigin
     return action->sa_handler == SIG_DFL || (action->sa_handler == SIG_IGN && is_fault(signal, info));
 }
 
-// The process dies by the signal as soon as its handler returns: by the same fault, so that the kernel says the same of
-// it in a core file, or by another such signal.
+// The process dies by the signal as soon as its handler returns, with what the kernel said of it, so that a core file
+// has the fault's address. (The fault itself may not happen again: another thread may have mapped its page. Valgrind
+// takes a fault that is sent for one of its own, so there it has to happen again.)
 static void die(int signal, const siginfo_t *info)
 {
     struct sigaction action = {.sa_handler = SIG_DFL};
     (void)sigaction(signal, &action, NULL);
-    if (!is_fault(signal, info))
+    if (is_in_valgrind && is_fault(signal, info))
+        return;
+    if (syscall(SYS_rt_tgsigqueueinfo, getpid(), this_thread(), signal, info))
         (void)raise(signal);
 }
 
@@ -386,6 +390,8 @@ static int get_stack(void)
 static int install_handlers(void)
 {
     struct sigaction action = {.sa_sigaction = on_crash, .sa_flags = SA_SIGINFO | SA_ONSTACK};
+    const char *preload = getenv("LD_PRELOAD");
+    is_in_valgrind = preload && strstr(preload, "vgpreload_");
     sigfillset(&action.sa_mask);
     for (size_t at = 0; at < CRASHES; at++)
         if (sigaction(crashes[at], NULL, &former[at]) || sigaction(crashes[at], &action, NULL))

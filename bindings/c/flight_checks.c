@@ -343,6 +343,47 @@ static void beside(void)
     }
 }
 
+// ---- A fault that wouldn't happen again: the process dies by it all the same.
+
+static char *unmapped;
+
+static void *hit_unmapped(void *given)
+{
+    record((uintptr_t)given);
+    count(&truth->ready);
+    *(volatile char *)unmapped = 1;
+    bad("a thread goes on after its fault", 0);
+    return NULL;
+}
+
+// The clock, which the dump reads: when that is done, the page is mapped.
+static uint64_t map_meanwhile(void)
+{
+    if (seen(&truth->ready))
+        (void)mprotect(unmapped, 4096, PROT_READ | PROT_WRITE);
+    count(&truth->number);
+    return seen(&truth->number);
+}
+
+static void gone_body(uint64_t unused)
+{
+    struct flight_config config = {.clock = FLIGHT_CALLER, .now = map_meanwhile};
+    (void)unused;
+    unmapped = mmap(NULL, 4096, PROT_NONE, MAP_PRIVATE | MAP_ANONYMOUS, -1, 0);
+    want(unmapped != MAP_FAILED, "no page", 0);
+    start(&config);
+    want(!flight_dump_on_crash(path), "no handlers", 0);
+    let_go(hit_unmapped, 1);
+    idle();
+}
+
+static void gone_faults(void)
+{
+    int status = run(gone_body, 0);
+    want(WIFSIGNALED(status) && WTERMSIG(status) == SIGSEGV, "another end", (uint64_t)status);
+    free_dump(open_dump(path));
+}
+
 // ---- A thread that is to be cancelled dumps, and ends only afterwards.
 
 static void *dump_and_end(void *given)
@@ -1140,7 +1181,7 @@ static const struct {
     const char *name;
     void (*check)(void);
 } cases[] = {{"crashes", crashes}, {"busy", busy}, {"together", together}, {"beside", beside},
-    {"cancelled", cancelled}, {"replaced", replaced}, {"idle", idle_threads}, {"blocked", blocked},
+    {"gone", gone_faults}, {"cancelled", cancelled}, {"replaced", replaced}, {"idle", idle_threads}, {"blocked", blocked},
     {"ended", ended}, {"crowded", crowded}, {"handlers", handlers}, {"first", first_events}, {"two_dumps", two_dumps},
     {"switches", switches}, {"forked", forked}, {"answers", answers}, {"arguments", arguments},
     {"former", former_actions}, {"amid", amid_calls}, {"hammer", hammer}};
