@@ -286,7 +286,8 @@ int flight_dump(const char *path)
 static const int crashes[] = {SIGSEGV, SIGBUS, SIGILL, SIGFPE, SIGABRT, SIGTERM};
 enum { CRASHES = sizeof crashes / sizeof *crashes };
 static struct sigaction former[CRASHES];
-static bool has_handlers, is_in_valgrind;
+static bool is_installed[CRASHES]; // and wasn't removed: it may be called, by another handler too
+static bool are_wanted, is_in_valgrind;
 static char crash_path[PATH_MAX];
 
 // Whether the signal is a fault of the instruction that it interrupts, which happens again when the handler returns.
@@ -387,26 +388,38 @@ static int get_stack(void)
     return fault;
 }
 
+// A signal that has another handler already, over the one of here, is left as it is: else each would call the other.
 static int install_handlers(void)
 {
     struct sigaction action = {.sa_sigaction = on_crash, .sa_flags = SA_SIGINFO | SA_ONSTACK};
     const char *preload = getenv("LD_PRELOAD");
     is_in_valgrind = preload && strstr(preload, "vgpreload_");
     sigfillset(&action.sa_mask);
-    for (size_t at = 0; at < CRASHES; at++)
-        if (sigaction(crashes[at], NULL, &former[at]) || sigaction(crashes[at], &action, NULL))
+    for (size_t at = 0; at < CRASHES; at++) {
+        struct sigaction now;
+        if (sigaction(crashes[at], NULL, &now))
             return errno;
-    has_handlers = true;
+        bool is_own = (now.sa_flags & SA_SIGINFO) && now.sa_sigaction == on_crash;
+        bool is_handler = (now.sa_flags & SA_SIGINFO) || (now.sa_handler != SIG_DFL && now.sa_handler != SIG_IGN);
+        if (is_own || (is_installed[at] && is_handler))
+            continue;
+        former[at] = now;
+        is_installed[at] = true;
+        if (sigaction(crashes[at], &action, NULL))
+            return errno;
+    }
     return 0;
 }
 
+// A handler that was installed over one of these stays, and may call it, so that one stays installed as well.
 void flight_forget_crashes(void)
 {
     struct sigaction now;
-    for (size_t at = 0; at < CRASHES && has_handlers; at++)
-        if (!sigaction(crashes[at], NULL, &now) && (now.sa_flags & SA_SIGINFO) && now.sa_sigaction == on_crash)
-            (void)sigaction(crashes[at], &former[at], NULL);
-    has_handlers = false;
+    for (size_t at = 0; at < CRASHES; at++)
+        if (is_installed[at] && !sigaction(crashes[at], NULL, &now) && (now.sa_flags & SA_SIGINFO)
+            && now.sa_sigaction == on_crash)
+            is_installed[at] = sigaction(crashes[at], &former[at], NULL) != 0;
+    are_wanted = false;
 }
 
 int flight_dump_on_crash(const char *path)
@@ -416,16 +429,18 @@ int flight_dump_on_crash(const char *path)
     size_t len = strnlen(path, sizeof crash_path);
     if (len + 2 > sizeof crash_path)
         return ENAMETOOLONG;
-    if (!load(&flight_running))
-        return ENODEV;
     sigset_t signals;
     int before = errno;
+    (void)pthread_mutex_lock(&flight_lock);
     block_signals(&signals);
-    memcpy(crash_path, path, len + 1);
-    int fault = get_stack();
-    if (!fault && !has_handlers)
+    int fault = load(&flight_running) ? get_stack() : ENODEV;
+    if (!fault)
+        memcpy(crash_path, path, len + 1);
+    if (!fault && !are_wanted)
         fault = install_handlers();
+    are_wanted |= !fault;
     unblock_signals(&signals);
+    (void)pthread_mutex_unlock(&flight_lock);
     errno = before;
     return fault;
 }

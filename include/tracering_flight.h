@@ -87,7 +87,8 @@ int flight_dump(const char *path);
 // From now on SIGSEGV, SIGBUS, SIGILL, SIGFPE, SIGABRT and SIGTERM dump to this path, which is copied, and then do what
 // they did before: by default, the process dies by the signal. Of threads that are hit at once one dumps. The calling
 // thread gets an alternate stack, if it has none; a thread that is to dump when its own stack is used up needs one too.
-// ENODEV, ENAMETOOLONG, ENOMEM. If it is called again, only the path changes.
+// A handler that is installed over these later stays at flight_stop, and is to call the one that it found.
+// ENODEV, ENAMETOOLONG, ENOMEM. If it is called again, only the path changes. It may not be called in handlers.
 int flight_dump_on_crash(const char *path);
 
 // This thread's name in dumps, 63 bytes at most, from its next event on. Until then it is the name that the kernel has

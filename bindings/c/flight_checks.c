@@ -1046,6 +1046,41 @@ static void former_actions(void)
     }
 }
 
+// ---- A handler over those of the recorder, which stops, starts and gets them again: each is called once.
+
+static struct sigaction below;
+
+static void on_above(int signal, siginfo_t *info, void *context)
+{
+    count(&truth->number);
+    want(seen(&truth->number) == 1 && (below.sa_flags & SA_SIGINFO), "the handler above", seen(&truth->number));
+    below.sa_sigaction(signal, info, context);
+}
+
+static void chained_body(uint64_t starts)
+{
+    struct sigaction action = {.sa_sigaction = on_above, .sa_flags = SA_SIGINFO};
+    start(NULL);
+    want(!flight_dump_on_crash(path) && !sigaction(SIGABRT, &action, &below), "no handlers", 0);
+    for (uint64_t each = 1; each < starts; each++) {
+        want(!flight_stop() && !flight_start(NULL) && !flight_dump_on_crash(path), "no handlers", each);
+        want(!sigaction(SIGTERM, NULL, &action) && (action.sa_flags & SA_SIGINFO), "a handler that isn't back", each);
+    }
+    record(0);
+    abort();
+}
+
+static void chained(void)
+{
+    for (uint64_t starts = 1; starts < 4; starts++) {
+        int status = run(chained_body, starts);
+        want(WIFSIGNALED(status) && WTERMSIG(status) == SIGABRT, "another end", (uint64_t)status);
+        struct read_dump *dump = open_dump(path);
+        want(dump->rings[0].count == 1 && dump->signal == SIGABRT && truth->number == 1, "a dump", dump->signal);
+        free_dump(dump);
+    }
+}
+
 // ---- Dumps in handlers, some of which are amid an event.
 
 static void on_timer_dump(int signal)
@@ -1181,10 +1216,10 @@ static const struct {
     const char *name;
     void (*check)(void);
 } cases[] = {{"crashes", crashes}, {"busy", busy}, {"together", together}, {"beside", beside},
-    {"gone", gone_faults}, {"cancelled", cancelled}, {"replaced", replaced}, {"idle", idle_threads}, {"blocked", blocked},
-    {"ended", ended}, {"crowded", crowded}, {"handlers", handlers}, {"first", first_events}, {"two_dumps", two_dumps},
-    {"switches", switches}, {"forked", forked}, {"answers", answers}, {"arguments", arguments},
-    {"former", former_actions}, {"amid", amid_calls}, {"hammer", hammer}};
+    {"gone", gone_faults}, {"cancelled", cancelled}, {"replaced", replaced}, {"idle", idle_threads},
+    {"blocked", blocked}, {"ended", ended}, {"crowded", crowded}, {"handlers", handlers}, {"first", first_events},
+    {"two_dumps", two_dumps}, {"switches", switches}, {"forked", forked}, {"answers", answers}, {"arguments", arguments},
+    {"former", former_actions}, {"chained", chained}, {"amid", amid_calls}, {"hammer", hammer}};
 
 int main(int argc, char **argv)
 {
