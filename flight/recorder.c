@@ -112,6 +112,7 @@ static struct slot *get_slot(uint32_t number)
     struct slot *slot = has_slot ? flight_mine.slot : claim();
     if (slot && !has_slot) {
         begin_lease(slot);
+        __atomic_store_n(&slot->signalled, NOBODY, __ATOMIC_SEQ_CST);
         flight_mine.slot = slot;
         flight_mine.running = number;
         (void)pthread_setspecific(key, slot);

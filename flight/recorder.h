@@ -79,6 +79,7 @@ struct slot {
     struct ring rings[MOST_LEVELS];
     uint32_t owner;
     uint32_t request;
+    uint32_t signalled; // the owner that was sent the dump's signal, until it arrives
     uint32_t lease_version; // odd while the leases are changed
     uint64_t freed;         // by how many returns of slots it was handed back
     struct leases leases;

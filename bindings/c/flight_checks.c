@@ -533,6 +533,49 @@ static void blocked(void)
     free_dump(later);
 }
 
+// ---- Of all dumps one signal is left at a thread that blocks it.
+
+static uint64_t queued_signals(void)
+{
+    char line[200];
+    unsigned long long queued = 0;
+    FILE *file = fopen("/proc/self/status", "r");
+    while (file && fgets(line, sizeof line, file) && sscanf(line, "SigQ: %llu/", &queued) != 1)
+        continue;
+    want(file && !fclose(file), "no status", 0);
+    return queued;
+}
+
+static void queued_body(uint64_t unused)
+{
+    (void)unused;
+    struct flight_config config = {.wait_ms = 10};
+    start(&config);
+    want(!sem_init(&go_on, 0, 0), "no semaphore", 0);
+    let_go(block_and_work, 1);
+    wait_for(&truth->ready, 1);
+    uint64_t before = queued_signals();
+    for (int each = 0; each < 50; each++)
+        want(!flight_dump(path), "no dump", 0);
+    uint64_t after = queued_signals();
+    want(after <= before + 20, "queued signals", after - before); // (other processes have some too)
+    want(!sem_post(&go_on), "no post", 0);
+    wait_for(&truth->ready, 2);
+    uint32_t tail = 4;
+    for (int tries = 0; tail && tries < 200; tries++) { // (a machine may be busy for longer than a dump waits)
+        want(!flight_dump(path), "no dump", 0);
+        struct read_dump *dump = open_dump(path);
+        tail = ring_of_worker(dump, 1)->tail;
+        free_dump(dump);
+    }
+    want(!tail, "a tail isn't read", tail);
+}
+
+static void queued(void)
+{
+    run_well(queued_body, 0);
+}
+
 // ---- Threads that end: a slot's leases, by name.
 
 static void *work_and_end(void *given)
@@ -1217,8 +1260,9 @@ static const struct {
     void (*check)(void);
 } cases[] = {{"crashes", crashes}, {"busy", busy}, {"together", together}, {"beside", beside},
     {"gone", gone_faults}, {"cancelled", cancelled}, {"replaced", replaced}, {"idle", idle_threads},
-    {"blocked", blocked}, {"ended", ended}, {"crowded", crowded}, {"handlers", handlers}, {"first", first_events},
-    {"two_dumps", two_dumps}, {"switches", switches}, {"forked", forked}, {"answers", answers}, {"arguments", arguments},
+    {"blocked", blocked}, {"queued", queued}, {"ended", ended}, {"crowded", crowded}, {"handlers", handlers},
+    {"first", first_events}, {"two_dumps", two_dumps}, {"switches", switches}, {"forked", forked},
+    {"answers", answers}, {"arguments", arguments},
     {"former", former_actions}, {"chained", chained}, {"amid", amid_calls}, {"hammer", hammer}};
 
 int main(int argc, char **argv)
