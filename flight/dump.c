@@ -339,12 +339,14 @@ static void call_former(const struct sigaction *action, int signal, siginfo_t *i
 // A thread that is hit while another one dumps waits until that is done, and answers it meanwhile. If the process is to
 // end then, it waits for that. It makes no dump of its own if it waited for that of a crash: the other thread's former
 // handler may end the process at any time now.
-static void dump_crash(struct slot *slot, int signal, bool is_last)
+static void dump_crash(int signal, bool is_last)
 {
     uint32_t before = load(&crash_dumps);
     while (dump(crash_path, signal, is_last) == EBUSY) {
+        struct slot *slot = go_in();
         if (slot)
             flight_answer(slot);
+        go_out();
         wait_for_change(&flight_is_dumping, 1, 1000000);
         if (load(&crash_dumps) != before)
             return;
@@ -357,11 +359,12 @@ static void on_crash(int signal, siginfo_t *info, void *context)
     size_t at = 0;
     while (crashes[at] != signal)
         at++;
-    struct slot *slot = slot_of_caller();
+    struct slot *slot = go_in();
     if (slot && exchange_if(&slot->request, ANSWERING, BROKEN))
         change(&slot->request, BROKEN);
+    go_out();
     bool is_last = ends_process(&former[at], signal, info);
-    dump_crash(slot, signal, is_last);
+    dump_crash(signal, is_last);
     errno = before;
     if (is_last)
         die(signal, info);

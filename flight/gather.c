@@ -128,11 +128,12 @@ void flight_on_request(int signal)
 {
     int before = errno;
     (void)signal;
-    struct slot *slot = slot_of_caller();
+    struct slot *slot = go_in();
     if (slot) {
         __atomic_store_n(&slot->signalled, NOBODY, __ATOMIC_SEQ_CST);
         flight_answer(slot);
     }
+    go_out();
     errno = before;
 }
 
@@ -153,8 +154,8 @@ static uint32_t await_answer(struct slot *slot, uint32_t owner, uint32_t asked, 
 }
 
 // Sends the owner of a slot the dump's signal, unless one is still to arrive there: a thread that blocks it would get
-// one more of each dump. Answers whether the thread is gone. (Its handler first says that it arrived, then looks at what
-// is asked, which stands there already.)
+// one more of each dump. Answers whether the thread is gone. (Its handler first says that it arrived, then looks at
+// what is asked, which stands there already.)
 static bool send_request(struct slot *slot, uint32_t owner)
 {
     bool is_sent = load(&slot->signalled) == owner;

@@ -14,6 +14,7 @@
 struct recorder flight_recorder;
 uint32_t flight_running;
 uint32_t flight_is_dumping;
+uint32_t flight_inside;
 _Thread_local __attribute__((tls_model("initial-exec"))) struct mine flight_mine;
 static uint32_t last_running;
 pthread_mutex_t flight_lock = PTHREAD_MUTEX_INITIALIZER;
@@ -151,12 +152,13 @@ static void leave(void *given)
     sigset_t signals;
     struct slot *slot = given;
     block_signals(&signals);
-    if (flight_mine.slot == slot && flight_mine.running == load(&flight_running)) {
+    if (go_in() == slot) {
         flight_answer(slot);
         flight_mine.slot = NULL;
         flight_mine.running = 0;
         flight_hand_back(slot);
     }
+    go_out();
     unblock_signals(&signals);
 }
 
@@ -183,8 +185,10 @@ int flight_name(const char *name)
     size_t len = strnlen(name, NAME_SIZE - 1);
     memset(flight_mine.name, 0, sizeof flight_mine.name);
     memcpy(flight_mine.name, name, len);
-    if (flight_mine.slot && flight_mine.running == load(&flight_running))
-        begin_lease(flight_mine.slot);
+    struct slot *slot = go_in();
+    if (slot)
+        begin_lease(slot);
+    go_out();
     unblock_signals(&signals);
     errno = before;
     return 0;
@@ -200,6 +204,7 @@ static void start_child(void)
     flight_mine.running = 0;
     __atomic_store_n(&flight_running, 0, __ATOMIC_SEQ_CST);
     __atomic_store_n(&flight_is_dumping, 0, __ATOMIC_SEQ_CST);
+    __atomic_store_n(&flight_inside, 0, __ATOMIC_SEQ_CST);
     flight_recorder.memory = NULL;
     (void)pthread_mutex_init(&flight_lock, NULL);
 }
@@ -358,6 +363,8 @@ int flight_stop(void)
         __atomic_store_n(&flight_running, 0, __ATOMIC_SEQ_CST);
         flight_forget_crashes();
         remove_request();
+        while (load(&flight_inside))
+            (void)sched_yield();
         release_memory();
         __atomic_store_n(&flight_is_dumping, 0, __ATOMIC_SEQ_CST);
     }

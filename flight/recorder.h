@@ -133,6 +133,8 @@ extern struct recorder flight_recorder;
 extern uint32_t flight_running;
 // Whether a dump is made.
 extern uint32_t flight_is_dumping;
+// How many threads use their slots otherwise than in a TRACE or a dump, which flight_stop waits for.
+extern uint32_t flight_inside;
 // What starts, stops and switches holds this.
 extern pthread_mutex_t flight_lock;
 // The places that record, by their ids.
@@ -250,6 +252,18 @@ static inline uint32_t pages_of(uint32_t level)
 static inline struct slot *slot_of_caller(void)
 {
     return flight_mine.running == load(&flight_running) ? flight_mine.slot : NULL;
+}
+
+// The same, which stays until go_out.
+static inline struct slot *go_in(void)
+{
+    (void)__atomic_add_fetch(&flight_inside, 1, __ATOMIC_SEQ_CST);
+    return slot_of_caller();
+}
+
+static inline void go_out(void)
+{
+    (void)__atomic_sub_fetch(&flight_inside, 1, __ATOMIC_SEQ_CST);
 }
 
 #pragma GCC visibility pop

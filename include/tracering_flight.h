@@ -69,7 +69,8 @@ struct flight_config {
 // EALREADY: it runs already. EINVAL: a number is out of its range. ENOMEM. And what sigaction and others answer.
 int flight_start(const struct flight_config *config);
 
-// Stops it and releases its memory. No thread may be amid a TRACE. ENODEV: none runs. EBUSY: a dump is made.
+// Stops it and releases its memory. No thread may be amid a TRACE; one that ends is waited for.
+// ENODEV: none runs. EBUSY: a dump is made.
 int flight_stop(void);
 
 // Dumps all events to a new file at this path, readable by its owner alone. May be called in handlers.

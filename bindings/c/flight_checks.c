@@ -964,6 +964,39 @@ static void answers(void)
     free_dump(later);
 }
 
+// ---- It stops while threads end, and while the signals of dumps arrive late.
+
+static void *record_once(void *given)
+{
+    record((uintptr_t)given);
+    count(&truth->ready);
+    return NULL;
+}
+
+static void stops_body(uint64_t rounds)
+{
+    struct flight_config config = {.threads = 8, .pages = 2, .wait_ms = 1};
+    for (uint64_t round = 0; round < rounds; round++) {
+        pthread_t threads[4];
+        truth->ready = 0;
+        start(&config);
+        for (uint64_t which = 0; which < 4; which++)
+            threads[which] = thread(record_once, which);
+        wait_for(&truth->ready, round % 4);
+        want(!flight_dump(path), "no dump", round);
+        while (seen(&truth->ready) < 4)
+            continue;
+        want(!flight_stop(), "no stop", round);
+        for (uint64_t which = 0; which < 4; which++)
+            want(!pthread_join(threads[which], NULL), "no end", which);
+    }
+}
+
+static void stops(void)
+{
+    run_well(stops_body, 400 / scale);
+}
+
 // ---- Arguments.
 
 enum color { RED, GREEN = -7 };
@@ -1262,7 +1295,7 @@ static const struct {
     {"gone", gone_faults}, {"cancelled", cancelled}, {"replaced", replaced}, {"idle", idle_threads},
     {"blocked", blocked}, {"queued", queued}, {"ended", ended}, {"crowded", crowded}, {"handlers", handlers},
     {"first", first_events}, {"two_dumps", two_dumps}, {"switches", switches}, {"forked", forked},
-    {"answers", answers}, {"arguments", arguments},
+    {"answers", answers}, {"stops", stops}, {"arguments", arguments},
     {"former", former_actions}, {"chained", chained}, {"amid", amid_calls}, {"hammer", hammer}};
 
 int main(int argc, char **argv)
