@@ -193,7 +193,7 @@ static void put_all(int signal)
     put_32(1);
     put_32(0);
     put_process(signal);
-    for (uint32_t at = 0; at < flight_recorder.config.threads; at++)
+    for (uint32_t at = 0; at < flight_recorder.config.threads && !flight_recorder.out.fault; at++)
         put_slot(&flight_recorder.slots[at]);
     uint32_t sites = load(&flight_site_count);
     for (uint32_t id = 0; id < sites; id++)
@@ -289,6 +289,14 @@ static struct sigaction former[CRASHES];
 static bool is_installed[CRASHES]; // and wasn't removed: it may be called, by another handler too
 static bool are_wanted, is_in_valgrind;
 static char crash_path[PATH_MAX];
+
+bool flight_is_of_crash(int signal)
+{
+    bool is_one = false;
+    for (size_t at = 0; at < CRASHES; at++)
+        is_one |= crashes[at] == signal;
+    return is_one;
+}
 
 // Whether the signal is a fault of the instruction that it interrupts, which happens again when the handler returns.
 static bool is_fault(int signal, const siginfo_t *info)

@@ -111,12 +111,15 @@ static struct slot *get_slot(uint32_t number)
     block_signals(&signals);
     bool has_slot = flight_mine.running == number;
     struct slot *slot = has_slot ? flight_mine.slot : claim();
+    if (slot && !has_slot && pthread_setspecific(key, slot)) {
+        flight_hand_back(slot); // since this thread's end wouldn't
+        slot = NULL;
+    }
     if (slot && !has_slot) {
         begin_lease(slot);
         __atomic_store_n(&slot->signalled, NOBODY, __ATOMIC_SEQ_CST);
         flight_mine.slot = slot;
         flight_mine.running = number;
-        (void)pthread_setspecific(key, slot);
         flight_answer(slot);
     }
     unblock_signals(&signals);
@@ -215,6 +218,13 @@ static void start_process(void)
     (void)pthread_atfork(NULL, NULL, start_child);
 }
 
+// The key is made early, since the C library takes no memory for the values of a process's first keys alone: the first
+// TRACE of a thread may be a handler's.
+static __attribute__((constructor)) void start_early(void)
+{
+    (void)pthread_once(&once, start_process);
+}
+
 // The numbers of a recorder, with the defaults for those that are 0.
 static struct flight_config with_defaults(const struct flight_config *given)
 {
@@ -243,7 +253,8 @@ static bool is_in_range(const struct flight_config *config)
     return config->threads <= MOST_RINGS && config->levels <= MOST_LEVELS
         && config->threads * config->levels <= MOST_RINGS && config->pages >= 2 && config->pages <= 1024
         && config->size >= 32 && config->size <= 65520 && config->size % 4 == 0 && config->keep <= MOST_KEPT
-        && has_clock && (config->clock == FLIGHT_CALLER) == (config->now != NULL);
+        && has_clock && (config->clock == FLIGHT_CALLER) == (config->now != NULL)
+        && !flight_is_of_crash(config->signal);
 }
 
 // Lays out the memory of a recorder: the slots, the kept pages, their parcels, and those of the pages that are written.

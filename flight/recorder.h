@@ -161,6 +161,8 @@ void flight_drop_pages(void);
 void flight_copy_leases(struct leases *to, const struct slot *slot);
 // The handler of the signal by which a dump asks.
 void flight_on_request(int signal);
+// Whether it is one of the signals of a crash.
+bool flight_is_of_crash(int signal);
 // What SIGSEGV and others did before, is done again.
 void flight_forget_crashes(void);
 

@@ -20,8 +20,9 @@
 //
 // Arguments. Integers, enumerations, floating numbers, pointers and texts, 8 at most. A `char *` is copied if its
 // conversion is %s: to its end, its precision or 255 bytes, whichever comes first. For %p its address is recorded, as
-// of any other pointer. A long double is recorded as a double. Arguments are evaluated once, and not at all if the
-// event is switched off. In C, TRACE can't stand in an inline function that isn't static.
+// of any other pointer. A long double is recorded as a double. A bit-field has to be cast. Conversions other than
+// d i u o x X c s p f F e E g G a A and %% aren't formatted by `show`. Arguments are evaluated once, and not at all if
+// the event is switched off. In C, TRACE can't stand in an inline function that isn't static.
 //
 // Shared objects. An object with TRACE must not be unloaded while a dump can be made (link it with `-z nodelete`), and
 // all objects of a process share one copy of the recorder.
@@ -66,7 +67,9 @@ struct flight_config {
 };
 
 // Starts the recorder: all its memory is taken here. Null stands for all defaults.
-// EALREADY: it runs already. EINVAL: a number is out of its range. ENOMEM. And what sigaction and others answer.
+// EALREADY: it runs already. EINVAL: a number is out of its range, or `signal` is one of those of a crash. EBUSY: the
+// program has a handler of `signal`. ENOMEM. And what sigaction and others answer.
+// (LeakSanitizer doesn't look into all of this memory: unless flight_stop is called, it reports the rings as lost.)
 int flight_start(const struct flight_config *config);
 
 // Stops it and releases its memory. No thread may be amid a TRACE; one that ends is waited for.

@@ -932,6 +932,7 @@ static void answers_body(uint64_t unused)
     want_start((struct flight_config){.now = now_and_interrupted}, EINVAL);
     want_start((struct flight_config){.signal = SIGKILL}, EINVAL);
     want_start((struct flight_config){.signal = 1000}, EINVAL);
+    want_start((struct flight_config){.signal = SIGTERM}, EINVAL);
     want_start((struct flight_config){.threads = 1, .levels = 4, .pages = 2, .size = 32, .keep = 1}, 0);
     (void)signal(SIGUSR2, on_own_signal);
     want_start((struct flight_config){.signal = SIGUSR2}, EBUSY);
