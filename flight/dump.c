@@ -3,16 +3,24 @@
 #include "recorder.h"
 
 #include <fcntl.h>
+#include <stdio.h>
+#include <stdlib.h>
 #include <sys/mman.h>
 #include <sys/stat.h>
 #include <ucontext.h>
 
-// ---- The file. After a write that fails nothing more is written.
+// ---- The file. After a write that fails nothing more is written. (The C library's open, write and close would end a
+// thread that is to be cancelled, amid the dump; its other calls here don't.)
+
+static int open_file(const char *path, int flags)
+{
+    return (int)syscall(SYS_openat, AT_FDCWD, path, flags | O_WRONLY | O_CLOEXEC, S_IRUSR | S_IWUSR);
+}
 
 static void flush(struct output *out)
 {
     for (size_t at = 0; at < out->filled && !out->fault;) {
-        ssize_t wrote = write(out->file, out->bytes + at, out->filled - at);
+        long wrote = syscall(SYS_write, out->file, out->bytes + at, out->filled - at);
         if (wrote > 0)
             at += (size_t)wrote;
         else if (wrote == 0)
@@ -185,7 +193,7 @@ static void put_all(int signal)
     put_32(1);
     put_32(0);
     put_process(signal);
-    for (uint32_t at = 0; at < flight_recorder.config.threads; at++)
+    for (uint32_t at = 0; at < flight_recorder.config.threads && !flight_recorder.out.fault; at++)
         put_slot(&flight_recorder.slots[at]);
     uint32_t sites = load(&flight_site_count);
     for (uint32_t id = 0; id < sites; id++)
@@ -196,21 +204,56 @@ static void put_all(int signal)
     put_32(0);
 }
 
-static int write_dump(const char *path, int signal)
+// Writes to this file, which is open.
+static int write_to(int file, int signal)
 {
     struct output *out = &flight_recorder.out;
-    out->file = open(path, O_WRONLY | O_CREAT | O_TRUNC | O_CLOEXEC, S_IRUSR | S_IWUSR);
-    if (out->file < 0)
-        return errno;
+    out->file = file;
     out->fault = 0;
     out->sections = 0;
     out->filled = 0;
     put_all(signal);
     flush(out);
-    if (close(out->file) && !out->fault && errno != EINTR)
+    if (syscall(SYS_close, file) && !out->fault && errno != EINTR)
         out->fault = errno;
     return out->fault;
 }
+
+// Writes a new file of another name, the path and a ~, which gets the path's name when it is whole. So what is at the
+// path is whole, even if the process is killed meanwhile. One that isn't whole stays only if there is none at the path.
+static int write_new(const char *path, bool has_file, int signal)
+{
+    static char other[PATH_MAX];
+    size_t len = strnlen(path, sizeof other);
+    if (len + 2 > sizeof other)
+        return ENAMETOOLONG;
+    memcpy(other, path, len);
+    memcpy(other + len, "~", 2);
+    (void)unlink(other);
+    int file = open_file(other, O_CREAT | O_EXCL);
+    if (file < 0)
+        return errno;
+    int fault = write_to(file, signal);
+    if (!fault && rename(other, path))
+        fault = errno;
+    if (fault && has_file)
+        (void)unlink(other);
+    return fault;
+}
+
+// A device, a pipe and other files that hold no bytes are written as they are.
+static int write_dump(const char *path, int signal)
+{
+    struct stat found;
+    bool is_there = !stat(path, &found);
+    if (!is_there || S_ISREG(found.st_mode))
+        return write_new(path, is_there, signal);
+    int file = open_file(path, 0);
+    return file < 0 ? errno : write_to(file, signal);
+}
+
+// How many crashes were dumped whole, after which the process was not to end.
+static uint32_t crash_dumps;
 
 // Dumps, if nobody else does. If `is_last`, nobody dumps after it.
 static int dump(const char *path, int signal, bool is_last)
@@ -223,8 +266,10 @@ static int dump(const char *path, int signal, bool is_last)
     else {
         if (load(&flight_running))
             fault = write_dump(path, signal);
+        if (!fault && signal && !is_last)
+            (void)__atomic_add_fetch(&crash_dumps, 1, __ATOMIC_SEQ_CST);
         if (!is_last)
-            __atomic_store_n(&flight_is_dumping, 0, __ATOMIC_SEQ_CST);
+            change(&flight_is_dumping, 0);
     }
     unblock_signals(&signals);
     errno = before;
@@ -241,8 +286,17 @@ int flight_dump(const char *path)
 static const int crashes[] = {SIGSEGV, SIGBUS, SIGILL, SIGFPE, SIGABRT, SIGTERM};
 enum { CRASHES = sizeof crashes / sizeof *crashes };
 static struct sigaction former[CRASHES];
-static bool has_handlers;
+static bool is_installed[CRASHES]; // and wasn't removed: it may be called, by another handler too
+static bool are_wanted, is_in_valgrind;
 static char crash_path[PATH_MAX];
+
+bool flight_is_of_crash(int signal)
+{
+    bool is_one = false;
+    for (size_t at = 0; at < CRASHES; at++)
+        is_one |= crashes[at] == signal;
+    return is_one;
+}
 
 // Whether the signal is a fault of the instruction that it interrupts, which happens again when the handler returns.
 static bool is_fault(int signal, const siginfo_t *info)
@@ -259,13 +313,16 @@ static bool ends_process(const struct sigaction *action, int signal, const sigin
     return action->sa_handler == SIG_DFL || (action->sa_handler == SIG_IGN && is_fault(signal, info));
 }
 
-// The process dies by the signal as soon as its handler returns: by the same fault, so that the kernel says the same of
-// it in a core file, or by another such signal.
+// The process dies by the signal as soon as its handler returns, with what the kernel said of it, so that a core file
+// has the fault's address. (The fault itself may not happen again: another thread may have mapped its page. Valgrind
+// takes a fault that is sent for one of its own, so there it has to happen again.)
 static void die(int signal, const siginfo_t *info)
 {
     struct sigaction action = {.sa_handler = SIG_DFL};
     (void)sigaction(signal, &action, NULL);
-    if (!is_fault(signal, info))
+    if (is_in_valgrind && is_fault(signal, info))
+        return;
+    if (syscall(SYS_rt_tgsigqueueinfo, getpid(), this_thread(), signal, info))
         (void)raise(signal);
 }
 
@@ -288,22 +345,34 @@ static void call_former(const struct sigaction *action, int signal, siginfo_t *i
 }
 
 // A thread that is hit while another one dumps waits until that is done, and answers it meanwhile. If the process is to
-// end then, it waits for that.
+// end then, it waits for that. It makes no dump of its own if it waited for that of a crash: the other thread's former
+// handler may end the process at any time now.
+static void dump_crash(int signal, bool is_last)
+{
+    uint32_t before = load(&crash_dumps);
+    while (dump(crash_path, signal, is_last) == EBUSY) {
+        struct slot *slot = go_in();
+        if (slot)
+            flight_answer(slot);
+        go_out();
+        wait_for_change(&flight_is_dumping, 1, 1000000);
+        if (load(&crash_dumps) != before)
+            return;
+    }
+}
+
 static void on_crash(int signal, siginfo_t *info, void *context)
 {
     int before = errno;
     size_t at = 0;
     while (crashes[at] != signal)
         at++;
-    struct slot *slot = slot_of_caller();
+    struct slot *slot = go_in();
     if (slot && exchange_if(&slot->request, ANSWERING, BROKEN))
         change(&slot->request, BROKEN);
+    go_out();
     bool is_last = ends_process(&former[at], signal, info);
-    while (dump(crash_path, signal, is_last) == EBUSY) {
-        if (slot)
-            flight_answer(slot);
-        wait_for_change(&flight_is_dumping, 1, 1000000);
-    }
+    dump_crash(signal, is_last);
     errno = before;
     if (is_last)
         die(signal, info);
@@ -330,24 +399,38 @@ static int get_stack(void)
     return fault;
 }
 
+// A signal that has another handler already, over the one of here, is left as it is: else each would call the other.
 static int install_handlers(void)
 {
     struct sigaction action = {.sa_sigaction = on_crash, .sa_flags = SA_SIGINFO | SA_ONSTACK};
+    const char *preload = getenv("LD_PRELOAD");
+    is_in_valgrind = preload && strstr(preload, "vgpreload_");
     sigfillset(&action.sa_mask);
-    for (size_t at = 0; at < CRASHES; at++)
-        if (sigaction(crashes[at], NULL, &former[at]) || sigaction(crashes[at], &action, NULL))
+    for (size_t at = 0; at < CRASHES; at++) {
+        struct sigaction now;
+        if (sigaction(crashes[at], NULL, &now))
             return errno;
-    has_handlers = true;
+        bool is_own = (now.sa_flags & SA_SIGINFO) && now.sa_sigaction == on_crash;
+        bool is_handler = (now.sa_flags & SA_SIGINFO) || (now.sa_handler != SIG_DFL && now.sa_handler != SIG_IGN);
+        if (is_own || (is_installed[at] && is_handler))
+            continue;
+        former[at] = now;
+        is_installed[at] = true;
+        if (sigaction(crashes[at], &action, NULL))
+            return errno;
+    }
     return 0;
 }
 
+// A handler that was installed over one of these stays, and may call it, so that one stays installed as well.
 void flight_forget_crashes(void)
 {
     struct sigaction now;
-    for (size_t at = 0; at < CRASHES && has_handlers; at++)
-        if (!sigaction(crashes[at], NULL, &now) && (now.sa_flags & SA_SIGINFO) && now.sa_sigaction == on_crash)
-            (void)sigaction(crashes[at], &former[at], NULL);
-    has_handlers = false;
+    for (size_t at = 0; at < CRASHES; at++)
+        if (is_installed[at] && !sigaction(crashes[at], NULL, &now) && (now.sa_flags & SA_SIGINFO)
+            && now.sa_sigaction == on_crash)
+            is_installed[at] = sigaction(crashes[at], &former[at], NULL) != 0;
+    are_wanted = false;
 }
 
 int flight_dump_on_crash(const char *path)
@@ -355,18 +438,20 @@ int flight_dump_on_crash(const char *path)
     if (!path)
         return EINVAL;
     size_t len = strnlen(path, sizeof crash_path);
-    if (len == sizeof crash_path)
+    if (len + 2 > sizeof crash_path)
         return ENAMETOOLONG;
-    if (!load(&flight_running))
-        return ENODEV;
     sigset_t signals;
     int before = errno;
+    (void)pthread_mutex_lock(&flight_lock);
     block_signals(&signals);
-    memcpy(crash_path, path, len + 1);
-    int fault = get_stack();
-    if (!fault && !has_handlers)
+    int fault = load(&flight_running) ? get_stack() : ENODEV;
+    if (!fault)
+        memcpy(crash_path, path, len + 1);
+    if (!fault && !are_wanted)
         fault = install_handlers();
+    are_wanted |= !fault;
     unblock_signals(&signals);
+    (void)pthread_mutex_unlock(&flight_lock);
     errno = before;
     return fault;
 }

@@ -128,8 +128,12 @@ void flight_on_request(int signal)
 {
     int before = errno;
     (void)signal;
-    if (flight_mine.slot && flight_mine.running == load(&flight_running))
-        flight_answer(flight_mine.slot);
+    struct slot *slot = go_in();
+    if (slot) {
+        __atomic_store_n(&slot->signalled, NOBODY, __ATOMIC_SEQ_CST);
+        flight_answer(slot);
+    }
+    go_out();
     errno = before;
 }
 
@@ -149,6 +153,21 @@ static uint32_t await_answer(struct slot *slot, uint32_t owner, uint32_t asked, 
     }
 }
 
+// Sends the owner of a slot the dump's signal, unless one is still to arrive there: a thread that blocks it would get
+// one more of each dump. Answers whether the thread is gone. (Its handler first says that it arrived, then looks at
+// what is asked, which stands there already.)
+static bool send_request(struct slot *slot, uint32_t owner)
+{
+    bool is_sent = load(&slot->signalled) == owner;
+    if (!is_sent)
+        __atomic_store_n(&slot->signalled, owner, __ATOMIC_SEQ_CST);
+    if (!syscall(SYS_tgkill, getpid(), owner, is_sent ? 0 : flight_recorder.config.signal))
+        return false;
+    if (!is_sent)
+        __atomic_store_n(&slot->signalled, NOBODY, __ATOMIC_SEQ_CST);
+    return errno == ESRCH;
+}
+
 // Asks the thread of a slot until it answers amid no call, or the time is over; then once more, if it answered at all.
 // NOT_ASKED: it didn't answer. What a thread is asked that ended without handing back its slot, it never answers: gone.
 static uint32_t ask(struct slot *slot, uint32_t owner, bool *is_gone)
@@ -159,8 +178,7 @@ static uint32_t ask(struct slot *slot, uint32_t owner, bool *is_gone)
     for (long pause = 0; answered == IS_AMID || !pause; pause += 10000) {
         if (!exchange_if(&slot->request, answered, asked))
             return BROKEN;
-        long sent = syscall(SYS_tgkill, getpid(), owner, flight_recorder.config.signal);
-        *is_gone = sent && errno == ESRCH;
+        *is_gone = send_request(slot, owner);
         answered = await_answer(slot, owner, asked, *is_gone ? 0 : until);
         if (answered == IS_AMID && nanoseconds(CLOCK_MONOTONIC) >= until) {
             asked = ASKED_ANYWAY;

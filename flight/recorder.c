@@ -14,6 +14,7 @@
 struct recorder flight_recorder;
 uint32_t flight_running;
 uint32_t flight_is_dumping;
+uint32_t flight_inside;
 _Thread_local __attribute__((tls_model("initial-exec"))) struct mine flight_mine;
 static uint32_t last_running;
 pthread_mutex_t flight_lock = PTHREAD_MUTEX_INITIALIZER;
@@ -110,11 +111,15 @@ static struct slot *get_slot(uint32_t number)
     block_signals(&signals);
     bool has_slot = flight_mine.running == number;
     struct slot *slot = has_slot ? flight_mine.slot : claim();
+    if (slot && !has_slot && pthread_setspecific(key, slot)) {
+        flight_hand_back(slot); // since this thread's end wouldn't
+        slot = NULL;
+    }
     if (slot && !has_slot) {
         begin_lease(slot);
+        __atomic_store_n(&slot->signalled, NOBODY, __ATOMIC_SEQ_CST);
         flight_mine.slot = slot;
         flight_mine.running = number;
-        (void)pthread_setspecific(key, slot);
         flight_answer(slot);
     }
     unblock_signals(&signals);
@@ -150,12 +155,13 @@ static void leave(void *given)
     sigset_t signals;
     struct slot *slot = given;
     block_signals(&signals);
-    if (flight_mine.slot == slot && flight_mine.running == load(&flight_running)) {
+    if (go_in() == slot) {
         flight_answer(slot);
         flight_mine.slot = NULL;
         flight_mine.running = 0;
         flight_hand_back(slot);
     }
+    go_out();
     unblock_signals(&signals);
 }
 
@@ -182,8 +188,10 @@ int flight_name(const char *name)
     size_t len = strnlen(name, NAME_SIZE - 1);
     memset(flight_mine.name, 0, sizeof flight_mine.name);
     memcpy(flight_mine.name, name, len);
-    if (flight_mine.slot && flight_mine.running == load(&flight_running))
-        begin_lease(flight_mine.slot);
+    struct slot *slot = go_in();
+    if (slot)
+        begin_lease(slot);
+    go_out();
     unblock_signals(&signals);
     errno = before;
     return 0;
@@ -199,6 +207,7 @@ static void start_child(void)
     flight_mine.running = 0;
     __atomic_store_n(&flight_running, 0, __ATOMIC_SEQ_CST);
     __atomic_store_n(&flight_is_dumping, 0, __ATOMIC_SEQ_CST);
+    __atomic_store_n(&flight_inside, 0, __ATOMIC_SEQ_CST);
     flight_recorder.memory = NULL;
     (void)pthread_mutex_init(&flight_lock, NULL);
 }
@@ -207,6 +216,13 @@ static void start_process(void)
 {
     no_key = pthread_key_create(&key, leave);
     (void)pthread_atfork(NULL, NULL, start_child);
+}
+
+// The key is made early, since the C library takes no memory for the values of a process's first keys alone: the first
+// TRACE of a thread may be a handler's.
+static __attribute__((constructor)) void start_early(void)
+{
+    (void)pthread_once(&once, start_process);
 }
 
 // The numbers of a recorder, with the defaults for those that are 0.
@@ -237,7 +253,8 @@ static bool is_in_range(const struct flight_config *config)
     return config->threads <= MOST_RINGS && config->levels <= MOST_LEVELS
         && config->threads * config->levels <= MOST_RINGS && config->pages >= 2 && config->pages <= 1024
         && config->size >= 32 && config->size <= 65520 && config->size % 4 == 0 && config->keep <= MOST_KEPT
-        && has_clock && (config->clock == FLIGHT_CALLER) == (config->now != NULL);
+        && has_clock && (config->clock == FLIGHT_CALLER) == (config->now != NULL)
+        && !flight_is_of_crash(config->signal);
 }
 
 // Lays out the memory of a recorder: the slots, the kept pages, their parcels, and those of the pages that are written.
@@ -357,6 +374,8 @@ int flight_stop(void)
         __atomic_store_n(&flight_running, 0, __ATOMIC_SEQ_CST);
         flight_forget_crashes();
         remove_request();
+        while (load(&flight_inside))
+            (void)sched_yield();
         release_memory();
         __atomic_store_n(&flight_is_dumping, 0, __ATOMIC_SEQ_CST);
     }

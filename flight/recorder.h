@@ -79,6 +79,7 @@ struct slot {
     struct ring rings[MOST_LEVELS];
     uint32_t owner;
     uint32_t request;
+    uint32_t signalled; // the owner that was sent the dump's signal, until it arrives
     uint32_t lease_version; // odd while the leases are changed
     uint64_t freed;         // by how many returns of slots it was handed back
     struct leases leases;
@@ -132,6 +133,8 @@ extern struct recorder flight_recorder;
 extern uint32_t flight_running;
 // Whether a dump is made.
 extern uint32_t flight_is_dumping;
+// How many threads use their slots otherwise than in a TRACE or a dump, which flight_stop waits for.
+extern uint32_t flight_inside;
 // What starts, stops and switches holds this.
 extern pthread_mutex_t flight_lock;
 // The places that record, by their ids.
@@ -158,6 +161,8 @@ void flight_drop_pages(void);
 void flight_copy_leases(struct leases *to, const struct slot *slot);
 // The handler of the signal by which a dump asks.
 void flight_on_request(int signal);
+// Whether it is one of the signals of a crash.
+bool flight_is_of_crash(int signal);
 // What SIGSEGV and others did before, is done again.
 void flight_forget_crashes(void);
 
@@ -249,6 +254,18 @@ static inline uint32_t pages_of(uint32_t level)
 static inline struct slot *slot_of_caller(void)
 {
     return flight_mine.running == load(&flight_running) ? flight_mine.slot : NULL;
+}
+
+// The same, which stays until go_out.
+static inline struct slot *go_in(void)
+{
+    (void)__atomic_add_fetch(&flight_inside, 1, __ATOMIC_SEQ_CST);
+    return slot_of_caller();
+}
+
+static inline void go_out(void)
+{
+    (void)__atomic_sub_fetch(&flight_inside, 1, __ATOMIC_SEQ_CST);
 }
 
 #pragma GCC visibility pop

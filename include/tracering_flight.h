@@ -20,8 +20,9 @@
 //
 // Arguments. Integers, enumerations, floating numbers, pointers and texts, 8 at most. A `char *` is copied if its
 // conversion is %s: to its end, its precision or 255 bytes, whichever comes first. For %p its address is recorded, as
-// of any other pointer. A long double is recorded as a double. Arguments are evaluated once, and not at all if the
-// event is switched off. In C, TRACE can't stand in an inline function that isn't static.
+// of any other pointer. A long double is recorded as a double. A bit-field has to be cast. Conversions other than
+// d i u o x X c s p f F e E g G a A and %% aren't formatted by `show`. Arguments are evaluated once, and not at all if
+// the event is switched off. In C, TRACE can't stand in an inline function that isn't static.
 //
 // Shared objects. An object with TRACE must not be unloaded while a dump can be made (link it with `-z nodelete`), and
 // all objects of a process share one copy of the recorder.
@@ -66,21 +67,32 @@ struct flight_config {
 };
 
 // Starts the recorder: all its memory is taken here. Null stands for all defaults.
-// EALREADY: it runs already. EINVAL: a number is out of its range. ENOMEM. And what sigaction and others answer.
+// EALREADY: it runs already. EINVAL: a number is out of its range, or `signal` is one of those of a crash. EBUSY: the
+// program has a handler of `signal`. ENOMEM. And what sigaction and others answer.
+// (LeakSanitizer doesn't look into all of this memory: unless flight_stop is called, it reports the rings as lost.)
 int flight_start(const struct flight_config *config);
 
-// Stops it and releases its memory. No thread may be amid a TRACE. ENODEV: none runs. EBUSY: a dump is made.
+// Stops it and releases its memory. No thread may be amid a TRACE; one that ends is waited for.
+// ENODEV: none runs. EBUSY: a dump is made.
 int flight_stop(void);
 
 // Dumps all events to a new file at this path, readable by its owner alone. May be called in handlers.
-// All signals of the thread are blocked meanwhile. ENODEV: no recorder runs. EBUSY: another dump is made. And what
-// open, write and close answer: then the file isn't whole, and the next dump has the same events and the newer ones.
+// The file is written as PATH~, a new file as well, which gets the name PATH when it is whole, in place of what was
+// there (a symbolic link is replaced, and not followed). So the folder must let files be made. If the dump fails, what
+// was there stays; if there was none, or the process is killed meanwhile, PATH~ stays, which isn't whole. A device, a
+// pipe or another file at PATH that holds no bytes is written as it is. Processes that dump at once need paths of their
+// own.
+// All signals of the thread are blocked meanwhile. A request to cancel the thread isn't acted on; but a thread whose
+// cancel type is asynchronous must not call it.
+// ENODEV: no recorder runs. EBUSY: another dump is made. And what open, write, close and rename answer: then the next
+// dump has the same events, as many of them as `keep` says, and the newer ones.
 int flight_dump(const char *path);
 
 // From now on SIGSEGV, SIGBUS, SIGILL, SIGFPE, SIGABRT and SIGTERM dump to this path, which is copied, and then do what
-// they did before: by default, the process dies by the signal. The calling thread gets an alternate stack, if it has
-// none; a thread that is to dump when its own stack is used up needs one too.
-// ENODEV, ENAMETOOLONG, ENOMEM. If it is called again, only the path changes.
+// they did before: by default, the process dies by the signal. Of threads that are hit at once one dumps. The calling
+// thread gets an alternate stack, if it has none; a thread that is to dump when its own stack is used up needs one too.
+// A handler that is installed over these later stays at flight_stop, and is to call the one that it found.
+// ENODEV, ENAMETOOLONG, ENOMEM. If it is called again, only the path changes. It may not be called in handlers.
 int flight_dump_on_crash(const char *path);
 
 // This thread's name in dumps, 63 bytes at most, from its next event on. Until then it is the name that the kernel has

@@ -12,6 +12,8 @@
 #include <signal.h>
 #include <sys/mman.h>
 #include <sys/prctl.h>
+#include <sys/resource.h>
+#include <sys/stat.h>
 #include <sys/wait.h>
 #include <time.h>
 #include <unistd.h>
@@ -297,6 +299,154 @@ static void together(void)
     }
 }
 
+// ---- The same in a program with a handler of its own, which lets the fault happen again: the first dump stays.
+
+static void let_die(int signal_number)
+{
+    want(signal(signal_number, SIG_DFL) != SIG_ERR, "no action", 0);
+}
+
+static void *hit_beside(void *given)
+{
+    uint64_t which = (uintptr_t)given;
+    name_worker(which);
+    for (int each = 0; each < 3000; each++)
+        record(which);
+    count(&truth->ready);
+    while (seen(&truth->ready) < 8)
+        continue;
+    nowhere[16 * which] = 1;
+    return NULL;
+}
+
+static void beside_body(uint64_t unused)
+{
+    (void)unused;
+    let_die(SIGSEGV);
+    want(signal(SIGSEGV, let_die) != SIG_ERR, "no handler", 0);
+    start(&patient);
+    want(!flight_dump_on_crash(path), "no handlers", 0);
+    for (uint64_t which = 0; which < 8; which++)
+        let_go(hit_beside, which);
+    idle();
+}
+
+static void beside(void)
+{
+    for (int round = 0; round < 40; round++) {
+        int status = run(beside_body, 0);
+        want(WIFSIGNALED(status) && WTERMSIG(status) == SIGSEGV, "another end", (uint64_t)status);
+        struct read_dump *dump = open_dump(path);
+        for (uint64_t which = 0; which < 8; which++)
+            check_worker(dump, ring_of_worker(dump, which), which);
+        free_dump(dump);
+    }
+}
+
+// ---- A fault that wouldn't happen again: the process dies by it all the same.
+
+static char *unmapped;
+
+static void *hit_unmapped(void *given)
+{
+    record((uintptr_t)given);
+    count(&truth->ready);
+    *(volatile char *)unmapped = 1;
+    bad("a thread goes on after its fault", 0);
+    return NULL;
+}
+
+// The clock, which the dump reads: when that is done, the page is mapped.
+static uint64_t map_meanwhile(void)
+{
+    if (seen(&truth->ready))
+        (void)mprotect(unmapped, 4096, PROT_READ | PROT_WRITE);
+    count(&truth->number);
+    return seen(&truth->number);
+}
+
+static void gone_body(uint64_t unused)
+{
+    struct flight_config config = {.clock = FLIGHT_CALLER, .now = map_meanwhile};
+    (void)unused;
+    unmapped = mmap(NULL, 4096, PROT_NONE, MAP_PRIVATE | MAP_ANONYMOUS, -1, 0);
+    want(unmapped != MAP_FAILED, "no page", 0);
+    start(&config);
+    want(!flight_dump_on_crash(path), "no handlers", 0);
+    let_go(hit_unmapped, 1);
+    idle();
+}
+
+static void gone_faults(void)
+{
+    int status = run(gone_body, 0);
+    want(WIFSIGNALED(status) && WTERMSIG(status) == SIGSEGV, "another end", (uint64_t)status);
+    free_dump(open_dump(path));
+}
+
+// ---- A thread that is to be cancelled dumps, and ends only afterwards.
+
+static void *dump_and_end(void *given)
+{
+    record((uintptr_t)given);
+    want(!pthread_cancel(pthread_self()) && !flight_dump(path), "no dump", 0);
+    count(&truth->ready);
+    pthread_testcancel();
+    return NULL;
+}
+
+static void cancelled_body(uint64_t unused)
+{
+    void *end;
+    (void)unused;
+    start(&patient);
+    want(!pthread_join(thread(dump_and_end, 0), &end) && end == PTHREAD_CANCELED && truth->ready == 1, "no end", 0);
+    want(!flight_dump(second_path) && !flight_stop(), "no dump afterwards", 0);
+}
+
+static void cancelled(void)
+{
+    run_well(cancelled_body, 0);
+    struct read_dump *dump = open_dump(path), *later = open_dump(second_path);
+    want(dump->rings[0].count == 1 && later->rings[0].count == 1, "its event", dump->rings[0].count);
+    free_dump(dump);
+    free_dump(later);
+}
+
+// ---- A dump that fails leaves what is at its path as it is; one that succeeds replaces it. Nothing stays beside it.
+
+static void replaced_body(uint64_t has_file)
+{
+    struct rlimit limit = {1000, 1000};
+    start(NULL);
+    for (int each = 0; each < 100; each++)
+        record(0);
+    if (has_file) {
+        FILE *file = fopen(second_path, "w");
+        want(file && !fclose(file) && !chmod(second_path, 0644) && !symlink(second_path, path), "no file", 0);
+        want(!flight_dump(path), "no dump", 0);
+    }
+    want(signal(SIGXFSZ, SIG_IGN) != SIG_ERR && !setrlimit(RLIMIT_FSIZE, &limit), "no limit", 0);
+    want(flight_dump(path) == EFBIG, "a dump that is too long", 0);
+}
+
+static void replaced(void)
+{
+    char other[sizeof path + 1];
+    struct stat found;
+    snprintf(other, sizeof other, "%s~", path);
+    run_well(replaced_body, true);
+    struct read_dump *dump = open_dump(path);
+    want(dump->rings[0].count == 100, "the dump before", dump->rings[0].count);
+    free_dump(dump);
+    want(!lstat(path, &found) && (found.st_mode & 07777) == 0600 && S_ISREG(found.st_mode), "its mode", found.st_mode);
+    want(!stat(second_path, &found) && !found.st_size, "a link is followed", (uint64_t)found.st_size);
+    want(access(other, F_OK) != 0, "a file beside it", 0);
+    run_well(replaced_body, false);
+    want(access(path, F_OK) != 0 && !stat(other, &found) && found.st_size == 1000, "a dump that is cut", 0);
+    want(!unlink(other), "no file", 0);
+}
+
 // ---- Idle threads: each record is there. One blocks the signal, and one has ended.
 
 static void *work_a_little(void *given)
@@ -381,6 +531,49 @@ static void blocked(void)
     want(whole->tail == 0 && !whole->lacking && whole->count == ring->count + ring->lacking, "all", whole->count);
     free_dump(dump);
     free_dump(later);
+}
+
+// ---- Of all dumps one signal is left at a thread that blocks it.
+
+static uint64_t queued_signals(void)
+{
+    char line[200];
+    unsigned long long queued = 0;
+    FILE *file = fopen("/proc/self/status", "r");
+    while (file && fgets(line, sizeof line, file) && sscanf(line, "SigQ: %llu/", &queued) != 1)
+        continue;
+    want(file && !fclose(file), "no status", 0);
+    return queued;
+}
+
+static void queued_body(uint64_t unused)
+{
+    (void)unused;
+    struct flight_config config = {.wait_ms = 10};
+    start(&config);
+    want(!sem_init(&go_on, 0, 0), "no semaphore", 0);
+    let_go(block_and_work, 1);
+    wait_for(&truth->ready, 1);
+    uint64_t before = queued_signals();
+    for (int each = 0; each < 50; each++)
+        want(!flight_dump(path), "no dump", 0);
+    uint64_t after = queued_signals();
+    want(after <= before + 20, "queued signals", after - before); // (other processes have some too)
+    want(!sem_post(&go_on), "no post", 0);
+    wait_for(&truth->ready, 2);
+    uint32_t tail = 4;
+    for (int tries = 0; tail && tries < 200; tries++) { // (a machine may be busy for longer than a dump waits)
+        want(!flight_dump(path), "no dump", 0);
+        struct read_dump *dump = open_dump(path);
+        tail = ring_of_worker(dump, 1)->tail;
+        free_dump(dump);
+    }
+    want(!tail, "a tail isn't read", tail);
+}
+
+static void queued(void)
+{
+    run_well(queued_body, 0);
 }
 
 // ---- Threads that end: a slot's leases, by name.
@@ -739,6 +932,7 @@ static void answers_body(uint64_t unused)
     want_start((struct flight_config){.now = now_and_interrupted}, EINVAL);
     want_start((struct flight_config){.signal = SIGKILL}, EINVAL);
     want_start((struct flight_config){.signal = 1000}, EINVAL);
+    want_start((struct flight_config){.signal = SIGTERM}, EINVAL);
     want_start((struct flight_config){.threads = 1, .levels = 4, .pages = 2, .size = 32, .keep = 1}, 0);
     (void)signal(SIGUSR2, on_own_signal);
     want_start((struct flight_config){.signal = SIGUSR2}, EBUSY);
@@ -769,6 +963,39 @@ static void answers(void)
     want(dump->rings[0].dropped == 0, "kept after a dump to a full disk", 0);
     free_dump(dump);
     free_dump(later);
+}
+
+// ---- It stops while threads end, and while the signals of dumps arrive late.
+
+static void *record_once(void *given)
+{
+    record((uintptr_t)given);
+    count(&truth->ready);
+    return NULL;
+}
+
+static void stops_body(uint64_t rounds)
+{
+    struct flight_config config = {.threads = 8, .pages = 2, .wait_ms = 1};
+    for (uint64_t round = 0; round < rounds; round++) {
+        pthread_t threads[4];
+        truth->ready = 0;
+        start(&config);
+        for (uint64_t which = 0; which < 4; which++)
+            threads[which] = thread(record_once, which);
+        wait_for(&truth->ready, round % 4);
+        want(!flight_dump(path), "no dump", round);
+        while (seen(&truth->ready) < 4)
+            continue;
+        want(!flight_stop(), "no stop", round);
+        for (uint64_t which = 0; which < 4; which++)
+            want(!pthread_join(threads[which], NULL), "no end", which);
+    }
+}
+
+static void stops(void)
+{
+    run_well(stops_body, 400 / scale);
 }
 
 // ---- Arguments.
@@ -892,6 +1119,41 @@ static void former_actions(void)
         want(dump->rings[0].count == 3 && dump->signal == SIGTERM, "the last dump", dump->rings[0].count);
         want(truth->number == (is_ignored ? 0 : 4), "calls of the former handler", truth->number);
         want(access(second_path, F_OK) != 0, "a dump to the former path", 0);
+        free_dump(dump);
+    }
+}
+
+// ---- A handler over those of the recorder, which stops, starts and gets them again: each is called once.
+
+static struct sigaction below;
+
+static void on_above(int signal, siginfo_t *info, void *context)
+{
+    count(&truth->number);
+    want(seen(&truth->number) == 1 && (below.sa_flags & SA_SIGINFO), "the handler above", seen(&truth->number));
+    below.sa_sigaction(signal, info, context);
+}
+
+static void chained_body(uint64_t starts)
+{
+    struct sigaction action = {.sa_sigaction = on_above, .sa_flags = SA_SIGINFO};
+    start(NULL);
+    want(!flight_dump_on_crash(path) && !sigaction(SIGABRT, &action, &below), "no handlers", 0);
+    for (uint64_t each = 1; each < starts; each++) {
+        want(!flight_stop() && !flight_start(NULL) && !flight_dump_on_crash(path), "no handlers", each);
+        want(!sigaction(SIGTERM, NULL, &action) && (action.sa_flags & SA_SIGINFO), "a handler that isn't back", each);
+    }
+    record(0);
+    abort();
+}
+
+static void chained(void)
+{
+    for (uint64_t starts = 1; starts < 4; starts++) {
+        int status = run(chained_body, starts);
+        want(WIFSIGNALED(status) && WTERMSIG(status) == SIGABRT, "another end", (uint64_t)status);
+        struct read_dump *dump = open_dump(path);
+        want(dump->rings[0].count == 1 && dump->signal == SIGABRT && truth->number == 1, "a dump", dump->signal);
         free_dump(dump);
     }
 }
@@ -1030,10 +1292,12 @@ static void hammer(void)
 static const struct {
     const char *name;
     void (*check)(void);
-} cases[] = {{"crashes", crashes}, {"busy", busy}, {"together", together}, {"idle", idle_threads}, {"blocked", blocked},
-    {"ended", ended}, {"crowded", crowded}, {"handlers", handlers}, {"first", first_events}, {"two_dumps", two_dumps},
-    {"switches", switches}, {"forked", forked}, {"answers", answers}, {"arguments", arguments},
-    {"former", former_actions}, {"amid", amid_calls}, {"hammer", hammer}};
+} cases[] = {{"crashes", crashes}, {"busy", busy}, {"together", together}, {"beside", beside},
+    {"gone", gone_faults}, {"cancelled", cancelled}, {"replaced", replaced}, {"idle", idle_threads},
+    {"blocked", blocked}, {"queued", queued}, {"ended", ended}, {"crowded", crowded}, {"handlers", handlers},
+    {"first", first_events}, {"two_dumps", two_dumps}, {"switches", switches}, {"forked", forked},
+    {"answers", answers}, {"stops", stops}, {"arguments", arguments},
+    {"former", former_actions}, {"chained", chained}, {"amid", amid_calls}, {"hammer", hammer}};
 
 int main(int argc, char **argv)
 {
