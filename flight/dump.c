@@ -255,30 +255,32 @@ static int write_dump(const char *path, int signal)
 // How many crashes were dumped whole, after which the process was not to end.
 static uint32_t crash_dumps;
 
-// Dumps, if nobody else does. If `is_last`, nobody dumps after it.
-static int dump(const char *path, int signal, bool is_last)
+// Dumps, unless somebody else does, and answers whether it tried. If `is_last`, nobody dumps after it. (That somebody
+// else does is no fault of its own, since open, rename and others may answer EBUSY.)
+static bool dump(const char *path, int signal, bool is_last, int *fault)
 {
     sigset_t signals;
-    int before = errno, fault = ENODEV;
+    int before = errno;
     block_signals(&signals);
-    if (!exchange_if(&flight_is_dumping, 0, 1))
-        fault = EBUSY;
-    else {
-        if (load(&flight_running))
-            fault = write_dump(path, signal);
-        if (!fault && signal && !is_last)
+    bool is_alone = exchange_if(&flight_is_dumping, 0, 1);
+    if (is_alone) {
+        *fault = load(&flight_running) ? write_dump(path, signal) : ENODEV;
+        if (!*fault && signal && !is_last)
             (void)__atomic_add_fetch(&crash_dumps, 1, __ATOMIC_SEQ_CST);
         if (!is_last)
             change(&flight_is_dumping, 0);
     }
     unblock_signals(&signals);
     errno = before;
-    return fault;
+    return is_alone;
 }
 
 int flight_dump(const char *path)
 {
-    return path ? dump(path, 0, false) : EINVAL;
+    int fault;
+    if (!path)
+        return EINVAL;
+    return dump(path, 0, false, &fault) ? fault : EBUSY;
 }
 
 // ---- Crashes.
@@ -288,7 +290,14 @@ enum { CRASHES = sizeof crashes / sizeof *crashes };
 static struct sigaction former[CRASHES];
 static bool is_installed[CRASHES]; // and wasn't removed: it may be called, by another handler too
 static bool are_wanted, is_in_valgrind;
-static char crash_path[PATH_MAX];
+
+// A path that was given. None is released: a thread that is hit may be writing to it when another one is given.
+struct crash_path {
+    struct crash_path *next;
+    char text[];
+};
+static struct crash_path *crash_paths;
+static const char *crash_path; // the last one
 
 bool flight_is_of_crash(int signal)
 {
@@ -350,7 +359,8 @@ static void call_former(const struct sigaction *action, int signal, siginfo_t *i
 static void dump_crash(int signal, bool is_last)
 {
     uint32_t before = load(&crash_dumps);
-    while (dump(crash_path, signal, is_last) == EBUSY) {
+    int fault;
+    while (!dump(__atomic_load_n(&crash_path, __ATOMIC_SEQ_CST), signal, is_last, &fault)) {
         struct slot *slot = go_in();
         if (slot)
             flight_answer(slot);
@@ -367,10 +377,6 @@ static void on_crash(int signal, siginfo_t *info, void *context)
     size_t at = 0;
     while (crashes[at] != signal)
         at++;
-    struct slot *slot = go_in();
-    if (slot && exchange_if(&slot->request, ANSWERING, BROKEN))
-        change(&slot->request, BROKEN);
-    go_out();
     bool is_last = ends_process(&former[at], signal, info);
     dump_crash(signal, is_last);
     errno = before;
@@ -380,13 +386,13 @@ static void on_crash(int signal, siginfo_t *info, void *context)
         call_former(&former[at], signal, info, context);
 }
 
-// Gives the calling thread a stack for handlers, unless it has one.
+// Gives the calling thread a stack for handlers, unless it has one that is large enough, or is on it now.
 static int get_stack(void)
 {
     stack_t stack;
     if (sigaltstack(NULL, &stack))
         return errno;
-    if (!(stack.ss_flags & SS_DISABLE))
+    if (!(stack.ss_flags & SS_DISABLE) && (stack.ss_size >= LEAST_STACK || stack.ss_flags & SS_ONSTACK))
         return 0;
     void *memory = mmap(NULL, STACK_SIZE, PROT_READ | PROT_WRITE, MAP_PRIVATE | MAP_ANONYMOUS, -1, 0);
     if (memory == MAP_FAILED)
@@ -433,12 +439,30 @@ void flight_forget_crashes(void)
     are_wanted = false;
 }
 
+// Lets the next crash dump to this path.
+static int set_crash_path(const char *path)
+{
+    struct crash_path *kept = crash_paths;
+    while (kept && strcmp(kept->text, path))
+        kept = kept->next;
+    if (!kept) {
+        size_t size = strlen(path) + 1;
+        kept = malloc(sizeof *kept + size);
+        if (!kept)
+            return ENOMEM;
+        memcpy(kept->text, path, size);
+        kept->next = crash_paths;
+        crash_paths = kept;
+    }
+    __atomic_store_n(&crash_path, kept->text, __ATOMIC_SEQ_CST);
+    return 0;
+}
+
 int flight_dump_on_crash(const char *path)
 {
     if (!path)
         return EINVAL;
-    size_t len = strnlen(path, sizeof crash_path);
-    if (len + 2 > sizeof crash_path)
+    if (strnlen(path, PATH_MAX) + 2 > PATH_MAX)
         return ENAMETOOLONG;
     sigset_t signals;
     int before = errno;
@@ -446,7 +470,7 @@ int flight_dump_on_crash(const char *path)
     block_signals(&signals);
     int fault = load(&flight_running) ? get_stack() : ENODEV;
     if (!fault)
-        memcpy(crash_path, path, len + 1);
+        fault = set_crash_path(path);
     if (!fault && !are_wanted)
         fault = install_handlers();
     are_wanted |= !fault;

@@ -99,16 +99,7 @@ static void gather(struct slot *slot, bool with_tails)
     }
 }
 
-// Nothing is read of this slot, since its thread was hit by a fault while it answered.
-static void gather_nothing(struct slot *slot)
-{
-    for (uint32_t level = 0; level < flight_recorder.config.levels; level++) {
-        flight_recorder.found[level].tail = TAIL_AMID_CALL;
-        flight_recorder.found[level].written = records_of(&slot->rings[level]);
-    }
-}
-
-// What a thread does that is asked: with all signals blocked, on its own slot.
+// What a thread does that is asked: with all signals blocked, on its own slot. (So a fault amid this ends the process.)
 void flight_answer(struct slot *slot)
 {
     uint32_t asked = load(&slot->request);
@@ -176,8 +167,7 @@ static uint32_t ask(struct slot *slot, uint32_t owner, bool *is_gone)
     uint64_t until = nanoseconds(CLOCK_MONOTONIC) + wait;
     uint32_t asked = ASKED_AT_REST, answered = NOT_ASKED;
     for (long pause = 0; answered == IS_AMID || !pause; pause += 10000) {
-        if (!exchange_if(&slot->request, answered, asked))
-            return BROKEN;
+        __atomic_store_n(&slot->request, asked, __ATOMIC_SEQ_CST);
         *is_gone = send_request(slot, owner);
         answered = await_answer(slot, owner, asked, *is_gone ? 0 : until);
         if (answered == IS_AMID && nanoseconds(CLOCK_MONOTONIC) >= until) {
@@ -187,7 +177,7 @@ static uint32_t ask(struct slot *slot, uint32_t owner, bool *is_gone)
         if (answered == IS_AMID)
             wait_for_change(&slot->request, IS_AMID, (uint64_t)pause);
     }
-    (void)exchange_if(&slot->request, ANSWERED, NOT_ASKED);
+    __atomic_store_n(&slot->request, NOT_ASKED, __ATOMIC_SEQ_CST);
     return answered;
 }
 
@@ -220,10 +210,6 @@ void flight_gather(struct slot *slot)
         uint32_t answered = owner ? ask(slot, owner, &is_gone) : NOT_ASKED;
         if (answered == ANSWERED)
             return;
-        if (answered == BROKEN) {
-            gather_nothing(slot);
-            return;
-        }
         if ((!owner || is_gone) && gather_as_owner(slot, owner))
             return;
         if (owner && load(&slot->owner) == owner) {

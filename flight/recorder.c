@@ -360,10 +360,38 @@ int flight_start(const struct flight_config *given)
     return fault;
 }
 
+// Waits for the threads that are between go_in and go_out, and answers whether none is any more. One that doesn't go
+// on, since it is halted or was cancelled there, isn't waited for for ever.
+static bool await_none_inside(void)
+{
+    uint64_t until = nanoseconds(CLOCK_MONOTONIC) + (uint64_t)STOP_WAIT_MS * 1000000;
+    for (uint32_t inside; (inside = load(&flight_inside));) {
+        if (nanoseconds(CLOCK_MONOTONIC) >= until)
+            return false;
+        wait_for_change(&flight_inside, inside, 100000);
+    }
+    return true;
+}
+
+// Stops, or goes on as if it hadn't been told to.
+static int stop(void)
+{
+    uint32_t running = load(&flight_running);
+    __atomic_store_n(&flight_running, 0, __ATOMIC_SEQ_CST);
+    if (!await_none_inside()) {
+        __atomic_store_n(&flight_running, running, __ATOMIC_SEQ_CST);
+        return ETIMEDOUT;
+    }
+    flight_forget_crashes();
+    remove_request();
+    release_memory();
+    return 0;
+}
+
 int flight_stop(void)
 {
     sigset_t signals;
-    int fault = 0;
+    int before = errno, fault;
     (void)pthread_mutex_lock(&flight_lock);
     block_signals(&signals);
     if (!load(&flight_running))
@@ -371,15 +399,11 @@ int flight_stop(void)
     else if (!exchange_if(&flight_is_dumping, 0, 1))
         fault = EBUSY;
     else {
-        __atomic_store_n(&flight_running, 0, __ATOMIC_SEQ_CST);
-        flight_forget_crashes();
-        remove_request();
-        while (load(&flight_inside))
-            (void)sched_yield();
-        release_memory();
-        __atomic_store_n(&flight_is_dumping, 0, __ATOMIC_SEQ_CST);
+        fault = stop();
+        change(&flight_is_dumping, 0);
     }
     unblock_signals(&signals);
     (void)pthread_mutex_unlock(&flight_lock);
+    errno = before;
     return fault;
 }

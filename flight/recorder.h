@@ -29,8 +29,10 @@ enum {
     LEASES = 8,      // that are kept of each slot
     NAME_SIZE = 64,  // a thread's name and a zero
     OUTPUT_SIZE = 1 << 16,
-    STACK_SIZE = 1 << 16,
-    MOVING_TRIES = 100
+    STACK_SIZE = 1 << 16,  // of the alternate stack that a thread gets
+    LEAST_STACK = 1 << 14, // of its own, which is left to it: a quarter of that is too little for a dump
+    MOVING_TRIES = 100,
+    STOP_WAIT_MS = 5000 // how long flight_stop waits for threads
 };
 
 // A ring of one slot. The thread that has the slot writes it. Who dumps has the rest.
@@ -70,8 +72,7 @@ enum request {
     ASKED_ANYWAY,
     ANSWERING,
     IS_AMID,
-    ANSWERED,
-    BROKEN // the thread was hit by a fault while it answered
+    ANSWERED
 };
 
 // What a thread has while it records.

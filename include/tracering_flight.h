@@ -9,7 +9,9 @@
 // time, with each loss counted. It is over tracering.h; the program links out/libtracering.a (`./tracering-lib`).
 //
 // Threads. A thread has rings of its own from its first TRACE on, and hands them back when it ends. The rings are made
-// by flight_start: if all are in use, the events of a further thread are counted and not recorded.
+// by flight_start: if all are in use, the events of a further thread are counted and not recorded. With them are
+// counted those of sites beyond 65,536: a site is a TRACE that is reached.
+// A thread whose cancel type is asynchronous must make no call of these, and no TRACE.
 //
 // Signals. TRACE and flight_dump may be called in handlers. They take no memory and no lock. What interrupts a TRACE
 // writes to the thread's next ring (`levels`); an event for which no ring is left is counted. A handler that doesn't
@@ -72,8 +74,9 @@ struct flight_config {
 // (LeakSanitizer doesn't look into all of this memory: unless flight_stop is called, it reports the rings as lost.)
 int flight_start(const struct flight_config *config);
 
-// Stops it and releases its memory. No thread may be amid a TRACE; one that ends is waited for.
-// ENODEV: none runs. EBUSY: a dump is made.
+// Stops it and releases its memory. No thread may be amid a TRACE; one that ends, or answers a dump late, is waited
+// for, up to five seconds.
+// ENODEV: none runs. EBUSY: a dump is made. ETIMEDOUT: such a thread wasn't done by then, and the recorder goes on.
 int flight_stop(void);
 
 // Dumps all events to a new file at this path, readable by its owner alone. May be called in handlers.
@@ -82,17 +85,20 @@ int flight_stop(void);
 // was there stays; if there was none, or the process is killed meanwhile, PATH~ stays, which isn't whole. A device, a
 // pipe or another file at PATH that holds no bytes is written as it is. Processes that dump at once need paths of their
 // own.
-// All signals of the thread are blocked meanwhile. A request to cancel the thread isn't acted on; but a thread whose
-// cancel type is asynchronous must not call it.
+// All signals of the thread are blocked meanwhile. A request to cancel the thread isn't acted on.
 // ENODEV: no recorder runs. EBUSY: another dump is made. And what open, write, close and rename answer: then the next
 // dump has the same events, as many of them as `keep` says, and the newer ones.
 int flight_dump(const char *path);
 
 // From now on SIGSEGV, SIGBUS, SIGILL, SIGFPE, SIGABRT and SIGTERM dump to this path, which is copied, and then do what
-// they did before: by default, the process dies by the signal. Of threads that are hit at once one dumps. The calling
-// thread gets an alternate stack, if it has none; a thread that is to dump when its own stack is used up needs one too.
+// they did before: by default, the process dies by the signal. Of threads that are hit at once one dumps.
+// A thread that is to dump when its own stack is used up needs an alternate stack, of 16,384 bytes at least (4,096 are
+// too few), and of more if sysconf(_SC_MINSIGSTKSZ) is above 4,096. The calling thread gets one of 65,536 bytes, unless
+// it has one of 16,384 or more. That is for this thread alone, and isn't released, not even when it ends.
 // A handler that is installed over these later stays at flight_stop, and is to call the one that it found.
-// ENODEV, ENAMETOOLONG, ENOMEM. If it is called again, only the path changes. It may not be called in handlers.
+// If it is called again, only the path changes (and the calling thread gets a stack); a thread that is dumping goes on
+// with the former path. A copy of each path stays in memory. It may not be called in handlers.
+// ENODEV, ENAMETOOLONG, ENOMEM.
 int flight_dump_on_crash(const char *path);
 
 // This thread's name in dumps, 63 bytes at most, from its next event on. Until then it is the name that the kernel has

@@ -75,6 +75,8 @@ BRACES_ROWS = [
     ("[{:ä>4}|{:4}]", [(I32, 1), (TEXT, "ö")], "[äää1|ö   ]"),
     ("{:#x} {:#010b} {:x} {:X}", [(U8, 255), (U8, 5), (I8, -1), (U16, 0xABC)], "0xff 0b00000101 ff ABC"),
     ("[{:}>4}|{0:}<3}|{:{^3}|{:$<3}|{:}]", [(I32, k) for k in range(1, 5)], "[}}}1|1}}|{2{|3$$|4]"),
+    ("[{ }|{0 }|{1 :>3}|{:>3 }|{:x\t}|{\n}|{ :}>3}|{: }]", [(I32, k) for k in range(10, 17)],
+     "[10|10| 11| 11|c|13|}14|15]"),
     ("{:o} {:#o}", [(I16, 8), (U8, 8)], "10 0o10"),
     ("{:?} {:?} {:?}", [(TEXT, 'a"\n'), (I32, -1), (F64, 1.0)], '"a\\"\\n" -1 1.0'),
     ("[{:.1}|{:.0}]", [(TEXT, "äb"), (TEXT, "ab")], "[ä|]"),
@@ -226,7 +228,8 @@ def random_braces(chance, count):
         else:
             value = random_integer(chance, kind)
             fields += chance.choice(["", "?", "x", "X", "o", "b", "x?", "X?", "e", "E"])
-        rows.append(("{:" + fields + "}", [(kind, value)]))
+        before, behind = (chance.choice(["", "", "", " ", "\t "]) for _ in range(2))
+        rows.append((f"{{{before}:{fields}{behind}}}", [(kind, value)]))
     return rows
 
 

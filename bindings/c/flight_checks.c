@@ -92,6 +92,7 @@ static int run(void (*body)(uint64_t), uint64_t which)
     pid_t child = fork();
     want(child >= 0, "no process", 0);
     if (!child) {
+        (void)prctl(PR_SET_PDEATHSIG, SIGKILL); // so that one that hangs doesn't outlive the checks
         body(which);
         _exit(0);
     }
@@ -447,6 +448,89 @@ static void replaced(void)
     want(!unlink(other), "no file", 0);
 }
 
+// ---- A crash whose file can't be made, since that is busy: it isn't taken for another dump, which is waited for.
+
+// (The linker has the recorder call this one.)
+int __real_rename(const char *from, const char *to);
+int __wrap_rename(const char *from, const char *to);
+static bool is_busy;
+
+int __wrap_rename(const char *from, const char *to)
+{
+    if (!is_busy)
+        return __real_rename(from, to);
+    is_busy = false;
+    errno = EBUSY;
+    return -1;
+}
+
+static void count_signal(int signal)
+{
+    (void)signal;
+    count(&truth->number);
+}
+
+static void refused_body(uint64_t unused)
+{
+    (void)unused;
+    want(signal(SIGTERM, count_signal) != SIG_ERR, "no handler", 0);
+    start(NULL);
+    want(!flight_dump_on_crash(path), "no handlers", 0);
+    record(0);
+    is_busy = true;
+    want(!raise(SIGTERM) && seen(&truth->number) == 1, "no signal", seen(&truth->number));
+}
+
+static void refused(void)
+{
+    run_well(refused_body, 0);
+    want(access(path, F_OK) != 0, "a second dump", 0);
+}
+
+// ---- A dump that is made goes to the path that there was, though others are given meanwhile.
+
+// The clock, which the dump reads.
+static uint64_t move_meanwhile(void)
+{
+    if (seen(&truth->ready) == 1) {
+        count(&truth->ready);
+        wait_for(&truth->other, 1);
+    }
+    return 1;
+}
+
+static void *give_paths(void *unused)
+{
+    (void)unused;
+    wait_for(&truth->ready, 2);
+    want(!flight_dump_on_crash(second_path) && !flight_dump_on_crash("/nowhere/at/all"), "another path", 0);
+    count(&truth->other);
+    return NULL;
+}
+
+static void moved_body(uint64_t unused)
+{
+    struct flight_config config = {.clock = FLIGHT_CALLER, .now = move_meanwhile};
+    (void)unused;
+    want(signal(SIGTERM, count_signal) != SIG_ERR, "no handler", 0);
+    start(&config);
+    want(!flight_dump_on_crash(path), "no handlers", 0);
+    record(0);
+    let_go(give_paths, 0);
+    count(&truth->ready);
+    want(!raise(SIGTERM) && seen(&truth->other), "no signal", 0);
+    want(!flight_dump_on_crash(path), "the first path again", 0);
+}
+
+static void moved(void)
+{
+    run_well(moved_body, 0);
+    struct read_dump *dump = open_dump(path);
+    want(dump->rings[0].count == 1 && dump->signal == SIGTERM, "a dump", dump->signal);
+    want(access(second_path, F_OK) != 0, "a dump to another path", 0);
+    free_dump(dump);
+}
+
 // ---- Idle threads: each record is there. One blocks the signal, and one has ended.
 
 static void *work_a_little(void *given)
@@ -481,6 +565,62 @@ static void idle_threads(void)
         want(ring->count == 3 + which && ring->tail == 0, "an idle thread's events", ring->count);
     }
     free_dump(dump);
+}
+
+// ---- A thread whose stack is used up dumps on its alternate stack: on one of its own that is just large enough, or on
+// the one that it gets in place of one that is too small.
+
+// A stack for handlers, below which no byte can be reached.
+static void have_stack(size_t size)
+{
+    char *pages = mmap(NULL, 4096 + size, PROT_READ | PROT_WRITE, MAP_PRIVATE | MAP_ANONYMOUS, -1, 0);
+    stack_t stack = {.ss_sp = pages + 4096, .ss_size = size};
+    want(pages != MAP_FAILED && !mprotect(pages, 4096, PROT_NONE), "no pages", 0);
+    want(!sigaltstack(&stack, NULL), "no stack", size);
+}
+
+static uint64_t use_up(volatile char *above)
+{
+    volatile char part[1000];
+    part[0] = above ? *above : 0;
+    return seen(&truth->other) ? 0 : use_up(part) + (uint64_t)part[0];
+}
+
+static void *use_up_stack(void *size)
+{
+    have_stack((uintptr_t)size);
+    want(!flight_dump_on_crash(path), "no handlers", 0);
+    record(0);
+    (void)use_up(NULL);
+    return NULL;
+}
+
+static void used_up_body(uint64_t size)
+{
+    pthread_attr_t attributes;
+    pthread_t made;
+    want(!pthread_attr_init(&attributes) && !pthread_attr_setstacksize(&attributes, 1 << 17), "no attributes", 0);
+    start(&patient);
+    let_go(work_a_little, 3);
+    wait_for(&truth->ready, 1);
+    want(!pthread_create(&made, &attributes, use_up_stack, (void *)(uintptr_t)size), "no thread", 0);
+    idle();
+}
+
+static void used_up(void)
+{
+    // (A sanitizer's own functions take more of a stack, and so do larger registers.)
+    const bool are_large = MINSIGSTKSZ > 4096;
+    const size_t sizes[] = {4096, scale > 1 || are_large ? 65536 : 16384};
+    for (int each = are_large; each < 2; each++) {
+        int status = run(used_up_body, sizes[each]);
+        want(WIFSIGNALED(status) && WTERMSIG(status) == SIGSEGV, "another end", (uint64_t)status);
+        struct read_dump *dump = open_dump(path);
+        const struct read_ring *ring = ring_of_worker(dump, 3);
+        check_worker(dump, ring, 3);
+        want(ring->count == 6 && dump->rings[2].count == 1, "events", dump->rings[2].count);
+        free_dump(dump);
+    }
 }
 
 // ---- A thread that blocks the signal: what its tail has is lacking, until it no more blocks it.
@@ -967,6 +1107,36 @@ static void answers(void)
 
 // ---- It stops while threads end, and while the signals of dumps arrive late.
 
+// (The linker has the recorder's threads call this one when they look whether a dump asks.)
+struct slot;
+void __real_flight_answer(struct slot *slot);
+void __wrap_flight_answer(struct slot *slot);
+static _Thread_local bool is_held;
+
+void __wrap_flight_answer(struct slot *slot)
+{
+    __real_flight_answer(slot);
+    if (!is_held)
+        return;
+    is_held = false;
+    count(&truth->ready);
+    wait_for(&truth->other, 1);
+}
+
+static void *end_slowly(void *given)
+{
+    record((uintptr_t)given);
+    is_held = true;
+    return NULL;
+}
+
+static void *release_later(void *us)
+{
+    nap((long)(uintptr_t)us);
+    count(&truth->other);
+    return NULL;
+}
+
 static void *record_once(void *given)
 {
     record((uintptr_t)given);
@@ -974,7 +1144,7 @@ static void *record_once(void *given)
     return NULL;
 }
 
-static void stops_body(uint64_t rounds)
+static void stop_in_rounds(uint64_t rounds)
 {
     struct flight_config config = {.threads = 8, .pages = 2, .wait_ms = 1};
     for (uint64_t round = 0; round < rounds; round++) {
@@ -993,9 +1163,41 @@ static void stops_body(uint64_t rounds)
     }
 }
 
+// Starts, and has a thread that is held where it hands back its slot.
+static void start_and_hold(void)
+{
+    truth->ready = truth->other = 0;
+    start(NULL);
+    let_go(end_slowly, 1);
+    wait_for(&truth->ready, 1);
+}
+
+static void stops_body(uint64_t rounds)
+{
+    stop_in_rounds(rounds);
+    start_and_hold();
+    let_go(release_later, 50000);
+    want(!flight_stop(), "no stop", 0);
+    want(seen(&truth->other), "a recorder that stops while a thread ends", 0);
+    // A thread that is held for longer than it waits: it goes on.
+    start_and_hold();
+    want(!flight_name("main"), "no name", 0);
+    record(0);
+    errno = 77;
+    want(flight_stop() == ETIMEDOUT && errno == 77, "another answer of flight_stop", (uint64_t)errno);
+    record(0);
+    want(!flight_dump(path), "no dump", 0);
+    count(&truth->other);
+    want(!flight_stop() && errno == 77, "no stop", (uint64_t)errno);
+}
+
 static void stops(void)
 {
     run_well(stops_body, 400 / scale);
+    struct read_dump *dump = open_dump(path);
+    const struct read_ring *ring = ring_named(dump, "main", 0);
+    want(ring->count == 2, "events of a recorder that goes on", ring->count);
+    free_dump(dump);
 }
 
 // ---- Arguments.
@@ -1245,10 +1447,13 @@ static void hammer_body(uint64_t dumps)
     struct read_dump *last = NULL;
     uint64_t unread = 0, begun = now_and_interrupted();
     start(&config);
-    for (uint64_t which = 0; which < 8; which++)
-        threads[which] = thread(which == 7 ? work_by_others : work_until_told, which);
-    for (uint64_t which = 0; which < 8; which++)
+    for (uint64_t which = 0; which < 7; which++)
+        threads[which] = thread(work_until_told, which);
+    for (uint64_t which = 0; which < 7; which++)
         wait_for(&truth->counted[which], 1);
+    // Only now, so that none of the seven gets a slot that one of these had: then its numbers wouldn't begin with 0.
+    threads[7] = thread(work_by_others, 7);
+    wait_for(&truth->counted[7], 1);
     // On a machine that is busy with other things it takes long: then it makes fewer dumps.
     for (uint64_t each = 0; each < dumps && now_and_interrupted() - begun < 20000000000; each++) {
         want(!flight_dump(path), "no dump", 0);
@@ -1293,11 +1498,12 @@ static const struct {
     const char *name;
     void (*check)(void);
 } cases[] = {{"crashes", crashes}, {"busy", busy}, {"together", together}, {"beside", beside},
-    {"gone", gone_faults}, {"cancelled", cancelled}, {"replaced", replaced}, {"idle", idle_threads},
-    {"blocked", blocked}, {"queued", queued}, {"ended", ended}, {"crowded", crowded}, {"handlers", handlers},
+    {"gone", gone_faults}, {"cancelled", cancelled}, {"replaced", replaced}, {"refused", refused},
+    {"moved", moved}, {"idle", idle_threads}, {"used_up", used_up}, {"blocked", blocked},
+    {"queued", queued}, {"ended", ended}, {"crowded", crowded}, {"handlers", handlers},
     {"first", first_events}, {"two_dumps", two_dumps}, {"switches", switches}, {"forked", forked},
-    {"answers", answers}, {"stops", stops}, {"arguments", arguments},
-    {"former", former_actions}, {"chained", chained}, {"amid", amid_calls}, {"hammer", hammer}};
+    {"answers", answers}, {"stops", stops}, {"arguments", arguments}, {"former", former_actions},
+    {"chained", chained}, {"amid", amid_calls}, {"hammer", hammer}};
 
 int main(int argc, char **argv)
 {

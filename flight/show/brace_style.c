@@ -37,6 +37,17 @@ static bool skip(struct rest *rest, char letter)
     return true;
 }
 
+static bool is_space(uint8_t byte)
+{
+    return byte == ' ' || (byte >= '\t' && byte <= '\r');
+}
+
+static void skip_spaces(struct rest *rest)
+{
+    while (rest->at < rest->end && is_space(*rest->at))
+        rest->at++;
+}
+
 // Reads digits. NONE: there are none.
 static int read_digits(struct rest *rest)
 {
@@ -108,7 +119,7 @@ static void read_spec(struct rest *rest, struct spec *spec, struct arguments *ar
             spec->precision = read_count(rest, spec, arguments);
         spec->is_wrong |= spec->precision == NONE;
     }
-    while (rest->end > rest->at && rest->end[-1] == ' ')
+    while (rest->end > rest->at && is_space(rest->end[-1]))
         rest->end--;
     spec->type = (struct bytes){rest->at, (size_t)(rest->end - rest->at)};
 }
@@ -374,8 +385,7 @@ static void add_replacement(struct text *text, struct bytes body, struct argumen
     struct rest rest = {body.at, body.at + body.len};
     struct spec spec = {bytes_of_string(" "), 0, false, false, false, false, NONE, NONE, {NULL, 0}};
     int number = read_digits(&rest);
-    while (rest.at < rest.end && *rest.at == ' ')
-        rest.at++;
+    skip_spaces(&rest);
     if (skip(&rest, ':'))
         read_spec(&rest, &spec, arguments);
     else
@@ -392,6 +402,7 @@ static void add_replacement(struct text *text, struct bytes body, struct argumen
 static const uint8_t *end_of_replacement(struct rest rest)
 {
     (void)read_digits(&rest);
+    skip_spaces(&rest);
     if (skip(&rest, ':') && rest.at < rest.end && *rest.at == '}' && is_align(rest.at + 1, rest.end))
         rest.at++;
     return rest.at < rest.end ? memchr(rest.at, '}', (size_t)(rest.end - rest.at)) : NULL;

@@ -105,7 +105,7 @@ static uint64_t count_missing(struct dump *dump, const struct ring *ring)
 
 static size_t give_loss(const struct viewer *viewer, struct loss loss)
 {
-    if (!loss.count && loss.kind != LOSS_NOT_READ)
+    if (!loss.count)
         return 0;
     viewer->loss(viewer->self, &loss);
     return 1;
@@ -129,9 +129,7 @@ static size_t give_losses(struct listing *listing, const struct ring *ring)
     losses += give_loss(viewer, (struct loss){LOSS_DROPPED, NULL, ring, ring->dropped});
     for (size_t k = 0; k < REASONS; k++)
         losses += give_loss(viewer, (struct loss){LOSS_REFUSED, REFUSED[k], ring, ring->refused[k]});
-    if (ring->tail > TAIL_EMPTY || ring->lacking)
-        losses += give_loss(viewer, (struct loss){LOSS_NOT_READ, NOT_READ[ring->tail], ring, ring->lacking});
-    return losses;
+    return losses + give_loss(viewer, (struct loss){LOSS_NOT_READ, NOT_READ[ring->tail], ring, ring->lacking});
 }
 
 void list_dump(struct dump *dump, size_t most, const struct viewer *viewer)

@@ -433,6 +433,14 @@ const fn after_fill(bytes: &[u8], at: usize) -> usize {
     }
 }
 
+/// Where the spaces end that may stand here.
+const fn after_spaces(bytes: &[u8], mut at: usize) -> usize {
+    while at < bytes.len() && matches!(bytes[at], b' ' | b'\t'..=b'\r') {
+        at += 1;
+    }
+    at
+}
+
 /// Refuses a format whose arguments an event doesn't have in their order, when it is compiled.
 pub const fn check(format: &str) {
     let bytes = format.as_bytes();
@@ -446,12 +454,14 @@ pub const fn check(format: &str) {
         while at < bytes.len() && bytes[at].is_ascii_digit() {
             at += 1;
         }
+        at = after_spaces(bytes, at);
         assert!(at < bytes.len() && (bytes[at] == b'}' || bytes[at] == b':'), "trace! has no arguments with names");
         if bytes[at] == b':' {
             at = after_fill(bytes, at + 1);
         }
         while at < bytes.len() && bytes[at] != b'}' {
             assert!(bytes[at] != b'$' && bytes[at] != b'*', "trace! has no width or precision as an argument");
+            assert!(bytes[at].is_ascii(), "trace! has no spaces but those of ASCII in a replacement");
             at += 1;
         }
     }
@@ -465,6 +475,8 @@ pub const fn check(format: &str) {
 /// In a generic function, arguments may be of other types in each instance. A `trace!` there takes the arguments of up
 /// to `flight::MOST_LISTS` different lists of kinds (such as `u32, f64`); an event with a further list is recorded
 /// without its arguments, and its format's replacements are shown as they are written: `<{}>`.
+///
+/// Each `trace!` takes 640 bytes of the program's data, generic or not, beside its texts.
 ///
 /// The compiler checks the format. It refuses too what an event doesn't have in its arguments' order:
 ///

@@ -86,6 +86,7 @@ fn events_come_out_as_they_are_formatted() {
     trace!("{}", "long ".repeat(100));
     trace!("{} of {}", &numbers[1], numbers.len());
     trace!("{:*^7}|{:$<5}|{:.>4}|{:ä^4.1}|{:}>3}|{:{>3}", 'x', true, 7, 2.5, 1, 2);
+    trace!("{ }|{0 }|{1 :>4}|{:>4 }|{: }|{\t:}>4\n}", 10, 11, 12, 13);
     let mut count = 0;
     flight::switch("*is switched off*", false).unwrap();
     trace!("this is switched off, {}", evaluated(&mut count));
@@ -118,7 +119,9 @@ fn events_come_out_as_they_are_formatted() {
     }
     assert!(of_main[4].1.starts_with(&"long ".repeat(51)), "{}", of_main[4].1);
     let filled = format!("{:*^7}|{:$<5}|{:.>4}|{:ä^4.1}|{:}>3}|{:{>3}", 'x', true, 7, 2.5, 1, 2);
-    assert_eq!((of_main[5].1, of_main[6].1, of_main[7].1), ("2 of 3", &*filled, "this is switched off, 1"));
+    let spaced = format!("{ }|{0 }|{1 :>4}|{:>4 }|{: }|{\t:}>4\n}", 10, 11, 12, 13);
+    let rest: Vec<_> = of_main[5..9].iter().map(|line| line.1).collect();
+    assert_eq!(rest, ["2 of 3", &*filled, &*spaced, "this is switched off, 1"]);
     for number in 0..3 {
         let events: Vec<_> = lines.iter().filter(|line| line.contains(&format!("thread {number} event"))).collect();
         assert_eq!(events.len(), 100);
