@@ -2,6 +2,7 @@
 mod frames;
 mod head;
 mod links;
+mod look;
 mod new;
 mod pages;
 mod reader;
