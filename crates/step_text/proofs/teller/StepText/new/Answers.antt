@@ -1,0 +1,31 @@
+use Rattle.std.proofs.Common.{◌∙◌, ◌<◌, ◌≤◌, ◌++◌, Some, length, sym, ap, arith}
+use Rattle.std.proofs.lemmas.Option.{slice_get-get_or}
+use Rattle.link_marks.proofs.partition.OneNewRing.{new_ring_is_one}
+use Rattle.world_model.proofs.Lookups.{get_map}
+use Rattle.step_model.specs.RunTexts.{new_rings_text, trace_line}
+use Rattle.step_text.specs.Known.{known_in}
+use Rattle.step_text.proofs.teller.StepText.new.Goals as goal
+
+-- a new ring has pages, since there is one
+pub put_new_rings-requires : goal.put_new_rings-requires
+put_new_rings-requires c =
+    let n = c.args.script.now.pages in
+    let start = c.args.script.now.start in
+    let some_pages : 1 ≤ n = omega arith in
+    let (new, is_new, only) = new_ring_is_one n start some_pages in
+    let known = c.in_ok-known.ensures new is_new in
+    omega (arith, ap length known.order, is_new.pages)
+
+pub returns-clause-text : goal.returns-clause-text
+returns-clause-text c lanes count new =
+    c.in_ok-put_new_rings.ensures c.args.script.now.pages c.args.script.now.start lanes (count ∙ sym c.cpus.ensures.cpus) new c.in_ok-known.ensures
+    ∙ ap (λ text. text ++ new_rings_text lanes) (c.in_ok-put_trace_line.ensures ∙ ap (λ text. text ++ trace_line c.args.script.now) c.new-text.ensures.items)
+
+pub returns-clause-knows : goal.returns-clause-knows
+returns-clause-knows c cpu lane below new =
+    let within : cpu < length c.in_ok-rings.rings.items = omega (arith, c.in_ok-rings.ensures.count, c.cpus-2.ensures.cpus) in
+    let at = slice_get-get_or c.in_ok-rings.rings.items cpu c.in_ok-known.known within in record {
+      known = known_in c.in_ok-known.known;
+      at = get_map known_in c.in_ok-rings.rings.items cpu _ at ∙ ap Some (c.in_ok-rings.ensures.each cpu c.in_ok-known.known within);
+      of_core = c.in_ok-known.ensures lane.core new.0;
+    }
