@@ -24,7 +24,7 @@ pub fn answer_to<R: Source, W: Sink>(
         (source_run R.remaining R.count R.failed reader.old reader.new)
         (sink_run W.contents W.failed writer.old writer.new) result }
     ensures refused { IsRefusedCall
-        ((call.entry ≡ Ok Call.Run) ⊎ (call.entry ≡ Ok Call.Dump)
+        ((call.entry ≡ Ok Call.Run) ⊎ (call.entry ≡ Ok Call.Steps) ⊎ (call.entry ≡ Ok Call.Dump)
         ⊎ ((asked : CollectCall) × (call.entry ≡ Ok (Call.Collect asked))) ⊎ (call.entry ≡ Err CallFault.Usage))
         (call.entry ≡ Err CallFault.NoMemory)
         (source_run R.remaining R.count R.failed reader.old reader.new)
@@ -32,7 +32,7 @@ pub fn answer_to<R: Source, W: Sink>(
 {
     match call {
         Ok(Call::Replay { log }) => replay_to(alloc, reader, writer, log),
-        Ok(Call::Run | Call::Dump | Call::Collect(_)) => USAGE,
+        Ok(Call::Run | Call::Steps | Call::Dump | Call::Collect(_)) => USAGE,
         Err(CallFault::NoMemory) => print_memory_line(writer),
         Err(CallFault::Usage) => USAGE,
     }

@@ -7,4 +7,4 @@ mod printer;
 
 pub use answers::{At, report, report_any, report_refusal};
 pub use line::LogLine;
-pub use printer::put_log;
+pub use printer::{put_fault, put_front, put_log, put_log_line};

@@ -11,7 +11,7 @@ use nested_writer::WriteFault;
 use text_values::{drop_if_refused, put_number};
 use trace_model::{CpuId, FillNo, NoMemory, RecordNo};
 
-// On an error all but `put_log` may leave a part of what they put.
+// On an error all but `put_log` may leave a part of what they put after what was there.
 
 /// Puts the words and then the number.
 fn put_named(out: &mut Vec<u8>, words: &[u8], number: u64) -> Result<(), NoMemory>
@@ -22,7 +22,8 @@ fn put_named(out: &mut Vec<u8>, words: &[u8], number: u64) -> Result<(), NoMemor
     put_number(out, number)
 }
 
-fn put_fault(out: &mut Vec<u8>, fault: WriteFault) -> Result<(), NoMemory>
+/// Puts the name of why a writer is refused.
+pub fn put_fault(out: &mut Vec<u8>, fault: WriteFault) -> Result<(), NoMemory>
     ensures text { OnOk result (out.new.items ≡ out.old.items ++ refusal_text (refusal_of fault)) }
     ensures behind { IsPrefix out.old.items out.new.items }
 {
@@ -38,8 +39,8 @@ fn put_fault(out: &mut Vec<u8>, fault: WriteFault) -> Result<(), NoMemory>
     Ok(())
 }
 
-/// The beginning of a line: the number of the script's line, and a CPU.
-fn put_front(out: &mut Vec<u8>, line: u64, cpu: CpuId) -> Result<(), NoMemory>
+/// Puts the beginning of a line: the number of the script's line, and a CPU.
+pub fn put_front(out: &mut Vec<u8>, line: u64, cpu: CpuId) -> Result<(), NoMemory>
     ensures text { OnOk result (out.new.items ≡ out.old.items ++ line_text line cpu.0) }
     ensures behind { IsPrefix out.old.items out.new.items }
 {
@@ -142,8 +143,8 @@ fn put_line(out: &mut Vec<u8>, logged: &LogLine) -> Result<(), NoMemory>
     }
 }
 
-/// A line of the log.
-fn put_log_line(out: &mut Vec<u8>, logged: &LogLine) -> Result<(), NoMemory>
+/// Puts a line of the log.
+pub fn put_log_line(out: &mut Vec<u8>, logged: &LogLine) -> Result<(), NoMemory>
     ensures text { OnOk result (out.new.items ≡ out.old.items ++ printed_log_line (shown_log_line logged.now)) }
     ensures behind { IsPrefix out.old.items out.new.items }
 {

@@ -16,7 +16,7 @@ use Rattle.replay_log.specs.declared.line.LogLine.{LogLine}
 use Rattle.script_replay.specs.declared.replaying.ReplayState.{ReplayState}
 use Rattle.script_replay.specs.Replay.{IsStateAfter, IsReplay, AreExact, AreAlike, Join, IsHeadline}
 
-pub is_replay : (script : Script) (state : ReplayState) → (part_way : IsStateAfter script script.commands state) → IsReplay script state.collectors.items state.log.items part_way.world
+pub is_replay : (script : Script) (state : ReplayState) → (part_way : IsStateAfter script script.commands state) → IsReplay script state.collectors.items state.reports.log.items part_way.world
 is_replay script state part_way = record { world = part_way.behind; log_is = part_way.log_is; collectors_are = part_way.collectors_are }
 
 module _ (script : Script) (collectors : List (List Parcel)) (log : List LogLine) (w : World) (limits : IsWithinLimits script) (r : IsReplay script collectors log w) where

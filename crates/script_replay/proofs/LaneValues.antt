@@ -49,7 +49,7 @@ pub depth_is : (n size start cpu : ℕ) (v : LaneValue) (lane : Lane)
 depth_is n size start cpu v lane is = frames_shown n size start v.core lane.core is.is_core
 
 -- a payload is kept for each frame
-fit_many : (frames : List Frame) (payloads : List (List ℕ))
+pub fit_many : (frames : List Frame) (payloads : List (List ℕ))
     → FitFrames frames payloads
     → length payloads ≡ length frames
 fit_many [] [] fit = refl

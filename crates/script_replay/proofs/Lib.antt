@@ -1,6 +1,7 @@
 -- the replay: lanes by CPU; what a line leads to; what is answered
 pub mod LanesByCpu
 pub mod Placed
+pub mod StepsTold
 pub mod LinesObeyed
 pub mod Answered
 -- frames and pushes
@@ -9,9 +10,8 @@ pub mod LaneValues
 pub mod FrameRuns
 pub mod FrameTops
 pub mod PushedLanes
--- what is logged
-pub mod Logs
-pub mod Reports
+-- what is reported
+pub mod Reporting
 -- a new lane, and takes
 pub mod NewLanes
 pub mod TakesNumbers

@@ -31,11 +31,15 @@ use Rattle.replay_log.specs.LogTypes.{shown_log, shown_log_line}
 use Rattle.script_replay.specs.Value.{LaneValue}
 use Rattle.script_replay.specs.declared.lane.command.LaneCommand.{LaneCommand}
 use Rattle.script_replay.specs.LaneCommands.{command_for}
-use Rattle.script_replay.specs.Lanes.{IsLaneOf, HasLine}
+use Rattle.script_replay.specs.Lanes.{IsReportedLane, HasLine}
 use Rattle.script_replay.specs.LanesByCpu.{lane_at, AreSameBut, IsLaneFrom, IsLaneAt}
 use Rattle.deliveries.specs.Deliveries.{AreRising, Adds}
 use Rattle.script_replay.specs.Collected.{HasParcel, delivery_of, IsCollected, AreCollected}
-use Rattle.script_replay.specs.Replay.{IsStateAfter, IsReady, LeadsOn}
+use Rattle.text_model.specs.Printing.{printed_log_line}
+use Rattle.step_model.specs.RunTexts.{delivery_step_text}
+use Rattle.script_replay.specs.Reports.{IsTextTold}
+use Rattle.script_replay.specs.Replay.{IsNewText, IsStateAfter, IsReady, LeadsOn}
+use Rattle.script_replay.proofs.StepsTold.{told_first, known_lane, told_ring, still_told, told_page, told_none}
 use Rattle.script_replay.proofs.Placed.{from_is_lane, first_world, new_at, obeys_ring, place_rises, found_taken, not_taken}
 
 -- ---- the log
@@ -51,8 +55,8 @@ none_collected kept parcels none none' = subst (IsCollected kept) (none ∙ sym 
 pub element : {A : Type 0} (P : A → Type 0) (xs : List A) (k : ℕ) (x : A) → All P xs → slice_get xs k ≡ Some x → P x
 element P xs k x all at = subst P (get_or_from_slice_get xs k x x at) (all k x (slice_get_within xs k x at))
 
-pub first_part_way : (script : Script) (state : ReplayState) → IsWithinLimits script → state.lanes.items ≡ [] → length state.collectors.items ≡ script.collectors → All (λ kept. kept ≡ []) state.collectors.items → state.log.items ≡ [] → IsStateAfter script [] state
-first_part_way script state limits no_lanes count no_pages no_log =
+pub first_part_way : (script : Script) (state : ReplayState) → IsWithinLimits script → state.lanes.items ≡ [] → length state.collectors.items ≡ script.collectors → All (λ kept. kept ≡ []) state.collectors.items → state.reports.log.items ≡ [] → IfSome state.reports.steps (λ s. IsNewText script s) → IsStateAfter script [] state
+first_part_way script state limits no_lanes count no_pages no_log text =
     let (w, new) = first_world script limits in
     record {
       world = w;
@@ -63,6 +67,7 @@ first_part_way script state limits no_lanes count no_pages no_log =
         each = λ k kept parcels at at'. none_collected kept parcels (element (λ (l : List Parcel). l ≡ []) state.collectors.items k kept no_pages at) (element (λ (l : List Parcel). l ≡ []) w.delivered k parcels new.none_delivered at');
       };
       log_is = ap shown_log no_log ∙ sym new.no_log;
+      steps_are = told_first script w state.reports.steps new text;
     }
 
 -- ---- between two lines
@@ -74,10 +79,16 @@ module _ (script : Script) (lines : List (ℕ × Command)) (state : ReplayState)
   kept : IsWorldKept script part_way.world
   kept = world_kept script lines part_way.world limits part_way.behind
 
-  pub is_lane_of : (cpu : ℕ) (v : LaneValue) → cpu < script.cpus → IsLaneFrom script (lane_at state.lanes.items cpu) v → IsLaneOf cpu v
-  is_lane_of cpu v low from =
-      let (lane, at) = lane_of script part_way.world kept cpu low in
-      (script.pages, script.size, script.start, lane, from_is_lane script cpu (lane_at state.lanes.items cpu) v lane limits low from (part_way.lanes_are cpu lane at))
+  pub is_reported_lane : (cpu : ℕ) (v : LaneValue) → cpu < script.cpus → IsLaneFrom script (lane_at state.lanes.items cpu) v → IsReportedLane cpu v state.reports
+  is_reported_lane cpu v low from =
+      let (lane, at) = lane_of script part_way.world kept cpu low in (
+        script.pages,
+        script.size,
+        script.start,
+        lane,
+        from_is_lane script cpu (lane_at state.lanes.items cpu) v lane limits low from (part_way.lanes_are cpu lane at),
+        known_lane script lines part_way.world state.reports.steps cpu lane part_way.steps_are at,
+      )
 
   pub rises : (cpu : ℕ) → cpu < script.cpus → IfSome (lane_at state.lanes.items cpu) (λ v. AreRising (as_parcels v.taken))
   rises cpu low =
@@ -120,7 +131,7 @@ module _ (script : Script) (line cpu : ℕ) (command : LaneCommand) (old new : R
     (limits : IsWithinLimits script)
     (low : cpu < script.cpus)
     (from : IsLaneFrom script (lane_at old.lanes.items cpu) v)
-    (has : HasLine (command_for cpu command) line cpu v old.log.items after new.log.items)
+    (has : HasLine (command_for cpu command) line cpu v old.reports after new.reports)
     (placed : lane_at new.lanes.items cpu ≡ Some after)
     (others : AreSameBut cpu new.lanes.items old.lanes.items)
     (collectors : new.collectors.items ≡ old.collectors.items) where
@@ -129,7 +140,8 @@ module _ (script : Script) (line cpu : ℕ) (command : LaneCommand) (old new : R
       let kept : IsWorldKept script part_way.world = world_kept script lines part_way.world limits part_way.behind in
       let (lane, at) = lane_of script part_way.world kept cpu low in
       let is_lane = from_is_lane script cpu (lane_at old.lanes.items cpu) v lane limits low from (part_way.lanes_are cpu lane at) in
-      let h = has script.pages script.size script.start lane is_lane in
+      let h = has script.pages script.size script.start lane is_lane
+      (known_lane script lines part_way.world old.reports.steps cpu lane part_way.steps_are at) in
       let w : World = record {
         lanes = slice_set part_way.world.lanes cpu h.after;
         taken = part_way.world.taken ++ parcels_of cpu h.exchanges;
@@ -137,21 +149,26 @@ module _ (script : Script) (line cpu : ℕ) (command : LaneCommand) (old new : R
         log = part_way.world.log ++ log_of line cpu h.exchanges;
       } in
       let runs : RunsLine script line (command_for cpu command) cpu part_way.world w = record { lane = lane; lane_is = at; exchanges = h.exchanges; next = h.after; run = h.happened; after_is = refl } in
-      let here : IsLaneAt script cpu (lane_at new.lanes.items cpu) h.after = subst (λ (p : Option LaneValue). IsLaneAt script cpu p h.after) (sym placed) h.is_lane in
-      record {
-        world = w;
-        behind = behind_next script lines line (command_for cpu command) part_way.world w part_way.behind
-            (obeys_ring script line cpu command part_way.world w runs);
-        lanes_are = λ other next next_at. dite (ℕ_discrete other cpu)
-            (λ e. subst (λ (j : ℕ). IsLaneAt script j (lane_at new.lanes.items j) next) (sym e)
-            (subst (IsLaneAt script cpu (lane_at new.lanes.items cpu))
-            (some_is h.after next (sym (get_set_here part_way.world.lanes cpu h.after (slice_get_within part_way.world.lanes cpu lane at)) ∙ subst (λ (j : ℕ). slice_get w.lanes j ≡ Some next) e next_at))
-            here))
-            (λ apart. subst (λ (p : Option LaneValue). IsLaneAt script other p next) (sym (others other apart))
-            (part_way.lanes_are other next (sym (get_set_other part_way.world.lanes cpu other h.after apart) ∙ next_at)));
-        collectors_are = subst (λ (l : List (List Parcel)). AreCollected l part_way.world.delivered) (sym collectors) part_way.collectors_are;
-        log_is = h.log ∙ ap (λ (l : List model.LogLine). l ++ log_of line cpu h.exchanges) part_way.log_is;
-      }
+      let here : IsLaneAt script cpu (lane_at new.lanes.items cpu) h.after = subst (λ (p : Option LaneValue). IsLaneAt script cpu p h.after) (sym placed) h.is_lane in (
+        record {
+          world = w;
+          behind = behind_next script lines line (command_for cpu command) part_way.world w part_way.behind
+              (obeys_ring script line cpu command part_way.world w runs);
+          lanes_are = λ other next next_at. dite (ℕ_discrete other cpu)
+              (λ e. subst (λ (j : ℕ). IsLaneAt script j (lane_at new.lanes.items j) next) (sym e)
+              (subst (IsLaneAt script cpu (lane_at new.lanes.items cpu))
+              (some_is h.after next (sym (get_set_here part_way.world.lanes cpu h.after (slice_get_within part_way.world.lanes cpu lane at)) ∙ subst (λ (j : ℕ). slice_get w.lanes j ≡ Some next) e next_at))
+              here))
+              (λ apart. subst (λ (p : Option LaneValue). IsLaneAt script other p next) (sym (others other apart))
+              (part_way.lanes_are other next (sym (get_set_other part_way.world.lanes cpu other h.after apart) ∙ next_at)));
+          collectors_are = subst (λ (l : List (List Parcel)). AreCollected l part_way.world.delivered) (sym collectors) part_way.collectors_are;
+          log_is = h.reported.log ∙ ap (λ (l : List model.LogLine). l ++ log_of line cpu h.exchanges) part_way.log_is;
+          steps_are = told_ring script lines line cpu command part_way.world w runs old.reports.steps new.reports.steps
+              h.reported.steps part_way.steps_are;
+        },
+        still_told script.pages script.size line cpu lane.core h.after.core h.exchanges old.reports.steps
+            new.reports.steps h.reported.steps,
+      )
 
 -- ---- a delivery
 
@@ -178,9 +195,10 @@ module _ (script : Script) (line collector cpu fill : ℕ) (lines : List (ℕ ×
     (part_way : IsStateAfter script lines old) where
   pub untaken_line : IfSome (lane_at old.lanes.items cpu) (λ v. All (λ parcel. parcel.fill ≢ fill) (as_parcels v.taken))
       → new.collectors.items ≡ old.collectors.items
-      → shown_log new.log.items ≡ shown_log old.log.items ++ delivery_line line collector cpu fill no_page ∷ []
+      → shown_log new.reports.log.items ≡ shown_log old.reports.log.items ++ delivery_line line collector cpu fill no_page ∷ []
+      → IsTextTold (printed_log_line (delivery_line line collector cpu fill no_page)) old.reports.steps new.reports.steps
       → IsStateAfter script (lines ++ (line, deliver collector cpu fill) ∷ []) new
-  untaken_line none collectors log =
+  untaken_line none collectors log told =
       let after : World = record part_way.world { log = part_way.world.log ++ delivery_line line collector cpu fill no_page ∷ [] } in
       let d : DeliversNothing line collector cpu fill part_way.world after = record { not_taken = none_taken script lines old limits part_way cpu fill low none; after_is = refl } in
       record {
@@ -189,6 +207,8 @@ module _ (script : Script) (line collector cpu fill : ℕ) (lines : List (ℕ ×
         lanes_are = λ other lane at. rw lanes (part_way.lanes_are other lane at);
         collectors_are = subst (λ (l : List (List Parcel)). AreCollected l part_way.world.delivered) (sym collectors) part_way.collectors_are;
         log_is = log ∙ ap (λ (l : List model.LogLine). l ++ delivery_line line collector cpu fill no_page ∷ []) part_way.log_is;
+        steps_are = told_none script lines line collector cpu fill part_way.world after old.reports.steps
+            new.reports.steps d told part_way.steps_are;
       }
 
   pub taken_line : (parcel : Parcel) (added : Added) (kept more : List Parcel)
@@ -196,9 +216,11 @@ module _ (script : Script) (line collector cpu fill : ℕ) (lines : List (ℕ ×
       → slice_get old.collectors.items collector ≡ Some kept
       → Adds added kept parcel more
       → new.collectors.items ≡ slice_set old.collectors.items collector more
-      → shown_log new.log.items ≡ shown_log old.log.items ++ delivery_line line collector cpu fill (delivery_of added) ∷ []
+      → shown_log new.reports.log.items ≡ shown_log old.reports.log.items ++ delivery_line line collector cpu fill (delivery_of added) ∷ []
+      → IsTextTold (delivery_step_text line collector cpu fill (delivery_of added) parcel) old.reports.steps
+      new.reports.steps
       → IsStateAfter script (lines ++ (line, deliver collector cpu fill) ∷ []) new
-  taken_line parcel added kept more found kept_at adds collectors log =
+  taken_line parcel added kept more found kept_at adds collectors log told =
       let (delivered, at, collected) = delivered_to script lines old limits part_way collector kept kept_at in
       let (was_taken, fill_is) = found_page script lines old limits part_way cpu fill parcel low found in
       let pages : List Parcel = delivered ++ parcel ∷ [] in
@@ -233,6 +255,8 @@ module _ (script : Script) (line collector cpu fill : ℕ) (lines : List (ℕ ×
         lanes_are = λ other lane lane_is. rw lanes (part_way.lanes_are other lane lane_is);
         collectors_are = subst (λ (l : List (List Parcel)). AreCollected l (slice_set part_way.world.delivered collector pages)) (sym collectors) all_collected;
         log_is = log ∙ ap (λ (l : List model.LogLine). l ++ delivery_line line collector cpu fill (delivery_of added) ∷ []) part_way.log_is;
+        steps_are = told_page script lines line collector cpu fill part_way.world after old.reports.steps
+            new.reports.steps d told part_way.steps_are;
       }
 
 -- ---- one line more, of all
@@ -248,7 +272,7 @@ one_more script commands index line old new at same part_way leads =
     let behind : take (index + 1) script.commands ≡ take index script.commands ++ line ∷ [] =
     take_more script.commands index line (slice_get_within script.commands index line there)
     ∙ ap (λ (l : ℕ × Command). take index script.commands ++ l ∷ []) (get_or_from_slice_get script.commands index line line there) in
-    subst (λ (l : List (ℕ × Command)). IsStateAfter script l new) (sym behind) (leads (take index script.commands) part_way)
+    subst (λ (l : List (ℕ × Command)). IsStateAfter script l new) (sym behind) (leads (take index script.commands) part_way).0
 
 pub may_obey : (script : Script) (commands : List (ℕ × Command)) (index : ℕ) (line : ℕ × Command) (state : ReplayState)
     → IsWithinLimits script

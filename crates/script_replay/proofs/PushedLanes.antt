@@ -9,7 +9,6 @@ use Rattle.trace_model.proofs.steps.StepSound.{cases_of}
 use Rattle.text_model.specs.Script.{begin_frame, finish_frame}
 use Rattle.link_marks.specs.Seats.{IsOfReader}
 use Rattle.world_model.specs.Lanes.{Lane, payloads_with, lane_with, FitsKind, FitFrames, PushesFrame, FinishesPushed, WritesFrame, LineRun}
-use Rattle.world_model.specs.Log.{logged}
 use Rattle.world_model.specs.World.{parcel_of}
 use Rattle.ring_core.specs.declared.event.Event.{Event}
 use Rattle.ring_core.specs.declared.event.Event.TheVariants as event
@@ -21,14 +20,15 @@ use Rattle.ring_frames.specs.Answers.{IsAnswerOf}
 use Rattle.ring_frames.proofs.Reported.{reported_pushed}
 use Rattle.ring_core.specs.Answers.{event_of}
 use Rattle.ring_core.specs.Steps.{IsStep, MakesStep}
-use Rattle.replay_log.specs.declared.line.LogLine.{LogLine}
-use Rattle.replay_log.specs.LogTypes.{shown_log}
 use Rattle.script_replay.specs.Value.{LaneValue}
+use Rattle.step_text.specs.declared.asked.Asked.{Asked}
+use Rattle.step_text.specs.Tells.{IsAsked, IsStepOf}
+use Rattle.script_replay.specs.declared.reports.Reports.{Reports}
+use Rattle.script_replay.specs.Reports.{Reported, KnowsRing, IsReported}
 use Rattle.script_replay.specs.Lanes.{IsLane, Happens}
 use Rattle.script_replay.specs.Frames.{IsPushOf, push_event, IsPushed, Pushes}
-use Rattle.script_replay.proofs.Logs.{reported_one, reported_more}
+use Rattle.script_replay.proofs.Reporting.{reported_more}
 use Rattle.script_replay.proofs.LaneValues.{moved_lane, taken_stay}
-use Rattle.script_replay.proofs.Reports.{IsReported}
 
 -- what a push makes of the frames
 pub data PushEnds (payload : List ℕ) (before : Core) (reported : model.Answer) (after : Core) : Type 0 where
@@ -212,39 +212,66 @@ pub pushes_frame : (n size start cpu : ℕ) (lane : Lane) (push : model.Event) (
 pushes_frame n size start cpu lane push payload a new p =
     record { event_is = refl; core = p.core; step = p.step; after_is = refl }
 
-pub begun : (n size start cpu line moment : ℕ) (lane : Lane) (payload : List ℕ) (a : Answer) (new : LaneValue)
-    (first log : List LogLine)
+-- the step of a push
+pub pushed_step : (n size start cpu : ℕ) (v : LaneValue) (lane : Lane) (asked : Asked) (push : model.Event)
+    (payload : List ℕ) (a : Answer) (new : LaneValue)
+    → IsLane n size start cpu v lane
+    → IsAsked asked lane.core push
+    → (p : IsPushed n size start cpu lane push payload a new)
+    → IsStepOf n size start lane.core p.core push p.reported asked a new.core
+pushed_step n size start cpu v lane asked push payload a new is asks p = record {
+  reached = is.is_core.reached;
+  asked_is = asks;
+  step = p.step;
+  reports = p.reports;
+  is_core = p.is_lane.is_core;
+}
+
+pub begun : (n size start cpu line moment : ℕ) (v : LaneValue) (lane : Lane) (asked : Asked) (payload : List ℕ)
+    (a : Answer) (new : LaneValue) (first reports : Reports)
+    → IsLane n size start cpu v lane
+    → KnowsRing first cpu lane.core
+    → IsAsked asked lane.core (pushes moment (length payload))
     → IsPushed n size start cpu lane (pushes moment (length payload)) payload a new
-    → IsReported line cpu a first log
+    → IsReported line cpu asked a new.core first reports
     → Happens (λ n size before exchanges after. LineRun n size (begin_frame cpu moment payload) before exchanges after)
-    line cpu n size start lane first new log
-begun n size start cpu line moment lane payload a new first log p reported =
-    let x : Exchange = record { event = pushes moment (length payload); answer = p.reported } in
+    line cpu n size start lane first new reports
+begun n size start cpu line moment v lane asked payload a new first reports is knows asks p reported =
+    let push : model.Event = pushes moment (length payload) in
+    let x : Exchange = record { event = push; answer = p.reported } in
     record {
       exchanges = x ∷ [];
       after = lane_with lane payload p.reported p.core;
-      happened = (x, refl, pushes_frame n size start cpu lane (pushes moment (length payload)) payload a new p);
+      happened = (x, refl, pushes_frame n size start cpu lane push payload a new p);
       is_lane = p.is_lane;
-      log = reported_one line cpu x (shown_log first) (shown_log log) (reported size p.reported p.reports);
+      reported = reported n size start lane.core p.core push p.reported knows
+          (pushed_step n size start cpu v lane asked push payload a new is asks p);
     }
 
--- of a push that isn't refused nothing is logged
-pub unreported : (line cpu : ℕ) (a : Answer) (log : List LogLine) → a ≡ answer.Pushed → IsReported line cpu a log log
-unreported line cpu a log is size reported reports =
-    let pushed_is : reported ≡ pushed = subst (λ (y : Answer). IsAnswerOf size y reported) is reports in
-    sym (append-nil (shown_log log)) ∙ ap (λ (x : model.Answer). shown_log log ++ logged line cpu x) (sym pushed_is)
+-- a push is reported
+pub push_reported : (n size start cpu line : ℕ) (v : LaneValue) (lane : Lane) (asked : Asked) (push : model.Event)
+    (payload : List ℕ) (a : Answer) (new : LaneValue) (first reports : Reports)
+    → IsLane n size start cpu v lane
+    → KnowsRing first cpu lane.core
+    → IsAsked asked lane.core push
+    → (p : IsPushed n size start cpu lane push payload a new)
+    → IsReported line cpu asked a new.core first reports
+    → Reported n size line cpu lane.core (record { event = push; answer = p.reported } ∷ []) p.core first reports
+push_reported n size start cpu line v lane asked push payload a new first reports is knows asks p reported =
+    reported n size start lane.core p.core push p.reported knows
+    (pushed_step n size start cpu v lane asked push payload a new is asks p)
 
 -- pushed, and finished
 pub written : (n size start cpu line : ℕ) (lane : Lane) (push : model.Event) (payload : List ℕ) (a : Answer)
-    (between new : LaneValue) (first log more : List LogLine)
+    (between new : LaneValue) (first reports more : Reports)
     → (p : IsPushed n size start cpu lane push payload a between)
     → a ≡ answer.Pushed
-    → IsReported line cpu a first log
+    → Reported n size line cpu lane.core (record { event = push; answer = p.reported } ∷ []) p.core first reports
     → Happens (λ n size before exchanges after. LineRun n size (finish_frame cpu) before exchanges after) line cpu n
-    size start (lane_with lane payload p.reported p.core) log new more
+    size start (lane_with lane payload p.reported p.core) reports new more
     → Happens (λ n size before exchanges after. WritesFrame n size push payload before exchanges after) line cpu n size
     start lane first new more
-written n size start cpu line lane push payload a between new first log more p is reported h =
+written n size start cpu line lane push payload a between new first reports more p is reported h =
     let x : Exchange = record { event = push; answer = p.reported } in
     let pushed_is : p.reported ≡ pushed = subst (λ (y : Answer). IsAnswerOf size y p.reported) is p.reports in
     record {
@@ -261,8 +288,8 @@ written n size start cpu line lane push payload a between new first log more p i
             h.happened;
       };
       is_lane = h.is_lane;
-      log = reported_more line cpu (x ∷ []) h.exchanges (shown_log first) (shown_log log) (shown_log more)
-          (reported_one line cpu x (shown_log first) (shown_log log) (reported size p.reported p.reports)) h.log;
+      reported = reported_more n size line cpu lane.core p.core h.after.core (x ∷ []) h.exchanges first reports more
+          reported h.reported;
     }
 
 -- ---- a push that is refused
@@ -276,14 +303,15 @@ none_follows n size payload c reported after lane not (fails why is frames) =
     subst (λ (t : model.Answer). FinishesPushed n size t lane [] lane) (sym is) (refl, refl)
 
 pub not_written : (n size start cpu line : ℕ) (lane : Lane) (push : Event) (payload : List ℕ) (a : Answer)
-    (new : LaneValue) (first log : List LogLine)
+    (new : LaneValue) (first reports : Reports)
     → IsPushOf push payload
-    → IsPushed n size start cpu lane (push_event push) payload a new
+    → (p : IsPushed n size start cpu lane (push_event push) payload a new)
     → a ≢ answer.Pushed
-    → IsReported line cpu a first log
+    → Reported n size line cpu lane.core (record { event = push_event push; answer = p.reported } ∷ []) p.core first
+    reports
     → Happens (λ n size before exchanges after. WritesFrame n size (push_event push) payload before exchanges after)
-    line cpu n size start lane first new log
-not_written n size start cpu line lane push payload a new first log of p not reported =
+    line cpu n size start lane first new reports
+not_written n size start cpu line lane push payload a new first reports of p not reported =
     let x : Exchange = record { event = push_event push; answer = p.reported } in
     let behind : Lane = lane_with lane payload p.reported p.core in
     record {
@@ -300,5 +328,5 @@ not_written n size start cpu line lane push payload a new first log of p not rep
             (push_ends n size payload lane.core p.reported p.core push of p.step);
       };
       is_lane = p.is_lane;
-      log = reported_one line cpu x (shown_log first) (shown_log log) (reported size p.reported p.reports);
+      reported = reported;
     }

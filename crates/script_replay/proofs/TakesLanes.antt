@@ -26,14 +26,14 @@ use Rattle.ring_core.specs.IsCore.{IsCore}
 use Rattle.ring_frames.specs.Answers.{IsAnswerOf}
 use Rattle.ring_core.specs.Answers.{GivesBack}
 use Rattle.ring_core.specs.Steps.{MakesStep}
-use Rattle.replay_log.specs.declared.line.LogLine.{LogLine}
-use Rattle.replay_log.specs.LogTypes.{shown_log}
 use Rattle.script_replay.specs.Value.{LaneValue}
+use Rattle.step_text.specs.declared.asked.Asked.{Asked}
+use Rattle.step_text.specs.Tells.{IsAsked, IsStepOf}
+use Rattle.script_replay.specs.declared.reports.Reports.{Reports}
+use Rattle.script_replay.specs.Reports.{KnowsRing, IsReported}
 use Rattle.script_replay.specs.Lanes.{IsLane, IsLaneOf, MakesExchanges}
 use Rattle.script_replay.specs.Takes.{ReadsOnce, MayKeep, Keeps}
 use Rattle.script_replay.proofs.LaneValues.{moved_lane}
-use Rattle.script_replay.proofs.Logs.{reported_one}
-use Rattle.script_replay.proofs.Reports.{IsReported}
 use Rattle.script_replay.proofs.TakesNumbers as numbers
 
 module _ (n size start cpu : ℕ) (v : LaneValue) (lane : Lane) (is : IsLane n size start cpu v lane)
@@ -100,12 +100,14 @@ brings_none n size cpu c event answer after wish (end_early payload frame below 
 brings_none n size cpu c event answer after wish (read_step e step) = absurd (subst IsWish e wish)
 brings_none n size cpu c event answer after wish (store_wish_step e a is) = ap (parcels_in cpu) a
 
-pub wishes_of : (line cpu : ℕ) (v : LaneValue) (result : Answer) (new : LaneValue) (old_log new_log : List LogLine)
+pub wishes_of : (line cpu : ℕ) (v : LaneValue) (asked : Asked) (result : Answer) (new : LaneValue)
+    (old reports : Reports)
+    → ((c : Core) → IsAsked asked c wishes)
     → MakesStep v.core wishes result new.core
     → new ≡ record v { core = new.core }
-    → IsReported line cpu result old_log new_log
-    → MakesExchanges (λ n size before xs after. Wishes n size before xs after) line cpu v old_log new new_log
-wishes_of line cpu v result new old_log new_log makes same reported = λ n size start lane is.
+    → IsReported line cpu asked result new.core old reports
+    → MakesExchanges (λ n size before xs after. Wishes n size before xs after) line cpu v old new reports
+wishes_of line cpu v asked result new old reports asks makes same reported = λ n size start lane is knows.
     let s = makes n size start lane.core is.is_core in
     let x : Exchange = record { event = wishes; answer = s.answer } in
     record {
@@ -120,7 +122,13 @@ wishes_of line cpu v result new old_log new_log makes same reported = λ n size 
           ∙ sym (append-nil (as_parcels v.taken))
           ∙ ap (λ (l : List Parcel). as_parcels v.taken ++ l)
           (sym (brings_none n size cpu lane.core wishes s.answer s.after tt (cases_of s.step))));
-      log = reported_one line cpu x (shown_log old_log) (shown_log new_log) (reported size s.answer s.reports);
+      reported = reported n size start lane.core s.after wishes s.answer knows record {
+        reached = is.is_core.reached;
+        asked_is = asks lane.core;
+        step = s.step;
+        reports = s.reports;
+        is_core = s.is_core;
+      };
     }
 
 -- ---- a step of a take
@@ -208,17 +216,18 @@ module _ (line cpu n size start : ℕ) (v : LaneValue) (lane : Lane) (is : IsLan
       is_new refl refl (body_is ∙ whole.written.size_is) (map-append page.as_parcel v.taken (kept ∷ []) ∙ ap (λ (p : Parcel). as_parcels v.taken ++ p ∷ []) parcel_is)
   keeps_reads (Wished fill) reports gives keeps = absurd gives
 
-pub reads_once : (line cpu : ℕ) (v between new : LaneValue) (body : List ℕ) (result : Answer) (goes_on : Bool)
-    (old_log new_log : List LogLine)
+pub reads_once : (line cpu : ℕ) (v between new : LaneValue) (body : List ℕ) (asked : Asked) (result : Answer)
+    (goes_on : Bool) (old reports : Reports)
+    → ((c : Core) → IsAsked asked c reads)
     → length body ≡ v.core.stack.size
     → MakesStep v.core reads result between.core
     → between ≡ record v { core = between.core; body = None }
     → GivesBack body result
-    → IsReported line cpu result old_log new_log
+    → IsReported line cpu asked result between.core old reports
     → Keeps cpu result goes_on between new
-    → MakesExchanges (ReadsOnce goes_on) line cpu v old_log new new_log
-reads_once line cpu v between new body result goes_on old_log new_log body_is makes same gives reported keeps =
-    λ n size start lane is.
+    → MakesExchanges (ReadsOnce goes_on) line cpu v old new reports
+reads_once line cpu v between new body asked result goes_on old reports asks body_is makes same gives reported keeps =
+    λ n size start lane is knows.
     let s = makes n size start lane.core is.is_core in
     let x : Exchange = record { event = reads; answer = s.answer } in
     let (reads_so, is_lane) =
@@ -230,5 +239,11 @@ reads_once line cpu v between new body result goes_on old_log new_log body_is ma
       after = lane_behind lane s.after;
       happened = reads_so;
       is_lane = is_lane;
-      log = reported_one line cpu x (shown_log old_log) (shown_log new_log) (reported size s.answer s.reports);
+      reported = reported n size start lane.core s.after reads s.answer knows record {
+        reached = is.is_core.reached;
+        asked_is = asks lane.core;
+        step = s.step;
+        reports = s.reports;
+        is_core = s.is_core;
+      };
     }

@@ -1,6 +1,7 @@
 -- Steps of the reader, one after the other: `count` are made, or its take is answered.
 use Rattle.std.proofs.Common.{◌≡◌, ◌≢◌, ℕ, suc, ◌+◌, ◌<◌, ◌≤◌, inl, inr, ⊎_elim, Bool, true, false, List, [], ◌∷◌, ◌++◌, refl, sym, ◌∙◌, subst, arith, length-append}
 use Rattle.std.specs.Prelude.{All}
+use Rattle.std.proofs.lemmas.Bool.{false≢true}
 use Rattle.std.proofs.lemmas.List.Elements.{All-push}
 use Rattle.trace_model.specs.declared.limits.TheConstants.{MAX_PAGES}
 use Rattle.trace_model.specs.Ring.{Core}
@@ -9,12 +10,11 @@ use Rattle.text_model.specs.Script.{take_page}
 use Rattle.link_marks.specs.Ranks.{reader_limit}
 use Rattle.world_model.specs.Lanes.{Lane, lane_behind, ReaderRun, HasTakeAnswer}
 use Rattle.world_model.proofs.LineEnds.{reader_runs_short}
-use Rattle.replay_log.specs.declared.line.LogLine.{LogLine}
-use Rattle.replay_log.specs.LogTypes.{shown_log}
 use Rattle.script_replay.specs.Value.{LaneValue}
-use Rattle.script_replay.specs.Lanes.{IsLaneOf, MakesExchanges, HasLine}
+use Rattle.script_replay.specs.declared.reports.Reports.{Reports}
+use Rattle.script_replay.specs.Lanes.{IsReportedLane, MakesExchanges, HasLine}
 use Rattle.script_replay.specs.Takes.{ReadsOnce, ReadsOn, ReadsSteps}
-use Rattle.script_replay.proofs.Logs.{reported_more}
+use Rattle.script_replay.proofs.Reporting.{reported_none, reported_more, knows_after}
 
 abbrev AllReading : List Exchange → Type 0
 AllReading xs = All (λ (x : Exchange). x.answer ≡ reading) xs
@@ -64,61 +64,83 @@ reading_more steps n size goes_on before between after xs ys r once =
 -- ---- of a value
 
 pub read_more : (line cpu steps : ℕ) (goes_on : Bool) (first between new : LaneValue)
-    (log log_between new_log : List LogLine)
-    → MakesExchanges (ReadsSteps steps true) line cpu first log between log_between
-    → MakesExchanges (ReadsOnce goes_on) line cpu between log_between new new_log
-    → MakesExchanges (ReadsSteps (steps + 1) goes_on) line cpu first log new new_log
-read_more line cpu steps goes_on first between new log log_between new_log so_far once = λ n size start lane is.
-    let h = so_far n size start lane is in
-    let k = once n size start h.after h.is_lane in
+    (old middle reports : Reports)
+    → MakesExchanges (ReadsSteps steps true) line cpu first old between middle
+    → MakesExchanges (ReadsOnce goes_on) line cpu between middle new reports
+    → MakesExchanges (ReadsSteps (steps + 1) goes_on) line cpu first old new reports
+read_more line cpu steps goes_on first between new old middle reports so_far once = λ n size start lane is knows.
+    let h = so_far n size start lane is knows in
+    let k = once n size start h.after h.is_lane
+    (knows_after n size line cpu lane.core h.after.core h.exchanges old middle h.reported) in
     record {
       exchanges = h.exchanges ++ k.exchanges;
       after = k.after;
       happened = reading_more steps n size goes_on lane h.after k.after h.exchanges k.exchanges h.happened k.happened;
       is_lane = k.is_lane;
-      log =
-          reported_more line cpu h.exchanges k.exchanges (shown_log log) (shown_log log_between) (shown_log new_log)
-          h.log k.log;
+      reported = reported_more n size line cpu lane.core h.after.core k.after.core h.exchanges k.exchanges old
+          middle reports h.reported k.reported;
     }
+
+-- none is made yet
+pub read_none : (line cpu : ℕ) (v : LaneValue) (reports : Reports)
+    → MakesExchanges (ReadsSteps 0 true) line cpu v reports v reports
+read_none line cpu v reports = λ n size start lane is knows. record {
+  exchanges = [];
+  after = lane;
+  happened = record {
+    run = refl;
+    made = refl;
+    goes = λ e k d low. absurd (omega arith);
+    answers = λ e. absurd (false≢true (sym e));
+  };
+  is_lane = is;
+  reported = reported_none n size line cpu lane.core reports knows;
+}
 
 -- after them the value is still a lane
 pub lane_of : {run : (n size : ℕ) → Lane → List Exchange → Lane → Type 0} (line cpu : ℕ) (v new : LaneValue)
-    (log new_log : List LogLine)
-    → IsLaneOf cpu v
-    → MakesExchanges run line cpu v log new new_log
-    → IsLaneOf cpu new
-lane_of line cpu v new log new_log (n, size, start, lane, is) has =
-    let h = has n size start lane is in
-    (n, size, start, h.after, h.is_lane)
+    (old reports : Reports)
+    → IsReportedLane cpu v old
+    → MakesExchanges run line cpu v old new reports
+    → IsReportedLane cpu new reports
+lane_of line cpu v new old reports (n, size, start, lane, is, knows) has =
+    let h = has n size start lane is knows in (
+      n,
+      size,
+      start,
+      h.after,
+      h.is_lane,
+      knows_after n size line cpu lane.core h.after.core h.exchanges old reports h.reported,
+    )
 
 -- all steps are made
-pub all_read : (line cpu steps count : ℕ) (goes_on : Bool) (v new : LaneValue) (log new_log : List LogLine)
+pub all_read : (line cpu steps count : ℕ) (goes_on : Bool) (v new : LaneValue) (old reports : Reports)
     → steps ≡ count
-    → MakesExchanges (ReadsSteps steps goes_on) line cpu v log new new_log
-    → MakesExchanges (ReadsOn count) line cpu v log new new_log
-all_read line cpu steps count goes_on v new log new_log all has = λ n size start lane is.
-    let h = has n size start lane is in
+    → MakesExchanges (ReadsSteps steps goes_on) line cpu v old new reports
+    → MakesExchanges (ReadsOn count) line cpu v old new reports
+all_read line cpu steps count goes_on v new old reports all has = λ n size start lane is knows.
+    let h = has n size start lane is knows in
     record {
       exchanges = h.exchanges;
       after = h.after;
       happened = (h.happened.run, ((let made = h.happened.made in omega arith), inl (h.happened.made ∙ all)));
       is_lane = h.is_lane;
-      log = h.log;
+      reported = h.reported;
     }
 
 -- the take is answered
-pub answer_read : (line cpu steps count : ℕ) (v new : LaneValue) (log new_log : List LogLine)
+pub answer_read : (line cpu steps count : ℕ) (v new : LaneValue) (old reports : Reports)
     → steps ≤ count
-    → MakesExchanges (ReadsSteps steps false) line cpu v log new new_log
-    → MakesExchanges (ReadsOn count) line cpu v log new new_log
-answer_read line cpu steps count v new log new_log few has = λ n size start lane is.
-    let h = has n size start lane is in
+    → MakesExchanges (ReadsSteps steps false) line cpu v old new reports
+    → MakesExchanges (ReadsOn count) line cpu v old new reports
+answer_read line cpu steps count v new old reports few has = λ n size start lane is knows.
+    let h = has n size start lane is knows in
     record {
       exchanges = h.exchanges;
       after = h.after;
       happened = (h.happened.run, ((let made = h.happened.made in omega arith), inr (h.happened.answers refl)));
       is_lane = h.is_lane;
-      log = h.log;
+      reported = h.reported;
     }
 
 -- ---- a whole take
@@ -129,12 +151,12 @@ answered_if [] not = absurd (not (λ e. e))
 answered_if (x ∷ []) not = λ e. not (λ ends. ends e)
 answered_if (x ∷ y ∷ xs) not = answered_if (y ∷ xs) not
 
-pub take_is_answered : (line cpu count : ℕ) (v new : LaneValue) (log new_log : List LogLine)
+pub take_is_answered : (line cpu count : ℕ) (v new : LaneValue) (old reports : Reports)
     → reader_limit MAX_PAGES < count
-    → MakesExchanges (ReadsOn count) line cpu v log new new_log
-    → HasLine (take_page cpu) line cpu v log new new_log
-take_is_answered line cpu count v new log new_log many has = λ n size start lane is.
-    let h = has n size start lane is in
+    → MakesExchanges (ReadsOn count) line cpu v old new reports
+    → HasLine (take_page cpu) line cpu v old new reports
+take_is_answered line cpu count v new old reports many has = λ n size start lane is knows.
+    let h = has n size start lane is knows in
     let (run, (few, stop)) = h.happened in
     record {
       exchanges = h.exchanges;
@@ -150,5 +172,5 @@ take_is_answered line cpu count v new log new_log many has = λ n size start lan
             (λ answered. answered) stop,
       );
       is_lane = h.is_lane;
-      log = h.log;
+      reported = h.reported;
     }

@@ -10,7 +10,7 @@ use Rattle.ring_frames.specs.declared.answer.Answer.{Answer}
 use Rattle.ring_core.specs.Value.{CoreValue}
 use Rattle.ring_frames.specs.Answers.{IsAnswerOf}
 use Rattle.ring_core.specs.Steps.{IsStep}
-use Rattle.replay_log.specs.declared.line.LogLine.{LogLine}
+use Rattle.script_replay.specs.declared.reports.Reports.{Reports}
 use Rattle.script_replay.specs.Value.{LaneValue}
 use Rattle.script_replay.specs.Lanes.{IsLane, MakesExchanges}
 
@@ -47,6 +47,7 @@ pub record HasMadeSteps (depth steps n size : ℕ) (before : Lane) (exchanges : 
   pub run : FrameRun n size depth before exchanges after
   pub made : length exchanges ≡ steps
   pub few : length after.core.frames ≤ depth
+  pub kept : length after.core.frames ≡ depth → after.payloads ≡ before.payloads
 
 -- ---- pushes
 
@@ -84,8 +85,7 @@ Pushes event payload old answer new = (n size start cpu : ℕ) (lane : Lane)
     → IsPushed n size start cpu lane event payload answer new
 
 -- a frame is pushed and finished
-abbrev pub HasWritten : model.Event → List ℕ → (line cpu : ℕ)
-    → LaneValue → List LogLine → LaneValue → List LogLine → Type 0
-HasWritten event payload line cpu old old_log new new_log =
+abbrev pub HasWritten : model.Event → List ℕ → (line cpu : ℕ) → LaneValue → Reports → LaneValue → Reports → Type 0
+HasWritten event payload line cpu old old_reports new reports =
     MakesExchanges (λ n size before exchanges after. WritesFrame n size event payload before exchanges after)
-    line cpu old old_log new new_log
+    line cpu old old_reports new reports

@@ -1,16 +1,15 @@
 -- What ties a lane as a value to one of a script's world, and what a line does to it.
-use Rattle.std.specs.Prelude.{◌≡◌, ℕ, ◌%◌, ◌<◌, ◌≤◌, List, ◌++◌, length, map, IfSome}
+use Rattle.std.specs.Prelude.{◌≡◌, ℕ, ◌%◌, ◌<◌, ◌≤◌, List, length, map, IfSome}
 use Rattle.trace_model.specs.declared.limits.TheConstants.{MAX_PAGES, MIN_SIZE, MAX_SIZE, MAX_CPUS}
 use Rattle.trace_model.specs.Steps.{Exchange}
 use Rattle.text_model.specs.Script.{Command}
 use Rattle.world_model.specs.Lanes.{Lane, IsNewLane, HasPayloads, LineRun}
 use Rattle.world_model.specs.World.{parcel_of}
-use Rattle.world_model.specs.Log.{log_of}
 use Rattle.page_numbers.specs.Parcels.{as_parcels}
 use Rattle.ring_core.specs.IsCore.{IsCore}
-use Rattle.replay_log.specs.declared.line.LogLine.{LogLine}
-use Rattle.replay_log.specs.LogTypes.{shown_log}
+use Rattle.script_replay.specs.declared.reports.Reports.{Reports}
 use Rattle.script_replay.specs.Value.{LaneValue}
+use Rattle.script_replay.specs.Reports.{Reported, KnowsRing}
 
 -- The value is this lane of a CPU, whose ring has n pages of this size and the first fill start: the ring is the
 -- lane's, with a payload for each frame, and what was taken from it is kept as parcels of the CPU.
@@ -35,26 +34,31 @@ abbrev pub IsNewLaneOf : (n size start : ℕ) → LaneValue → Type 0
 IsNewLaneOf n size start v =
     (lane : Lane) × IsNewLane n start lane × ((cpu : ℕ) → cpu < MAX_CPUS → IsLane n size start cpu v lane)
 
--- Exchanges of this kind lead from a lane to another one, which the value after them is, and what is logged of them is
--- appended to the log.
+-- the value is a lane of this CPU, whose ring is known if the text of its steps is asked for
+abbrev pub IsReportedLane : (cpu : ℕ) → LaneValue → Reports → Type 0
+IsReportedLane cpu v reports =
+    (n size start : ℕ) × (lane : Lane) × IsLane n size start cpu v lane × KnowsRing reports cpu lane.core
+
+-- Exchanges of this kind lead from a lane to another one, which the value after them is, and they are reported.
 pub record Happens (run : (n size : ℕ) → Lane → List Exchange → Lane → Type 0) (line cpu n size start : ℕ)
-    (before : Lane) (old_log : List LogLine) (new : LaneValue) (new_log : List LogLine)
+    (before : Lane) (old : Reports) (new : LaneValue) (reports : Reports)
     : Type 0 where
   pub exchanges : List Exchange
   pub after : Lane
   pub happened : run n size before exchanges after
   pub is_lane : IsLane n size start cpu new after
-  pub log : shown_log new_log ≡ shown_log old_log ++ log_of line cpu exchanges
+  pub reported : Reported n size line cpu before.core exchanges after.core old reports
 
--- so it is for each lane that the value before is
+-- so it is for each lane that the value before is, whose ring is known if the text of its steps is asked for
 abbrev pub MakesExchanges : ((n size : ℕ) → Lane → List Exchange → Lane → Type 0) → (line cpu : ℕ)
-    → LaneValue → List LogLine → LaneValue → List LogLine → Type 0
-MakesExchanges run line cpu old old_log new new_log = (n size start : ℕ) (lane : Lane)
+    → LaneValue → Reports → LaneValue → Reports → Type 0
+MakesExchanges run line cpu old old_reports new reports = (n size start : ℕ) (lane : Lane)
     → IsLane n size start cpu old lane
-    → Happens run line cpu n size start lane old_log new new_log
+    → KnowsRing old_reports cpu lane.core
+    → Happens run line cpu n size start lane old_reports new reports
 
 -- what a line of the script asks for is done
-abbrev pub HasLine : Command → (line cpu : ℕ) → LaneValue → List LogLine → LaneValue → List LogLine → Type 0
-HasLine command line cpu old old_log new new_log =
+abbrev pub HasLine : Command → (line cpu : ℕ) → LaneValue → Reports → LaneValue → Reports → Type 0
+HasLine command line cpu old old_reports new reports =
     MakesExchanges (λ n size before exchanges after. LineRun n size command before exchanges after)
-    line cpu old old_log new new_log
+    line cpu old old_reports new reports

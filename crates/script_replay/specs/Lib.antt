@@ -1,4 +1,5 @@
 pub mod Value
+pub mod Reports
 pub mod LaneCommands
 pub mod Lanes
 pub mod Frames

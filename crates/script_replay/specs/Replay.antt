@@ -1,16 +1,18 @@
 -- What a replay of a script answers: the script's world; and what holds between two of its lines.
-use Rattle.std.specs.Prelude.{◌≡◌, ℕ, [], ◌∷◌, ◌++◌, ◌↔◌, List, Some, Contains}
+use Rattle.std.specs.Prelude.{◌≡◌, ℕ, ◌<◌, [], ◌∷◌, ◌++◌, ◌↔◌, List, length, Some, All, Contains, IfSome, IsSome}
 use Rattle.std.specs.List.{slice_get}
 use Rattle.trace_model.specs.Parcel.{Parcel}
 use Rattle.trace_model.specs.Collection.{IsSame, IsLeastUpperBound}
 use Rattle.text_model.specs.Script.{Command, Script}
 use Rattle.text_model.specs.ScriptLimits.{IsWithinLimits, IsCommandWithin}
-use Rattle.world_model.specs.Lanes.{Lane}
-use Rattle.world_model.specs.World.{World, WorldBehind, WorldOf}
+use Rattle.world_model.specs.Lanes.{Lane, IsNewLane}
+use Rattle.world_model.specs.World.{World, IsNewWorld, WorldBehind, WorldOf}
 use Rattle.world_model.specs.GenuineWorlds.{IsExact, IsGenuineWorld}
 use Rattle.replay_log.specs.declared.line.LogLine.{LogLine}
 use Rattle.script_replay.specs.declared.replaying.ReplayState.{ReplayState}
 use Rattle.replay_log.specs.LogTypes.{shown_log}
+use Rattle.step_model.specs.RunTexts.{TellsAll, trace_line, new_rings_text}
+use Rattle.step_text.specs.Known.{StepTextValue, Knows}
 use Rattle.script_replay.specs.LanesByCpu.{lane_at, IsLaneAt}
 use Rattle.script_replay.specs.Collected.{AreCollected}
 
@@ -63,6 +65,27 @@ pub record IsHeadline (script : Script) (collectors : List (List Parcel)) (log :
 
 -- ---- between two lines
 
+-- the text is that of the script before its first line, and each new ring is known
+pub record IsNewText (script : Script) (steps : StepTextValue) : Type 0 where
+  pub text : (lanes : List Lane)
+      → length lanes ≡ script.cpus
+      → All (IsNewLane script.pages script.start) lanes
+      → steps.text ≡ trace_line script ++ new_rings_text lanes
+  pub knows : (cpu : ℕ) (lane : Lane)
+      → cpu < script.cpus
+      → IsNewLane script.pages script.start lane
+      → Knows steps cpu lane.core
+
+-- The text is that of the steps of these lines, which lead to this world, and the ring of each CPU is known.
+pub record IsToldSoFar (script : Script) (lines : List (ℕ × Command)) (w : World) (steps : StepTextValue)
+    : Type 0 where
+  pub new : World
+  pub is_new : IsNewWorld script new
+  pub text : List ℕ
+  pub tells : TellsAll script lines new w text
+  pub text_is : steps.text ≡ trace_line script ++ new_rings_text new.lanes ++ text
+  pub knows : (cpu : ℕ) (lane : Lane) → slice_get w.lanes cpu ≡ Some lane → Knows steps cpu lane.core
+
 -- After these lines: the lanes that were made, each at its CPU, the collectors and the log are those of the world
 -- there, and each lane that wasn't made is new.
 pub record IsStateAfter (script : Script) (lines : List (ℕ × Command)) (state : ReplayState) : Type 0 where
@@ -72,7 +95,8 @@ pub record IsStateAfter (script : Script) (lines : List (ℕ × Command)) (state
       → slice_get world.lanes cpu ≡ Some lane
       → IsLaneAt script cpu (lane_at state.lanes.items cpu) lane
   pub collectors_are : AreCollected state.collectors.items world.delivered
-  pub log_is : shown_log state.log.items ≡ world.log
+  pub log_is : shown_log state.reports.log.items ≡ world.log
+  pub steps_are : IfSome state.reports.steps (λ steps. IsToldSoFar script lines world steps)
 
 -- a command of this script may be obeyed after some of its lines
 pub record IsReady (script : Script) (command : Command) (state : ReplayState) : Type 0 where
@@ -81,8 +105,8 @@ pub record IsReady (script : Script) (command : Command) (state : ReplayState) :
   pub lines : List (ℕ × Command)
   pub part_way : IsStateAfter script lines state
 
--- one line more is obeyed, whichever were obeyed before
+-- One line more is obeyed, whichever were obeyed before; and a text that is asked for is still told.
 abbrev pub LeadsOn : Script → ℕ × Command → ReplayState → ReplayState → Type 0
 LeadsOn script line old new = (lines : List (ℕ × Command))
     → IsStateAfter script lines old
-    → IsStateAfter script (lines ++ line ∷ []) new
+    → IsStateAfter script (lines ++ line ∷ []) new × (IsSome old.reports.steps → IsSome new.reports.steps)

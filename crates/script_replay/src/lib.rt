@@ -9,8 +9,9 @@ mod delivery;
 mod lane;
 mod lanes;
 mod replaying;
+mod reports;
 mod world;
 
 pub use replay_log::LogLine;
-pub use replaying::replay;
+pub use replaying::{replay, steps_of};
 pub use world::World;

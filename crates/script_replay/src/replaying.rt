@@ -1,5 +1,6 @@
 //! The replay of a script over the rings of its CPUs: its lines are obeyed, one after the other.
-ghost use Rattle.std.specs.Prelude.{◌≡◌, [], length, All, IsOkUnless, IfOk, OnOk};
+ghost use Rattle.std.specs.Prelude.{◌≡◌, [], length, true, All, IsOkUnless, IsSome, IfOk, OnOk};
+ghost use Rattle.world_model.specs.World as model_world;
 ghost use Rattle.text_model.specs.Log as model;
 ghost use Rattle.text_model.specs.Script as model_script;
 ghost use Rattle.text_model.specs.Script.{deliver as delivers};
@@ -8,17 +9,20 @@ ghost use Rattle.trace_script.specs.ScriptTypes.{shown_command, shown_line};
 ghost use Rattle.replay_log.specs.LogTypes.{shown_log_line};
 ghost use Rattle.script_replay.specs.LaneCommands.{command_for};
 ghost use Rattle.script_replay.specs.Collected.{delivery_of};
+ghost use Rattle.step_model.specs.RunTexts.{IsStepText};
 ghost use Rattle.script_replay.specs.Replay.{IsStateAfter, IsReady, LeadsOn, IsHeadline};
 ghost use Rattle.trace_script.specs.declared.replay_fault.ReplayFault.TheVariants.{NoMemory as no_memory};
 
 use crate::delivery::taken_page;
 use crate::lane::{Lane, LaneCommand};
 use crate::lanes::make_lane;
+use crate::reports::Reports;
 use crate::world::World;
 use collector::{Added, Collector};
 use deliveries::collect;
 use replay_log::{At, LogLine};
 use std::alloc::Global;
+use step_text::StepText;
 use trace_model::{CpuId, FillNo, NoMemory};
 use trace_script::{Command, ReplayFault, Script, ScriptLine};
 
@@ -27,7 +31,7 @@ use trace_script::{Command, ReplayFault, Script, ScriptLine};
 pub(crate) struct ReplayState<'a> {
     lanes: Vec<Option<Box<Lane<'a>>>>,
     collectors: Vec<Collector>,
-    log: Vec<LogLine>,
+    reports: Reports,
 }
 
 /// Obeys a line of the ring of this CPU.
@@ -45,7 +49,7 @@ fn obey_ring<'a>(
 {
     make_lane(alloc, script, &mut state.lanes, cpu)?;
     match &mut state.lanes[cpu.0 as usize] {
-        Some(lane) => lane.obey(alloc, At { line, cpu }, command, &mut state.log),
+        Some(lane) => lane.obey(alloc, At { line, cpu }, command, &mut state.reports),
         None => unreachable!(),
     }
 }
@@ -84,19 +88,21 @@ fn deliver(
         → LeadsOn script (line, delivers collector cpu.0 fill.0) state.old state.new) }
 {
     let Some(parcel) = taken_page(state.lanes.as_slice(), cpu, fill) else {
-        state.log.push(LogLine::NotTaken {
+        return state.reports.report_delivery(LogLine::NotTaken {
             line,
             collector,
             cpu,
             fill,
-        })?;
-        return Ok(());
+        });
     };
     let added = collect(&mut state.collectors[collector], parcel)?;
     state
-        .log
-        .push(reported_delivery(added, line, collector, cpu, fill))?;
-    Ok(())
+        .reports
+        .report_delivery(reported_delivery(added, line, collector, cpu, fill))?;
+    match added {
+        Added::New => state.reports.report_gains(parcel),
+        Added::Known => Ok(()),
+    }
 }
 
 /// Obeys a line of the script. What it leaves if memory is refused is not used. `obey_ring` and `Lane::obey` are
@@ -184,17 +190,30 @@ fn new_collectors(alloc: Global, count: usize) -> Result<Vec<Collector>, NoMemor
     Ok(collectors)
 }
 
-/// Obeys all lines of the script.
-fn obey_all<'a>(alloc: Global, script: &'a Script) -> Result<ReplayState<'a>, NoMemory>
+/// Obeys all lines of the script, and tells their steps if that is asked for.
+fn obey_all<'a>(
+    alloc: Global,
+    script: &'a Script,
+    tells_steps: bool,
+) -> Result<ReplayState<'a>, NoMemory>
     ensures limits { OnOk result (IsWithinLimits script.now) }
     ensures part_way { IfOk result (λ state. IsStateAfter script.now script.now.commands state) }
+    ensures told { IfOk result (λ state. tells_steps ≡ true → IsSome state.reports.steps) }
 {
+    let commands = script.commands();
+    let steps = if tells_steps {
+        Some(StepText::new(alloc, script)?)
+    } else {
+        None
+    };
     let mut state = ReplayState {
         lanes: Vec::new(alloc),
         collectors: new_collectors(alloc, script.collectors())?,
-        log: Vec::new(alloc),
+        reports: Reports {
+            log: Vec::new(alloc),
+            steps,
+        },
     };
-    let commands = script.commands();
     for index in 0..commands.len() {
         obey(alloc, script, &mut state, commands.line(index))?;
     }
@@ -210,8 +229,28 @@ pub fn replay(alloc: Global, script: &Script) -> Result<World, ReplayFault>
     let ReplayState {
         lanes,
         collectors,
-        log,
-    } = obey_all(alloc, script)?;
+        reports,
+    } = obey_all(alloc, script, false)?;
     drop(lanes);
+    let log = reports.log;
     Ok(World { collectors, log })
+}
+
+/// The text of the steps of a script's replay: what each one did to its ring, and what each delivery brought.
+pub fn steps_of(alloc: Global, script: &Script) -> Result<Vec<u8>, NoMemory>
+    ensures { IfOk result (λ text. (world : model_world.World) × IsStepText script.now world text.items) }
+{
+    let ReplayState {
+        lanes,
+        collectors,
+        reports,
+    } = obey_all(alloc, script, true)?;
+    drop(lanes);
+    drop(collectors);
+    let Reports { log, steps } = reports;
+    drop(log);
+    match steps {
+        Some(steps) => Ok(steps.into_text()),
+        None => unreachable!(),
+    }
 }

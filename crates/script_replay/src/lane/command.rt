@@ -1,6 +1,7 @@
 //! What a line of a script asks of the lane of its CPU, and how it is done.
 use crate::lane::Lane;
-use replay_log::{At, LogLine};
+use crate::reports::Reports;
+use replay_log::At;
 use std::alloc::Global;
 use trace_model::{Moment, NoMemory};
 
@@ -27,7 +28,7 @@ pub(crate) enum LaneCommand<'a> {
 
 impl<'a> Lane<'a> {
     ghost use Rattle.std.specs.Prelude.{OnOk};
-    ghost use Rattle.script_replay.specs.Lanes.{IsLaneOf, HasLine};
+    ghost use Rattle.script_replay.specs.Lanes.{IsReportedLane, HasLine};
     ghost use Rattle.script_replay.specs.LaneCommands.{command_for};
 
     /// Does what a line asks.
@@ -37,21 +38,21 @@ impl<'a> Lane<'a> {
         alloc: Global,
         at: At,
         command: LaneCommand<'a>,
-        log: &mut Vec<LogLine>,
+        reports: &mut Reports,
     ) -> Result<(), NoMemory>
-        requires { IsLaneOf at.cpu.0 self.old }
+        requires { IsReportedLane at.cpu.0 self.old reports.old }
         ensures { OnOk result (HasLine (command_for at.cpu.0 command.entry) at.line at.cpu.0
-            self.old log.old.items self.new log.new.items) }
+            self.old reports.old self.new reports.new) }
     {
         match command {
-            LaneCommand::Begin(moment, payload) => self.begin(at, moment.0, payload, log),
-            LaneCommand::Step(count) => self.step(at, count, log),
-            LaneCommand::Finish => self.finish(at, log),
-            LaneCommand::Write(moment, payload) => self.write(at, moment.0, payload, log),
-            LaneCommand::Close => self.close(at, log),
-            LaneCommand::StepReader(count) => self.step_reader(alloc, at, count, log),
-            LaneCommand::Take => self.take(alloc, at, log),
-            LaneCommand::Wish => self.wish(at, log),
+            LaneCommand::Begin(moment, payload) => self.begin(at, moment.0, payload, reports),
+            LaneCommand::Step(count) => self.step(at, count, reports),
+            LaneCommand::Finish => self.finish(at, reports),
+            LaneCommand::Write(moment, payload) => self.write(at, moment.0, payload, reports),
+            LaneCommand::Close => self.close(at, reports),
+            LaneCommand::StepReader(count) => self.step_reader(alloc, at, count, reports),
+            LaneCommand::Take => self.take(alloc, at, reports),
+            LaneCommand::Wish => self.wish(at, reports),
         }
     }
 }

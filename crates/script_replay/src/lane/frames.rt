@@ -1,9 +1,11 @@
 //! The steps of the frame on top.
 use crate::lane::Lane;
+use crate::reports::Reports;
 use nested_writer::WriteFault;
-use replay_log::{At, LogLine, report, report_refusal};
+use replay_log::At;
 use ring_core::{Answer, Event};
 use ring_frames::write_padded;
+use step_text::Asked;
 use trace_model::NoMemory;
 
 /// More steps than a frame or a take makes in a ring of the most pages.
@@ -12,50 +14,47 @@ pub(crate) const MOST_STEPS: u64 = 8192;
 impl<'a> Lane<'a> {
     ghost use Rattle.std.specs.Prelude.{◌≡◌, ◌≢◌, ℕ, ◌-◌, [], drop, length, OnOk};
     ghost use Rattle.text_model.specs.Script.{step_frame, finish_frame};
-    ghost use Rattle.script_replay.specs.Lanes.{IsLaneOf, MakesExchanges, HasLine};
+    ghost use Rattle.script_replay.specs.Lanes.{IsLaneOf, IsReportedLane, MakesExchanges, HasLine};
     ghost use Rattle.script_replay.specs.Frames.{AsksTop, StepsOnce, FollowsFrame};
 
     /// Lets the frame on top make `count` steps, or fewer if it is gone before.
     #[inline(never)]
-    pub(crate) fn step(
-        &mut self,
-        at: At,
-        count: u64,
-        log: &mut Vec<LogLine>,
-    ) -> Result<(), NoMemory>
-        requires { IsLaneOf at.cpu.0 self.old }
+    pub(crate) fn step(&mut self, at: At, count: u64, reports: &mut Reports) -> Result<(), NoMemory>
+        requires { IsReportedLane at.cpu.0 self.old reports.old }
         ensures { OnOk result (HasLine (step_frame at.cpu.0 count) at.line at.cpu.0
-            self.old log.old.items self.new log.new.items) }
+            self.old reports.old self.new reports.new) }
     {
         if self.core.depth() == 0 {
-            return report_refusal(at, WriteFault::NoFrame, log);
+            let refused = Answer::Refused(WriteFault::NoFrame);
+            return reports.report(at, Asked::Top(&[]), refused, &self.core);
         }
-        self.follow(at, count, log)
+        self.follow(at, count, reports)
     }
 
     /// Has the frame on top make steps until it is gone: `MOST_STEPS` is more than any frame makes.
     #[inline(never)]
-    pub(crate) fn finish(&mut self, at: At, log: &mut Vec<LogLine>) -> Result<(), NoMemory>
-        requires { IsLaneOf at.cpu.0 self.old }
+    pub(crate) fn finish(&mut self, at: At, reports: &mut Reports) -> Result<(), NoMemory>
+        requires { IsReportedLane at.cpu.0 self.old reports.old }
         ensures { OnOk result (HasLine (finish_frame at.cpu.0) at.line at.cpu.0
-            self.old log.old.items self.new log.new.items) }
+            self.old reports.old self.new reports.new) }
     {
-        self.step(at, MOST_STEPS, log)
+        self.step(at, MOST_STEPS, reports)
     }
 
     /// Has the frame on top make `count` steps, or fewer if it is gone before: then fewer payloads are kept.
     #[inline(always)]
-    fn follow(&mut self, at: At, count: u64, log: &mut Vec<LogLine>) -> Result<(), NoMemory>
-        requires lane { IsLaneOf at.cpu.0 self.old }
+    fn follow(&mut self, at: At, count: u64, reports: &mut Reports) -> Result<(), NoMemory>
+        requires lane { IsReportedLane at.cpu.0 self.old reports.old }
         requires stands { self.old.core.stack.frames ≢ [] }
         ensures { OnOk result (MakesExchanges (FollowsFrame count) at.line at.cpu.0
-            self.old log.old.items self.new log.new.items) }
+            self.old reports.old self.new reports.new) }
     {
         let depth = self.payloads.len();
+        let payload = self.payloads[depth - 1];
         let mut steps = 0;
         while steps < count && self.payloads.len() == depth {
             let answer = self.step_once();
-            report(at, answer, log)?;
+            reports.report(at, Asked::Top(payload), answer, &self.core)?;
             steps += 1;
         }
         Ok(())

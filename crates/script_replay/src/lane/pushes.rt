@@ -1,13 +1,17 @@
 //! Frames that are pushed.
 use crate::lane::Lane;
-use replay_log::{At, LogLine, report};
+use crate::reports::Reports;
+use replay_log::At;
 use ring_core::{Answer, Event};
+use step_text::Asked;
 use trace_model::NoMemory;
 
 impl<'a> Lane<'a> {
     ghost use Rattle.std.specs.Prelude.{ℕ, IfOk, OnOk};
+    ghost use Rattle.trace_model.specs.Ring as model;
     ghost use Rattle.text_model.specs.Script.{begin_frame, write, close};
-    ghost use Rattle.script_replay.specs.Lanes.{IsLaneOf, HasLine};
+    ghost use Rattle.step_text.specs.Tells.{IsAsked};
+    ghost use Rattle.script_replay.specs.Lanes.{IsLaneOf, IsReportedLane, HasLine};
     ghost use Rattle.script_replay.specs.Frames.{IsPushOf, push_event, Pushes, HasWritten};
 
     /// Pushes a record frame of this moment and payload.
@@ -17,17 +21,15 @@ impl<'a> Lane<'a> {
         at: At,
         moment: u64,
         payload: &'a [u8],
-        log: &mut Vec<LogLine>,
+        reports: &mut Reports,
     ) -> Result<(), NoMemory>
-        requires { IsLaneOf at.cpu.0 self.old }
+        requires { IsReportedLane at.cpu.0 self.old reports.old }
         ensures { OnOk result (HasLine (begin_frame at.cpu.0 moment payload.now) at.line at.cpu.0
-            self.old log.old.items self.new log.new.items) }
+            self.old reports.old self.new reports.new) }
     {
         let len = payload.len();
-        match self.push(Event::Push { moment, len }, payload)? {
-            Answer::Pushed => Ok(()),
-            refused => report(at, refused, log),
-        }
+        let answer = self.push(Event::Push { moment, len }, payload)?;
+        reports.report(at, Asked::Push, answer, &self.core)
     }
 
     /// Pushes a record frame of this moment and payload, and lets it make steps until it is gone.
@@ -37,24 +39,30 @@ impl<'a> Lane<'a> {
         at: At,
         moment: u64,
         payload: &'a [u8],
-        log: &mut Vec<LogLine>,
+        reports: &mut Reports,
     ) -> Result<(), NoMemory>
-        requires { IsLaneOf at.cpu.0 self.old }
+        requires { IsReportedLane at.cpu.0 self.old reports.old }
         ensures { OnOk result (HasLine (write at.cpu.0 moment payload.now) at.line at.cpu.0
-            self.old log.old.items self.new log.new.items) }
+            self.old reports.old self.new reports.new) }
     {
         let len = payload.len();
-        self.push_and_finish(at, Event::Push { moment, len }, payload, log)
+        self.push_and_finish(
+            at,
+            Asked::Push,
+            Event::Push { moment, len },
+            payload,
+            reports,
+        )
     }
 
     /// Pushes a close frame, and lets it make steps until it is gone.
     #[inline(never)]
-    pub(crate) fn close(&mut self, at: At, log: &mut Vec<LogLine>) -> Result<(), NoMemory>
-        requires { IsLaneOf at.cpu.0 self.old }
+    pub(crate) fn close(&mut self, at: At, reports: &mut Reports) -> Result<(), NoMemory>
+        requires { IsReportedLane at.cpu.0 self.old reports.old }
         ensures { OnOk result (HasLine (close at.cpu.0) at.line at.cpu.0
-            self.old log.old.items self.new log.new.items) }
+            self.old reports.old self.new reports.new) }
     {
-        self.push_and_finish(at, Event::PushClose, &[], log)
+        self.push_and_finish(at, Asked::PushClose, Event::PushClose, &[], reports)
     }
 
     /// Pushes a frame with this payload, and lets it make steps until it is gone.
@@ -62,19 +70,24 @@ impl<'a> Lane<'a> {
     fn push_and_finish(
         &mut self,
         at: At,
+        asked: Asked,
         event: Event,
         payload: &'a [u8],
-        log: &mut Vec<LogLine>,
+        reports: &mut Reports,
     ) -> Result<(), NoMemory>
-        requires lane { IsLaneOf at.cpu.0 self.old }
+        requires lane { IsReportedLane at.cpu.0 self.old reports.old }
         requires push { IsPushOf event payload.now }
+        requires asked { (core : model.Core) → IsAsked asked core (push_event event) }
         ensures { OnOk result (HasWritten (push_event event) payload.now at.line at.cpu.0
-            self.old log.old.items self.new log.new.items) }
+            self.old reports.old self.new reports.new) }
     {
         let answer = self.push(event, payload)?;
         match answer {
-            Answer::Pushed => self.finish(at, log),
-            refused => report(at, refused, log),
+            Answer::Pushed => {
+                reports.report(at, asked, Answer::Pushed, &self.core)?;
+                self.finish(at, reports)
+            }
+            refused => reports.report(at, asked, refused, &self.core),
         }
     }
 

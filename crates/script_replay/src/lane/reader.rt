@@ -1,11 +1,13 @@
 //! The reader of a lane: takes, and its wish.
 use crate::lane::Lane;
 use crate::lane::frames::MOST_STEPS;
+use crate::reports::Reports;
 use page_image::{Body, Page};
 use page_numbers::Parcel;
-use replay_log::{At, LogLine, report, report_any};
+use replay_log::At;
 use ring_core::{Answer, Event};
 use std::alloc::Global;
+use step_text::Asked;
 use trace_model::{CpuId, NoMemory};
 
 impl<'a> Lane<'a> {
@@ -13,7 +15,7 @@ impl<'a> Lane<'a> {
     ghost use Rattle.trace_model.specs.declared.limits.TheConstants.{MAX_CPUS};
     ghost use Rattle.page_image.specs.Contents.{IsPage, records_of_page};
     ghost use Rattle.text_model.specs.Script.{step_reader, take_page, wish};
-    ghost use Rattle.script_replay.specs.Lanes.{IsLaneOf, MakesExchanges, HasLine};
+    ghost use Rattle.script_replay.specs.Lanes.{IsLaneOf, IsReportedLane, MakesExchanges, HasLine};
     ghost use Rattle.script_replay.specs.Takes.{ReadsOnce, Keeps, KeepsPage, MayKeep};
 
     /// Lets the reader make `count` steps, or fewer if its take ends before.
@@ -22,16 +24,16 @@ impl<'a> Lane<'a> {
         alloc: Global,
         at: At,
         count: u64,
-        log: &mut Vec<LogLine>,
+        reports: &mut Reports,
     ) -> Result<(), NoMemory>
-        requires { IsLaneOf at.cpu.0 self.old }
+        requires { IsReportedLane at.cpu.0 self.old reports.old }
         ensures { OnOk result (HasLine (step_reader at.cpu.0 count) at.line at.cpu.0
-            self.old log.old.items self.new log.new.items) }
+            self.old reports.old self.new reports.new) }
     {
         let mut steps = 0;
         let mut goes_on = true;
         while steps < count && goes_on {
-            goes_on = self.read_once(alloc, at, log)?;
+            goes_on = self.read_once(alloc, at, reports)?;
             steps += 1;
         }
         Ok(())
@@ -42,34 +44,34 @@ impl<'a> Lane<'a> {
         &mut self,
         alloc: Global,
         at: At,
-        log: &mut Vec<LogLine>,
+        reports: &mut Reports,
     ) -> Result<(), NoMemory>
-        requires { IsLaneOf at.cpu.0 self.old }
+        requires { IsReportedLane at.cpu.0 self.old reports.old }
         ensures { OnOk result (HasLine (take_page at.cpu.0) at.line at.cpu.0
-            self.old log.old.items self.new log.new.items) }
+            self.old reports.old self.new reports.new) }
     {
-        self.step_reader(alloc, at, MOST_STEPS, log)
+        self.step_reader(alloc, at, MOST_STEPS, reports)
     }
 
     /// Lets the reader wish for the tail page.
-    pub(crate) fn wish(&mut self, at: At, log: &mut Vec<LogLine>) -> Result<(), NoMemory>
-        requires { IsLaneOf at.cpu.0 self.old }
+    pub(crate) fn wish(&mut self, at: At, reports: &mut Reports) -> Result<(), NoMemory>
+        requires { IsReportedLane at.cpu.0 self.old reports.old }
         ensures { OnOk result (HasLine (wish at.cpu.0) at.line at.cpu.0
-            self.old log.old.items self.new log.new.items) }
+            self.old reports.old self.new reports.new) }
     {
         let answer = self.core.step(Event::Wish);
-        report(at, answer, log)
+        reports.report(at, Asked::Wish, answer, &self.core)
     }
 
     /// One step of the reader: the answer says whether its take continues.
-    fn read_once(&mut self, alloc: Global, at: At, log: &mut Vec<LogLine>) -> Result<bool, NoMemory>
-        requires { IsLaneOf at.cpu.0 self.old }
+    fn read_once(&mut self, alloc: Global, at: At, reports: &mut Reports) -> Result<bool, NoMemory>
+        requires { IsReportedLane at.cpu.0 self.old reports.old }
         ensures { IfOk result (λ goes_on. MakesExchanges (ReadsOnce goes_on) at.line at.cpu.0
-            self.old log.old.items self.new log.new.items) }
+            self.old reports.old self.new reports.new) }
     {
         let body = self.next_body(alloc)?;
         let answer = self.core.step(Event::Read(body));
-        report_any(at, &answer, log)?;
+        reports.report_any(at, Asked::Read, &answer, &self.core)?;
         self.keep(alloc, at.cpu, answer)
     }
 

@@ -2,11 +2,11 @@ use Rattle.std.proofs.Common.{◌<◌, sym, ◌∙◌, subst, refl}
 use Rattle.std.specs.Box.{with_value}
 use Rattle.std.proofs.lemmas.Result.{on_ok_weaker}
 use Rattle.script_replay.specs.Value.{LaneValue}
-use Rattle.script_replay.specs.Lanes.{IsLaneOf}
+use Rattle.script_replay.specs.Lanes.{IsReportedLane}
 use Rattle.script_replay.specs.LanesByCpu.{lane_at, IsLaneFrom}
 use Rattle.script_replay.proofs.LanesByCpu.{lent_from, put_there, others_stay}
 use Rattle.script_replay.proofs.Placed.{ring_within}
-use Rattle.script_replay.proofs.LinesObeyed.{is_lane_of, ring_leads}
+use Rattle.script_replay.proofs.LinesObeyed.{is_reported_lane, ring_leads}
 use Rattle.script_replay.proofs.replaying.obey_ring.Goals as goal
 
 pub obey-requires : goal.obey-requires
@@ -17,8 +17,8 @@ obey-requires c =
     let low : cpu < script.cpus = ring_within script.cpus script.collectors cpu c.args.command ready.within in
     let from = lent_from script c.make_lane.new.lanes.items cpu (lane_at c.args.state.now.lanes.items cpu) c.index_mut.result.now c.in-Some.lane
     c.in_ok-make_lane.ensures.room c.index_mut.ensures.value c.in-Some.is c.in_ok-make_lane.ensures.lane in
-    subst (IsLaneOf cpu) (sym c.deref_mut.ensures.value)
-    (is_lane_of script ready.lines c.args.state.now ready.limits ready.part_way cpu c.in-Some.lane.value low from)
+    subst (λ (v : LaneValue). IsReportedLane cpu v c.args.state.now.reports) (sym c.deref_mut.ensures.value)
+    (is_reported_lane script ready.lines c.args.state.now ready.limits ready.part_way cpu c.in-Some.lane.value low from)
 
 pub returns : goal.returns
 returns c =

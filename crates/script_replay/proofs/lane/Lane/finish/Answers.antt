@@ -6,7 +6,7 @@ use Rattle.script_replay.proofs.lane.Lane.finish.Goals as goal
 pub returns : goal.returns
 returns c =
     on_ok_weaker c.step.result
-    (λ has n size start lane is.
+    (λ has n size start lane is knows.
     finished n size start c.args.at.cpu.0 c.args.at.line 8192 c.args.self.now c.step.new.self lane
-    c.args.log.now.items c.step.new.log.items is (omega arith) (has n size start lane is))
+    c.args.reports.now c.step.new.reports is (omega arith) (has n size start lane is knows))
     c.step.ensures

@@ -1,0 +1,109 @@
+//! What a replay reports as it goes: its log, and the text of its steps if that is asked for.
+ghost use Rattle.std.specs.Prelude.{◌≡◌, OnOk};
+ghost use Rattle.page_numbers.specs.Parcels.{as_parcel};
+ghost use Rattle.script_replay.specs.Reports.{GainsAreReported, IsReported, IsStepTold, LineIsReported, MayReport};
+
+use page_numbers::Parcel;
+use replay_log::{At, LogLine, report, report_any};
+use ring_core::{Answer, Core};
+use step_text::{Asked, StepText};
+use trace_model::NoMemory;
+
+/// What a replay reports. What a call leaves if memory is refused is not used.
+#[derive(Drop)]
+pub(crate) struct Reports {
+    /// What the lines met.
+    pub(crate) log: Vec<LogLine>,
+    /// The text of their steps, if it is asked for.
+    pub(crate) steps: Option<StepText>,
+}
+
+impl Reports {
+    /// Tells a step, if that is asked for.
+    #[inline(always)]
+    fn tell(&mut self, at: At, asked: Asked, answer: &Answer, ring: &Core) -> Result<(), NoMemory>
+        requires { MayReport at.cpu.0 asked answer.now ring.now self.old }
+        ensures log { OnOk result (self.new.log ≡ self.old.log) }
+        ensures steps { OnOk result (IsStepTold at.line at.cpu.0 asked.entry answer.now ring.now
+            self.old.steps self.new.steps) }
+    {
+        match &mut self.steps {
+            Some(steps) => steps.tell(at, asked, answer, ring),
+            None => Ok(()),
+        }
+    }
+
+    /// Reports a step of a ring: what was asked, what it answered, and the ring after it.
+    pub(crate) fn report_any(
+        &mut self,
+        at: At,
+        asked: Asked,
+        answer: &Answer,
+        ring: &Core,
+    ) -> Result<(), NoMemory>
+        requires { MayReport at.cpu.0 asked answer.now ring.now self.old }
+        ensures { OnOk result (IsReported at.line at.cpu.0 asked.entry answer.now ring.now self.old self.new) }
+    {
+        self.tell(at, asked, answer, ring)?;
+        report_any(at, answer, &mut self.log)
+    }
+
+    /// The same of an answer that isn't needed any more.
+    #[cold]
+    #[inline(never)]
+    fn report_told(
+        &mut self,
+        at: At,
+        asked: Asked,
+        answer: Answer,
+        ring: &Core,
+    ) -> Result<(), NoMemory>
+        requires { MayReport at.cpu.0 asked answer ring.now self.old }
+        ensures { OnOk result (IsReported at.line at.cpu.0 asked.entry answer ring.now self.old self.new) }
+    {
+        self.tell(at, asked, &answer, ring)?;
+        report(at, answer, &mut self.log)
+    }
+
+    /// The same if most steps aren't told: then nothing is reported of most answers to a writer. The answer is moved,
+    /// so that it needs no place in memory.
+    #[inline(always)]
+    pub(crate) fn report(
+        &mut self,
+        at: At,
+        asked: Asked,
+        answer: Answer,
+        ring: &Core,
+    ) -> Result<(), NoMemory>
+        requires { MayReport at.cpu.0 asked answer ring.now self.old }
+        ensures { OnOk result (IsReported at.line at.cpu.0 asked.entry answer ring.now self.old self.new) }
+    {
+        if self.steps.is_some() {
+            return self.report_told(at, asked, answer, ring);
+        }
+        report(at, answer, &mut self.log)
+    }
+
+    /// Reports a delivery by its line of the log.
+    #[inline(never)]
+    pub(crate) fn report_delivery(&mut self, logged: LogLine) -> Result<(), NoMemory>
+        ensures { OnOk result (LineIsReported logged self.old self.new) }
+    {
+        if let Some(steps) = &mut self.steps {
+            steps.tell_delivery(&logged)?;
+        }
+        self.log.push(logged)?;
+        Ok(())
+    }
+
+    /// Reports what a delivery brings to a collector that hasn't all of it.
+    #[inline(never)]
+    pub(crate) fn report_gains(&mut self, parcel: &Parcel) -> Result<(), NoMemory>
+        ensures { OnOk result (GainsAreReported (as_parcel parcel.now) self.old self.new) }
+    {
+        if let Some(steps) = &mut self.steps {
+            steps.tell_gains(parcel)?;
+        }
+        Ok(())
+    }
+}
