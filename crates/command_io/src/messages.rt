@@ -9,7 +9,7 @@ use trace_model::MAX_INPUT;
 
 /// How the program is called.
 pub const USAGE_LINE: &str =
-    "usage: tracering replay [--log] | run | dump | collect [--page BYTES] [--names] [--formats DIR] [--json] FILE..";
+    "usage: tracering replay [--log] | run | dump | steps | collect [--page BYTES] [--names] [--formats DIR] [--json] FILE..";
 
 /// The input couldn't be read to its end.
 pub const READ_FAILED: &str = "tracering: reading failed";

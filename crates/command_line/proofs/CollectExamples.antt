@@ -5,7 +5,7 @@ use Rattle.clap.proofs.OnLiterals.{clap_on_literals}
 use Rattle.command_line.specs.Calls.{Asked, AsksFor, AreUnread, IsAsked, asked_of, files_matched, page_matched}
 use Rattle.command_line.specs.CommandLine.{IsCallOf, IsAccepted, names_command, rows_named}
 use Rattle.command_line.specs.declared.call.Call.{Call}
-use Rattle.command_line.specs.declared.call.Call.TheVariants.{Replay, Run, Dump, Collect}
+use Rattle.command_line.specs.declared.call.Call.TheVariants.{Replay, Run, Steps, Dump, Collect}
 use Rattle.command_line.specs.declared.call.CallFault.{CallFault}
 use Rattle.command_line.specs.declared.call.CallFault.TheVariants.{Usage, NoMemory}
 
@@ -36,6 +36,7 @@ module _ (words : List Text) (named : names_command words ≡ Some (codes "colle
       (sym asks.formats ∙ says.formats) (same_some _ asked.files _ asks.files says.files)
   asks asked (Ok (Replay log)) accepted says a = absurd (let wrong = sym named ∙ a.named (Replay log) refl in cc)
   asks asked (Ok Run) accepted says a = absurd (let wrong = sym named ∙ a.named Run refl in cc)
+  asks asked (Ok Steps) accepted says a = absurd (let wrong = sym named ∙ a.named Steps refl in cc)
   asks asked (Ok Dump) accepted says a = absurd (let wrong = sym named ∙ a.named Dump refl in cc)
   asks asked (Err Usage) accepted says a = absurd (unread (a.no_collect refl accepted named))
     where
@@ -49,6 +50,7 @@ module _ (words : List Text) (named : names_command words ≡ Some (codes "colle
   unreadable (Ok (Collect call)) (inr none) a = absurd (let wrong = sym none ∙ (a.collect call refl).files in cc)
   unreadable (Ok (Replay log)) none a = absurd (let wrong = sym named ∙ a.named (Replay log) refl in cc)
   unreadable (Ok Run) none a = absurd (let wrong = sym named ∙ a.named Run refl in cc)
+  unreadable (Ok Steps) none a = absurd (let wrong = sym named ∙ a.named Steps refl in cc)
   unreadable (Ok Dump) none a = absurd (let wrong = sym named ∙ a.named Dump refl in cc)
   unreadable (Err Usage) none a = inl refl
   unreadable (Err NoMemory) none a = inr refl

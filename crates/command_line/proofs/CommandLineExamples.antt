@@ -3,7 +3,7 @@ use Rattle.std.proofs.Common.{◌≡◌, ◌⊎◌, inl, inr, List, ◌∷◌, [
 use Rattle.clap.proofs.OnLiterals.{clap_on_literals}
 use Rattle.command_line.specs.CommandLine.{IsCallOf, IsAccepted, log_text, names_command}
 use Rattle.command_line.specs.declared.call.Call.{Call}
-use Rattle.command_line.specs.declared.call.Call.TheVariants.{Replay, Run, Dump, Collect}
+use Rattle.command_line.specs.declared.call.Call.TheVariants.{Replay, Run, Steps, Dump, Collect}
 use Rattle.command_line.specs.declared.call.CallFault.{CallFault}
 use Rattle.command_line.specs.declared.call.CallFault.TheVariants.{Usage, NoMemory}
 
@@ -43,6 +43,14 @@ run_log_refused : (first : List ℕ) → IsAccepted (first ∷ codes "run" ∷ c
 unfolding clap_on_literals
 run_log_refused first accepted = cc
 
+steps_accepted : (first : List ℕ) → IsAccepted (first ∷ codes "steps" ∷ [])
+unfolding clap_on_literals
+steps_accepted first = refl
+
+steps_named : (first : List ℕ) → names_command (first ∷ codes "steps" ∷ []) ≡ Some (codes "steps")
+unfolding clap_on_literals names_command
+steps_named first = refl
+
 dump_accepted : (first : List ℕ) → IsAccepted (first ∷ codes "dump" ∷ [])
 unfolding clap_on_literals
 dump_accepted first = refl
@@ -60,6 +68,7 @@ call_of_replay first (Ok (Replay false)) a = inl refl
 call_of_replay first (Ok (Replay true)) a = absurd (a.no_log (replay_unlogged first) refl)
 call_of_replay first (Ok Run) a = absurd (let wrong = sym (replay_named first) ∙ a.named Run refl in cc)
 call_of_replay first (Ok Dump) a = absurd (let wrong = sym (replay_named first) ∙ a.named Dump refl in cc)
+call_of_replay first (Ok Steps) a = absurd (let wrong = sym (replay_named first) ∙ a.named Steps refl in cc)
 call_of_replay first (Ok (Collect call)) a = absurd (let wrong = sym (replay_named first) ∙ a.named (Collect call) refl in cc)
 call_of_replay first (Err Usage) a = absurd (a.no_replay refl (replay_accepted first) (replay_named first))
 call_of_replay first (Err NoMemory) a = inr refl
@@ -69,6 +78,7 @@ call_of_replay_log first (Ok (Replay true)) a = inl refl
 call_of_replay_log first (Ok (Replay false)) a = absurd (a.log (replay_logged first) refl)
 call_of_replay_log first (Ok Run) a = absurd (let wrong = sym (replay_log_named first) ∙ a.named Run refl in cc)
 call_of_replay_log first (Ok Dump) a = absurd (let wrong = sym (replay_log_named first) ∙ a.named Dump refl in cc)
+call_of_replay_log first (Ok Steps) a = absurd (let wrong = sym (replay_log_named first) ∙ a.named Steps refl in cc)
 call_of_replay_log first (Ok (Collect call)) a = absurd (let wrong = sym (replay_log_named first) ∙ a.named (Collect call) refl in cc)
 call_of_replay_log first (Err Usage) a = absurd (a.no_replay refl (replay_log_accepted first) (replay_log_named first))
 call_of_replay_log first (Err NoMemory) a = inr refl
@@ -77,6 +87,7 @@ pub call_of_run : (first : List ℕ) (result : Result Call CallFault) → IsCall
 call_of_run first (Ok Run) a = inl refl
 call_of_run first (Ok (Replay log)) a = absurd (let wrong = sym (run_named first) ∙ a.named (Replay log) refl in cc)
 call_of_run first (Ok Dump) a = absurd (let wrong = sym (run_named first) ∙ a.named Dump refl in cc)
+call_of_run first (Ok Steps) a = absurd (let wrong = sym (run_named first) ∙ a.named Steps refl in cc)
 call_of_run first (Ok (Collect call)) a = absurd (let wrong = sym (run_named first) ∙ a.named (Collect call) refl in cc)
 call_of_run first (Err Usage) a = absurd (a.no_run refl (run_accepted first) (run_named first))
 call_of_run first (Err NoMemory) a = inr refl
@@ -86,9 +97,19 @@ call_of_run_log first (Ok call) a = absurd (run_log_refused first (a.accepted ca
 call_of_run_log first (Err Usage) a = inl refl
 call_of_run_log first (Err NoMemory) a = inr refl
 
+pub call_of_steps : (first : List ℕ) (result : Result Call CallFault) → IsCallOf (first ∷ codes "steps" ∷ []) result → (result ≡ Ok Steps) ⊎ (result ≡ Err NoMemory)
+call_of_steps first (Ok Steps) a = inl refl
+call_of_steps first (Ok Run) a = absurd (let wrong = sym (steps_named first) ∙ a.named Run refl in cc)
+call_of_steps first (Ok (Replay log)) a = absurd (let wrong = sym (steps_named first) ∙ a.named (Replay log) refl in cc)
+call_of_steps first (Ok Dump) a = absurd (let wrong = sym (steps_named first) ∙ a.named Dump refl in cc)
+call_of_steps first (Ok (Collect call)) a = absurd (let wrong = sym (steps_named first) ∙ a.named (Collect call) refl in cc)
+call_of_steps first (Err Usage) a = absurd (a.no_steps refl (steps_accepted first) (steps_named first))
+call_of_steps first (Err NoMemory) a = inr refl
+
 pub call_of_dump : (first : List ℕ) (result : Result Call CallFault) → IsCallOf (first ∷ codes "dump" ∷ []) result → (result ≡ Ok Dump) ⊎ (result ≡ Err NoMemory)
 call_of_dump first (Ok Dump) a = inl refl
 call_of_dump first (Ok Run) a = absurd (let wrong = sym (dump_named first) ∙ a.named Run refl in cc)
+call_of_dump first (Ok Steps) a = absurd (let wrong = sym (dump_named first) ∙ a.named Steps refl in cc)
 call_of_dump first (Ok (Replay log)) a = absurd (let wrong = sym (dump_named first) ∙ a.named (Replay log) refl in cc)
 call_of_dump first (Ok (Collect call)) a = absurd (let wrong = sym (dump_named first) ∙ a.named (Collect call) refl in cc)
 call_of_dump first (Err Usage) a = absurd (a.no_dump refl (dump_accepted first) (dump_named first))

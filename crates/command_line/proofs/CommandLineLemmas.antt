@@ -59,7 +59,7 @@ rows_of_found (Some p) found is = cc
 pub call_of_matches-words : (words : List Text) (m : ArgMatches) (call : Option Call) → HasMatchesOf command_line words m → IsAccepted words
     → subcommand_name_of m ≢ Some (codes "collect")
     → IfSome call (λ x. HasSource x × (subcommand_name_of m ≡ Some (name_of x)))
-    → (call ≡ None → (subcommand_name_of m ≢ Some (codes "replay")) × (subcommand_name_of m ≢ Some (codes "run")) × (subcommand_name_of m ≢ Some (codes "dump")))
+    → (call ≡ None → (subcommand_name_of m ≢ Some (codes "replay")) × (subcommand_name_of m ≢ Some (codes "run")) × (subcommand_name_of m ≢ Some (codes "steps")) × (subcommand_name_of m ≢ Some (codes "dump")))
     → (flag_text (subcommand_rows_of m) ≡ Some (codes "true") → call ≢ Some (Replay false))
     → (flag_text (subcommand_rows_of m) ≡ Some (codes "false") → call ≢ Some (Replay true))
     → IsCallOf words (ok_or call Usage)
@@ -72,7 +72,8 @@ call_of_matches-words words m None has accepted other named none log no_log =
       no_log = λ _ is. cc;
       no_replay = λ _ _ is. (none refl).0 (name ∙ is);
       no_run = λ _ _ is. (none refl).1 (name ∙ is);
-      no_dump = λ _ _ is. (none refl).2 (name ∙ is);
+      no_steps = λ _ _ is. (none refl).2 (name ∙ is);
+      no_dump = λ _ _ is. (none refl).3 (name ∙ is);
       collect = λ x is. absurd (cc);
       no_collect = λ _ _ is. absurd (other (name ∙ is));
     }
@@ -86,6 +87,7 @@ call_of_matches-words words m (Some x) has accepted other named none log no_log 
       no_log = λ unasked is. no_log (flag ∙ unasked) (let same : x ≡ Replay true = cc in ap Some same);
       no_replay = λ is. absurd (cc);
       no_run = λ is. absurd (cc);
+      no_steps = λ is. absurd (cc);
       no_dump = λ is. absurd (cc);
       collect = λ call is. let same : x ≡ Collect call = cc in absurd (subst HasSource same named.0);
       no_collect = λ is. absurd (cc);
@@ -106,6 +108,7 @@ collect_call-words words m found call has accepted named rows asks =
       no_log = λ _ is. cc;
       no_replay = λ is. absurd (cc);
       no_run = λ is. absurd (cc);
+      no_steps = λ is. absurd (cc);
       no_dump = λ is. absurd (cc);
       collect = λ other is. let same : call ≡ other = cc in subst (λ (call : CollectCall). AsksFor (rows_named words) (asked_of call)) same asks_words;
       no_collect = λ is. absurd (cc);
@@ -120,6 +123,7 @@ no_memory-words words = record {
   no_log = λ _ is. cc;
   no_replay = λ is. absurd (cc);
   no_run = λ is. absurd (cc);
+  no_steps = λ is. absurd (cc);
   no_dump = λ is. absurd (cc);
   collect = λ other is. absurd (cc);
   no_collect = λ is. absurd (cc);
@@ -139,6 +143,7 @@ unread-words words m found has named rows unread =
       no_log = λ _ is. cc;
       no_replay = λ _ _ is. let wrong = sym named ∙ name ∙ is in cc;
       no_run = λ _ _ is. let wrong = sym named ∙ name ∙ is in cc;
+      no_steps = λ _ _ is. let wrong = sym named ∙ name ∙ is in cc;
       no_dump = λ _ _ is. let wrong = sym named ∙ name ∙ is in cc;
       collect = λ other is. absurd (cc);
       no_collect = λ _ _ _. subst AreUnread same_rows unread;
@@ -159,6 +164,7 @@ refused-words words fault memory = record {
   no_log = λ _ is. cc;
   no_replay = λ is accepted. let why = memory accepted in absurd (cc);
   no_run = λ is accepted. let why = memory accepted in absurd (cc);
+  no_steps = λ is accepted. let why = memory accepted in absurd (cc);
   no_dump = λ is accepted. let why = memory accepted in absurd (cc);
   collect = λ other is. absurd (cc);
   no_collect = λ is accepted. let why = memory accepted in absurd (cc);

@@ -4,7 +4,7 @@ use Rattle.trace_model.specs.declared.limits.TheConstants.{MAX_CPUS}
 use Rattle.clap.specs.Words.{Row, Text, all_of, first_of, one_of}
 use Rattle.command_line.specs.FileWords.{file_list, page_word}
 use Rattle.command_line.specs.declared.call.Call.{Call}
-use Rattle.command_line.specs.declared.call.Call.TheVariants.{Replay, Run, Dump, Collect}
+use Rattle.command_line.specs.declared.call.Call.TheVariants.{Replay, Run, Steps, Dump, Collect}
 use Rattle.command_line.specs.declared.call.CallFault.{CallFault}
 use Rattle.command_line.specs.declared.call.CallFault.TheVariants.{Usage, NoMemory}
 use Rattle.command_line.specs.declared.call.CollectCall.{CollectCall}
@@ -68,6 +68,7 @@ abbrev pub IsAsked : Result Call CallFault → Asked → Type 0
 IsAsked (Ok (Collect call)) asked = asked_of call ≡ asked
 IsAsked (Ok (Replay log)) asked = ⊥
 IsAsked (Ok Run) asked = ⊥
+IsAsked (Ok Steps) asked = ⊥
 IsAsked (Ok Dump) asked = ⊥
 IsAsked (Err Usage) asked = ⊥
 IsAsked (Err NoMemory) asked = ⊤

@@ -5,7 +5,7 @@ use Rattle.clap.specs.declared.builder.action.ArgAction.TheVariants.{Append, Set
 use Rattle.clap.specs.declared.error.ErrorKind.{ErrorKind}
 use Rattle.clap.specs.declared.error.ErrorKind.TheVariants.{OutOfMemory}
 use Rattle.command_line.specs.declared.call.Call.{Call}
-use Rattle.command_line.specs.declared.call.Call.TheVariants.{Replay, Run, Dump, Collect}
+use Rattle.command_line.specs.declared.call.Call.TheVariants.{Replay, Run, Steps, Dump, Collect}
 use Rattle.command_line.specs.Calls.{AreUnread, AsksFor, asked_of}
 use Rattle.command_line.specs.declared.call.CollectCall.{CollectCall}
 use Rattle.command_line.specs.declared.call.CallFault.{CallFault}
@@ -23,14 +23,15 @@ option_rule name = record (new_rule name) { long = Some name; action = Some Set 
 abbrev pub values_rule : Text → Rule
 values_rule name = record (new_rule name) { required = true; action = Some Append }
 
--- the program with its two commands that carry out a script: `replay`, which takes `--log`, and `run`
+-- the program with its three commands that carry out a script: `replay`, which takes `--log`, `run` and `steps`
 abbrev pub script_commands : App
 script_commands =
     let replay = with_rule (new_app (codes "replay")) (flag_rule (codes "log")) in
     let run = new_app (codes "run") in
-    with_subcommand (with_subcommand (new_app (codes "tracering")) replay.top) run.top
+    let steps = new_app (codes "steps") in
+    with_subcommand (with_subcommand (with_subcommand (new_app (codes "tracering")) replay.top) run.top) steps.top
 
--- and with its third command, `dump`
+-- and with its fourth command, `dump`
 abbrev pub image_commands : App
 image_commands =
     let dump = new_app (codes "dump") in
@@ -48,7 +49,7 @@ collect_options =
 abbrev pub collect_command : App
 collect_command = with_rule collect_options (values_rule (codes "file"))
 
--- the program with its fourth command, `collect`
+-- the program with its fifth command, `collect`
 abbrev pub command_line : App
 command_line = with_subcommand image_commands collect_command.top
 
@@ -81,6 +82,7 @@ rows_named words = rows_found (subcommand_of command_line words)
 abbrev pub name_of : Call → Text
 name_of (Replay log) = codes "replay"
 name_of Run = codes "run"
+name_of Steps = codes "steps"
 name_of Dump = codes "dump"
 name_of (Collect call) = codes "collect"
 
@@ -99,6 +101,7 @@ pub record IsCallOf (words : List Text) (result : Result Call CallFault) : Type 
   pub no_log : log_text words ≡ Some (codes "false") → result ≢ Ok (Replay true)
   pub no_replay : result ≡ Err Usage → IsAccepted words → names_command words ≢ Some (codes "replay")
   pub no_run : result ≡ Err Usage → IsAccepted words → names_command words ≢ Some (codes "run")
+  pub no_steps : result ≡ Err Usage → IsAccepted words → names_command words ≢ Some (codes "steps")
   pub no_dump : result ≡ Err Usage → IsAccepted words → names_command words ≢ Some (codes "dump")
   pub collect : (call : CollectCall) → result ≡ Ok (Collect call) → AsksFor (rows_named words) (asked_of call)
   pub no_collect : result ≡ Err Usage → IsAccepted words → names_command words ≡ Some (codes "collect")

@@ -40,6 +40,8 @@ pub enum Call<'a> {
     Replay { log: bool },
     /// `tracering run`.
     Run,
+    /// `tracering steps`.
+    Steps,
     /// `tracering dump`.
     Dump,
     /// `tracering collect`.

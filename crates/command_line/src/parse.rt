@@ -59,14 +59,15 @@ fn with_values<'a>(
     command.arg(values)
 }
 
-/// The program with its two commands that carry out a script, of which `replay` takes `--log`.
+/// The program with its three commands that carry out a script, of which `replay` takes `--log`.
 fn script_program<'a>(alloc: Global) -> Result<Command<'a>, AllocError>
     ensures { IfOk result (λ program. app_of program ≡ script_commands) }
 {
     let replay = with_flag(alloc, Command::new(alloc, "replay"), "log")?;
     let run = Command::new(alloc, "run");
+    let steps = Command::new(alloc, "steps");
     let first = Command::new(alloc, "tracering").subcommand(replay)?;
-    first.subcommand(run)
+    first.subcommand(run)?.subcommand(steps)
 }
 
 /// The program with `dump` too.
@@ -88,7 +89,7 @@ fn collect_program<'a>(alloc: Global) -> Result<Command<'a>, AllocError>
     with_flag(alloc, formed, "json")
 }
 
-/// The program with its four commands.
+/// The program with its five commands.
 fn program<'a>(alloc: Global) -> Result<Command<'a>, AllocError>
     ensures { IfOk result (λ program. app_of program ≡ command_line) }
 {
@@ -102,6 +103,7 @@ fn call_of_matches<'a>(matches: &ArgMatches<'a>) -> Option<Call<'a>>
         HasSource call × (subcommand_name_of matches.now ≡ Some (name_of call))) }
     ensures none { result ≡ None → (subcommand_name_of matches.now ≢ Some (codes "replay"))
         × (subcommand_name_of matches.now ≢ Some (codes "run"))
+        × (subcommand_name_of matches.now ≢ Some (codes "steps"))
         × (subcommand_name_of matches.now ≢ Some (codes "dump")) }
     ensures log { flag_text (subcommand_rows_of matches.now) ≡ Some (codes "true")
         → result ≢ Some (Call.Replay false) }
@@ -114,6 +116,9 @@ fn call_of_matches<'a>(matches: &ArgMatches<'a>) -> Option<Call<'a>>
     }
     if matches.subcommand_matches("run").is_some() {
         return Some(Call::Run);
+    }
+    if matches.subcommand_matches("steps").is_some() {
+        return Some(Call::Steps);
     }
     matches.subcommand_matches("dump").map(|_| Call::Dump)
 }
@@ -149,6 +154,8 @@ pub fn call_of<'a, S: AsStr>(alloc: Global, words: &'a [S]) -> Result<Call<'a>, 
     ensures run_log { (first : List ℕ)
         → map S.text words.now ≡ first ∷ codes "run" ∷ codes "--log" ∷ []
         → (result ≡ Err CallFault.Usage) ⊎ (result ≡ Err CallFault.NoMemory) }
+    ensures steps { (first : List ℕ) → map S.text words.now ≡ first ∷ codes "steps" ∷ []
+        → (result ≡ Ok Call.Steps) ⊎ (result ≡ Err CallFault.NoMemory) }
     ensures dump { (first : List ℕ) → map S.text words.now ≡ first ∷ codes "dump" ∷ []
         → (result ≡ Ok Call.Dump) ⊎ (result ≡ Err CallFault.NoMemory) }
     ensures dump_log { (first : List ℕ)

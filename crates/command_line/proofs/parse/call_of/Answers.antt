@@ -1,4 +1,4 @@
-use Rattle.command_line.proofs.CommandLineExamples.{call_of_replay, call_of_replay_log, call_of_run, call_of_run_log, call_of_dump, call_of_dump_log}
+use Rattle.command_line.proofs.CommandLineExamples.{call_of_replay, call_of_replay_log, call_of_run, call_of_run_log, call_of_steps, call_of_dump, call_of_dump_log}
 use Rattle.command_line.proofs.CollectExamples.{asked_collect, asked_cpu, asked_flags, asked_page, asked_formats, refused_none, refused_high, refused_inputs, refused_small}
 use Rattle.command_line.proofs.Ranges.{asked_in_range}
 use Rattle.command_line.proofs.parse.call_of.Goals as goal
@@ -21,6 +21,10 @@ returns-clause-run g c = λ first words.
 pub returns-clause-run_log : goal.returns-clause-run_log
 returns-clause-run_log g c = λ first words.
     call_of_run_log first c.parse_words.result (rw words at c.parse_words.ensures)
+
+pub returns-clause-steps : goal.returns-clause-steps
+returns-clause-steps g c = λ first words.
+    call_of_steps first c.parse_words.result (rw words at c.parse_words.ensures)
 
 pub returns-clause-dump : goal.returns-clause-dump
 returns-clause-dump g c = λ first words.
