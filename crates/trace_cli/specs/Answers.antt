@@ -2,15 +2,17 @@
 use Rattle.std.specs.Prelude.{◌≡◌, ℕ, false, List}
 use Rattle.command_io.specs.CommandRun.{SourceRun, SinkRun}
 use Rattle.command_line.specs.declared.call.Call.{Call}
-use Rattle.command_line.specs.declared.call.Call.TheVariants.{Replay, Run, Dump, Collect}
+use Rattle.command_line.specs.declared.call.Call.TheVariants.{Replay, Run, Steps, Dump, Collect}
 use Rattle.image_dump.specs.Dumps.{DumpGives}
 use Rattle.replay_command.specs.Commands.{ReplayGives}
 use Rattle.run_command.specs.Runs.{RunGives}
+use Rattle.steps_command.specs.Steps.{StepsGives}
 
 -- what a call's command gives for a text; `collect` has files of its own
 abbrev pub CallGives : Call → List ℕ → List ℕ → ℕ → Type 0
 CallGives (Replay log) = ReplayGives log
 CallGives Run = RunGives
+CallGives Steps = StepsGives
 CallGives Dump = DumpGives
 CallGives (Collect call) = λ text bytes status. ⊥
 

@@ -13,6 +13,7 @@ use run_command::run_to;
 use std::alloc::Global;
 use std::sync::Wait;
 use std::thread::Threads;
+use steps_command::steps_to;
 
 /// Carries out a command that reads one source, over these ends, and gives the exit status.
 fn answer_call<Rt: Threads + Wait + Sync, R: Source, W: Sink>(
@@ -32,6 +33,7 @@ fn answer_call<Rt: Threads + Wait + Sync, R: Source, W: Sink>(
     match call {
         Call::Replay { log } => replay_to(alloc, reader, writer, log),
         Call::Run => run_to(rt, alloc, reader, writer),
+        Call::Steps => steps_to(alloc, reader, writer),
         Call::Dump => dump_to(alloc, reader, writer),
         Call::Collect(_) => unreachable!(),
     }

@@ -1,5 +1,5 @@
-//! The program `tracering`: replays scripts of writers, readers and collectors of a trace ring, runs them by
-//! threads, prints page images, and lists what a kernel wrote.
+//! The program `tracering`: replays scripts of writers, readers and collectors of a trace ring, tells their steps, runs
+//! them by threads, prints page images, and lists what a kernel wrote.
 #![tactic(auto)]
 
 mod answer;
@@ -16,6 +16,7 @@ pub use image_dump::dump_to;
 pub use replay_command::replay_to;
 pub use run_command::run_to;
 use std::process::ExitCode;
+pub use steps_command::steps_to;
 
 // What is chosen here, `answer_to` and `message_for` say, and of `collect` the functions that it calls. The rest has no
 // contract: that the line goes to standard error, and that the process ends with the status.

@@ -1,0 +1,7 @@
+//! The command `steps`: a script in, the text of its steps out.
+#![tactic(auto)]
+
+mod command;
+pub mod laws;
+
+pub use command::steps_to;
