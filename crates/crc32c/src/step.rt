@@ -42,10 +42,10 @@ fn next_word(remainder: u32, bytes: &[u8; 8]) -> u32
 }
 
 /// The remainder after these bytes, from the one before them.
-pub(crate) fn remainder_after(remainder: u32, bytes: &[u8]) -> u32
-    ensures { result ≡ remainder_after remainder bytes.now }
+pub(crate) fn remainder_after(start: u32, bytes: &[u8]) -> u32
+    ensures { result ≡ remainder_after start bytes.now }
 {
-    let mut remainder = remainder;
+    let mut remainder = start;
     let mut rest = bytes;
     while let Some((word, behind)) = rest.split_first_chunk::<8>() {
         remainder = next_word(remainder, word);
