@@ -6,7 +6,7 @@ use Rattle.std.proofs.lemmas.Nat.{xor_comm, from_le_bytes-to_le_bytes_8}
 use Rattle.std.proofs.lemmas.List.{drop_all, take-append-drop}
 use Rattle.std.proofs.Math.Seq.{drop-cons}
 use Rattle.crc32c.specs.Castagnoli.{next_bits, next_byte, remainder_after}
-use Rattle.crc32c.specs.Changes.{AreBytes}
+use Rattle.crc32c.specs.Changes.{AreBytes, number_of}
 use Rattle.crc32c.proofs.Bits.{next_bits-xor, next_bits-add, next_bits-shifted, next_bits-none}
 
 -- ---- pieces, one after another
@@ -32,11 +32,6 @@ unfolding remainder_after
 remainder_after-end r i bytes p = rw (drop_all i bytes p) refl
 
 -- ---- bytes as one number
-
--- bytes as a number, the lowest first
-abbrev pub number_of : List ℕ → ℕ
-number_of [] = 0
-number_of (b ∷ bytes) = number_of bytes * 256 + b
 
 -- a byte and what is above it
 pub xor_above : (high low : ℕ) → low < 256 → bit_xor low (high * 256) ≡ high * 256 + low

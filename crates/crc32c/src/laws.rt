@@ -2,7 +2,7 @@
 ghost use Rattle.std.specs.Prelude.{◌≡◌, ◌≢◌, ℕ, suc, ◌^◌, ◌<◌, ◌++◌, ◌∷◌, [], List, codes, replicate, reverse};
 ghost use Rattle.std.specs.List.{range_with_len};
 ghost use Rattle.crc32c.specs.Castagnoli.{crc32c, crc32c_after};
-ghost use Rattle.crc32c.specs.Changes.{AreBytes, DifferAt, DifferWithin};
+ghost use Rattle.crc32c.specs.Changes.{AreBytes, DifferAt, DifferInBits, DifferWithin};
 
 /// The value that checks an implementation, that of the digits 1 to 9 in ASCII. Of no bytes the sum is 0.
 pub fn check_value()
@@ -36,8 +36,9 @@ pub fn a_changed_byte_changes_the_sum()
     ensures by_index { (was is : List ℕ) (at : ℕ) → DifferAt was is at → crc32c was ≢ crc32c is }
 {}
 
-/// Changes within four neighbouring bytes change the sum.
+/// Changes within 32 neighbouring bits change the sum, as all do within four neighbouring bytes, whatever is around them.
 pub fn a_burst_of_changes_changes_the_sum()
-    ensures { (front back was is : List ℕ) → DifferWithin 4 was is
+    ensures bits { (was is : List ℕ) → DifferInBits 32 was is → crc32c was ≢ crc32c is }
+    ensures bytes { (front back was is : List ℕ) → DifferWithin 4 was is
         → crc32c (front ++ (was ++ back)) ≢ crc32c (front ++ (is ++ back)) }
 {}
