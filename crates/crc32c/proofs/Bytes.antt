@@ -42,7 +42,7 @@ pub high_out : (n high low : ℕ) → low < 256
 high_out n high low p =
     let turned : n + 8 ≡ 8 + n = omega arith in
     let out : next_bits (n + 8) (high * 256) ≡ next_bits n high =
-        ap (λ k. next_bits k (high * 256)) turned ∙ next_bits-add 8 n (high * 256) ∙ ap (next_bits n) (next_bits-shifted 8 high) in
+    ap (λ k. next_bits k (high * 256)) turned ∙ next_bits-add 8 n (high * 256) ∙ ap (next_bits n) (next_bits-shifted 8 high) in
     ap (next_bits (n + 8)) (sym (xor_above high low p)) ∙ next_bits-xor (n + 8) low (high * 256)
     ∙ ap (bit_xor (next_bits (n + 8) low)) out
 
@@ -69,7 +69,7 @@ remainder_after-number r (b ∷ bytes) all =
     let n = length bytes * 8 in let N = number_of bytes in
     let eight : 8 + length bytes * 8 ≡ suc (length bytes) * 8 = omega arith in
     let ih : remainder_after (next_bits 8 (bit_xor r b)) bytes ≡ next_bits n (bit_xor (next_bits 8 (bit_xor r b)) N) =
-        remainder_after-number (next_bits 8 (bit_xor r b)) bytes (AreBytes-tail b bytes all) in
+    remainder_after-number (next_bits 8 (bit_xor r b)) bytes (AreBytes-tail b bytes all) in
     ih ∙ ap (λ x. next_bits n (bit_xor (next_bits 8 (bit_xor r b)) x)) (sym (next_bits-shifted 8 N))
     ∙ ap (next_bits n) (sym (next_bits-xor 8 (bit_xor r b) (N * 256)))
     ∙ sym (next_bits-add 8 n (bit_xor (bit_xor r b) (N * 256)))

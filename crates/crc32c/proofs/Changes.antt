@@ -1,5 +1,5 @@
 -- Which changes the sum shows: the highest bit of the polynomial is 1, so that no bit that goes out is lost.
-use Rattle.std.proofs.Common.{◌≡◌, ◌≢◌, ℕ, zero, suc, ◌+◌, ◌*◌, ◌/◌, ◌%◌, ◌^◌, ◌<◌, ◌≤◌, ◌-◌, ◌⊎◌, inl, inr, List, [], ◌∷◌, ◌++◌, length, get_or, take, drop, set, refl, sym, ap, ap₂, ◌∙◌, zero-mul, lt_of_lt_of_le, arith}
+use Rattle.std.proofs.Common.{◌≡◌, ◌≢◌, ℕ, zero, suc, ◌+◌, ◌*◌, ◌/◌, ◌%◌, ◌^◌, ◌<◌, ◌≤◌, ◌-◌, inl, inr, List, [], ◌∷◌, ◌++◌, length, get_or, take, drop, set, refl, sym, ap, ap₂, ◌∙◌, zero-mul, lt_of_lt_of_le, arith}
 use Rattle.std.specs.Int.Bits.{bit_xor, xor_self, xor_zero_r}
 use Rattle.std.proofs.lemmas.Nat.{xor_lt, pow-add}
 use Rattle.std.proofs.lemmas.Bool.{cases_eq, cases_lt}
@@ -43,13 +43,13 @@ remainder_after-xor r s (b ∷ bytes) =
 
 number_xor : (r : ℕ) (was is : List ℕ) → AreBytes was → AreBytes is → length was ≡ length is
     → bit_xor (remainder_after r was) (remainder_after r is)
-      ≡ next_bits (length was * 8) (bit_xor (number_of was) (number_of is))
+    ≡ next_bits (length was * 8) (bit_xor (number_of was) (number_of is))
 number_xor r was is p q same =
     ap₂ bit_xor (remainder_after-number r was p)
     (remainder_after-number r is q ∙ ap (λ n. next_bits (n * 8) (bit_xor r (number_of is))) (sym same))
     ∙ sym (next_bits-xor (length was * 8) (bit_xor r (number_of was)) (bit_xor r (number_of is)))
     ∙ ap (next_bits (length was * 8))
-      (xor_four r (number_of was) r (number_of is) ∙ ap (λ x. bit_xor x (bit_xor (number_of was) (number_of is))) (xor_self r))
+    (xor_four r (number_of was) r (number_of is) ∙ ap (λ x. bit_xor x (bit_xor (number_of was) (number_of is))) (xor_self r))
 
 number_of-lt : (bytes : List ℕ) → AreBytes bytes → number_of bytes < 2 ^ (length bytes * 8)
 number_of-lt [] all = omega arith
@@ -58,7 +58,7 @@ number_of-lt (b ∷ bytes) all =
     let rest = number_of-lt bytes (AreBytes-tail b bytes all) in
     let eight : suc (length bytes) * 8 ≡ length bytes * 8 + 8 = omega arith in
     let power : 2 ^ (suc (length bytes) * 8) ≡ 2 ^ (length bytes * 8) * 2 ^ 8 =
-        ap (λ n. 2 ^ n) eight ∙ pow-add 2 (length bytes * 8) 8 in
+    ap (λ n. 2 ^ n) eight ∙ pow-add 2 (length bytes * 8) 8 in
     omega arith
 
 number_of-below : (n : ℕ) (bytes : List ℕ) → AreBytes bytes → length bytes ≡ n → n ≤ 4 → number_of bytes < 2 ^ 32
@@ -89,12 +89,12 @@ between_same front back was is p q same short e =
     let m = length back * 8 in
     let d = bit_xor (number_of was) (number_of is) in
     let parts = λ (xs : List ℕ).
-        remainder_after-append all_ones front (xs ++ back) ∙ remainder_after-append r xs back in
+    remainder_after-append all_ones front (xs ++ back) ∙ remainder_after-append r xs back in
     let ends : remainder_after (remainder_after r was) back ≡ remainder_after (remainder_after r is) back =
-        sym (parts was) ∙ crc32c-remainders (front ++ (was ++ back)) (front ++ (is ++ back)) e ∙ parts is in
+    sym (parts was) ∙ crc32c-remainders (front ++ (was ++ back)) (front ++ (is ++ back)) e ∙ parts is in
     let out : next_bits (n + m) d ≡ 0 =
-        next_bits-add n m d ∙ ap (next_bits m) (sym (number_xor r was is p q same))
-        ∙ sym (remainder_after-xor (remainder_after r was) (remainder_after r is) back) ∙ xor_same ends in
+    next_bits-add n m d ∙ ap (next_bits m) (sym (number_xor r was is p q same))
+    ∙ sym (remainder_after-xor (remainder_after r was) (remainder_after r is) back) ∙ xor_same ends in
     let was_lt : number_of was < 2 ^ 32 = number_of-below (length was) was p refl short in
     let is_lt : number_of is < 2 ^ 32 = number_of-below (length was) is q (sym same) short in
     number_of-same was is p q same
@@ -114,7 +114,7 @@ pub byte_differs : (front back : List ℕ) (was is : ℕ) → was < 256 → is <
     → crc32c (front ++ was ∷ back) ≢ crc32c (front ++ is ∷ back)
 byte_differs front back was is p q ne e =
     ne (ap (λ bytes. get_or bytes 0 0)
-      (between_same front back (was ∷ []) (is ∷ []) (one_byte was p) (one_byte is q) refl (omega arith) e))
+    (between_same front back (was ∷ []) (is ∷ []) (one_byte was p) (one_byte is q) refl (omega arith) e))
 
 -- a list before and after one of its elements
 around : (bytes : List ℕ) (at : ℕ) → at < length bytes → take at bytes ++ get_or bytes at 0 ∷ drop (suc at) bytes ≡ bytes
@@ -144,9 +144,9 @@ index_differs was is at h e =
     let changed = is_set was is at lt h in
     let front : take at is ≡ take at was = ap (take at) changed ∙ take-set was at (get_or is at 0) in
     let back : drop (suc at) is ≡ drop (suc at) was =
-        ap (drop (suc at)) changed ∙ drop-set-lt (suc at) was at (get_or is at 0) (omega arith) in
+    ap (drop (suc at)) changed ∙ drop-set-lt (suc at) was at (get_or is at 0) (omega arith) in
     let other : is ≡ take at was ++ get_or is at 0 ∷ drop (suc at) was =
-        sym (around is at inside) ∙ ap₂ (λ f b. f ++ get_or is at 0 ∷ b) front back in
+    sym (around is at inside) ∙ ap₂ (λ f b. f ++ get_or is at 0 ∷ b) front back in
     byte_differs (take at was) (drop (suc at) was) (get_or was at 0) (get_or is at 0) (h.was_bytes at) (h.is_bytes at) h.changed
     (ap crc32c (around was at lt) ∙ e ∙ ap crc32c other)
 
@@ -163,8 +163,8 @@ burst_lost n (suc b) first p inside out = elim (cases_lt n first) [
   | inr le ↦
       let behind : n ≡ first + (n - first) = omega arith in
       let moved : next_bits n (suc b * 2 ^ first) ≡ next_bits (n - first) (suc b) =
-          ap (λ k. next_bits k (suc b * 2 ^ first)) behind ∙ next_bits-add first (n - first) (suc b * 2 ^ first)
-          ∙ ap (next_bits (n - first)) (next_bits-shifted first (suc b)) in
+      ap (λ k. next_bits k (suc b * 2 ^ first)) behind ∙ next_bits-add first (n - first) (suc b * 2 ^ first)
+      ∙ ap (next_bits (n - first)) (next_bits-shifted first (suc b)) in
       next_bits-lost (n - first) (suc b) p (sym moved ∙ out)
 ]
 
@@ -174,8 +174,8 @@ bits_differ was is h e =
     let is_below : number_of is < 2 ^ n = let lt = number_of-lt is h.is_bytes in rw (sym h.same_length) at lt in
     let d = xor_lt n (number_of was) (number_of is) (number_of-lt was h.was_bytes) is_below in
     let out : next_bits n (bit_xor (number_of was) (number_of is)) ≡ 0 =
-        sym (number_xor all_ones was is h.was_bytes h.is_bytes h.same_length) ∙ xor_same (crc32c-remainders was is e) in
+    sym (number_xor all_ones was is h.was_bytes h.is_bytes h.same_length) ∙ xor_same (crc32c-remainders was is e) in
     let none : h.burst ≡ 0 =
-        burst_lost n h.burst h.first h.short (rw h.differ at d) (rw h.differ at out) in
+    burst_lost n h.burst h.first h.short (rw h.differ at d) (rw h.differ at out) in
     let same : bit_xor (number_of was) (number_of is) ≡ 0 = h.differ ∙ ap (λ x. x * 2 ^ h.first) none ∙ zero-mul (2 ^ h.first) in
     h.changed (number_of-same was is h.was_bytes h.is_bytes h.same_length (xor_none (number_of was) (number_of is) same))
