@@ -34,17 +34,18 @@ remainder_after-end r i bytes p = rw (drop_all i bytes p) refl
 -- ---- bytes as one number
 
 -- a byte and what is above it
-pub xor_above : (high low : ℕ) → low < 256 → bit_xor low (high * 256) ≡ high * 256 + low
+xor_above : (high low : ℕ) → low < 256 → bit_xor low (high * 256) ≡ high * 256 + low
 xor_above high low p = xor_comm low (high * 256) ∙ xor_shifted high 8 low p
 
-pub high_out : (n high low : ℕ) → low < 256
-    → next_bits (n + 8) (high * 256 + low) ≡ bit_xor (next_bits (n + 8) low) (next_bits n high)
+high_out : (n high low : ℕ) → low < 256
+    → next_bits (n + 8) (high * 256 + low) ≡ bit_xor (next_bits n high) (next_bits (n + 8) low)
 high_out n high low p =
     let turned : n + 8 ≡ 8 + n = omega arith in
     let out : next_bits (n + 8) (high * 256) ≡ next_bits n high =
-    ap (λ k. next_bits k (high * 256)) turned ∙ next_bits-add 8 n (high * 256) ∙ ap (next_bits n) (next_bits-shifted 8 high) in
-    ap (next_bits (n + 8)) (sym (xor_above high low p)) ∙ next_bits-xor (n + 8) low (high * 256)
-    ∙ ap (bit_xor (next_bits (n + 8) low)) out
+    ap (λ k. next_bits k (high * 256)) turned ∙ next_bits-add 8 n (high * 256)
+    ∙ ap (next_bits n) (next_bits-shifted 8 high) in
+    ap (next_bits (n + 8)) (sym (xor_shifted high 8 low p)) ∙ next_bits-xor (n + 8) (high * 256) low
+    ∙ ap (λ x. bit_xor x (next_bits (n + 8) low)) out
 
 -- a byte comes in at the low end alone
 pub next_byte-split : (r b : ℕ) → next_byte r b ≡ bit_xor (r / 256) (next_bits 8 (bit_xor (r % 256) b))
@@ -75,17 +76,18 @@ remainder_after-number r (b ∷ bytes) all =
     ∙ sym (next_bits-add 8 n (bit_xor (bit_xor r b) (N * 256)))
     ∙ ap₂ next_bits eight (xor_assoc r b (N * 256) ∙ ap (bit_xor r) (xor_above N b (all 0)))
 
--- what bytes leave, each with the others behind it
-abbrev pub each_out : List ℕ → ℕ
-each_out [] = 0
-each_out (b ∷ bytes) = bit_xor (next_bits (length bytes * 8 + 8) b) (each_out bytes)
+-- what bytes leave, each with the others behind it; the last of them first
+abbrev pub left_by : List ℕ → ℕ
+left_by [] = 0
+left_by (b ∷ bytes) = bit_xor (left_by bytes) (next_bits (length bytes * 8 + 8) b)
 
-pub number_out : (bytes : List ℕ) → AreBytes bytes → next_bits (length bytes * 8) (number_of bytes) ≡ each_out bytes
+number_out : (bytes : List ℕ) → AreBytes bytes → next_bits (length bytes * 8) (number_of bytes) ≡ left_by bytes
 number_out [] all = next_bits-none 0
 number_out (b ∷ bytes) all =
     let eight : suc (length bytes) * 8 ≡ length bytes * 8 + 8 = omega arith in
+    let rest = number_out bytes (AreBytes-tail b bytes all) in
     ap (λ k. next_bits k (number_of bytes * 256 + b)) eight ∙ high_out (length bytes * 8) (number_of bytes) b (all 0)
-    ∙ ap (bit_xor (next_bits (length bytes * 8 + 8) b)) (number_out bytes (AreBytes-tail b bytes all))
+    ∙ ap (λ left. bit_xor left (next_bits (length bytes * 8 + 8) b)) rest
 
 -- ---- eight bytes
 
@@ -99,9 +101,11 @@ bytes_low_first-small i (suc k) n zero = byte_at-small i n
 bytes_low_first-small i (suc k) n (suc j) = bytes_low_first-small (suc i) k n j
 
 number_of-to_le_bytes : (word : ℕ) → word < 2 ^ 64 → number_of (to_le_bytes w64 word) ≡ word
-number_of-to_le_bytes word p = let e : from_le_bytes w64 (to_le_bytes w64 word) ≡ word = from_le_bytes-to_le_bytes_8 word p in omega arith
+number_of-to_le_bytes word p =
+    let e : from_le_bytes w64 (to_le_bytes w64 word) ≡ word = from_le_bytes-to_le_bytes_8 word p in
+    omega arith
 
-pub word_out : (word : ℕ) → word < 2 ^ 64 → next_bits 64 word ≡ each_out (to_le_bytes w64 word)
+pub word_out : (word : ℕ) → word < 2 ^ 64 → next_bits 64 word ≡ left_by (to_le_bytes w64 word)
 word_out word p =
     ap (next_bits 64) (sym (number_of-to_le_bytes word p))
     ∙ number_out (to_le_bytes w64 word) (bytes_low_first-small 0 8 word)

@@ -4,8 +4,8 @@ ghost use Rattle.crc32c.specs.Castagnoli.{next_bits, next_byte, remainder_after}
 
 use crate::tables::TABLES;
 
-/// What a byte with this many zero bytes behind it leaves.
-fn moved(byte: u8, behind: usize) -> u32
+/// What a byte leaves when it and this many zero bytes behind it go out.
+fn left_by_byte(byte: u8, behind: usize) -> u32
     requires { behind < 8 }
     ensures { result ≡ next_bits (8 * (behind + 1)) byte }
 {
@@ -16,29 +16,30 @@ fn moved(byte: u8, behind: usize) -> u32
 fn next_byte(remainder: u32, byte: u8) -> u32
     ensures { result ≡ next_byte remainder byte }
 {
-    (remainder >> 8) ^ moved((remainder & 0xff) as u8 ^ byte, 0)
+    (remainder >> 8) ^ left_by_byte((remainder & 0xff) as u8 ^ byte, 0)
 }
 
-/// What a word leaves when its eight bytes go out.
-fn folded(word: u64) -> u32
+/// What a word leaves when its eight bytes go out. Those that a remainder was added to come last, so that the others
+/// don't wait for it.
+fn left_by_word(word: u64) -> u32
     ensures { result ≡ next_bits 64 word }
 {
-    let [a, b, c, d, e, f, g, h] = word.to_le_bytes();
-    moved(a, 7)
-        ^ moved(b, 6)
-        ^ moved(c, 5)
-        ^ moved(d, 4)
-        ^ moved(e, 3)
-        ^ moved(f, 2)
-        ^ moved(g, 1)
-        ^ moved(h, 0)
+    let bytes = word.to_le_bytes();
+    left_by_byte(bytes[7], 0)
+        ^ left_by_byte(bytes[6], 1)
+        ^ left_by_byte(bytes[5], 2)
+        ^ left_by_byte(bytes[4], 3)
+        ^ left_by_byte(bytes[3], 4)
+        ^ left_by_byte(bytes[2], 5)
+        ^ left_by_byte(bytes[1], 6)
+        ^ left_by_byte(bytes[0], 7)
 }
 
 /// The remainder after eight more bytes.
 fn next_word(remainder: u32, bytes: &[u8; 8]) -> u32
     ensures { result ≡ remainder_after remainder bytes.now }
 {
-    folded(u64::from_le_bytes(*bytes) ^ u64::from(remainder))
+    left_by_word(u64::from_le_bytes(*bytes) ^ u64::from(remainder))
 }
 
 /// The remainder after these bytes, from the one before them.

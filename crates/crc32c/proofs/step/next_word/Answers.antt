@@ -6,5 +6,5 @@ use Rattle.crc32c.proofs.step.next_word.Goals as goal
 
 pub returns : goal.returns
 returns c =
-    c.folded.ensures ∙ ap (next_bits 64) (ap₂ bit_xor c.from_le_bytes.ensures c.from.ensures)
+    c.left_by_word.ensures ∙ ap (next_bits 64) (ap₂ bit_xor c.from_le_bytes.ensures c.from.ensures)
     ∙ word_in c.args.remainder c.args.bytes.now c.fits-bytes c.told-bytes
