@@ -48,8 +48,8 @@ number_xor r was is p q same =
     ap₂ bit_xor (remainder_after-number r was p)
     (remainder_after-number r is q ∙ ap (λ n. next_bits (n * 8) (bit_xor r (number_of is))) (sym same))
     ∙ sym (next_bits-xor (length was * 8) (bit_xor r (number_of was)) (bit_xor r (number_of is)))
-    ∙ ap (next_bits (length was * 8))
-    (xor_four r (number_of was) r (number_of is) ∙ ap (λ x. bit_xor x (bit_xor (number_of was) (number_of is))) (xor_self r))
+    ∙ ap (next_bits (length was * 8)) (xor_four r (number_of was) r (number_of is))
+    ∙ ap (λ x. next_bits (length was * 8) (bit_xor x (bit_xor (number_of was) (number_of is)))) (xor_self r)
 
 number_of-lt : (bytes : List ℕ) → AreBytes bytes → number_of bytes < 2 ^ (length bytes * 8)
 number_of-lt [] all = omega arith
@@ -80,6 +80,10 @@ number_of-same (b ∷ was) (c ∷ is) p q same e =
     let shorter : length was ≡ length is = omega arith in
     ap₂ (λ x xs. x ∷ xs) byte (number_of-same was is (AreBytes-tail b was p) (AreBytes-tail c is q) shorter above)
 
+bytes_same : (was is : List ℕ) → AreBytes was → AreBytes is → length was ≡ length is
+    → bit_xor (number_of was) (number_of is) ≡ 0 → was ≡ is
+bytes_same was is p q same none = number_of-same was is p q same (xor_none (number_of was) (number_of is) none)
+
 -- the sums of lists with equal ends are equal only where the parts between them are
 between_same : (front back was is : List ℕ) → AreBytes was → AreBytes is → length was ≡ length is → length was ≤ 4
     → crc32c (front ++ (was ++ back)) ≡ crc32c (front ++ (is ++ back)) → was ≡ is
@@ -97,12 +101,13 @@ between_same front back was is p q same short e =
     ∙ sym (remainder_after-xor (remainder_after r was) (remainder_after r is) back) ∙ xor_same ends in
     let was_lt : number_of was < 2 ^ 32 = number_of-below (length was) was p refl short in
     let is_lt : number_of is < 2 ^ 32 = number_of-below (length was) is q (sym same) short in
-    number_of-same was is p q same
-    (xor_none (number_of was) (number_of is) (next_bits-lost (n + m) d (xor_lt 32 (number_of was) (number_of is) was_lt is_lt) out))
+    let word = xor_lt 32 (number_of was) (number_of is) was_lt is_lt in
+    bytes_same was is p q same (next_bits-lost (n + m) d word out)
 
 pub between_differ : (front back was is : List ℕ) → DifferWithin 4 was is
     → crc32c (front ++ (was ++ back)) ≢ crc32c (front ++ (is ++ back))
-between_differ front back was is h e = h.changed (between_same front back was is h.was_bytes h.is_bytes h.same_length h.short e)
+between_differ front back was is h e =
+    h.changed (between_same front back was is h.was_bytes h.is_bytes h.same_length h.short e)
 
 -- ---- one byte
 
@@ -117,7 +122,8 @@ byte_differs front back was is p q ne e =
     (between_same front back (was ∷ []) (is ∷ []) (one_byte was p) (one_byte is q) refl (omega arith) e))
 
 -- a list before and after one of its elements
-around : (bytes : List ℕ) (at : ℕ) → at < length bytes → take at bytes ++ get_or bytes at 0 ∷ drop (suc at) bytes ≡ bytes
+around : (bytes : List ℕ) (at : ℕ) → at < length bytes
+    → take at bytes ++ get_or bytes at 0 ∷ drop (suc at) bytes ≡ bytes
 around bytes at p = ap (λ rest. take at bytes ++ rest) (sym (drop-cons bytes at 0 p)) ∙ take-append-drop at bytes
 
 changed_within : (was is : List ℕ) (at : ℕ) → DifferAt was is at → at < length was
@@ -147,13 +153,15 @@ index_differs was is at h e =
     ap (drop (suc at)) changed ∙ drop-set-lt (suc at) was at (get_or is at 0) (omega arith) in
     let other : is ≡ take at was ++ get_or is at 0 ∷ drop (suc at) was =
     sym (around is at inside) ∙ ap₂ (λ f b. f ++ get_or is at 0 ∷ b) front back in
-    byte_differs (take at was) (drop (suc at) was) (get_or was at 0) (get_or is at 0) (h.was_bytes at) (h.is_bytes at) h.changed
+    byte_differs (take at was) (drop (suc at) was) (get_or was at 0) (get_or is at 0)
+    (h.was_bytes at) (h.is_bytes at) h.changed
     (ap crc32c (around was at lt) ∙ e ∙ ap crc32c other)
 
 -- ---- neighbouring bits
 
--- a burst that goes out of so many bits that it lies within leaves nothing only where it is nothing
-burst_lost : (n burst first : ℕ) → burst < 2 ^ 32 → burst * 2 ^ first < 2 ^ n → next_bits n (burst * 2 ^ first) ≡ 0 → burst ≡ 0
+-- a burst within n bits that go out leaves nothing only where it is nothing
+burst_lost : (n burst first : ℕ) → burst < 2 ^ 32 → burst * 2 ^ first < 2 ^ n
+    → next_bits n (burst * 2 ^ first) ≡ 0 → burst ≡ 0
 burst_lost n zero first p inside out = refl
 burst_lost n (suc b) first p inside out = elim (cases_lt n first) [
   | inl lt ↦
@@ -175,7 +183,6 @@ bits_differ was is h e =
     let d = xor_lt n (number_of was) (number_of is) (number_of-lt was h.was_bytes) is_below in
     let out : next_bits n (bit_xor (number_of was) (number_of is)) ≡ 0 =
     sym (number_xor all_ones was is h.was_bytes h.is_bytes h.same_length) ∙ xor_same (crc32c-remainders was is e) in
-    let none : h.burst ≡ 0 =
-    burst_lost n h.burst h.first h.short (rw h.differ at d) (rw h.differ at out) in
-    let same : bit_xor (number_of was) (number_of is) ≡ 0 = h.differ ∙ ap (λ x. x * 2 ^ h.first) none ∙ zero-mul (2 ^ h.first) in
-    h.changed (number_of-same was is h.was_bytes h.is_bytes h.same_length (xor_none (number_of was) (number_of is) same))
+    let none : h.burst ≡ 0 = burst_lost n h.burst h.first h.short (rw h.differ at d) (rw h.differ at out) in
+    let same = h.differ ∙ ap (λ x. x * 2 ^ h.first) none ∙ zero-mul (2 ^ h.first) in
+    h.changed (bytes_same was is h.was_bytes h.is_bytes h.same_length same)

@@ -55,4 +55,5 @@ remainder_after-lt r (b ∷ bytes) p all =
 pub crc32c-lt : (bytes : List ℕ) → AreBytes bytes → crc32c bytes < 2 ^ 32
 unfolding crc32c
 crc32c-lt bytes all =
-    xor_lt 32 (remainder_after all_ones bytes) all_ones (remainder_after-lt all_ones bytes (omega arith) all) (omega arith)
+    let remainder = remainder_after-lt all_ones bytes (omega arith) all in
+    xor_lt 32 (remainder_after all_ones bytes) all_ones remainder (omega arith)

@@ -26,7 +26,7 @@ abbrev pub number_of : List ℕ → ℕ
 number_of [] = 0
 number_of (byte ∷ bytes) = number_of bytes * 256 + byte
 
--- Two lists of bytes of one length that differ, and only within this many neighbouring bits: of their numbers' bits, those
+-- Two lists of bytes of one length that differ, and only within this many neighbouring bits: the bits of their numbers
 -- that differ are a burst of no more bits, from bit `first` on.
 pub record DifferInBits (count : ℕ) (was is : List ℕ) : Type 0 where
   pub was_bytes : AreBytes was

@@ -1,5 +1,5 @@
 //! What the sum is of a few bytes, and which changes it shows.
-ghost use Rattle.std.specs.Prelude.{◌≡◌, ◌≢◌, ℕ, suc, ◌^◌, ◌<◌, ◌++◌, ◌∷◌, [], List, codes, replicate, reverse};
+ghost use Rattle.std.specs.Prelude.{◌≡◌, ◌≢◌, ℕ, ◌^◌, ◌<◌, ◌++◌, ◌∷◌, [], List, codes, replicate, reverse};
 ghost use Rattle.std.specs.List.{range_with_len};
 ghost use Rattle.crc32c.specs.Castagnoli.{crc32c, crc32c_after};
 ghost use Rattle.crc32c.specs.Changes.{AreBytes, DifferAt, DifferInBits, DifferWithin};
@@ -36,7 +36,8 @@ pub fn a_changed_byte_changes_the_sum()
     ensures by_index { (was is : List ℕ) (at : ℕ) → DifferAt was is at → crc32c was ≢ crc32c is }
 {}
 
-/// Changes within 32 neighbouring bits change the sum, as all do within four neighbouring bytes, whatever is around them.
+/// Changes within 32 neighbouring bits change the sum, and so do changes within four neighbouring bytes, whatever the
+/// bytes around them are.
 pub fn a_burst_of_changes_changes_the_sum()
     ensures bits { (was is : List ℕ) → DifferInBits 32 was is → crc32c was ≢ crc32c is }
     ensures bytes { (front back was is : List ℕ) → DifferWithin 4 was is

@@ -1,5 +1,5 @@
-//! The checksum CRC-32C (Castagnoli), as iSCSI, SCTP and many file formats have it: RFC 3720, appendix B.4, and RFC 3385
-//! describe it.
+//! The checksum CRC-32C (Castagnoli), that of iSCSI, SCTP and many file formats, which RFC 3720, appendix B.4, and
+//! RFC 3385 describe.
 //!
 //! Eight bytes are summed a step, by tables that are part of the program: nothing is set up, and no memory is taken.
 #![tactic(auto)]

@@ -10,4 +10,5 @@ returns-clause-value c = ap (λ r. bit_xor r all_ones) c.remainder_after.ensures
 
 pub returns-clause-appended : goal.returns-clause-appended
 returns-clause-appended c front e =
-    returns-clause-value c ∙ ap (λ sum. crc32c_after sum c.args.bytes.now) e ∙ crc32c_after-crc32c front c.args.bytes.now
+    returns-clause-value c ∙ ap (λ sum. crc32c_after sum c.args.bytes.now) e
+    ∙ crc32c_after-crc32c front c.args.bytes.now

@@ -15,4 +15,6 @@ loop-byte-preserved c =
     cc
 
 pub returns : goal.returns
-returns c = sym (remainder_after-end c.loop-byte.remainder c.loop-byte.byte-index c.loop-word.rest.now (omega arith)) ∙ c.loop-byte.invariant
+returns c =
+    let end = remainder_after-end c.loop-byte.remainder c.loop-byte.byte-index c.loop-word.rest.now (omega arith) in
+    sym end ∙ c.loop-byte.invariant
