@@ -1,6 +1,8 @@
 //! What a replay reports as it goes: its log, and the text of its steps if that is asked for.
-ghost use Rattle.std.specs.Prelude.{◌≡◌, OnOk};
+ghost use Rattle.std.specs.Prelude.{◌≡◌, None, IsFalse, OnOk};
 ghost use Rattle.page_numbers.specs.Parcels.{as_parcel};
+ghost use Rattle.ring_core.specs.Value.{CoreValue};
+ghost use Rattle.step_text.specs.declared.asked.Asked.{Asked as AskedSeen};
 ghost use Rattle.script_replay.specs.Reports.{GainsAreReported, IsReported, IsStepTold, LineIsReported, MayReport};
 
 use page_numbers::Parcel;
@@ -65,8 +67,27 @@ impl Reports {
         report(at, answer, &mut self.log)
     }
 
-    /// The same if most steps aren't told: then nothing is reported of most answers to a writer. The answer is moved,
-    /// so that it needs no place in memory.
+    /// Whether steps are told.
+    #[inline(always)]
+    pub(crate) fn tells(&self) -> bool
+        ensures { IsFalse result → self.now.steps ≡ None }
+    {
+        self.steps.is_some()
+    }
+
+    /// Reports an answer where no step is told: nothing is reported of most answers to a writer. The answer is moved, so
+    /// that it needs no place in memory.
+    #[inline(always)]
+    pub(crate) fn log(&mut self, at: At, answer: Answer) -> Result<(), NoMemory>
+        requires { self.old.steps ≡ None }
+        ensures reported { OnOk result ((asked : AskedSeen) (ring : CoreValue)
+            → IsReported at.line at.cpu.0 asked answer ring self.old self.new) }
+        ensures none { self.new.steps ≡ None }
+    {
+        report(at, answer, &mut self.log)
+    }
+
+    /// Reports an answer, if most steps aren't told.
     #[inline(always)]
     pub(crate) fn report(
         &mut self,

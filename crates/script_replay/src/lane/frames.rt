@@ -12,7 +12,7 @@ use trace_model::NoMemory;
 pub(crate) const MOST_STEPS: u64 = 8192;
 
 impl<'a> Lane<'a> {
-    ghost use Rattle.std.specs.Prelude.{◌≡◌, ◌≢◌, ℕ, ◌-◌, [], drop, length, OnOk};
+    ghost use Rattle.std.specs.Prelude.{◌≡◌, ◌≢◌, ℕ, ◌-◌, [], drop, length, None, OnOk};
     ghost use Rattle.text_model.specs.Script.{step_frame, finish_frame};
     ghost use Rattle.script_replay.specs.Lanes.{IsLaneOf, IsReportedLane, MakesExchanges, HasLine};
     ghost use Rattle.script_replay.specs.Frames.{AsksTop, StepsOnce, FollowsFrame};
@@ -41,9 +41,45 @@ impl<'a> Lane<'a> {
         self.step(at, MOST_STEPS, reports)
     }
 
-    /// Has the frame on top make `count` steps, or fewer if it is gone before: then fewer payloads are kept.
+    /// Has the frame on top make `count` steps, or fewer if it is gone before. Whether they are told is asked once, so
+    /// that steps which aren't told take no more for it.
     #[inline(always)]
     fn follow(&mut self, at: At, count: u64, reports: &mut Reports) -> Result<(), NoMemory>
+        requires lane { IsReportedLane at.cpu.0 self.old reports.old }
+        requires stands { self.old.core.stack.frames ≢ [] }
+        ensures { OnOk result (MakesExchanges (FollowsFrame count) at.line at.cpu.0
+            self.old reports.old self.new reports.new) }
+    {
+        if reports.tells() {
+            return self.follow_told(at, count, reports);
+        }
+        self.follow_untold(at, count, reports)
+    }
+
+    /// `follow`, if steps aren't told. If the frame is gone, fewer payloads are kept.
+    #[inline(always)]
+    fn follow_untold(&mut self, at: At, count: u64, reports: &mut Reports) -> Result<(), NoMemory>
+        requires lane { IsReportedLane at.cpu.0 self.old reports.old }
+        requires stands { self.old.core.stack.frames ≢ [] }
+        requires untold { reports.old.steps ≡ None }
+        ensures { OnOk result (MakesExchanges (FollowsFrame count) at.line at.cpu.0
+            self.old reports.old self.new reports.new) }
+    {
+        let depth = self.payloads.len();
+        let _payload = self.payloads[depth - 1];
+        let mut steps = 0;
+        while steps < count && self.payloads.len() == depth {
+            let answer = self.step_once();
+            reports.log(at, answer)?;
+            steps += 1;
+        }
+        Ok(())
+    }
+
+    /// `follow`, also if steps are told.
+    #[cold]
+    #[inline(never)]
+    fn follow_told(&mut self, at: At, count: u64, reports: &mut Reports) -> Result<(), NoMemory>
         requires lane { IsReportedLane at.cpu.0 self.old reports.old }
         requires stands { self.old.core.stack.frames ≢ [] }
         ensures { OnOk result (MakesExchanges (FollowsFrame count) at.line at.cpu.0
