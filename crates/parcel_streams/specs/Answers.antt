@@ -1,0 +1,78 @@
+-- What the calls answer, in the words of the definitions.
+use Rattle.std.specs.Prelude.{◌≡◌, ℕ, ◌^◌, ◌<◌, List, length}
+use Rattle.trace_model.specs.Words.{Decodes}
+use Rattle.trace_model.specs.ParcelBytes.{bytes_of_parcel, DecodesParcel, ParcelCause, FirstParcelFault}
+use Rattle.trace_model.specs.Parcel.{Parcel as ParcelSeen}
+use Rattle.page_numbers.specs.declared.fault.ParcelFault.{ParcelFault}
+use Rattle.page_numbers.specs.declared.fault.ParcelFault.TheVariants.{Image, NumberOverflow, MissedTooMany, MissedDiffers, BadCpu, NoMemory as MemoryThere}
+use Rattle.page_numbers.specs.Parcels.{ParcelValue, as_parcel}
+use Rattle.page_numbers.specs.Faults.{parcel_fault}
+use Rattle.page_image.specs.Contents.{records_of_page}
+use Rattle.parcel_streams.specs.declared.piece.Piece.{Piece}
+use Rattle.parcel_streams.specs.declared.piece.Piece.TheVariants.{Parcel as ParcelIs, End as EndIs}
+use Rattle.parcel_streams.specs.declared.frame.Frame.{Frame}
+use Rattle.parcel_streams.specs.declared.fault.PieceFault.{PieceFault}
+use Rattle.parcel_streams.specs.declared.fault.PieceFault.TheVariants.{NotPacked, Cut, BadVersion, BadLength, BadSum, BadKind, Parcel, Loose, BadEnd, NoMemory}
+use Rattle.parcel_streams.specs.Pieces.{Packed, parcel_piece, end_piece, BeginsWith}
+use Rattle.parcel_streams.specs.Faults.{IsSealed, kind_in, stream_in, body_in, length_in, IsFitted, IsLoose, PieceCause, not_packed, cut, bad_version, bad_length, bad_sum, bad_kind, bad_parcel, loose, bad_end, FirstPieceFault}
+
+-- the model's piece of a parcel, which has the page's time and data and not its room
+abbrev pub piece_of_parcel : ℕ → ParcelValue → Packed
+piece_of_parcel stream parcel = parcel_piece stream (as_parcel parcel) parcel.page.time parcel.page.bytes
+
+-- the model's piece
+abbrev pub piece_seen : Piece → Packed
+piece_seen (ParcelIs stream parcel) = piece_of_parcel stream.0 parcel
+piece_seen (EndIs stream cpu count) = end_piece stream.0 cpu.0 count
+
+-- ---- faults
+
+-- a fault of the parcel, and refused memory, which is none of it
+abbrev pub fault_of_parcel : ParcelFault → PieceFault
+fault_of_parcel (Image fault) = Parcel (Image fault)
+fault_of_parcel NumberOverflow = Parcel NumberOverflow
+fault_of_parcel MissedTooMany = Parcel MissedTooMany
+fault_of_parcel MissedDiffers = Parcel MissedDiffers
+fault_of_parcel BadCpu = Parcel BadCpu
+fault_of_parcel MemoryThere = NoMemory
+
+-- the faults by their causes
+abbrev pub piece_fault : PieceCause → PieceFault
+piece_fault not_packed = NotPacked
+piece_fault cut = Cut
+piece_fault bad_version = BadVersion
+piece_fault bad_length = BadLength
+piece_fault bad_sum = BadSum
+piece_fault bad_kind = BadKind
+piece_fault (bad_parcel cause) = Parcel (parcel_fault cause)
+piece_fault loose = Loose
+piece_fault bad_end = BadEnd
+
+-- the bytes begin with some piece
+abbrev pub HasPiece : List ℕ → Type 0
+HasPiece bytes = (piece : Packed) × BeginsWith bytes piece
+
+-- What an answer without a piece says of the bytes: their first fault, or that memory was refused for the piece with
+-- which they begin.
+abbrev pub IsPieceFault : List ℕ → PieceFault → Type 0
+IsPieceFault bytes NotPacked = FirstPieceFault bytes not_packed
+IsPieceFault bytes Cut = FirstPieceFault bytes cut
+IsPieceFault bytes BadVersion = FirstPieceFault bytes bad_version
+IsPieceFault bytes BadLength = FirstPieceFault bytes bad_length
+IsPieceFault bytes BadSum = FirstPieceFault bytes bad_sum
+IsPieceFault bytes BadKind = FirstPieceFault bytes bad_kind
+IsPieceFault bytes (Parcel fault) =
+    (cause : ParcelCause) × (fault ≡ parcel_fault cause) × FirstPieceFault bytes (bad_parcel cause)
+IsPieceFault bytes Loose = FirstPieceFault bytes loose
+IsPieceFault bytes BadEnd = FirstPieceFault bytes bad_end
+IsPieceFault bytes NoMemory = HasPiece bytes
+
+-- ---- parts of a piece
+
+-- the frame is that of the piece with which the bytes begin, if its kind's own is right
+pub record HasFrame (bytes : List ℕ) (frame : Frame) : Type 0 where
+  pub seal : IsSealed bytes
+  pub kind_is : frame.kind ≡ kind_in bytes
+  pub stream_is : frame.stream.0 ≡ stream_in bytes
+  pub body_is : frame.body.now ≡ body_in bytes
+  pub len_is : frame.len ≡ length_in bytes
