@@ -1,2 +1,4 @@
 mod Sums
 pub mod Frames
+pub mod Fitted
+mod Bodies

@@ -1,19 +1,20 @@
 -- What the calls answer, in the words of the definitions.
-use Rattle.std.specs.Prelude.{◌≡◌, ℕ, ◌^◌, ◌<◌, List, length}
-use Rattle.trace_model.specs.Words.{Decodes}
+use Rattle.std.specs.Prelude.{◌≡◌, ◌≢◌, ℕ, ◌^◌, ◌<◌, ◌≤◌, ◌⊎◌, List, length}
+use Rattle.trace_model.specs.Image.{from_le64}
 use Rattle.trace_model.specs.ParcelBytes.{bytes_of_parcel, DecodesParcel, ParcelCause, FirstParcelFault}
 use Rattle.trace_model.specs.Parcel.{Parcel as ParcelSeen}
 use Rattle.page_numbers.specs.declared.fault.ParcelFault.{ParcelFault}
 use Rattle.page_numbers.specs.declared.fault.ParcelFault.TheVariants.{Image, NumberOverflow, MissedTooMany, MissedDiffers, BadCpu, NoMemory as MemoryThere}
 use Rattle.page_numbers.specs.Parcels.{ParcelValue, as_parcel}
 use Rattle.page_numbers.specs.Faults.{parcel_fault}
-use Rattle.page_image.specs.Contents.{records_of_page}
+use Rattle.trace_model.specs.declared.limits.TheConstants.{MAX_CPUS}
 use Rattle.parcel_streams.specs.declared.piece.Piece.{Piece}
 use Rattle.parcel_streams.specs.declared.piece.Piece.TheVariants.{Parcel as ParcelIs, End as EndIs}
 use Rattle.parcel_streams.specs.declared.frame.Frame.{Frame}
+use Rattle.parcel_streams.specs.declared.limits.TheConstants.{END_BODY}
 use Rattle.parcel_streams.specs.declared.fault.PieceFault.{PieceFault}
 use Rattle.parcel_streams.specs.declared.fault.PieceFault.TheVariants.{NotPacked, Cut, BadVersion, BadLength, BadSum, BadKind, Parcel, Loose, BadEnd, NoMemory}
-use Rattle.parcel_streams.specs.Pieces.{Packed, parcel_piece, end_piece, BeginsWith}
+use Rattle.parcel_streams.specs.Pieces.{Packed, parcel_piece, end_piece, sealed, bytes_of_piece, IsPiece, BeginsWith}
 use Rattle.parcel_streams.specs.Faults.{IsSealed, kind_in, stream_in, body_in, length_in, IsFitted, IsLoose, PieceCause, not_packed, cut, bad_version, bad_length, bad_sum, bad_kind, bad_parcel, loose, bad_end, FirstPieceFault}
 
 -- the model's piece of a parcel, which has the page's time and data and not its room
@@ -76,3 +77,30 @@ pub record HasFrame (bytes : List ℕ) (frame : Frame) : Type 0 where
   pub stream_is : frame.stream.0 ≡ stream_in bytes
   pub body_is : frame.body.now ≡ body_in bytes
   pub len_is : frame.len ≡ length_in bytes
+
+-- The body is the one that is written for this parcel, whose page has no unused room; and in any stream that is a piece.
+pub record IsParcelBody (body : List ℕ) (parcel : ParcelValue) : Type 0 where
+  pub body_is :
+      body
+      ≡ bytes_of_parcel (as_parcel parcel) parcel.page.time parcel.page.bytes (length parcel.page.bytes)
+  pub sound : (stream : ℕ) → stream < 2 ^ 64 → IsPiece (piece_of_parcel stream parcel)
+
+-- the frame is that of this piece
+pub record HasBody (frame : Frame) (piece : Piece) : Type 0 where
+  pub sound : IsPiece (piece_seen piece)
+  pub bytes_are : bytes_of_piece (piece_seen piece) ≡ sealed frame.kind frame.stream.0 frame.body.now
+
+-- What an answer without a piece says of a body of this kind: its first fault, or that memory was refused for a parcel.
+abbrev pub IsBodyFault : (kind : ℕ) → List ℕ → PieceFault → Type 0
+IsBodyFault kind body NotPacked = ⊥
+IsBodyFault kind body Cut = ⊥
+IsBodyFault kind body BadVersion = ⊥
+IsBodyFault kind body BadLength = ⊥
+IsBodyFault kind body BadSum = ⊥
+IsBodyFault kind body BadKind = 1 < kind
+IsBodyFault kind body (Parcel fault) =
+    (kind ≡ 0) × ((cause : ParcelCause) × (fault ≡ parcel_fault cause) × FirstParcelFault body cause)
+IsBodyFault kind body Loose = (kind ≡ 0) × IsLoose body
+IsBodyFault kind body BadEnd = (kind ≡ 1) × ((length body ≢ END_BODY) ⊎ (MAX_CPUS ≤ from_le64 body))
+IsBodyFault kind body NoMemory =
+    (kind ≡ 0) × ((parcel : ParcelSeen) × DecodesParcel body parcel × IsFitted body parcel)

@@ -5,6 +5,7 @@
 //! `docs/FORMATS.md`, "Streams of parcels".
 #![tactic(auto)]
 
+mod body;
 mod fault;
 mod frame;
 mod limits;
