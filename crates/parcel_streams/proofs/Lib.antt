@@ -2,3 +2,4 @@ mod Sums
 pub mod Frames
 pub mod Fitted
 mod Bodies
+pub mod Readings

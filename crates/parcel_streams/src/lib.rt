@@ -10,8 +10,10 @@ mod fault;
 mod frame;
 mod limits;
 mod piece;
+mod read;
 
 pub use fault::{PieceFault, StreamFault};
 pub use frame::is_stream;
 pub use limits::{END_PIECE, MAX_PIECE};
 pub use piece::{Piece, StreamId};
+pub use read::read_piece;
