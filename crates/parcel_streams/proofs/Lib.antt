@@ -3,3 +3,5 @@ pub mod Frames
 pub mod Fitted
 mod Bodies
 pub mod Readings
+pub mod OneFault
+mod Answered

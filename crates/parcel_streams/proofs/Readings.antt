@@ -30,7 +30,7 @@ body_len bytes seal =
     let least = seal.whole.stated.least in
     length-take-le (length_in bytes - 32 - 8) (drop 32 bytes) (omega (arith, length-drop 32 bytes)) ∙ omega arith
 
-AreBytes-body : (bytes : List ℕ) → AreBytes bytes → AreBytes (body_in bytes)
+pub AreBytes-body : (bytes : List ℕ) → AreBytes bytes → AreBytes (body_in bytes)
 AreBytes-body bytes small = AreBytes-take (length_in bytes - 32 - 8) (drop 32 bytes) (AreBytes-drop 32 bytes small)
 
 -- the bytes begin with what their head states
