@@ -5,3 +5,4 @@ mod Bodies
 pub mod Readings
 pub mod OneFault
 mod Answered
+mod Sealing

@@ -15,8 +15,11 @@ use page_image::number_at;
 /// The letters with which each piece begins.
 pub(crate) const MAGIC: [u8; 8] = *b"TRPARCEL";
 
-/// Above the version, in the number after the magic, is the kind.
-const KIND: u64 = 1 << 32;
+/// The version of pieces that is read and written.
+pub(crate) const VERSION: u64 = 1;
+
+/// Above the version, in the number after the magic, is the kind: it counts this much.
+pub(crate) const KIND: u64 = 1 << 32;
 
 /// A piece at the front of some bytes, whose checksum is right. What its kind has of its own wasn't looked at.
 #[derive(Clone, Copy)]
@@ -53,7 +56,7 @@ fn read_len(bytes: &[u8]) -> Result<usize, PieceFault>
     if bytes.len() < HEAD {
         return Err(PieceFault::Cut);
     }
-    if number_at(bytes, 8) % KIND != 1 {
+    if number_at(bytes, 8) % KIND != VERSION {
         return Err(PieceFault::BadVersion);
     }
     let len = number_at(bytes, 16);

@@ -9,11 +9,13 @@ mod body;
 mod fault;
 mod frame;
 mod limits;
+mod pack;
 mod piece;
 mod read;
 
 pub use fault::{PieceFault, StreamFault};
 pub use frame::is_stream;
 pub use limits::{END_PIECE, MAX_PIECE};
+pub use pack::{pack_end, pack_parcel};
 pub use piece::{Piece, StreamId};
 pub use read::read_piece;
