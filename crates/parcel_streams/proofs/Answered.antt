@@ -1,5 +1,5 @@
 -- An answer and what the bytes are decide each other.
-use Rattle.std.proofs.Common.{◌≡◌, ◌↔◌, ℕ, List, Result, Ok, Err, IfOk, IfErr, MatchResult, refl, sym, ap, ◌∙◌, subst}
+use Rattle.std.proofs.Common.{◌≡◌, ◌⊎◌, inl, inr, ⊎_elim, ◌↔◌, ℕ, List, Result, Ok, Err, IfOk, IfErr, MatchResult, refl, sym, ap, ◌∙◌, subst}
 use Rattle.trace_model.specs.Faults.{cut as cut_word, bad_length as bad_word_length, time_overflow}
 use Rattle.trace_model.specs.Image.{ImageCause, too_short, bad_size, bad_count, bad_word}
 use Rattle.trace_model.specs.ParcelBytes.{ParcelCause, bad_cpu, bad_image, number_overflow, missed_too_many, missed_differs}
@@ -14,7 +14,7 @@ use Rattle.parcel_streams.specs.declared.fault.PieceFault.{PieceFault}
 use Rattle.parcel_streams.specs.declared.fault.PieceFault.TheVariants.{NotPacked, Cut, BadVersion, BadLength, BadSum, BadKind, Parcel, Loose, BadEnd, NoMemory}
 use Rattle.parcel_streams.specs.Pieces.{Packed, BeginsWith}
 use Rattle.parcel_streams.specs.Faults.{PieceCause, not_packed, cut, bad_version, bad_length, bad_sum, bad_kind, bad_parcel, loose, bad_end, FirstPieceFault}
-use Rattle.parcel_streams.specs.Answers.{piece_seen, piece_fault, IsPieceFault}
+use Rattle.parcel_streams.specs.Answers.{piece_seen, piece_fault, HasPiece, IsPieceFault}
 use Rattle.parcel_streams.proofs.Readings.{one_piece}
 use Rattle.parcel_streams.proofs.OneFault.{one_fault, piece_no_fault}
 
@@ -67,17 +67,28 @@ cause_is bytes (bad_parcel cause) is = subst (λ (c : ParcelCause). FirstPieceFa
 cause_is bytes loose is = is
 cause_is bytes bad_end is = is
 
-pub reported_is : (bytes : List ℕ) (reported : PieceFault) (cause : PieceCause) → IsPieceFault bytes reported → FirstPieceFault bytes cause → reported ≡ piece_fault cause
-reported_is bytes NotPacked cause f g = ap piece_fault (one_fault bytes not_packed cause f g)
-reported_is bytes Cut cause f g = ap piece_fault (one_fault bytes cut cause f g)
-reported_is bytes BadVersion cause f g = ap piece_fault (one_fault bytes bad_version cause f g)
-reported_is bytes BadLength cause f g = ap piece_fault (one_fault bytes bad_length cause f g)
-reported_is bytes BadSum cause f g = ap piece_fault (one_fault bytes bad_sum cause f g)
-reported_is bytes BadKind cause f g = ap piece_fault (one_fault bytes bad_kind cause f g)
-reported_is bytes (Parcel fault) cause f g = ap Parcel f.1 ∙ ap piece_fault (one_fault bytes (bad_parcel f.0) cause f.2 g)
-reported_is bytes Loose cause f g = ap piece_fault (one_fault bytes loose cause f g)
-reported_is bytes BadEnd cause f g = ap piece_fault (one_fault bytes bad_end cause f g)
-reported_is bytes NoMemory cause f g = absurd (piece_no_fault bytes f.0 cause f.1 g)
+-- each fault that is reported has a cause, but for refused memory
+pub fault_named : (bytes : List ℕ) (fault : PieceFault) → IsPieceFault bytes fault → (fault ≡ NoMemory) ⊎ ((cause : PieceCause) × (fault ≡ piece_fault cause) × FirstPieceFault bytes cause)
+fault_named bytes NotPacked f = inr (not_packed, refl, f)
+fault_named bytes Cut f = inr (cut, refl, f)
+fault_named bytes BadVersion f = inr (bad_version, refl, f)
+fault_named bytes BadLength f = inr (bad_length, refl, f)
+fault_named bytes BadSum f = inr (bad_sum, refl, f)
+fault_named bytes BadKind f = inr (bad_kind, refl, f)
+fault_named bytes (Parcel fault) f = inr (bad_parcel f.0, ap Parcel f.1, f.2)
+fault_named bytes Loose f = inr (loose, refl, f)
+fault_named bytes BadEnd f = inr (bad_end, refl, f)
+fault_named bytes NoMemory f = inl refl
+
+-- if there is a cause, it is the one that is reported
+reported_is : (bytes : List ℕ) (reported : PieceFault) (cause : PieceCause) → IsPieceFault bytes reported → FirstPieceFault bytes cause → reported ≡ piece_fault cause
+reported_is bytes reported cause f g = ⊎_elim
+    (λ refused. absurd (of_memory (subst (IsPieceFault bytes) refused f)))
+    (λ faulty. faulty.1 ∙ ap piece_fault (one_fault bytes faulty.0 cause faulty.2 g))
+    (fault_named bytes reported f)
+  where
+    of_memory : HasPiece bytes → ⊥
+    of_memory has = piece_no_fault bytes has.0 cause has.1 g
 
 -- the bytes begin with the piece that is read
 abbrev pub ReadAs : List ℕ → Piece × ℕ → Type 0
@@ -94,17 +105,8 @@ fault-iff bytes r cause reads fault = (
 )
 
 -- no fault is there where a piece is
-pub only_memory : (bytes : List ℕ) (piece : Packed) (fault : PieceFault) → BeginsWith bytes piece → IsPieceFault bytes fault → fault ≡ NoMemory
-only_memory bytes piece NotPacked b f = absurd (piece_no_fault bytes piece not_packed b f)
-only_memory bytes piece Cut b f = absurd (piece_no_fault bytes piece cut b f)
-only_memory bytes piece BadVersion b f = absurd (piece_no_fault bytes piece bad_version b f)
-only_memory bytes piece BadLength b f = absurd (piece_no_fault bytes piece bad_length b f)
-only_memory bytes piece BadSum b f = absurd (piece_no_fault bytes piece bad_sum b f)
-only_memory bytes piece BadKind b f = absurd (piece_no_fault bytes piece bad_kind b f)
-only_memory bytes piece (Parcel fault) b f = absurd (piece_no_fault bytes piece (bad_parcel f.0) b f.2)
-only_memory bytes piece Loose b f = absurd (piece_no_fault bytes piece loose b f)
-only_memory bytes piece BadEnd b f = absurd (piece_no_fault bytes piece bad_end b f)
-only_memory bytes piece NoMemory b f = refl
+only_memory : (bytes : List ℕ) (piece : Packed) (fault : PieceFault) → BeginsWith bytes piece → IsPieceFault bytes fault → fault ≡ NoMemory
+only_memory bytes piece fault b f = ⊎_elim (λ refused. refused) (λ faulty. absurd (piece_no_fault bytes piece faulty.0 b faulty.2)) (fault_named bytes fault f)
 
 pub read_back : (bytes : List ℕ) (r : Result (Piece × ℕ) PieceFault) (piece : Packed) → IfOk r (ReadAs bytes) → IfErr r (IsPieceFault bytes) → BeginsWith bytes piece
     → MatchResult r (λ read. piece_seen read.0 ≡ piece) (λ fault. fault ≡ NoMemory)

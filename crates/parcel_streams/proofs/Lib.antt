@@ -6,3 +6,5 @@ pub mod Readings
 pub mod OneFault
 mod Answered
 mod Sealing
+pub mod Streams
+mod Steps

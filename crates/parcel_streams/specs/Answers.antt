@@ -1,5 +1,5 @@
 -- What the calls answer, in the words of the definitions.
-use Rattle.std.specs.Prelude.{◌≡◌, ◌≢◌, ℕ, ◌^◌, ◌<◌, ◌≤◌, ◌⊎◌, List, length}
+use Rattle.std.specs.Prelude.{◌≡◌, ◌≢◌, ℕ, ◌^◌, ◌<◌, ◌≤◌, ◌⊎◌, List, [], ◌∷◌, ◌++◌, length, map}
 use Rattle.trace_model.specs.Image.{from_le64}
 use Rattle.trace_model.specs.ParcelBytes.{bytes_of_parcel, DecodesParcel, ParcelCause, FirstParcelFault}
 use Rattle.trace_model.specs.Parcel.{Parcel as ParcelSeen}
@@ -12,10 +12,11 @@ use Rattle.parcel_streams.specs.declared.piece.Piece.{Piece}
 use Rattle.parcel_streams.specs.declared.piece.Piece.TheVariants.{Parcel as ParcelIs, End as EndIs}
 use Rattle.parcel_streams.specs.declared.frame.Frame.{Frame}
 use Rattle.parcel_streams.specs.declared.limits.TheConstants.{END_BODY}
+use Rattle.parcel_streams.specs.declared.fault.StreamFault.{StreamFault}
 use Rattle.parcel_streams.specs.declared.fault.PieceFault.{PieceFault}
 use Rattle.parcel_streams.specs.declared.fault.PieceFault.TheVariants.{NotPacked, Cut, BadVersion, BadLength, BadSum, BadKind, Parcel, Loose, BadEnd, NoMemory}
 use Rattle.parcel_streams.specs.Pieces.{Packed, parcel_piece, end_piece, sealed, bytes_of_piece, IsPiece, BeginsWith}
-use Rattle.parcel_streams.specs.Faults.{IsSealed, kind_in, stream_in, body_in, length_in, IsFitted, IsLoose, PieceCause, not_packed, cut, bad_version, bad_length, bad_sum, bad_kind, bad_parcel, loose, bad_end, FirstPieceFault}
+use Rattle.parcel_streams.specs.Faults.{IsSealed, kind_in, stream_in, body_in, length_in, IsFitted, IsLoose, PieceCause, not_packed, cut, bad_version, bad_length, bad_sum, bad_kind, bad_parcel, loose, bad_end, FirstPieceFault, ReadsTo}
 
 -- the model's piece of a parcel, which has the page's time and data and not its room
 abbrev pub piece_of_parcel : ℕ → ParcelValue → Packed
@@ -25,6 +26,9 @@ piece_of_parcel stream parcel = parcel_piece stream (as_parcel parcel) parcel.pa
 abbrev pub piece_seen : Piece → Packed
 piece_seen (ParcelIs stream parcel) = piece_of_parcel stream.0 parcel
 piece_seen (EndIs stream cpu count) = end_piece stream.0 cpu.0 count
+
+abbrev pub pieces_seen : List Piece → List Packed
+pieces_seen pieces = map piece_seen pieces
 
 -- ---- faults
 
@@ -104,3 +108,30 @@ IsBodyFault kind body Loose = (kind ≡ 0) × IsLoose body
 IsBodyFault kind body BadEnd = (kind ≡ 1) × ((length body ≢ END_BODY) ⊎ (MAX_CPUS ≤ from_le64 body))
 IsBodyFault kind body NoMemory =
     (kind ≡ 0) × ((parcel : ParcelSeen) × DecodesParcel body parcel × IsFitted body parcel)
+
+-- ---- streams
+
+-- the fault of the piece of this index, which begins at this byte
+abbrev pub stream_fault : ℕ → ℕ → PieceCause → StreamFault
+stream_fault index at cause = record { index = index; at = at; fault = piece_fault cause }
+
+-- What an answer without a stream says of the bytes: pieces were read up to here, and what follows, which isn't nothing,
+-- has this first fault, or begins with a piece for which memory was refused.
+pub record IsStreamFault (bytes : List ℕ) (fault : StreamFault) : Type 0 where
+  pub rest : List ℕ
+  pub before : ReadsTo bytes fault.index fault.at rest
+  pub more : 0 < length rest
+  pub here : IsPieceFault rest fault.fault
+
+-- pieces were read up to here, and another one follows
+pub record HasPieceAt (bytes : List ℕ) (index at : ℕ) : Type 0 where
+  pub rest : List ℕ
+  pub before : ReadsTo bytes index at rest
+  pub piece : HasPiece rest
+
+-- The piece at the front of the bytes, which takes so many of them, is put after those that were read.
+pub record PutsPiece (bytes : List ℕ) (old new : List Piece) (len : ℕ) : Type 0 where
+  pub piece : Piece
+  pub new_is : new ≡ old ++ piece ∷ []
+  pub begins : BeginsWith bytes (piece_seen piece)
+  pub len_is : len ≡ length (bytes_of_piece (piece_seen piece))

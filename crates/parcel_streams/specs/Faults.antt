@@ -125,14 +125,17 @@ FirstPieceFault bytes (bad_parcel cause) = HoldsParcel bytes × FirstParcelFault
 FirstPieceFault bytes loose = HoldsParcel bytes × IsLoose (body_in bytes)
 FirstPieceFault bytes bad_end = HoldsEnd bytes × IsBadEnd bytes
 
--- The first fault of a stream: so many whole pieces are before it, which take so many bytes, and what follows them isn't
--- nothing and has this first fault.
-pub record FirstStreamFault (bytes : List ℕ) (index at : ℕ) (cause : PieceCause) : Type 0 where
+-- So many whole pieces are at the front, which take so many bytes, and this follows them.
+pub record ReadsTo (bytes : List ℕ) (index at : ℕ) (rest : List ℕ) : Type 0 where
   pub before : List Packed
-  pub rest : List ℕ
   pub sound : AreAllPieces before
   pub whole : bytes ≡ bytes_of_pieces before ++ rest
   pub index_is : index ≡ length before
   pub at_is : at ≡ length (bytes_of_pieces before)
+
+-- The first fault of a stream: what follows the whole pieces at its front isn't nothing, and has this first fault.
+pub record FirstStreamFault (bytes : List ℕ) (index at : ℕ) (cause : PieceCause) : Type 0 where
+  pub rest : List ℕ
+  pub before : ReadsTo bytes index at rest
   pub more : 0 < length rest
   pub fault : FirstPieceFault rest cause

@@ -18,4 +18,4 @@ pub use frame::is_stream;
 pub use limits::{END_PIECE, MAX_PIECE};
 pub use pack::{pack_end, pack_parcel};
 pub use piece::{Piece, StreamId};
-pub use read::read_piece;
+pub use read::{read_piece, read_stream};
