@@ -8,6 +8,7 @@
 mod body;
 mod fault;
 mod frame;
+pub mod laws;
 mod limits;
 mod pack;
 mod piece;
