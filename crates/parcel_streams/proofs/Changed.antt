@@ -10,11 +10,12 @@ use Rattle.crc32c.proofs.Sums.{crc32c-lt}
 use Rattle.trace_model.specs.FirstFault.{AreBytes}
 use Rattle.trace_model.specs.Image.{le64, from_le64}
 use Rattle.trace_model.proofs.words.OneWord.{AreBytes-take}
-use Rattle.trace_model.proofs.images.ImageParts.{length-le64, from_le64-le64}
+use Rattle.trace_model.proofs.images.ImageParts.{length-le64, from_le64-take, from_le64-le64}
 use Rattle.parcel_streams.specs.Pieces.{Packed, parcel_piece, end_piece, unsealed, sealed, bytes_of_piece, BeginsWith}
 use Rattle.parcel_streams.specs.Faults.{length_in}
 use Rattle.parcel_streams.proofs.Frames.{length-unsealed, length-sealed}
 use Rattle.parcel_streams.proofs.Readings.{parcel_frame, end_frame}
+use Rattle.parcel_streams.proofs.Streams.{piece_len}
 
 -- ---- lists that differ at one index
 
@@ -106,13 +107,27 @@ pieces_differ (end_piece stream cpu count) (end_piece other cpu' count') at d = 
 
 -- ---- and what is read
 
+-- the length that is stated stays if no byte of it changes
+same_length_in : (bytes changed : List ℕ) (at : ℕ) → DifferAt bytes changed at → 24 ≤ length bytes → (at < 16) ⊎ (24 ≤ at) → length_in changed ≡ length_in bytes
+same_length_in bytes changed at d long elsewhere =
+    let len = d.same_length in
+    let own = length-take-le 8 (drop 16 bytes) (omega (arith, length-drop 16 bytes)) in
+    let that = length-take-le 8 (drop 16 changed) (omega (arith, length-drop 16 changed)) in
+    let same : take 8 (drop 16 changed) ≡ take 8 (drop 16 bytes) = same_number_lists (take 8 (drop 16 changed)) (take 8 (drop 16 bytes)) (that ∙ sym own) (λ k low.
+    let under : k < 8 = omega arith in
+    let other : 16 + k ≢ at = λ e. ⊎_elim (λ (front : at < 16). absurd (omega arith)) (λ (back : 24 ≤ at). absurd (omega arith)) elsewhere in
+    get_or-take 8 (drop 16 changed) k 0 under ∙ get_or-drop 16 changed k 0 ∙ sym (d.kept (16 + k) other) ∙ sym (get_or-drop 16 bytes k 0) ∙ sym (get_or-take 8 (drop 16 bytes) k 0 under)) in
+    sym (from_le64-take (drop 16 changed)) ∙ ap from_le64 same ∙ from_le64-take (drop 16 bytes)
+
 stated_len : (bytes : List ℕ) (piece : Packed) → BeginsWith bytes piece → length_in bytes ≡ length (bytes_of_piece piece)
 stated_len bytes (parcel_piece stream parcel time contents) b = (parcel_frame bytes stream parcel time contents b).length_is ∙ sym (length-sealed 0 stream _)
 stated_len bytes (end_piece stream cpu count) b = (end_frame bytes stream cpu count b).length_is ∙ sym (length-sealed 1 stream _)
 
-pub changed_refused : (bytes changed : List ℕ) (piece other : Packed) (at : ℕ) → BeginsWith bytes piece → DifferAt bytes changed at → at < length (bytes_of_piece piece) → length_in changed ≡ length_in bytes → BeginsWith changed other → ⊥
-changed_refused bytes changed piece other at b d within stated c =
+pub changed_refused : (bytes changed : List ℕ) (piece other : Packed) (at : ℕ) → BeginsWith bytes piece → DifferAt bytes changed at → at < length (bytes_of_piece piece) → (at < 16) ⊎ (24 ≤ at) → BeginsWith changed other → ⊥
+changed_refused bytes changed piece other at b d within elsewhere c =
     let n : ℕ = length (bytes_of_piece piece) in
+    let long : 24 ≤ length bytes = omega (arith, ap length b.whole, length-append (bytes_of_piece piece) b.rest, piece_len piece) in
+    let stated = same_length_in bytes changed at d long elsewhere in
     let lens : n ≡ length (bytes_of_piece other) = sym (stated_len bytes piece b) ∙ sym stated ∙ stated_len changed other c in
     let whole : length bytes ≡ length (bytes_of_piece piece ++ b.rest) = ap length b.whole in
     let one : take n bytes ≡ bytes_of_piece piece = ap (take n) b.whole ∙ take_at (bytes_of_piece piece) b.rest n refl in

@@ -1,12 +1,12 @@
 //! Laws over streams of parcels.
-ghost use Rattle.std.specs.Prelude.{◌≡◌, ℕ, ◌+◌, ◌<◌, ◌⊎◌, ◌++◌, List, length, take};
+ghost use Rattle.std.specs.Prelude.{◌≡◌, ℕ, ◌+◌, ◌<◌, ◌≤◌, ◌⊎◌, ◌++◌, List, length, take};
 ghost use Rattle.crc32c.specs.Changes.{DifferAt};
 ghost use Rattle.trace_model.specs.FirstFault.{AreBytes};
 ghost use Rattle.trace_model.specs.Parcel.{Parcel as ParcelSeen};
 ghost use Rattle.trace_model.specs.ParcelBytes.{DecodesParcel};
 ghost use Rattle.trace_model.specs.declared.limits.TheConstants.{MAX_SIZE};
 ghost use Rattle.parcel_streams.specs.Pieces.{Packed, parcel_piece, bytes_of_piece, IsPiece, BeginsWith, bytes_of_pieces, IsStream};
-ghost use Rattle.parcel_streams.specs.Faults.{length_in, stream_in, body_in, HoldsParcel, PieceCause, FirstPieceFault, FirstStreamFault};
+ghost use Rattle.parcel_streams.specs.Faults.{stream_in, body_in, HoldsParcel, PieceCause, FirstPieceFault, FirstStreamFault};
 ghost use Rattle.parcel_streams.specs.declared.limits.TheConstants.{HEAD, SUM, END_PIECE, MAX_PIECE, PARCEL_HEAD, END_BODY};
 
 /// What is written is read back: a piece, whatever follows it, is the one piece at the front. A parcel's states its
@@ -65,12 +65,12 @@ pub fn joined_streams()
         → IsStream behind others → IsStream (bytes ++ behind) (pieces ++ others) }
 {}
 
-/// A byte that changes alone is seen: no two pieces of one length differ in one byte. So if a byte of a piece changes, and
-/// the length that is stated doesn't, no piece is read.
+/// A byte that changes alone is seen: no two pieces differ in one byte. So if a byte of a piece changes, and it isn't one
+/// of those that state the piece's length, no piece is read.
 pub fn a_changed_byte_is_refused()
     ensures pieces { (piece other : Packed) (at : ℕ) → ¬ DifferAt (bytes_of_piece piece) (bytes_of_piece other) at }
     ensures reading { (bytes changed : List ℕ) (piece : Packed) (at : ℕ) → BeginsWith bytes piece
-        → DifferAt bytes changed at → at < length (bytes_of_piece piece) → length_in changed ≡ length_in bytes
+        → DifferAt bytes changed at → at < length (bytes_of_piece piece) → (at < 16) ⊎ (24 ≤ at)
         → (other : Packed) → ¬ BeginsWith changed other }
 {}
 
