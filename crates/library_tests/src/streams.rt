@@ -1,7 +1,8 @@
 //! Streams of parcels, packed and read, with their bytes written out. The checksums were computed by another program.
 use page_numbers::Parcel;
 use parcel_streams::{
-    Piece, PieceFault, StreamFault, StreamId, is_stream, pack_end, pack_parcel, read_piece, read_stream,
+    Piece, PieceFault, StreamFault, StreamId, is_stream, pack_end, pack_parcel, read_piece,
+    read_stream,
 };
 use std::process::Abort;
 use std::test::Fail;
@@ -110,7 +111,13 @@ fn a_stream_is_read(rt: HostRuntime) -> Result<(), Fail> {
 }
 
 /// Compares the fault of a stream.
-fn compare_fault(rt: &(impl Abort + AllocGlobal), bytes: &[u8], index: usize, at: usize, fault: PieceFault) {
+fn compare_fault(
+    rt: &(impl Abort + AllocGlobal),
+    bytes: &[u8],
+    index: usize,
+    at: usize,
+    fault: PieceFault,
+) {
     match read_stream(rt.alloc(), bytes) {
         Ok(_) => panic!(rt; "a stream"),
         Err(found) => assert!(rt; found == StreamFault { index, at, fault }),
