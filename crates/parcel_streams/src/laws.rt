@@ -65,8 +65,8 @@ pub fn joined_streams()
         → IsStream behind others → IsStream (bytes ++ behind) (pieces ++ others) }
 {}
 
-/// A byte that changes alone is seen: no two pieces differ in one byte. So if a byte of a piece changes, and it isn't one
-/// of those that state the piece's length, no piece is read.
+/// A byte that changes alone is seen: no two pieces differ in one byte. So if a byte of a piece changes, and it isn't
+/// one of those that state the piece's length, no piece is read.
 pub fn a_changed_byte_is_refused()
     ensures pieces { (piece other : Packed) (at : ℕ) → ¬ DifferAt (bytes_of_piece piece) (bytes_of_piece other) at }
     ensures reading { (bytes changed : List ℕ) (piece : Packed) (at : ℕ) → BeginsWith bytes piece
