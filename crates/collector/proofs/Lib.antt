@@ -13,4 +13,5 @@ pub mod Records
 pub mod Adding
 pub mod Looking
 pub mod SideBySide
+pub mod Known
 pub mod Merging

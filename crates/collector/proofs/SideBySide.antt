@@ -18,7 +18,8 @@ use Rattle.collector.specs.Sound.{AreSound}
 use Rattle.collector.specs.Index.{IsIn}
 use Rattle.collector.specs.Entries.{record_of}
 use Rattle.collector.specs.Shown.{IsUnknown, IsContentAt}
-use Rattle.collector.specs.Beside.{pair_of, IsTaken, IsBeside, IsSeen, IsSameAt, FitTogether}
+use Rattle.collector.specs.Known.{IsTaken, IsKnown}
+use Rattle.collector.specs.Beside.{pair_of, IsBeside, IsSeen, IsSameAt, FitTogether}
 use Rattle.collector.specs.Faults.{IsClashAt, IsTakenAndMissingAt, IsBeforeNumber, AgreeBefore}
 use Rattle.collector.proofs.Walks.{one_of_both}
 use Rattle.collector.proofs.Indexing.{record_at}
@@ -28,7 +29,7 @@ in_taken : (ps : List Parcel) (i cpu n : ℕ) → IsIn ps i cpu n → IsTaken ps
 in_taken ps i cpu n x = let found = record_at x.parcel cpu n x.cpu_is x.from x.below in
     (found.0, record { index = i; parcel = x.parcel; at = x.at; pair = found.1 })
 
-known_of : (ps : List Parcel) (cpu n : ℕ) (content : Content) → IsContentAt ps cpu n (Some content) → (IsTaken ps cpu n) ⊎ (Misses ps cpu n)
+known_of : (ps : List Parcel) (cpu n : ℕ) (content : Content) → IsContentAt ps cpu n (Some content) → IsKnown ps cpu n
 known_of ps cpu n (Kept i) shown = inl (in_taken ps i cpu n shown)
 known_of ps cpu n Missing shown = inr shown
 
@@ -63,11 +64,11 @@ odds_not_same ps qs cpu n agree others_agree beside same = ⊎_elim
 
 pub one_not_same : (ps qs : List Parcel) (cpu n : ℕ) → IsBeside ps qs cpu n OneKnows → IsSameAt ps qs cpu n → ⊥
 one_not_same ps qs cpu n beside same = ⊎_elim
-    (λ (b : IsUnknown ps cpu n × ((IsTaken qs cpu n) ⊎ (Misses qs cpu n))). ⊎_elim
+    (λ (b : IsUnknown ps cpu n × IsKnown qs cpu n). ⊎_elim
     (λ (t : IsTaken qs cpu n). b.0.no_record t.0 ((same.has t.0).1 t.1))
     (λ (m : Misses qs cpu n). b.0.not_missing (same.misses.1 m))
     b.1)
-    (λ (b : ((IsTaken ps cpu n) ⊎ (Misses ps cpu n)) × IsUnknown qs cpu n). ⊎_elim
+    (λ (b : IsKnown ps cpu n × IsUnknown qs cpu n). ⊎_elim
     (λ (t : IsTaken ps cpu n). b.1.no_record t.0 ((same.has t.0).0 t.1))
     (λ (m : Misses ps cpu n). b.1.not_missing (same.misses.0 m))
     b.0)
@@ -187,12 +188,12 @@ fit_up_to ps qs cpu at end next before here unknown n lt = ⊎_elim
 
 pub one_fit : (ps qs : List Parcel) (cpu n : ℕ) → IsBeside ps qs cpu n OneKnows → FitTogether ps qs cpu n
 one_fit ps qs cpu n beside = ⊎_elim
-    (λ (b : IsUnknown ps cpu n × ((IsTaken qs cpu n) ⊎ (Misses qs cpu n))). record {
+    (λ (b : IsUnknown ps cpu n × IsKnown qs cpu n). record {
       one_record = λ r other h g. absurd (b.0.no_record r h);
       not_missing = λ r h m. b.0.no_record r h;
       not_taken = λ r m h. b.0.not_missing m;
     })
-    (λ (b : ((IsTaken ps cpu n) ⊎ (Misses ps cpu n)) × IsUnknown qs cpu n). unknown_fits ps qs cpu n b.1)
+    (λ (b : IsKnown ps cpu n × IsUnknown qs cpu n). unknown_fits ps qs cpu n b.1)
     beside
 
 pub odds_taken : (ps qs : List Parcel) (cpu n : ℕ) → IsBeside ps qs cpu n AtOdds → IsTakenAndMissingAt (ps ++ qs) cpu n
@@ -211,13 +212,14 @@ odds_taken ps qs cpu n beside = ⊎_elim
 
 -- ---- of two lists
 
-has_either : (ps qs : List Parcel) (cpu n : ℕ) (r : Record) → Has (ps ++ qs) cpu n r → (Has ps cpu n r) ⊎ (Has qs cpu n r)
+pub has_either : (ps qs : List Parcel) (cpu n : ℕ) (r : Record) → Has (ps ++ qs) cpu n r
+    → (Has ps cpu n r) ⊎ (Has qs cpu n r)
 has_either ps qs cpu n r h = ⊎_elim
     (λ (j, there). inl record { index = j; parcel = h.parcel; at = there; pair = h.pair })
     (λ (j, there). inr record { index = j; parcel = h.parcel; at = there; pair = h.pair })
     (get_in_either ps qs h.index h.parcel h.at)
 
-misses_either : (ps qs : List Parcel) (cpu n : ℕ) → Misses (ps ++ qs) cpu n → (Misses ps cpu n) ⊎ (Misses qs cpu n)
+pub misses_either : (ps qs : List Parcel) (cpu n : ℕ) → Misses (ps ++ qs) cpu n → (Misses ps cpu n) ⊎ (Misses qs cpu n)
 misses_either ps qs cpu n m = ⊎_elim
     (λ (j, there). inl record { index = j; parcel = m.parcel; at = there; missing = m.missing })
     (λ (j, there). inr record { index = j; parcel = m.parcel; at = there; missing = m.missing })

@@ -11,6 +11,7 @@ mod collector;
 mod entries;
 mod fault;
 mod index;
+pub mod laws;
 mod listed;
 mod merge;
 mod ranges;
