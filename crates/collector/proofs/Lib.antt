@@ -2,9 +2,10 @@ pub mod Walks
 pub mod Places
 pub mod RunLists
 pub mod Stretches
-pub mod RunsLeft
 pub mod Lists
 pub mod RecordsLeft
+pub mod OfKind
+pub mod RunsLeft
 pub mod Unique
 pub mod Spans
 pub mod Indexes

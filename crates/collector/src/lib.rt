@@ -7,10 +7,12 @@
 mod add;
 mod added;
 mod beside;
+mod bounds;
 mod collector;
 mod entries;
 mod fault;
 mod index;
+mod kinds;
 pub mod laws;
 mod listed;
 mod merge;
@@ -24,4 +26,4 @@ pub use collector::Collector;
 pub use entries::first_difference;
 pub use fault::AddFault;
 pub use listed::CpuRecords;
-pub use runs::MissingRuns;
+pub use runs::{MissingRuns, NumberRuns, UnknownRuns};
