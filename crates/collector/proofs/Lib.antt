@@ -8,6 +8,7 @@ pub mod OfKind
 pub mod RunsLeft
 pub mod Unique
 pub mod Spans
+pub mod Ends
 pub mod Indexes
 pub mod Indexing
 pub mod Records

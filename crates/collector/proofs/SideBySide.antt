@@ -29,7 +29,8 @@ in_taken : (ps : List Parcel) (i cpu n : ℕ) → IsIn ps i cpu n → IsTaken ps
 in_taken ps i cpu n x = let found = record_at x.parcel cpu n x.cpu_is x.from x.below in
     (found.0, record { index = i; parcel = x.parcel; at = x.at; pair = found.1 })
 
-known_of : (ps : List Parcel) (cpu n : ℕ) (content : Content) → IsContentAt ps cpu n (Some content) → IsKnown ps cpu n
+pub known_of : (ps : List Parcel) (cpu n : ℕ) (content : Content) → IsContentAt ps cpu n (Some content)
+    → IsKnown ps cpu n
 known_of ps cpu n (Kept i) shown = inl (in_taken ps i cpu n shown)
 known_of ps cpu n Missing shown = inr shown
 
