@@ -1,7 +1,9 @@
 -- An index stands for the kept parcels, from none on, through each one that is kept.
-use Rattle.std.proofs.Common.{◌≡◌, ◌≢◌, ⊎_elim, ℕ, ◌+◌, ◌-◌, ◌<◌, ◌≤◌, ◌↔◌, List, [], ◌∷◌, ◌++◌, length, Option, Some, None, IfSome, IfNone, refl, sym, ap, ◌∙◌, subst, arith}
+use Rattle.std.proofs.Common.{◌≡◌, ◌≢◌, ⊎_elim, inl, inr, ℕ, ◌+◌, ◌-◌, ◌<◌, ◌≤◌, ◌↔◌, List, [], ◌∷◌, ◌++◌, length, Option, Some, None, IfSome, IfNone, IsSome, is_some, refl, sym, ap, ◌∙◌, subst, arith}
 use Rattle.std.specs.List.{slice_get}
-use Rattle.std.proofs.lemmas.Bool.{cases_lt, cases_eq}
+use Rattle.std.specs.Ordering.{nat_cmp}
+use Rattle.std.specs.BTreeMap.{get}
+use Rattle.std.proofs.lemmas.Bool.{cases_lt, cases_eq, false≢true}
 use Rattle.std.proofs.lemmas.Option.{none-some, slice_get_within}
 use Rattle.trace_model.specs.Record.{Record}
 use Rattle.trace_model.specs.Parcel.{Parcel, IsPairOf, IsMissingOf}
@@ -11,10 +13,12 @@ use Rattle.trace_model.proofs.collections.Elements.{some_is, get_in_front}
 use Rattle.trace_model.proofs.collections.Joined.{joined_left}
 use Rattle.collector.specs.declared.ranges.Content.{Content}
 use Rattle.collector.specs.declared.ranges.Content.TheVariants.{Kept, Missing}
+use Rattle.collector.specs.declared.ranges.Ranges.{Ranges}
 use Rattle.collector.specs.declared.index.Index.{Index}
 use Rattle.collector.specs.Ranges.{IsLaid}
-use Rattle.collector.specs.Index.{ReportsOf, AreAllApart, AreAllStated, ReportSameOf, IsIndexCopy, IsIn, IsFoundBy, IsIndexed}
+use Rattle.collector.specs.Index.{ReportsOf, HasCpu, AreAllApart, AreAllStated, ReportSameOf, IsIndexCopy, IsIn, IsFoundBy, IsIndexed}
 use Rattle.collector.specs.Shown.{IsContentAt}
+use Rattle.collector.specs.Known.{IsKnown, IsCpuKnown}
 use Rattle.collector.proofs.Places.{get_pushed, get_last, get_within}
 use Rattle.collector.proofs.Indexes.{copies_apart, copies_stated, copies_same}
 
@@ -82,6 +86,35 @@ shown_here ps index x cpu number None reported unreported = record {
   not_missing = λ m. unreported Missing (x.misses cpu number m);
 }
 
+-- ---- what is known of a CPU
+
+pub record_at : (p : Parcel) (cpu n : ℕ) → cpu ≡ p.cpu → p.first ≤ n → n < p.first + length p.records
+    → (r : Record) × IsPairOf p cpu n r
+record_at p cpu n cpu_is from below =
+    let found = get_within p.records (n - p.first) (omega arith) in
+    (found.0, record { index = n - p.first; cpu_is = cpu_is; number_is = omega arith; record_is = found.1 })
+
+module _ (ps : List Parcel) (index : Index) (x : IsIndexed ps index) (cpu : ℕ) where
+  reported_known : (n : ℕ) (content : Content) → ReportsOf index cpu n content → IsKnown ps cpu n
+  reported_known n (Kept i) t = let p = x.kept cpu n i t in
+      let found = record_at p.parcel cpu n p.cpu_is p.from p.below in
+      inl (found.0, record { index = i; parcel = p.parcel; at = p.at; pair = found.1 })
+  reported_known n Missing t = inr (x.missing cpu n t)
+
+  ranges_known : (o : Option Ranges) → get nat_cmp index.cpus cpu ≡ o → IsSome o → IsCpuKnown ps cpu
+  ranges_known None e some = absurd (false≢true some)
+  ranges_known (Some ranges) e some = let stated = x.stated cpu ranges e in
+      (stated.0, reported_known stated.0 stated.1 record { ranges = ranges; at = e; reports = stated.2 })
+
+  pub has_known : HasCpu index cpu → IsCpuKnown ps cpu
+  has_known has = ranges_known (get nat_cmp index.cpus cpu) refl has
+
+  pub known_has : IsCpuKnown ps cpu → HasCpu index cpu
+  known_has known = ⊎_elim
+      (λ (r, h). ap is_some (x.has cpu known.0 r h).reports.at)
+      (λ m. ap is_some (x.misses cpu known.0 m).at)
+      known.1
+
 -- ---- the same stated
 
 pub indexed_same : (ps : List Parcel) (old new : Index) → IsIndexed ps old → AreAllApart new → AreAllStated new
@@ -106,11 +139,6 @@ copy_indexed ps index copy x copied = indexed_same ps index copy x
     (copies_apart index copy copied x.apart) (copies_stated index copy copied x.stated) (copies_same index copy copied)
 
 -- ---- one more kept
-
-pub record_at : (p : Parcel) (cpu n : ℕ) → cpu ≡ p.cpu → p.first ≤ n → n < p.first + length p.records → (r : Record) × IsPairOf p cpu n r
-record_at p cpu n cpu_is from below =
-    let found = get_within p.records (n - p.first) (omega arith) in
-    (found.0, record { index = n - p.first; cpu_is = cpu_is; number_is = omega arith; record_is = found.1 })
 
 module _ (ps : List Parcel) (p : Parcel) (old new : Index) (x : IsIndexed ps old) (is : IsParcel p) (agree : Agree (ps ++ p ∷ []))
     (low end : ℕ) (low_is : low + p.missed ≡ p.first) (end_is : end ≡ p.first + length p.records)

@@ -16,4 +16,5 @@ pub mod Adding
 pub mod Looking
 pub mod SideBySide
 pub mod Known
+pub mod CpuWalks
 pub mod Merging

@@ -1,5 +1,5 @@
 -- What an index states of the numbers of each CPU, and which kept parcels it is the index of.
-use Rattle.std.specs.Prelude.{◌≡◌, ℕ, ◌<◌, ◌≤◌, ◌+◌, ◌↔◌, List, length, Some, None, MatchOption, IsSomeAnd}
+use Rattle.std.specs.Prelude.{◌≡◌, ℕ, ◌<◌, ◌≤◌, ◌+◌, ◌↔◌, List, length, Some, None, MatchOption, IsSome, IsSomeAnd}
 use Rattle.std.specs.List.{slice_get}
 use Rattle.std.specs.Ordering.{nat_cmp}
 use Rattle.std.specs.BTreeMap.{get}
@@ -22,6 +22,10 @@ pub record ReportsOf (index : Index) (cpu number : ℕ) (content : Content) : Ty
   pub ranges : Ranges
   pub at : HasRanges index cpu ranges
   pub reports : HasContent ranges number content
+
+-- the index has ranges of the CPU
+abbrev pub HasCpu : Index → ℕ → Type 0
+HasCpu index cpu = IsSome (get nat_cmp index.cpus cpu)
 
 -- no range of a CPU reaches into a later one
 abbrev pub AreAllApart : Index → Type 0

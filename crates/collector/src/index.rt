@@ -1,12 +1,15 @@
 //! The numbers of each CPU of which something is known.
-ghost use Rattle.std.specs.Prelude.{◌≢◌, ℕ, ◌-◌, ◌<◌, ◌≤◌, IfSome, IfNone, IfOk, OnOk, OnErr};
+ghost use Rattle.std.specs.Prelude.{◌≢◌, ℕ, ◌-◌, ◌<◌, ◌≤◌, ◌↔◌, IsTrue, IfSome, IfNone, IfOk, OnOk, OnErr};
+ghost use Rattle.std.specs.List.{Contains};
+ghost use Rattle.std.specs.List.Sorted.{IsStrictlyIncreasing};
 ghost use Rattle.collector.specs.Ranges.{IsLaid};
-ghost use Rattle.collector.specs.Index.{ReportsOf, AreAllApart, AreAllStated, ReportSameOf, IsIndexCopy};
+ghost use Rattle.collector.specs.Index.{ReportsOf, HasCpu, AreAllApart, AreAllStated, ReportSameOf, IsIndexCopy};
 ghost use Rattle.collector.specs.declared.ranges.Content.{Content};
 
 use crate::ranges::{Content, Ranges, Stretch};
 use std::alloc::Global;
 use std::collections::BTreeMap;
+use std::collections::btree_map::Keys;
 use trace_model::{CpuId, NoMemory};
 
 /// The ranges of each CPU of which something is known, by the CPU's number.
@@ -58,6 +61,21 @@ impl Index {
                 content: None,
             },
         }
+    }
+
+    /// The numbers of the CPUs of which something is stated, rising.
+    pub(crate) fn cpus(&self) -> Keys<'_, u32, Ranges>
+        ensures rising { IsStrictlyIncreasing result }
+        ensures there { (cpu : ℕ) → (Contains result cpu ↔ HasCpu self.now cpu) }
+    {
+        self.cpus.keys()
+    }
+
+    /// Whether something is stated of a CPU.
+    pub(crate) fn has(&self, cpu: CpuId) -> bool
+        ensures { IsTrue result ↔ HasCpu self.now cpu.0 }
+    {
+        self.cpus.contains_key(&cpu.0)
     }
 
     /// The number after the last one of a CPU of which something is stated, or 0 if there is none.
