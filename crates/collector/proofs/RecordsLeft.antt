@@ -45,7 +45,7 @@ first_step p ps cpu n r behind None is e =
     record { index = suc h.index; parcel = h.parcel; at = h.at; pair = h.pair }
 first_step p ps cpu n r behind (Some s) is e = record { index = 0; parcel = p; at = refl; pair = here_under p cpu n r (is ∙ e) }
 
-first_has : (ps : List Parcel) (cpu n : ℕ) (r : Record) → first_record ps cpu n ≡ Some r → Has ps cpu n r
+pub first_has : (ps : List Parcel) (cpu n : ℕ) (r : Record) → first_record ps cpu n ≡ Some r → Has ps cpu n r
 first_has [] cpu n r e = absurd (none-some r e)
 first_has (p ∷ ps) cpu n r e = first_step p ps cpu n r (first_has ps cpu n r) (record_under p cpu n) refl e
 
@@ -56,7 +56,8 @@ found_behind : (o other : Option Record) → ((s : Record) × (other ≡ Some s)
 found_behind None other found = found
 found_behind (Some s) other found = (s, refl)
 
-some_first : (ps : List Parcel) (cpu n k : ℕ) (p : Parcel) (r : Record) → slice_get ps k ≡ Some p → IsPairOf p cpu n r → (s : Record) × (first_record ps cpu n ≡ Some s)
+pub some_first : (ps : List Parcel) (cpu n k : ℕ) (p : Parcel) (r : Record) → slice_get ps k ≡ Some p
+    → IsPairOf p cpu n r → (s : Record) × (first_record ps cpu n ≡ Some s)
 some_first [] cpu n k p r at pair = absurd (none-some p at)
 some_first (q ∷ ps) cpu n zero p r at pair = found_here (record_under q cpu n) (first_record ps cpu n) r
     (under_here q cpu n r (subst (λ (x : Parcel). IsPairOf x cpu n r) (sym (some_is q p at)) pair))
@@ -71,7 +72,7 @@ none_unless : (o : Option Record) → ((r : Record) → o ≡ Some r → ⊥) �
 none_unless None not = refl
 none_unless (Some r) not = absurd (not r refl)
 
-has_none : (ps : List Parcel) (cpu n : ℕ) → ((r : Record) → Has ps cpu n r → ⊥) → first_record ps cpu n ≡ None
+pub has_none : (ps : List Parcel) (cpu n : ℕ) → ((r : Record) → Has ps cpu n r → ⊥) → first_record ps cpu n ≡ None
 has_none ps cpu n not = none_unless (first_record ps cpu n) (λ r e. not r (first_has ps cpu n r e))
 
 -- ---- the records that are left

@@ -10,23 +10,8 @@ use Rattle.trace_model.proofs.collections.Elements.{some_is}
 use Rattle.collector.specs.declared.ranges.Content.{Content}
 use Rattle.collector.specs.declared.ranges.Content.TheVariants.{Kept, Missing}
 use Rattle.collector.specs.Sound.{AreSound}
-use Rattle.collector.specs.Index.{IsIn}
 use Rattle.collector.specs.Shown.{IsContentAt}
 use Rattle.collector.specs.Runs.{is_missed}
-use Rattle.collector.proofs.Indexing.{record_at}
-
-pub has_in : (ps : List Parcel) (i cpu n : ℕ) → IsIn ps i cpu n → (r : Record) × Has ps cpu n r
-has_in ps i cpu n h =
-    let found = record_at h.parcel cpu n h.cpu_is h.from h.below in
-    (found.0, record { index = i; parcel = h.parcel; at = h.at; pair = found.1 })
-
-pub shown_missing : (ps : List Parcel) (cpu n : ℕ) (o : Option Content) → o ≡ Some Missing → IsContentAt ps cpu n o → Misses ps cpu n
-shown_missing ps cpu n o e shown = subst (IsContentAt ps cpu n) e shown
-
-pub shown_not_missing : (ps : List Parcel) (cpu n : ℕ) (o : Option Content) → Agree ps → (o ≡ Some Missing → ⊥) → IsContentAt ps cpu n o → Misses ps cpu n → ⊥
-shown_not_missing ps cpu n (Some (Kept i)) agree not shown m = let h = has_in ps i cpu n shown in agree.not_missing cpu n h.0 h.1 m
-shown_not_missing ps cpu n (Some Missing) agree not shown m = not refl
-shown_not_missing ps cpu n None agree not shown m = shown.not_missing m
 
 pub shown_no_record : (ps : List Parcel) (cpu n : ℕ) (o : Option Content) → Agree ps → ((i : ℕ) → o ≡ Some (Kept i) → ⊥) → IsContentAt ps cpu n o → (r : Record) → Has ps cpu n r → ⊥
 shown_no_record ps cpu n (Some (Kept i)) agree not shown r h = not i refl
@@ -55,7 +40,7 @@ record_fits ps sound cpu n r h =
 or_left : (a b : Bool) → a ≡ true → (a || b) ≡ true
 or_left a b e = ap (λ (x : Bool). x || b) e
 
-or_right : (a b : Bool) → b ≡ true → (a || b) ≡ true
+pub or_right : (a b : Bool) → b ≡ true → (a || b) ≡ true
 or_right true b e = refl
 or_right false b e = e
 
@@ -88,7 +73,7 @@ misses_of_true (p ∷ ps) cpu n e = ⊎_elim
     (λ (behind : is_missed ps cpu n ≡ true). let m = misses_of_true ps cpu n behind in record { index = suc m.index; parcel = m.parcel; at = m.at; missing = m.missing })
     (or_cases (eqb cpu p.cpu && (leb p.first (n + p.missed) && ltb n p.first)) (is_missed ps cpu n) e)
 
-false_unless : (b : Bool) → (b ≡ true → ⊥) → b ≡ false
+pub false_unless : (b : Bool) → (b ≡ true → ⊥) → b ≡ false
 false_unless true not = absurd (not refl)
 false_unless false not = refl
 

@@ -10,6 +10,7 @@ use Rattle.collector.specs.declared.beside.Both.{Both}
 use Rattle.collector.specs.declared.beside.Beside.TheVariants.{Alike, Records, AtOdds, OneKnows}
 use Rattle.collector.specs.Index.{IsIn}
 use Rattle.collector.specs.Shown.{IsUnknown}
+use Rattle.collector.specs.Known.{IsTaken, IsKnown}
 
 abbrev pub pair_of : Option Content → Option Content → Beside
 pair_of None None = Alike
@@ -20,10 +21,6 @@ pair_of (Some Missing) (Some (Kept there)) = AtOdds
 pair_of (Some (Kept here)) (Some Missing) = AtOdds
 pair_of (Some (Kept here)) (Some (Kept there)) = Records here there
 
--- some kept parcel has a record under the number
-abbrev pub IsTaken : List Parcel → ℕ → ℕ → Type 0
-IsTaken parcels cpu number = (r : Record) × Has parcels cpu number r
-
 abbrev pub IsBeside : List Parcel → List Parcel → ℕ → ℕ → Beside → Type 0
 IsBeside parcels others cpu number Alike = (IsUnknown parcels cpu number × IsUnknown others cpu number)
     ⊎ (Misses parcels cpu number × Misses others cpu number)
@@ -31,8 +28,8 @@ IsBeside parcels others cpu number (Records here there) = IsIn parcels here cpu 
 IsBeside parcels others cpu number AtOdds = (IsTaken parcels cpu number × Misses others cpu number)
     ⊎ (Misses parcels cpu number × IsTaken others cpu number)
 IsBeside parcels others cpu number OneKnows =
-    (IsUnknown parcels cpu number × (IsTaken others cpu number ⊎ Misses others cpu number))
-    ⊎ ((IsTaken parcels cpu number ⊎ Misses parcels cpu number) × IsUnknown others cpu number)
+    (IsUnknown parcels cpu number × IsKnown others cpu number)
+    ⊎ (IsKnown parcels cpu number × IsUnknown others cpu number)
 
 -- What was seen of the numbers from this one on, up to the end that is stated, in both collections.
 pub record IsSeen (parcels others : List Parcel) (cpu number : ℕ) (both : Both) : Type 0 where

@@ -2,6 +2,7 @@ pub mod Ranges
 pub mod Sound
 pub mod Index
 pub mod Shown
+pub mod Known
 pub mod Runs
 pub mod Listed
 pub mod Entries

@@ -7,10 +7,14 @@
 mod add;
 mod added;
 mod beside;
+mod bounds;
 mod collector;
+mod cpus;
 mod entries;
 mod fault;
 mod index;
+mod kinds;
+pub mod laws;
 mod listed;
 mod merge;
 mod ranges;
@@ -20,7 +24,8 @@ mod same;
 
 pub use added::Added;
 pub use collector::Collector;
+pub use cpus::KnownCpus;
 pub use entries::first_difference;
 pub use fault::AddFault;
 pub use listed::CpuRecords;
-pub use runs::MissingRuns;
+pub use runs::{MissingRuns, NumberRuns, UnknownRuns};

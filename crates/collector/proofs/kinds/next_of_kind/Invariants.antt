@@ -1,0 +1,12 @@
+use Rattle.std.proofs.Common.{ℕ, ◌-◌, ◌<◌, ◌≤◌}
+use Rattle.collector.specs.Runs.{IsOfKind}
+use Rattle.collector.proofs.kinds.next_of_kind.Given as goal
+
+abbrev pub invariant-loop-at : goal.invariant-loop-at
+invariant-loop-at l = record {
+  from : l.number ≤ l.at;
+  passed : (m : ℕ) → l.number ≤ m → m < l.at → IsOfKind l.kind l.collector l.cpu.0 m → ⊥;
+}
+
+abbrev pub decreases-loop-at : goal.decreases-loop-at
+decreases-loop-at l = l.end - l.at
