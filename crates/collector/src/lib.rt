@@ -16,6 +16,7 @@ mod kinds;
 pub mod laws;
 mod listed;
 mod merge;
+mod next_runs;
 mod ranges;
 mod read;
 mod runs;
