@@ -1,0 +1,2 @@
+pub mod OneParcel
+pub mod Standing

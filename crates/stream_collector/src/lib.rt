@@ -1,0 +1,16 @@
+//! What is known of one stream: a collector of its parcels, with a bound and an end for each CPU.
+//!
+//! Below a CPU's bound nothing is kept any more. Its end says how many records there are. Numbers that will never come
+//! are given up as undelivered.
+#![tactic(auto)]
+
+mod add;
+mod added;
+mod fault;
+mod marks;
+mod read;
+mod stream;
+
+pub use added::Added;
+pub use fault::AddFault;
+pub use stream::StreamCollector;
