@@ -1,7 +1,9 @@
 -- An index stands for the kept parcels, from none on, through each one that is kept.
-use Rattle.std.proofs.Common.{◌≡◌, ◌≢◌, ⊎_elim, ℕ, ◌+◌, ◌-◌, ◌<◌, ◌≤◌, ◌↔◌, List, [], ◌∷◌, ◌++◌, length, Option, Some, None, IfSome, IfNone, refl, sym, ap, ◌∙◌, subst, arith}
-use Rattle.std.specs.List.{slice_get, AllZip}
-use Rattle.std.proofs.lemmas.Bool.{cases_lt, cases_eq}
+use Rattle.std.proofs.Common.{◌≡◌, ◌≢◌, ⊎_elim, inl, inr, ℕ, ◌+◌, ◌-◌, ◌<◌, ◌≤◌, ◌↔◌, List, [], ◌∷◌, ◌++◌, length, Option, Some, None, IfSome, IfNone, IsSome, is_some, refl, sym, ap, ◌∙◌, subst, arith}
+use Rattle.std.specs.List.{slice_get}
+use Rattle.std.specs.Ordering.{nat_cmp}
+use Rattle.std.specs.BTreeMap.{get}
+use Rattle.std.proofs.lemmas.Bool.{cases_lt, cases_eq, false≢true}
 use Rattle.std.proofs.lemmas.Option.{none-some, slice_get_within}
 use Rattle.trace_model.specs.Record.{Record}
 use Rattle.trace_model.specs.Parcel.{Parcel, IsPairOf, IsMissingOf}
@@ -11,19 +13,23 @@ use Rattle.trace_model.proofs.collections.Elements.{some_is, get_in_front}
 use Rattle.trace_model.proofs.collections.Joined.{joined_left}
 use Rattle.collector.specs.declared.ranges.Content.{Content}
 use Rattle.collector.specs.declared.ranges.Content.TheVariants.{Kept, Missing}
+use Rattle.collector.specs.declared.ranges.Ranges.{Ranges}
 use Rattle.collector.specs.declared.index.Index.{Index}
-use Rattle.collector.specs.Ranges.{IsLaid, IsCopy}
-use Rattle.collector.specs.Index.{ReportsOf, AreAllApart, ReportSameOf, IsIn, IsFoundBy, IsIndexed}
+use Rattle.collector.specs.Ranges.{IsLaid}
+use Rattle.collector.specs.Index.{ReportsOf, HasCpu, AreAllApart, AreAllStated, ReportSameOf, IsIndexCopy, IsIn, IsFoundBy, IsIndexed}
 use Rattle.collector.specs.Shown.{IsContentAt}
+use Rattle.collector.specs.Known.{IsKnown, IsCpuKnown}
 use Rattle.collector.proofs.Places.{get_pushed, get_last, get_within}
-use Rattle.collector.proofs.Indexes.{copies_apart, copies_same}
+use Rattle.collector.proofs.Indexes.{copies_apart, copies_stated, copies_same}
 
 -- ---- none
 
-pub empty_indexed : (index : Index) → AreAllApart index → ((cpu n : ℕ) (content : Content) → ReportsOf index cpu n content → ⊥) → IsIndexed [] index
-empty_indexed index apart unreported = record {
+pub empty_indexed : (index : Index) → AreAllApart index → AreAllStated index
+    → ((cpu n : ℕ) (content : Content) → ReportsOf index cpu n content → ⊥) → IsIndexed [] index
+empty_indexed index apart stated unreported = record {
   sound = λ k p at. absurd (none-some p at);
   apart = apart;
+  stated = stated;
   one = λ cpu n content other t u. absurd (unreported cpu n content t);
   kept = λ cpu n i t. absurd (unreported cpu n (Kept i) t);
   missing = λ cpu n t. absurd (unreported cpu n Missing t);
@@ -80,12 +86,43 @@ shown_here ps index x cpu number None reported unreported = record {
   not_missing = λ m. unreported Missing (x.misses cpu number m);
 }
 
+-- ---- what is known of a CPU
+
+pub record_at : (p : Parcel) (cpu n : ℕ) → cpu ≡ p.cpu → p.first ≤ n → n < p.first + length p.records
+    → (r : Record) × IsPairOf p cpu n r
+record_at p cpu n cpu_is from below =
+    let found = get_within p.records (n - p.first) (omega arith) in
+    (found.0, record { index = n - p.first; cpu_is = cpu_is; number_is = omega arith; record_is = found.1 })
+
+module _ (ps : List Parcel) (index : Index) (x : IsIndexed ps index) (cpu : ℕ) where
+  reported_known : (n : ℕ) (content : Content) → ReportsOf index cpu n content → IsKnown ps cpu n
+  reported_known n (Kept i) t = let p = x.kept cpu n i t in
+      let found = record_at p.parcel cpu n p.cpu_is p.from p.below in
+      inl (found.0, record { index = i; parcel = p.parcel; at = p.at; pair = found.1 })
+  reported_known n Missing t = inr (x.missing cpu n t)
+
+  ranges_known : (o : Option Ranges) → get nat_cmp index.cpus cpu ≡ o → IsSome o → IsCpuKnown ps cpu
+  ranges_known None e some = absurd (false≢true some)
+  ranges_known (Some ranges) e some = let stated = x.stated cpu ranges e in
+      (stated.0, reported_known stated.0 stated.1 record { ranges = ranges; at = e; reports = stated.2 })
+
+  pub has_known : HasCpu index cpu → IsCpuKnown ps cpu
+  has_known has = ranges_known (get nat_cmp index.cpus cpu) refl has
+
+  pub known_has : IsCpuKnown ps cpu → HasCpu index cpu
+  known_has known = ⊎_elim
+      (λ (r, h). ap is_some (x.has cpu known.0 r h).reports.at)
+      (λ m. ap is_some (x.misses cpu known.0 m).at)
+      known.1
+
 -- ---- the same stated
 
-pub indexed_same : (ps : List Parcel) (old new : Index) → IsIndexed ps old → AreAllApart new → ((cpu : ℕ) → ReportSameOf old new cpu) → IsIndexed ps new
-indexed_same ps old new x apart same = record {
+pub indexed_same : (ps : List Parcel) (old new : Index) → IsIndexed ps old → AreAllApart new → AreAllStated new
+    → ((cpu : ℕ) → ReportSameOf old new cpu) → IsIndexed ps new
+indexed_same ps old new x apart stated same = record {
   sound = x.sound;
   apart = apart;
+  stated = stated;
   one = λ cpu n content other t u. x.one cpu n content other ((same cpu n content).1 t) ((same cpu n other).1 u);
   kept = λ cpu n i t. x.kept cpu n i ((same cpu n (Kept i)).1 t);
   missing = λ cpu n t. x.missing cpu n ((same cpu n Missing).1 t);
@@ -96,19 +133,16 @@ indexed_same ps old new x apart same = record {
 
 -- ---- a copy
 
-pub copy_indexed : (ps : List Parcel) (index copy : Index) → IsIndexed ps index → AllZip IsCopy index.cpus.items copy.cpus.items → IsIndexed ps copy
-copy_indexed ps index copy x zip = indexed_same ps index copy x (copies_apart index copy zip x.apart) (copies_same index copy zip)
+pub copy_indexed : (ps : List Parcel) (index copy : Index) → IsIndexed ps index → IsIndexCopy index copy
+    → IsIndexed ps copy
+copy_indexed ps index copy x copied = indexed_same ps index copy x
+    (copies_apart index copy copied x.apart) (copies_stated index copy copied x.stated) (copies_same index copy copied)
 
 -- ---- one more kept
 
-pub record_at : (p : Parcel) (cpu n : ℕ) → cpu ≡ p.cpu → p.first ≤ n → n < p.first + length p.records → (r : Record) × IsPairOf p cpu n r
-record_at p cpu n cpu_is from below =
-    let found = get_within p.records (n - p.first) (omega arith) in
-    (found.0, record { index = n - p.first; cpu_is = cpu_is; number_is = omega arith; record_is = found.1 })
-
 module _ (ps : List Parcel) (p : Parcel) (old new : Index) (x : IsIndexed ps old) (is : IsParcel p) (agree : Agree (ps ++ p ∷ []))
     (low end : ℕ) (low_is : low + p.missed ≡ p.first) (end_is : end ≡ p.first + length p.records)
-    (apart : AreAllApart new)
+    (apart : AreAllApart new) (stated : AreAllStated new)
     (laid : IsLaid (ReportsOf old p.cpu) (ReportsOf new p.cpu) low p.first end (length ps))
     (others : (other : ℕ) → other ≢ p.cpu → ReportSameOf old new other) where
   -- the parcel has nothing to do with the number
@@ -208,6 +242,7 @@ module _ (ps : List Parcel) (p : Parcel) (old new : Index) (x : IsIndexed ps old
         (λ (own : (k ≡ length ps) × (q ≡ p)). subst IsParcel (sym own.1) is)
         (get_pushed ps p k q at);
     apart = apart;
+    stated = stated;
     one = λ cpu n content other t u. one_of cpu n content other (part cpu n) t u;
     kept = λ cpu n i t. kept_of cpu n i (part cpu n) t;
     missing = λ cpu n t. missing_of cpu n (part cpu n) t;
@@ -224,10 +259,13 @@ module _ (ps : List Parcel) (p : Parcel) (old new : Index) (x : IsIndexed ps old
 -- the same, by what the parcel's calls state of it
 pub kept_indexed_at : (ps : List Parcel) (p : Parcel) (old new : Index) → IsIndexed ps old → IsParcel p → Agree (ps ++ p ∷ [])
     → (cpu low first end at : ℕ) → cpu ≡ p.cpu → first ≡ p.first → low + p.missed ≡ p.first → end ≡ p.first + length p.records
-    → at ≡ length ps → AreAllApart new → IsLaid (ReportsOf old cpu) (ReportsOf new cpu) low first end at
+    → at ≡ length ps → AreAllApart new → AreAllStated new
+    → IsLaid (ReportsOf old cpu) (ReportsOf new cpu) low first end at
     → ((other : ℕ) → other ≢ cpu → ReportSameOf old new other) → IsIndexed (ps ++ p ∷ []) new
-kept_indexed_at ps p old new x is agree cpu low first end at cpu_is first_is low_is end_is at_is apart laid others =
+kept_indexed_at ps p old new x is agree cpu low first end at cpu_is first_is low_is end_is at_is apart stated laid
+    others =
     let at_cpu : IsLaid (ReportsOf old p.cpu) (ReportsOf new p.cpu) low first end at = subst (λ (q : ℕ). IsLaid (ReportsOf old q) (ReportsOf new q) low first end at) cpu_is laid in
     let at_first : IsLaid (ReportsOf old p.cpu) (ReportsOf new p.cpu) low p.first end at = subst (λ (q : ℕ). IsLaid (ReportsOf old p.cpu) (ReportsOf new p.cpu) low q end at) first_is at_cpu in
     let laid_at : IsLaid (ReportsOf old p.cpu) (ReportsOf new p.cpu) low p.first end (length ps) = subst (λ (q : ℕ). IsLaid (ReportsOf old p.cpu) (ReportsOf new p.cpu) low p.first end q) at_is at_first in
-    kept_indexed ps p old new x is agree low end low_is end_is apart laid_at (subst (λ (q : ℕ). (other : ℕ) → other ≢ q → ReportSameOf old new other) cpu_is others)
+    kept_indexed ps p old new x is agree low end low_is end_is apart stated laid_at
+    (subst (λ (q : ℕ). (other : ℕ) → other ≢ q → ReportSameOf old new other) cpu_is others)

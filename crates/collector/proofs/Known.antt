@@ -12,7 +12,7 @@ use Rattle.collector.proofs.SideBySide.{has_either, misses_either}
 
 -- ---- what is known
 
-known_above : (ps qs : List Parcel) (cpu n : ℕ) → IsBelow ps qs → IsKnown ps cpu n → IsKnown qs cpu n
+pub known_above : (ps qs : List Parcel) (cpu n : ℕ) → IsBelow ps qs → IsKnown ps cpu n → IsKnown qs cpu n
 known_above ps qs cpu n below known = ⊎_elim
     (λ (r, h). inl (r, below.has cpu n r h))
     (λ m. inr (below.misses cpu n m))

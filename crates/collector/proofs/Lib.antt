@@ -8,6 +8,7 @@ pub mod OfKind
 pub mod RunsLeft
 pub mod Unique
 pub mod Spans
+pub mod Ends
 pub mod Indexes
 pub mod Indexing
 pub mod Records
@@ -15,4 +16,5 @@ pub mod Adding
 pub mod Looking
 pub mod SideBySide
 pub mod Known
+pub mod CpuWalks
 pub mod Merging

@@ -1,5 +1,5 @@
 -- Whether a number of a CPU is of a kind: computed, and as what is stated of it.
-use Rattle.std.proofs.Common.{◌≡◌, inl, inr, ℕ, Bool, true, false, not, ◌||◌, is_some, ◌-◌, ◌^◌, List, Option, Some, None, refl, sym, ap, ◌∙◌, arith}
+use Rattle.std.proofs.Common.{◌≡◌, ◌⊎◌, ⊎_elim, inl, inr, ℕ, ◌<◌, Bool, true, false, not, ◌||◌, is_some, ◌-◌, ◌^◌, List, Option, Some, None, refl, sym, ap, ◌∙◌, arith}
 use Rattle.std.proofs.lemmas.Bool.{false≢true}
 use Rattle.trace_model.specs.Record.{Record}
 use Rattle.trace_model.specs.Parcel.{Parcel}
@@ -35,15 +35,23 @@ unknown_of_true ps cpu n e = record {
 }
 
 known_by : (ps : List Parcel) (cpu n : ℕ) (o : Option Record) (missed : Bool) → first_record ps cpu n ≡ o
-    → is_missed ps cpu n ≡ missed
-    → (IsUnknown ps cpu n → ⊥) → IsKnown ps cpu n
-known_by ps cpu n (Some r) missed e f known = inl (r, first_has ps cpu n r e)
-known_by ps cpu n None true e f known = inr (misses_of_true ps cpu n f)
-known_by ps cpu n None false e f known = absurd (known (unknown_of_true ps cpu n (λ i. not (is_some (e i) || f i))))
+    → is_missed ps cpu n ≡ missed → (IsKnown ps cpu n) ⊎ (IsUnknown ps cpu n)
+known_by ps cpu n (Some r) missed e f = inl (inl (r, first_has ps cpu n r e))
+known_by ps cpu n None true e f = inl (inr (misses_of_true ps cpu n f))
+known_by ps cpu n None false e f = inr (unknown_of_true ps cpu n (λ i. not (is_some (e i) || f i)))
 
--- what isn't unknown is known
+pub known_or_unknown : (ps : List Parcel) (cpu n : ℕ) → (IsKnown ps cpu n) ⊎ (IsUnknown ps cpu n)
+known_or_unknown ps cpu n = known_by ps cpu n (first_record ps cpu n) (is_missed ps cpu n) refl refl
+
 pub known_unless : (ps : List Parcel) (cpu n : ℕ) → (IsUnknown ps cpu n → ⊥) → IsKnown ps cpu n
-known_unless ps cpu n known = known_by ps cpu n (first_record ps cpu n) (is_missed ps cpu n) refl refl known
+known_unless ps cpu n not = ⊎_elim (λ known. known) (λ unknown. absurd (not unknown)) (known_or_unknown ps cpu n)
+
+-- what is known can be stated
+pub known_fits : (ps : List Parcel) → AreSound ps → (cpu n : ℕ) → IsKnown ps cpu n → n < 2 ^ 64 - 1
+known_fits ps sound cpu n known = ⊎_elim
+    (λ (r, h). record_fits ps sound cpu n r h)
+    (λ m. missing_fits ps sound cpu n m)
+    known
 
 -- no parcel has or misses the last number
 pub last_unknown : (ps : List Parcel) (cpu : ℕ) → AreSound ps → IsUnknown ps cpu (2 ^ 64 - 1)

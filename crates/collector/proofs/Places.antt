@@ -1,6 +1,5 @@
--- The element at an index of a list after one is appended, or set in it.
-use Rattle.std.proofs.Common.{◌≡◌, ◌≢◌, ℕ, zero, suc, ◌<◌, ◌⊎◌, inl, inr, ⊎_elim, List, [], ◌∷◌, ◌++◌, length, Some, refl, sym, ap, arith}
-use Rattle.std.proofs.Math.ListN.{set}
+-- The element at an index of a list, also after one is appended.
+use Rattle.std.proofs.Common.{◌≡◌, ℕ, zero, suc, ◌<◌, ◌⊎◌, inl, inr, ⊎_elim, List, [], ◌∷◌, ◌++◌, length, Some, refl, sym, ap, arith}
 use Rattle.std.proofs.lemmas.Option.{none-some}
 use Rattle.std.specs.List.{slice_get}
 use Rattle.trace_model.proofs.collections.Elements.{some_is}
@@ -14,18 +13,6 @@ get_pushed (z ∷ xs) y (suc k) x at = ⊎_elim (λ there. inl there) (λ (e, is
 pub get_last : {A : Type 0} (xs : List A) (y : A) → slice_get (xs ++ y ∷ []) (length xs) ≡ Some y
 get_last [] y = refl
 get_last (z ∷ xs) y = get_last xs y
-
-pub get_set_here : {A : Type 0} (xs : List A) (i : ℕ) (y : A) → i < length xs → slice_get (set xs i y) i ≡ Some y
-get_set_here [] i y within = absurd (omega arith)
-get_set_here (x ∷ xs) zero y within = refl
-get_set_here (x ∷ xs) (suc i) y within = get_set_here xs i y (omega arith)
-
-pub get_set_other : {A : Type 0} (xs : List A) (i j : ℕ) (y : A) → j ≢ i → slice_get (set xs i y) j ≡ slice_get xs j
-get_set_other [] i j y apart = refl
-get_set_other (x ∷ xs) zero zero y apart = absurd (apart refl)
-get_set_other (x ∷ xs) zero (suc j) y apart = refl
-get_set_other (x ∷ xs) (suc i) zero y apart = refl
-get_set_other (x ∷ xs) (suc i) (suc j) y apart = get_set_other xs i j y (λ e. apart (ap suc e))
 
 pub get_within : {A : Type 0} (xs : List A) (k : ℕ) → k < length xs → (x : A) × (slice_get xs k ≡ Some x)
 get_within [] k within = absurd (omega arith)

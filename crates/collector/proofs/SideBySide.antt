@@ -29,7 +29,8 @@ in_taken : (ps : List Parcel) (i cpu n : ℕ) → IsIn ps i cpu n → IsTaken ps
 in_taken ps i cpu n x = let found = record_at x.parcel cpu n x.cpu_is x.from x.below in
     (found.0, record { index = i; parcel = x.parcel; at = x.at; pair = found.1 })
 
-known_of : (ps : List Parcel) (cpu n : ℕ) (content : Content) → IsContentAt ps cpu n (Some content) → IsKnown ps cpu n
+pub known_of : (ps : List Parcel) (cpu n : ℕ) (content : Content) → IsContentAt ps cpu n (Some content)
+    → IsKnown ps cpu n
 known_of ps cpu n (Kept i) shown = inl (in_taken ps i cpu n shown)
 known_of ps cpu n Missing shown = inr shown
 
@@ -44,12 +45,15 @@ beside_of ps qs cpu n (Some (Kept i)) (Some (Kept j)) a b = (a, b)
 
 -- ---- the same
 
+pub both_unknown : (ps qs : List Parcel) (c n : ℕ) → IsUnknown ps c n → IsUnknown qs c n → IsSameAt ps qs c n
+both_unknown ps qs c n unknown others_unknown = record {
+  has = λ r. (λ h. absurd (unknown.no_record r h), λ h. absurd (others_unknown.no_record r h));
+  misses = (λ m. absurd (unknown.not_missing m), λ m. absurd (others_unknown.not_missing m));
+}
+
 pub alike_same : (ps qs : List Parcel) (cpu n : ℕ) → Agree ps → Agree qs → IsBeside ps qs cpu n Alike → IsSameAt ps qs cpu n
 alike_same ps qs cpu n agree others_agree beside = ⊎_elim
-    (λ (u : IsUnknown ps cpu n × IsUnknown qs cpu n). record {
-      has = λ r. (λ h. absurd (u.0.no_record r h), λ h. absurd (u.1.no_record r h));
-      misses = (λ m. absurd (u.0.not_missing m), λ m. absurd (u.1.not_missing m));
-    })
+    (λ (u : IsUnknown ps cpu n × IsUnknown qs cpu n). both_unknown ps qs cpu n u.0 u.1)
     (λ (m : Misses ps cpu n × Misses qs cpu n). record {
       has = λ r. (λ h. absurd (agree.not_missing cpu n r h m.0), λ h. absurd (others_agree.not_missing cpu n r h m.1));
       misses = (λ _. m.1, λ _. m.0);
@@ -265,17 +269,10 @@ misses_bounds ps c n sound m =
     let fits = is.numbers_fit in
     (subst (λ (q : ℕ). q < MAX_CPUS) (sym cpu) known, omega arith)
 
-pub same_of : (ps qs : List Parcel) → AreSound ps → AreSound qs
-    → ((c n : ℕ) → c < MAX_CPUS → n + 1 < 2 ^ 64 → IsSameAt ps qs c n) → IsSame ps qs
-same_of ps qs sound others_sound same = record {
-  below = record {
-    has = λ c n r h. let b = has_bounds ps c n r sound h in ((same c n b.0 b.1).has r).0 h;
-    misses = λ c n m. let b = misses_bounds ps c n sound m in (same c n b.0 b.1).misses.0 m;
-  };
-  above = record {
-    has = λ c n r h. let b = has_bounds qs c n r others_sound h in ((same c n b.0 b.1).has r).1 h;
-    misses = λ c n m. let b = misses_bounds qs c n others_sound m in (same c n b.0 b.1).misses.1 m;
-  };
+pub same_of : (ps qs : List Parcel) → ((c n : ℕ) → IsSameAt ps qs c n) → IsSame ps qs
+same_of ps qs same = record {
+  below = record { has = λ c n r h. ((same c n).has r).0 h; misses = λ c n m. (same c n).misses.0 m };
+  above = record { has = λ c n r h. ((same c n).has r).1 h; misses = λ c n m. (same c n).misses.1 m };
 }
 
 pub same_at : (ps qs : List Parcel) → IsSame ps qs → (c n : ℕ) → IsSameAt ps qs c n
@@ -291,21 +288,10 @@ unbound_fit ps qs c n sound out = record {
   not_taken = λ r m h. out (misses_bounds ps c n sound m);
 }
 
-all_fit : (ps qs : List Parcel) → AreSound ps
-    → ((c n : ℕ) → c < MAX_CPUS → n + 1 < 2 ^ 64 → FitTogether ps qs c n) → (c n : ℕ) → FitTogether ps qs c n
-all_fit ps qs sound fits c n = ⊎_elim
-    (λ (known : c < MAX_CPUS). ⊎_elim
-    (λ (small : n + 1 < 2 ^ 64). fits c n known small)
-    (λ (large : 2 ^ 64 ≤ n + 1). unbound_fit ps qs c n sound (λ b. let small = b.1 in omega arith))
-    (cases_lt (n + 1) (2 ^ 64)))
-    (λ (unknown : MAX_CPUS ≤ c). unbound_fit ps qs c n sound (λ b. let known = b.0 in omega arith))
-    (cases_lt c MAX_CPUS)
-
-pub fit_agree : (ps qs : List Parcel) → AreSound ps → Agree ps → Agree qs
-    → ((c n : ℕ) → c < MAX_CPUS → n + 1 < 2 ^ 64 → FitTogether ps qs c n) → Agree (ps ++ qs)
-fit_agree ps qs sound agree others_agree fits = record {
-  one_record = λ c n r other h g. fit_one ps qs c n agree others_agree (all_fit ps qs sound fits c n) r other h g;
-  not_missing = λ c n r h m. fit_not_both ps qs c n agree others_agree (all_fit ps qs sound fits c n) r h m;
+pub fit_agree : (ps qs : List Parcel) → Agree ps → Agree qs → ((c n : ℕ) → FitTogether ps qs c n) → Agree (ps ++ qs)
+fit_agree ps qs agree others_agree fits = record {
+  one_record = λ c n r other h g. fit_one ps qs c n agree others_agree (fits c n) r other h g;
+  not_missing = λ c n r h m. fit_not_both ps qs c n agree others_agree (fits c n) r h m;
 }
 
 pub front_fits : (ps qs : List Parcel) (cpu n : ℕ) → AreSound ps → Agree ps → Agree qs

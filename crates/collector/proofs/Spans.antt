@@ -1,12 +1,13 @@
 -- What a change of one range does to what is stated.
-use Rattle.std.proofs.Common.{◌≡◌, ◌≢◌, ⊎_elim, ℕ, ◌<◌, ◌≤◌, ◌↔◌, false, List, [], ◌∷◌, ◌++◌, Option, Some, None, IsSome, is_some, refl, sym, ap, ◌∙◌, subst, rules, arith}
+use Rattle.std.proofs.Common.{◌≡◌, ◌≢◌, ⊎_elim, ℕ, ◌<◌, ◌≤◌, ◌↔◌, false, List, [], ◌∷◌, ◌++◌, Option, Some, None, IsSome, is_some, refl, sym, ap, ◌∙◌, subst, arith}
 use Rattle.std.specs.Ordering.{nat_cmp, is_eq}
 use Rattle.std.specs.Cmp.{nat_cmp_is}
 use Rattle.std.specs.declared.cmp.Ordering.TheVariants.{Less, Greater}
 use Rattle.std.specs.BTreeMap.{BTreeMap, get, is_at, Updates}
 use Rattle.std.specs.Map.{lookup}
-use Rattle.std.specs.BTreeMap.Range.{IsRangeOf}
-use Rattle.std.specs.declared.ops.Bound.TheVariants.{Included, Unbounded}
+use Rattle.std.specs.BTreeMap.Range.{IsRangeOf, IsUpToEnd}
+use Rattle.std.specs.declared.ops.Bound.{Bound}
+use Rattle.std.specs.declared.ops.Bound.TheVariants.{Unbounded}
 use Rattle.std.proofs.lemmas.Bool.{cases_lt, cases_eq}
 use Rattle.std.proofs.lemmas.Map.Keys.{ge_from_not_lt}
 use Rattle.collector.specs.declared.ranges.Content.{Content}
@@ -21,13 +22,13 @@ none_unless : {X : Type 0} (o : Option X) → (IsSome o → ⊥) → o ≡ None
 none_unless None h = refl
 none_unless (Some x) h = absurd (h refl)
 
--- after the last key up to a number there is none up to it
-pub none_behind_last : {X : Type 0} (m : BTreeMap ℕ X) (number : ℕ) (r t : List (ℕ × X)) (first : ℕ) (x : X)
-    → IsRangeOf nat_cmp Unbounded (Included number) m r → r ≡ t ++ (first, x) ∷ []
-    → (q : ℕ) → first < q → q ≤ number → get nat_cmp m q ≡ None
-none_behind_last m number r t first x range e q behind up_to =
+-- after the last key up to an end there is none up to it
+pub none_behind_last : {X : Type 0} (m : BTreeMap ℕ X) (end : Bound ℕ) (r t : List (ℕ × X)) (first : ℕ) (x : X)
+    → IsRangeOf nat_cmp Unbounded end m r → r ≡ t ++ (first, x) ∷ []
+    → (q : ℕ) → first < q → IsUpToEnd nat_cmp end q → get nat_cmp m q ≡ None
+none_behind_last m end r t first x range e q behind up_to =
     none_unless (get nat_cmp m q) (λ some.
-    let le = ge_from_not_lt first q (range.4 (first, x) t e q (tt, search rules) some) in omega arith)
+    let le = ge_from_not_lt first q (range.4 (first, x) t e q (tt, up_to) some) in omega arith)
 
 not_at : (k q : ℕ) → (q ≡ k → ⊥) → is_eq (nat_cmp k q) ≡ false
 not_at k q apart = ⊎_elim

@@ -1,10 +1,12 @@
 -- What is known of a CPU's numbers: which have a record or are missing, up to where all are known, and from where on
 -- two lists of parcels have and miss the same.
 use Rattle.std.specs.Prelude.{◌≡◌, ℕ, ◌+◌, ◌<◌, ◌≤◌, ◌⊎◌, ◌↔◌, Bool, not, leb, IsTrue, List, length, filter, Some}
-use Rattle.std.specs.List.{slice_get}
+use Rattle.std.specs.List.{slice_get, Contains}
+use Rattle.std.specs.List.Sorted.{IsStrictlyIncreasing}
 use Rattle.trace_model.specs.Record.{Record}
 use Rattle.trace_model.specs.Parcel.{Parcel}
 use Rattle.trace_model.specs.Collection.{Has, Misses}
+use Rattle.trace_model.specs.declared.numbers.CpuId.{CpuId}
 
 -- some parcel has a record under the number
 abbrev pub IsTaken : List Parcel → (cpu number : ℕ) → Type 0
@@ -17,6 +19,19 @@ IsKnown parcels cpu number = IsTaken parcels cpu number ⊎ Misses parcels cpu n
 -- all numbers of the CPU below this one are known
 abbrev pub IsFinal : List Parcel → (cpu bound : ℕ) → Type 0
 IsFinal parcels cpu bound = (number : ℕ) → number < bound → IsKnown parcels cpu number
+
+-- something is known of a number of the CPU
+abbrev pub IsCpuKnown : List Parcel → (cpu : ℕ) → Type 0
+IsCpuKnown parcels cpu = (number : ℕ) × IsKnown parcels cpu number
+
+-- The list has each CPU of which something is known once, and no other, in rising order.
+pub record AreCpusOf (parcels : List Parcel) (cpus : List ℕ) : Type 0 where
+  pub rising : IsStrictlyIncreasing cpus
+  pub known : (cpu : ℕ) → (Contains cpus cpu ↔ IsCpuKnown parcels cpu)
+
+-- the number of a CPU
+abbrev pub cpu_number : CpuId → ℕ
+cpu_number cpu = cpu.0
 
 -- whether all that the parcel has and misses is below the bound of its CPU
 abbrev pub ends_below : (bounds : ℕ → ℕ) → Parcel → Bool

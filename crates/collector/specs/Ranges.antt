@@ -20,6 +20,10 @@ pub record HasContent (ranges : Ranges) (number : ℕ) (content : Content) : Typ
   pub below : number < span.end
   pub content_is : span.content ≡ content
 
+-- something is stated of some number
+abbrev pub IsStated : Ranges → Type 0
+IsStated ranges = (number : ℕ) × (content : Content) × HasContent ranges number content
+
 -- no range reaches into a later one
 abbrev pub AreApart : Ranges → Type 0
 AreApart ranges = (first later : ℕ) (span other : Span)

@@ -1,4 +1,5 @@
 //! A collector: the parcels that it keeps, and in which of them each number is.
+use crate::cpus::KnownCpus;
 use crate::index::Index;
 use crate::ranges::Stretch;
 use page_numbers::Parcel;
@@ -36,11 +37,12 @@ impl Model for Collector {
 }
 
 impl Collector {
-    ghost use Rattle.std.specs.Prelude.{◌≡◌, ℕ, ◌+◌, ◌<◌, ◌≤◌, List, [], ◌∷◌, ◌++◌, length, take, slice_get, Some, IfOk, OnOk, OnErr};
+    ghost use Rattle.std.specs.Prelude.{◌≡◌, ℕ, ◌+◌, ◌-◌, ◌<◌, ◌≤◌, ◌↔◌, IsTrue, List, [], ◌∷◌, ◌++◌, length, take, slice_get, Some, IfOk, OnOk, OnErr};
     ghost use Rattle.trace_model.specs.Collection.{Agree};
     ghost use Rattle.page_numbers.specs.Parcels.{as_parcel, as_parcels};
     ghost use Rattle.collector.specs.Sound.{AreSound};
-    ghost use Rattle.collector.specs.Shown.{IsContentAt};
+    ghost use Rattle.collector.specs.Shown.{IsUnknown, IsContentAt};
+    ghost use Rattle.collector.specs.Known.{IsKnown, IsCpuKnown, AreCpusOf};
     ghost use Rattle.collector.specs.Index.{IsIndexed};
 
     /// A collector that keeps no parcel.
@@ -82,9 +84,35 @@ impl Collector {
         self.index.stretch(cpu, number)
     }
 
-    /// Keeps a parcel that agrees with those that are kept.
+    /// The CPUs of which something is known, by rising number.
+    pub fn cpus(&self) -> KnownCpus<'_>
+        ensures { AreCpusOf self.now result }
+    {
+        KnownCpus {
+            numbers: self.index.cpus(),
+        }
+    }
+
+    /// Whether something is known of a CPU.
+    pub(crate) fn knows(&self, cpu: CpuId) -> bool
+        ensures { IsTrue result ↔ IsCpuKnown self.now cpu.0 }
+    {
+        self.index.has(cpu)
+    }
+
+    /// The number after the last one of a CPU that has a record or is missing, or 0 if nothing is known of the CPU. It
+    /// is found from the back, without a walk over all that is known.
+    pub fn known_end(&self, cpu: CpuId) -> u64
+        ensures behind { (n : ℕ) → result ≤ n → IsUnknown self.now cpu.0 n }
+        ensures last { 0 < result → IsKnown self.now cpu.0 (result - 1) }
+    {
+        self.index.end(cpu)
+    }
+
+    /// Keeps a parcel that agrees with those that are kept, and has or misses something.
     pub(crate) fn keep(&mut self, parcel: Parcel) -> Result<(), NoMemory>
-        requires { Agree (self.old ++ as_parcel parcel ∷ []) }
+        requires agree { Agree (self.old ++ as_parcel parcel ∷ []) }
+        requires some { 0 < (as_parcel parcel).missed + length (as_parcel parcel).records }
         ensures kept { OnOk result (self.new ≡ self.old ++ as_parcel parcel ∷ []) }
         ensures refused { OnErr result (self.new ≡ self.old) }
     {

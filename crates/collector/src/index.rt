@@ -1,18 +1,21 @@
 //! The numbers of each CPU of which something is known.
-ghost use Rattle.std.specs.Prelude.{◌≢◌, ℕ, ◌<◌, ◌≤◌, length, IfSome, IfNone, IfOk, OnOk, OnErr};
-ghost use Rattle.std.specs.List.{AllZip};
-ghost use Rattle.collector.specs.Ranges.{IsLaid, IsCopy};
-ghost use Rattle.collector.specs.Index.{ReportsOf, AreAllApart, ReportSameOf};
+ghost use Rattle.std.specs.Prelude.{◌≢◌, ℕ, ◌-◌, ◌<◌, ◌≤◌, ◌↔◌, IsTrue, IfSome, IfNone, IfOk, OnOk, OnErr};
+ghost use Rattle.std.specs.List.{Contains};
+ghost use Rattle.std.specs.List.Sorted.{IsStrictlyIncreasing};
+ghost use Rattle.collector.specs.Ranges.{IsLaid};
+ghost use Rattle.collector.specs.Index.{ReportsOf, HasCpu, AreAllApart, AreAllStated, ReportSameOf, IsIndexCopy};
 ghost use Rattle.collector.specs.declared.ranges.Content.{Content};
 
 use crate::ranges::{Content, Ranges, Stretch};
 use std::alloc::Global;
+use std::collections::BTreeMap;
+use std::collections::btree_map::Keys;
 use trace_model::{CpuId, NoMemory};
 
-/// The ranges of each CPU, in the order of the CPUs. Of a CPU after the last one nothing is known.
+/// The ranges of each CPU of which something is known, by the CPU's number.
 #[derive(Drop)]
 pub(crate) struct Index {
-    cpus: Vec<Ranges>,
+    cpus: BTreeMap<u32, Ranges>,
     alloc: Global,
 }
 
@@ -20,24 +23,21 @@ impl Index {
     /// Nothing is known of any number.
     pub(crate) fn new(alloc: Global) -> Index
         ensures apart { AreAllApart result }
+        ensures stated { AreAllStated result }
         ensures unreported { (cpu number : ℕ) (content : Content) → ReportsOf result cpu number content → ⊥ }
     {
         Index {
-            cpus: Vec::new(alloc),
+            cpus: BTreeMap::new(alloc),
             alloc,
         }
     }
 
     /// The same once more.
     pub(crate) fn copied(&self) -> Result<Index, NoMemory>
-        ensures { IfOk result (λ copy. AllZip IsCopy self.now.cpus.items copy.cpus.items) }
+        ensures { IfOk result (λ copy. IsIndexCopy self.now copy) }
     {
-        let mut cpus = Vec::with_capacity(self.alloc, self.cpus.len())?;
-        for ranges in &self.cpus {
-            cpus.push(ranges.copied()?)?;
-        }
         Ok(Index {
-            cpus,
+            cpus: self.cpus.clone()?,
             alloc: self.alloc,
         })
     }
@@ -54,7 +54,7 @@ impl Index {
             → ReportsOf self.now cpu.0 number content → ⊥) }
         ensures goes_on { number < u64.MAX → number < result.end }
     {
-        match self.cpus.get(cpu.0 as usize) {
+        match self.cpus.get(&cpu.0) {
             Some(ranges) => ranges.stretch(number),
             None => Stretch {
                 end: u64::MAX,
@@ -63,21 +63,35 @@ impl Index {
         }
     }
 
-    /// Has ranges for a CPU. What is stated stays the same.
-    fn grow(&mut self, cpu: usize) -> Result<(), NoMemory>
-        requires { AreAllApart self.old }
-        ensures apart { AreAllApart self.new }
-        ensures same { (cpu : ℕ) → ReportSameOf self.old self.new cpu }
-        ensures grown { OnOk result (cpu < length self.new.cpus.items) }
+    /// The numbers of the CPUs of which something is stated, rising.
+    pub(crate) fn cpus(&self) -> Keys<'_, u32, Ranges>
+        ensures rising { IsStrictlyIncreasing result }
+        ensures there { (cpu : ℕ) → (Contains result cpu ↔ HasCpu self.now cpu) }
     {
-        while self.cpus.len() <= cpu {
-            self.cpus.push(Ranges::new(self.alloc))?;
+        self.cpus.keys()
+    }
+
+    /// Whether something is stated of a CPU.
+    pub(crate) fn has(&self, cpu: CpuId) -> bool
+        ensures { IsTrue result ↔ HasCpu self.now cpu.0 }
+    {
+        self.cpus.contains_key(&cpu.0)
+    }
+
+    /// The number after the last one of a CPU of which something is stated, or 0 if there is none.
+    pub(crate) fn end(&self, cpu: CpuId) -> u64
+        requires { AreAllApart self.now }
+        ensures behind { (n : ℕ) (content : Content) → result ≤ n → ReportsOf self.now cpu.0 n content → ⊥ }
+        ensures last { 0 < result → (content : Content) × ReportsOf self.now cpu.0 (result - 1) content }
+    {
+        match self.cpus.get(&cpu.0) {
+            Some(ranges) => ranges.end(),
+            None => 0,
         }
-        Ok(())
     }
 
     /// States of a CPU's numbers that those from `low` up to `first` are missing, and that those from there up to `end`
-    /// are in the kept parcel at this index, whatever was stated of them before.
+    /// are in the kept parcel at this index, whatever was stated of them before. There is such a number.
     pub(crate) fn lay(
         &mut self,
         cpu: CpuId,
@@ -87,14 +101,24 @@ impl Index {
         parcel: usize,
     ) -> Result<(), NoMemory>
         requires apart { AreAllApart self.old }
+        requires stated { AreAllStated self.old }
         requires low { low ≤ first }
         requires forward { first ≤ end }
+        requires some { low < end }
         ensures apart { AreAllApart self.new }
+        ensures stated { AreAllStated self.new }
         ensures laid { OnOk result (IsLaid (ReportsOf self.old cpu.0) (ReportsOf self.new cpu.0) low first end parcel) }
         ensures others { (other : ℕ) → other ≢ cpu.0 → ReportSameOf self.old self.new other }
         ensures refused { OnErr result ((cpu : ℕ) → ReportSameOf self.old self.new cpu) }
     {
-        self.grow(cpu.0 as usize)?;
-        self.cpus[cpu.0 as usize].lay(low, first, end, parcel)
+        match self.cpus.get_mut(&cpu.0) {
+            Some(ranges) => ranges.lay(low, first, end, parcel),
+            None => {
+                let mut ranges = Ranges::new(self.alloc);
+                ranges.lay(low, first, end, parcel)?;
+                self.cpus.insert(cpu.0, ranges)?;
+                Ok(())
+            }
+        }
     }
 }

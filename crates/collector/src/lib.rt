@@ -9,6 +9,7 @@ mod added;
 mod beside;
 mod bounds;
 mod collector;
+mod cpus;
 mod entries;
 mod fault;
 mod index;
@@ -24,6 +25,7 @@ mod same;
 
 pub use added::Added;
 pub use collector::Collector;
+pub use cpus::KnownCpus;
 pub use entries::first_difference;
 pub use fault::AddFault;
 pub use listed::CpuRecords;

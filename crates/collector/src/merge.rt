@@ -3,12 +3,11 @@ use crate::beside::Beside;
 use crate::collector::Collector;
 use crate::entries::first_difference;
 use crate::fault::AddFault;
-use trace_model::{CpuId, MAX_CPUS, RecordNo};
+use trace_model::{CpuId, RecordNo};
 
 impl Collector {
     ghost use Rattle.std.specs.Prelude.{◌≡◌, ◌≢◌, ℕ, ◌<◌, ◌↔◌, ◌++◌, length, take, IsTrue, IfErr, OnOk, OnErr};
     ghost use Rattle.trace_model.specs.Collection.{Agree, IsBelow, IsLeastUpperBound};
-    ghost use Rattle.collector.specs.Sound.{AreSound};
     ghost use Rattle.collector.specs.Beside.{FitTogether};
     ghost use Rattle.collector.specs.Faults.{IsAddFault};
     ghost use Rattle.collector.specs.Merged.{IsMerged};
@@ -70,8 +69,10 @@ impl Collector {
         ensures fault { IfErr result (λ fault. IsAddFault (self.now ++ other.now) fault) }
         ensures at_odds { IfErr result (λ fault. fault ≢ NoMemory) }
     {
-        for cpu in 0..MAX_CPUS {
-            self.look_at_cpu(other, CpuId(cpu))?;
+        let _kept = self.parcels();
+        let _others = other.parcels();
+        for cpu in other.cpus() {
+            self.look_at_cpu(other, cpu)?;
         }
         Ok(())
     }
@@ -80,14 +81,10 @@ impl Collector {
     fn look_at_cpu(&self, other: &Collector, cpu: CpuId) -> Result<(), AddFault>
         requires { (c n : ℕ) → c < cpu.0 → n < u64.MAX → FitTogether self.now other.now c n }
         ensures fits { OnOk result ((n : ℕ) → n < u64.MAX → FitTogether self.now other.now cpu.0 n) }
-        ensures sound { AreSound self.now }
-        ensures agree { Agree self.now }
-        ensures others_agree { Agree other.now }
         ensures fault { IfErr result (λ fault. IsAddFault (self.now ++ other.now) fault) }
         ensures at_odds { IfErr result (λ fault. fault ≢ NoMemory) }
     {
         let _kept = self.parcels();
-        let _others = other.parcels();
         let mut at = 0;
         while at < u64::MAX {
             let both = self.beside_known(other, cpu, at);

@@ -1,12 +1,12 @@
 //! The numbers of one CPU, as disjoint ranges in their order.
-ghost use Rattle.std.specs.Prelude.{◌≡◌, ◌≢◌, ℕ, ◌<◌, ◌≤◌, ◌↔◌, Some, None, IsSome, IsTrue, IfSome, IfNone, IfOk, OnOk, OnErr};
+ghost use Rattle.std.specs.Prelude.{◌≡◌, ◌≢◌, ℕ, ◌-◌, ◌<◌, ◌≤◌, ◌↔◌, Some, None, IsSome, IsTrue, IfSome, IfNone, OnOk, OnErr};
 ghost use Rattle.std.specs.Ordering.{nat_cmp};
 ghost use Rattle.std.specs.BTreeMap.{get};
 ghost use Rattle.collector.specs.Ranges.{HasSpan, AreApart, MayLay, HasContent, ReportSame, IsMarked, IsCut, IsFree, KeepsEdges, IsLaid, IsCopy};
 ghost use Rattle.collector.specs.declared.ranges.Content.{Content};
 ghost use Rattle.collector.specs.declared.ranges.Span.{Span};
 
-use std::alloc::Global;
+use std::alloc::{AllocError, Global};
 use std::collections::BTreeMap;
 use std::ops::Bound;
 use trace_model::NoMemory;
@@ -52,6 +52,27 @@ fn last_up_to(spans: &BTreeMap<u64, Span>, number: u64) -> Option<(u64, Span)>
     Some((*first, *span))
 }
 
+/// The last range that begins before a place.
+fn last_before(spans: &BTreeMap<u64, Span>, place: u64) -> Option<(u64, Span)>
+    ensures there { IfSome result (λ p. get nat_cmp spans.now p.0 ≡ Some p.1) }
+    ensures before { IfSome result (λ p. p.0 < place) }
+    ensures last { IfSome result (λ p. (q : ℕ) → p.0 < q → q < place → get nat_cmp spans.now q ≡ None) }
+    ensures none { IfNone result ((q : ℕ) → q < place → get nat_cmp spans.now q ≡ None) }
+{
+    let (first, span) = spans.range(..place).next_back()?;
+    Some((*first, *span))
+}
+
+/// The last range.
+fn last(spans: &BTreeMap<u64, Span>) -> Option<(u64, Span)>
+    ensures there { IfSome result (λ p. get nat_cmp spans.now p.0 ≡ Some p.1) }
+    ensures last { IfSome result (λ p. (q : ℕ) → p.0 < q → get nat_cmp spans.now q ≡ None) }
+    ensures none { IfNone result ((q : ℕ) → get nat_cmp spans.now q ≡ None) }
+{
+    let (first, span) = spans.last_key_value()?;
+    Some((*first, *span))
+}
+
 /// Where the first range after a number begins.
 fn first_behind(spans: &BTreeMap<u64, Span>, number: u64) -> Option<u64>
     ensures there { IfSome result (λ first. IsSome (get nat_cmp spans.now first)) }
@@ -79,6 +100,17 @@ fn clear_between(spans: &mut BTreeMap<u64, Span>, front: u64, end: u64)
     }
 }
 
+/// The same ranges once more.
+impl Clone for Ranges {
+    ghost is_clone = { λ ranges copy. IsCopy ranges copy };
+
+    fn clone(&self) -> Result<Ranges, AllocError> {
+        Ok(Ranges {
+            spans: self.spans.clone()?,
+        })
+    }
+}
+
 impl Ranges {
     /// Nothing is known of any number.
     pub(crate) fn new(alloc: Global) -> Ranges
@@ -88,15 +120,6 @@ impl Ranges {
         Ranges {
             spans: BTreeMap::new(alloc),
         }
-    }
-
-    /// The same ranges once more.
-    pub(crate) fn copied(&self) -> Result<Ranges, NoMemory>
-        ensures { IfOk result (λ copy. IsCopy self.now copy) }
-    {
-        Ok(Ranges {
-            spans: self.spans.clone()?,
-        })
     }
 
     /// What is known of a number and of those after it.
@@ -120,6 +143,22 @@ impl Ranges {
                 content: None,
             },
         }
+    }
+
+    /// The number after the last one of which something is stated, or 0 if there is none.
+    pub(crate) fn end(&self) -> u64
+        requires { AreApart self.now }
+        ensures behind { (n : ℕ) (content : Content) → result ≤ n → HasContent self.now n content → ⊥ }
+        ensures last { 0 < result → (content : Content) × HasContent self.now (result - 1) content }
+    {
+        let mut range = last(&self.spans);
+        while let Some((first, span)) = range {
+            if first < span.end {
+                return span.end;
+            }
+            range = last_before(&self.spans, first);
+        }
+        0
     }
 
     /// Cuts in two the range that reaches over a place, if one does. What is stated stays the same.

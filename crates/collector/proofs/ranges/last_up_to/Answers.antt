@@ -1,7 +1,10 @@
+use Rattle.std.proofs.Common.{rules}
+use Rattle.std.specs.declared.ops.Bound.TheVariants.{Included}
 use Rattle.collector.proofs.Spans.{none_behind_last}
 use Rattle.collector.proofs.ranges.last_up_to.Goals as goal
 
 pub returns-clause-last : goal.returns-clause-last
-returns-clause-last c =
-    none_behind_last c.args.spans.now c.args.number c.range.result c.next_back.new.self c.in_ok-first.first.now c.in_ok-first.span.now
-    (c.range.ensures.in_range tt) c.in_ok-first.ensures.steps
+returns-clause-last c q behind up_to =
+    none_behind_last c.args.spans.now (Included c.args.number) c.range.result c.next_back.new.self
+    c.in_ok-first.first.now c.in_ok-first.span.now (c.range.ensures.in_range tt) c.in_ok-first.ensures.steps
+    q behind (search rules)

@@ -1,11 +1,9 @@
-use Rattle.std.proofs.Common.{◌+◌, ◌^◌, ℕ, ◌<◌}
-use Rattle.collector.specs.Sound.{AreSound}
+use Rattle.std.proofs.Common.{◌-◌, ◌^◌, ℕ, ◌<◌}
+use Rattle.collector.specs.Known.{IsCpuKnown}
 use Rattle.collector.specs.Beside.{IsSameAt}
+use Rattle.collector.proofs.CpuWalks.{Leaves}
 use Rattle.collector.proofs.collector.Collector.same.Given as goal
 
 abbrev pub invariant-loop-cpu : goal.invariant-loop-cpu
-invariant-loop-cpu l = record {
-  seen : (c n : ℕ) → c < l.cpu → n + 1 < 2 ^ 64 → IsSameAt l.self l.other c n;
-  sound : 0 < l.cpu → AreSound l.self;
-  others_sound : 0 < l.cpu → AreSound l.other;
-}
+invariant-loop-cpu l =
+    Leaves (IsCpuKnown l.self) (λ c. (n : ℕ) → n < 2 ^ 64 - 1 → IsSameAt l.self l.other c n) l.cpu-iterator

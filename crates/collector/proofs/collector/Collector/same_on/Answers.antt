@@ -9,20 +9,20 @@ parcel-requires c =
     let on = c.beside-both.ensures.goes_on in
     own_within _ _ _ _ _ c.beside-both.ensures c.in-Records.here c.in-Records.there c.in-Records.is (omega arith)
 
-pub returns-in-Some-clause-seen : goal.returns-in-Some-clause-seen
-returns-in-Some-clause-seen c =
+pub returns-in-Some : goal.returns-in-Some
+returns-in-Some c =
     let within = c.in-Some.ensures.within in
     (c.in-Some._number, not_same_seen _ _ _ _ _ c.beside-both.ensures _ _ _ _ c.in-Records.is c.parcel.ensures c.parcel-in-Records.ensures _ within.0 within.1 c.in-Some.ensures.differ)
 
-pub returns-in-AtOdds-clause-seen : goal.returns-in-AtOdds-clause-seen
-returns-in-AtOdds-clause-seen c =
+pub returns-in-AtOdds : goal.returns-in-AtOdds
+returns-in-AtOdds c =
     let seen = c.beside-both.ensures in
     let on = seen.goes_on in
     let at = c.loop-at.at in
     (at, odds_not_same _ _ _ at seen.agree seen.others_agree (subst (IsBeside _ _ _ at) c.in-AtOdds.is (seen.shown at (omega arith) (omega arith))))
 
-pub returns-in-OneKnows-clause-seen : goal.returns-in-OneKnows-clause-seen
-returns-in-OneKnows-clause-seen c =
+pub returns-in-OneKnows : goal.returns-in-OneKnows
+returns-in-OneKnows c =
     let on = c.beside-both.ensures.goes_on in
     (c.loop-at.at, one_not_same _ _ _ _ (subst (IsBeside _ _ _ c.loop-at.at) c.in-OneKnows.is (c.beside-both.ensures.shown c.loop-at.at (omega arith) (omega arith))))
 

@@ -1,35 +1,68 @@
-use Rattle.std.proofs.Common.{◌≡◌, ◌≢◌, ⊎_elim, length, Some, refl, sym, subst}
-use Rattle.std.specs.List.{slice_get}
-use Rattle.std.proofs.lemmas.Bool.{cases_eq}
-use Rattle.std.proofs.lemmas.Option.{slice_get_read}
-use Rattle.collector.specs.Index.{ReportSameOf}
-use Rattle.std.proofs.lemmas.Result.{on_ok_weaker, on_err_weaker}
-use Rattle.collector.proofs.Indexes.{here_laid, here_same, laid_behind, others_same, same_same}
+use Rattle.std.proofs.Common.{ℕ, Some, is_some, sym, ap, subst}
+use Rattle.std.proofs.lemmas.Result.{on_ok_weaker}
+use Rattle.std.specs.Ordering.{nat_cmp}
+use Rattle.std.specs.BTreeMap.{BTreeMap, Updates}
+use Rattle.collector.specs.declared.ranges.Ranges.{Ranges}
+use Rattle.collector.specs.declared.index.Index.{Index}
+use Rattle.collector.proofs.Spans.{others_stay}
+use Rattle.collector.proofs.Indexes.{was_there, was_nothing, all_stated, here_laid, laid_stated, laid_or_refused}
 use Rattle.collector.proofs.index.Index.lay.Goals as goal
 
-pub returns-clause-laid : goal.returns-clause-laid
-returns-clause-laid c =
-    let xs = c.grow.new.self.cpus.items in
-    let at : slice_get xs c.args.cpu.0 ≡ Some c.index_mut.result.now = slice_get_read xs (length xs) c.args.cpu.0 c.index_mut.result.now refl c.in_ok-grow.ensures.grown c.index_mut.ensures.value in
+pub returns-in-Some-clause-stated : goal.returns-in-Some-clause-stated
+returns-in-Some-clause-stated c =
+    let old = c.args.self.now in
+    let cpu = c.args.cpu.0 in
+    let before = c.in-Some.ranges.now in
+    let after = c.lay.new.self in
+    let value = c.in-Some.ensures.value in
+    let new : Index = record { cpus = c.get_mut.follows.lender after; alloc = old.alloc } in
+    let updates : Updates nat_cmp old.cpus new.cpus cpu (Some after) =
+    (c.get_mut.follows.holds after).3 (ap is_some (sym value)) in
+    all_stated old new cpu before after (was_there old cpu before (sym value)) updates.1
+    (others_stay old.cpus new.cpus cpu (Some after) updates) c.requires.stated
+    (laid_or_refused c.lay.result before after c.args.low c.args.first c.args.end c.args.parcel c.requires.some
+    c.lay.ensures.laid c.lay.ensures.refused (c.requires.stated cpu before (sym value)))
+
+pub returns-in-Some-clause-laid : goal.returns-in-Some-clause-laid
+returns-in-Some-clause-laid c =
+    let old = c.args.self.now in
+    let cpu = c.args.cpu.0 in
+    let before = c.in-Some.ranges.now in
+    let after = c.lay.new.self in
+    let value = c.in-Some.ensures.value in
+    let new : Index = record { cpus = c.get_mut.follows.lender after; alloc = old.alloc } in
+    let updates : Updates nat_cmp old.cpus new.cpus cpu (Some after) =
+    (c.get_mut.follows.holds after).3 (ap is_some (sym value)) in
     on_ok_weaker c.lay.result
-    (λ laid. laid_behind c.args.self.now c.grow.new.self _ c.args.cpu.0 c.args.low c.args.first c.args.end c.args.parcel (c.grow.ensures.same c.args.cpu.0)
-    (here_laid c.grow.new.self _ c.args.cpu.0 c.index_mut.result.now c.lay.new.self at c.in_ok-grow.ensures.grown refl c.args.low c.args.first c.args.end c.args.parcel laid))
+    (here_laid old new cpu before after (was_there old cpu before (sym value)) updates.1
+    (others_stay old.cpus new.cpus cpu (Some after) updates) c.args.low c.args.first c.args.end c.args.parcel)
     c.lay.ensures.laid
 
-pub returns-clause-others : goal.returns-clause-others
-returns-clause-others c q apart =
-    let xs = c.grow.new.self.cpus.items in
-    let at : slice_get xs c.args.cpu.0 ≡ Some c.index_mut.result.now = slice_get_read xs (length xs) c.args.cpu.0 c.index_mut.result.now refl c.in_ok-grow.ensures.grown c.index_mut.ensures.value in
-    same_same c.args.self.now c.grow.new.self _ q (c.grow.ensures.same q)
-    (others_same c.grow.new.self _ c.args.cpu.0 c.index_mut.result.now c.lay.new.self at c.in_ok-grow.ensures.grown refl q apart)
+pub returns-in_ok-insert-in-None-clause-stated : goal.returns-in_ok-insert-in-None-clause-stated
+returns-in_ok-insert-in-None-clause-stated c =
+    let old = c.args.self.now in
+    let cpu = c.args.cpu.0 in
+    let before = c.new-ranges.result in
+    let after = c.lay-in-None.new.self in
+    let new : Index = record { cpus = c.insert.new.self; alloc = old.alloc } in
+    let updates = subst (λ (m : BTreeMap ℕ Ranges). Updates nat_cmp m new.cpus cpu (Some after))
+    c.get_mut.follows.holds-at-none c.in_ok-insert-in-None.ensures.updates in
+    all_stated old new cpu before after
+    (was_nothing old cpu before (sym c.in-None.ensures.value) c.new-ranges.ensures.unreported) updates.1
+    (others_stay old.cpus new.cpus cpu (Some after) updates) c.requires.stated
+    (laid_stated before after c.args.low c.args.first c.args.end c.args.parcel c.requires.some
+    c.in_ok-lay-in-None.ensures.laid)
 
-pub returns-clause-refused : goal.returns-clause-refused
-returns-clause-refused c =
-    let xs = c.grow.new.self.cpus.items in
-    let at : slice_get xs c.args.cpu.0 ≡ Some c.index_mut.result.now = slice_get_read xs (length xs) c.args.cpu.0 c.index_mut.result.now refl c.in_ok-grow.ensures.grown c.index_mut.ensures.value in
-    on_err_weaker c.lay.result
-    (λ same q. same_same c.args.self.now c.grow.new.self _ q (c.grow.ensures.same q) (⊎_elim
-    (λ (e : q ≡ c.args.cpu.0). subst (ReportSameOf c.grow.new.self _) (sym e) (here_same c.grow.new.self _ c.args.cpu.0 c.index_mut.result.now c.lay.new.self at c.in_ok-grow.ensures.grown refl same))
-    (λ (apart : q ≢ c.args.cpu.0). others_same c.grow.new.self _ c.args.cpu.0 c.index_mut.result.now c.lay.new.self at c.in_ok-grow.ensures.grown refl q apart)
-    (cases_eq q c.args.cpu.0)))
-    c.lay.ensures.refused
+pub returns-in_ok-insert-in-None-clause-laid : goal.returns-in_ok-insert-in-None-clause-laid
+returns-in_ok-insert-in-None-clause-laid c =
+    let old = c.args.self.now in
+    let cpu = c.args.cpu.0 in
+    let before = c.new-ranges.result in
+    let after = c.lay-in-None.new.self in
+    let new : Index = record { cpus = c.insert.new.self; alloc = old.alloc } in
+    let updates = subst (λ (m : BTreeMap ℕ Ranges). Updates nat_cmp m new.cpus cpu (Some after))
+    c.get_mut.follows.holds-at-none c.in_ok-insert-in-None.ensures.updates in
+    here_laid old new cpu before after
+    (was_nothing old cpu before (sym c.in-None.ensures.value) c.new-ranges.ensures.unreported) updates.1
+    (others_stay old.cpus new.cpus cpu (Some after) updates) c.args.low c.args.first c.args.end c.args.parcel
+    c.in_ok-lay-in-None.ensures.laid
