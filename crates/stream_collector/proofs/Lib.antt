@@ -1,2 +1,4 @@
 pub mod OneParcel
 pub mod Standing
+pub mod GivenUp
+pub mod KeptParcels

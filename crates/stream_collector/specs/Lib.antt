@@ -1,3 +1,5 @@
 pub mod Marks
 pub mod Stream
+pub mod GivenUp
+pub mod Marking
 pub mod Faults

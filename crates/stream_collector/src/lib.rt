@@ -6,11 +6,14 @@
 
 mod add;
 mod added;
+mod dropping;
+mod ending;
 mod fault;
+mod given_up;
 mod marks;
 mod read;
 mod stream;
 
-pub use added::Added;
-pub use fault::AddFault;
+pub use added::{Added, Marked};
+pub use fault::{AddFault, MarkFault};
 pub use stream::StreamCollector;
