@@ -1,4 +1,5 @@
 pub mod OneParcel
 pub mod Standing
 pub mod GivenUp
+pub mod Lost
 pub mod KeptParcels

@@ -2,4 +2,5 @@ pub mod Marks
 pub mod Stream
 pub mod GivenUp
 pub mod Marking
+pub mod Forgetting
 pub mod Faults

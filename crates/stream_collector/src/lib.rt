@@ -9,6 +9,7 @@ mod added;
 mod dropping;
 mod ending;
 mod fault;
+mod forgetting;
 mod given_up;
 mod marks;
 mod read;
