@@ -3,4 +3,5 @@ pub mod Stream
 pub mod GivenUp
 pub mod Marking
 pub mod Forgetting
+pub mod Kinds
 pub mod Faults

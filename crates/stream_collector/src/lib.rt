@@ -11,10 +11,14 @@ mod ending;
 mod fault;
 mod forgetting;
 mod given_up;
+mod kinds;
 mod marks;
 mod read;
+mod runs;
 mod stream;
+mod undelivered;
 
 pub use added::{Added, Marked};
 pub use fault::{AddFault, MarkFault};
+pub use runs::StreamRuns;
 pub use stream::StreamCollector;
