@@ -5,10 +5,11 @@ use Rattle.trace_model.specs.Record.{Record}
 use Rattle.trace_model.specs.Parcel.{Parcel}
 use Rattle.trace_model.specs.Collection.{Has, Misses}
 use Rattle.collector.specs.declared.kinds.Kind.TheVariants.{Unknown}
-use Rattle.collector.specs.Runs.{is_of_kind}
+use Rattle.collector.specs.Runs.{is_missed, is_of_kind}
 use Rattle.collector.specs.Shown.{IsUnknown}
 use Rattle.collector.specs.Known.{IsKnown}
 use Rattle.collector.proofs.OfKind.{known_unless, is_of_true, of_is_true}
+use Rattle.collector.proofs.Stretches.{is_missed_true, misses_of_true}
 use Rattle.stream_collector.specs.Marking.{IsReached, by_bound, by_parcels, by_given_up}
 use Rattle.stream_collector.specs.Stream.{Stream, bound_of, IsAccounted, has_record, is_missing, is_undelivered, HaveNoRecord}
 
@@ -61,3 +62,10 @@ reached_below s cpu top up parcels marks n (by_given_up m) = ⊎_elim
     (λ (lt : n < top). lt)
     (λ (le : top ≤ n). absurd ((marks n le).not_missing m))
     (cases_lt n top)
+
+pub missed_or_not : (ps : List Parcel) (cpu n : ℕ) → Misses ps cpu n ⊎ (Misses ps cpu n → ⊥)
+missed_or_not ps cpu n = at (is_missed ps cpu n) refl
+  where
+    at : (b : Bool) → is_missed ps cpu n ≡ b → Misses ps cpu n ⊎ (Misses ps cpu n → ⊥)
+    at true e = inl (misses_of_true ps cpu n e)
+    at false e = inr (λ m. false≢true (sym e ∙ is_missed_true ps cpu n m))

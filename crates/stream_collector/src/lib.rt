@@ -12,6 +12,7 @@ mod fault;
 mod forgetting;
 mod given_up;
 mod kinds;
+pub mod laws;
 mod marks;
 mod read;
 mod runs;
