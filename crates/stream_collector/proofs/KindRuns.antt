@@ -1,5 +1,5 @@
 -- The runs of the numbers of a kind.
-use Rattle.std.proofs.Common.{◌≡◌, ◌⊎◌, ◌↔◌, ℕ, ◌+◌, ◌-◌, ◌<◌, ◌≤◌, Bool, true, false, ◌&&◌, List, [], ◌∷◌, Some, None, ⊎_elim, inl, inr, refl, sym, subst, max, arith}
+use Rattle.std.proofs.Common.{◌≡◌, ◌↔◌, ℕ, ◌+◌, ◌-◌, ◌<◌, ◌≤◌, Bool, true, false, ◌&&◌, [], ◌∷◌, Some, None, ⊎_elim, inl, inr, refl, sym, subst, max, arith}
 use Rattle.std.proofs.lemmas.Bool.{false≢true, cases_lt, cases_eq}
 use Rattle.trace_model.specs.Runs.{AreRuns}
 use Rattle.collector.specs.declared.kinds.Kind.TheVariants.{Missing as MissingThere, Unknown as UnknownThere}

@@ -1,8 +1,8 @@
 -- Unknown numbers below a bound that are given up, run by run.
-use Rattle.std.proofs.Common.{◌≡◌, ◌⊎◌, ◌↔◌, ℕ, ◌<◌, ◌≤◌, List, ⊎_elim, inl, inr, arith}
+use Rattle.std.proofs.Common.{ℕ, ◌<◌, ◌≤◌, List, ⊎_elim, inl, inr, arith}
 use Rattle.std.proofs.lemmas.Bool.{cases_lt}
 use Rattle.trace_model.specs.Parcel.{Parcel}
-use Rattle.trace_model.specs.Collection.{Misses, IsSame}
+use Rattle.trace_model.specs.Collection.{IsSame}
 use Rattle.collector.specs.Shown.{IsUnknown}
 use Rattle.collector.specs.FirstRun.{IsFirstRun}
 use Rattle.stream_collector.specs.Stream.{Stream, bound_of, HaveNoRecord}

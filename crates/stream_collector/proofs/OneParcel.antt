@@ -1,14 +1,12 @@
 -- What one parcel has and misses.
-use Rattle.std.proofs.Common.{◌≡◌, ℕ, zero, suc, ◌+◌, ◌-◌, ◌<◌, ◌≤◌, List, [], ◌∷◌, length, Some, ⊎_elim, inl, inr, refl, sym, ap, ◌∙◌, subst, arith}
+use Rattle.std.proofs.Common.{◌≡◌, ℕ, zero, suc, ◌+◌, ◌-◌, ◌<◌, ◌≤◌, [], ◌∷◌, length, Some, ⊎_elim, inl, inr, refl, sym, subst, arith}
 use Rattle.std.specs.List.{slice_get}
 use Rattle.std.proofs.lemmas.Bool.{cases_lt}
 use Rattle.std.proofs.lemmas.Option.{none-some, slice_get_within}
 use Rattle.trace_model.specs.Record.{Record}
 use Rattle.trace_model.specs.Parcel.{Parcel}
-use Rattle.trace_model.specs.ParcelBytes.{IsParcel}
 use Rattle.trace_model.specs.Collection.{Has, Misses}
 use Rattle.trace_model.proofs.collections.Elements.{some_is}
-use Rattle.collector.specs.Index.{IsIn}
 use Rattle.collector.specs.Known.{IsKnown}
 use Rattle.collector.proofs.Stretches.{has_in}
 

@@ -1,8 +1,6 @@
 -- Why a piece isn't added.
-use Rattle.std.specs.Prelude.{◌≡◌, ℕ, ◌<◌, ◌≤◌, ◌+◌, ◌⊎◌, ◌++◌, List, [], ◌∷◌, length, Some}
-use Rattle.trace_model.specs.Record.{Record}
+use Rattle.std.specs.Prelude.{◌≡◌, ℕ, ◌<◌, ◌≤◌, ◌+◌, ◌++◌, [], ◌∷◌, length, Some}
 use Rattle.trace_model.specs.Parcel.{Parcel}
-use Rattle.trace_model.specs.Collection.{Has, Misses}
 use Rattle.collector.specs.Known.{IsKnown}
 use Rattle.collector.specs.Faults.{IsAddFault}
 use Rattle.stream_collector.specs.Stream.{Stream, bound_of, end_of}

@@ -19,12 +19,12 @@ loop-parcel-preserved c =
     let within : k < length qs = let many = as_many _ qs items in omega arith in
     let q_is : q ≡ get_or qs k q = parcel_is _ qs k c.parcel-item.result items within c.parcel-item.is in
     elim c.if-not-ends_below.branch [
-      then-not-ends_below+in_ok-copy+in-Ok w ↦ subst (λ (new : List Parcel). IsSame new (without_ended bounds (take (k + 1) qs)))
+      | then-not-ends_below+in_ok-copy+in-Ok w ↦ subst (λ (new : List Parcel). IsSame new (without_ended bounds (take (k + 1) qs)))
           (sym w.kept-is)
           (next_kept bounds qs c.loop-parcel.kept w.add.new.self k q within q_is
           (sym c.ends_below.ensures ∙ w.if-not-ends_below.true) c.loop-parcel.invariant
           (subst (λ (p : ParcelValue). IsSame w.add.new.self (c.loop-parcel.kept ++ as_parcel p ∷ [])) w.in_ok-copy.ensures w.in-Ok.ensures.union))
-    | else-not-ends_below w ↦ subst (λ (new : List Parcel). IsSame new (without_ended bounds (take (k + 1) qs)))
+      | else-not-ends_below w ↦ subst (λ (new : List Parcel). IsSame new (without_ended bounds (take (k + 1) qs)))
           (sym w.kept-is)
           (next_dropped bounds qs c.loop-parcel.kept k q within q_is
           (sym c.ends_below.ensures ∙ w.if-not-ends_below.false) c.loop-parcel.invariant)

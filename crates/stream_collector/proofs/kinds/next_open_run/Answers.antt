@@ -1,5 +1,4 @@
-use Rattle.std.proofs.Common.{ℕ, ◌≤◌, subst, arith}
-use Rattle.trace_model.specs.Collection.{Misses}
+use Rattle.std.proofs.Common.{subst, arith}
 use Rattle.collector.specs.Shown.{IsUnknown}
 use Rattle.collector.specs.FirstRun.{IsFirstRun, HoldsOfNone}
 use Rattle.stream_collector.specs.Stream.{Stream}

@@ -1,4 +1,4 @@
-use Rattle.std.proofs.Common.{◌≡◌, ℕ, length, Some, sym, ap, ◌∙◌, subst, arith}
+use Rattle.std.proofs.Common.{◌≡◌, ℕ, Some, sym, ap, ◌∙◌, arith}
 use Rattle.page_numbers.specs.Parcels.{as_parcel}
 use Rattle.stream_collector.specs.declared.marks.Marks.{Marks}
 use Rattle.stream_collector.specs.Stream.{end_of}

@@ -1,7 +1,7 @@
-use Rattle.std.proofs.Common.{◌≡◌, ℕ, ◌-◌, ◌<◌, ◌≤◌, Some, None, sym, ap, ◌∙◌, subst}
+use Rattle.std.proofs.Common.{◌-◌, sym, ap, ◌∙◌, subst}
 use Rattle.collector.specs.Shown.{IsUnknown}
 use Rattle.collector.specs.Known.{IsKnown}
-use Rattle.stream_collector.specs.Stream.{Stream, end_of}
+use Rattle.stream_collector.specs.Stream.{Stream}
 use Rattle.stream_collector.specs.declared.marks.Marks.{Marks}
 use Rattle.stream_collector.proofs.KindRuns.{expected_with_end, expected_without_end}
 use Rattle.stream_collector.proofs.stream.StreamCollector.expected_end.Goals as goal

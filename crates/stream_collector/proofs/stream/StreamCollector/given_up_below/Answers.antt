@@ -1,8 +1,7 @@
-use Rattle.std.proofs.Common.{ℕ, ◌≤◌, List, sym, ap, subst, arith}
-use Rattle.trace_model.specs.Parcel.{Parcel}
+use Rattle.std.proofs.Common.{sym, subst, arith}
 use Rattle.collector.specs.Shown.{IsUnknown}
 use Rattle.collector.specs.FirstRun.{IsFirstRun}
-use Rattle.stream_collector.specs.Stream.{Stream, bound_of, HaveNoRecord}
+use Rattle.stream_collector.specs.Stream.{Stream, HaveNoRecord}
 use Rattle.stream_collector.specs.Forgetting.{GivesUpBelow}
 use Rattle.stream_collector.proofs.Lost.{none_same, lost_none, lost_more}
 use Rattle.stream_collector.proofs.stream.StreamCollector.given_up_below.Goals as goal

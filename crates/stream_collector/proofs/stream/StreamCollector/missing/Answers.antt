@@ -1,4 +1,4 @@
-use Rattle.std.proofs.Common.{ℕ, ◌-◌, ◌^◌, subst}
+use Rattle.std.proofs.Common.{◌-◌, ◌^◌, subst}
 use Rattle.collector.specs.Sound.{AreSound}
 use Rattle.collector.proofs.RunLists.{same_runs}
 use Rattle.collector.proofs.Stretches.{missing_fits}

@@ -1,6 +1,6 @@
-use Rattle.std.proofs.Common.{ℕ, ◌≤◌, subst, ap, arith}
+use Rattle.std.proofs.Common.{subst, ap, arith}
 use Rattle.collector.specs.Shown.{IsUnknown}
-use Rattle.stream_collector.specs.Stream.{Stream, bound_of}
+use Rattle.stream_collector.specs.Stream.{Stream}
 use Rattle.stream_collector.specs.declared.marks.Marks.{Marks}
 use Rattle.stream_collector.proofs.Standing.{reached_below}
 use Rattle.stream_collector.proofs.stream.StreamCollector.reach.Goals as goal

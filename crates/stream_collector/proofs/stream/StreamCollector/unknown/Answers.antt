@@ -1,4 +1,4 @@
-use Rattle.std.proofs.Common.{ℕ, subst}
+use Rattle.std.proofs.Common.{subst}
 use Rattle.collector.proofs.RunLists.{same_runs}
 use Rattle.stream_collector.specs.Stream.{Stream, IsAwaited, HaveNoRecord}
 use Rattle.stream_collector.specs.Kinds.{IsOfKindWithin}

@@ -1,8 +1,7 @@
-use Rattle.std.proofs.Common.{ℕ, ◌<◌, ◌≤◌, List, ⊎_elim, sym, ap, subst, arith}
+use Rattle.std.proofs.Common.{◌<◌, ⊎_elim, subst, arith}
 use Rattle.std.proofs.lemmas.Bool.{cases_lt}
-use Rattle.trace_model.specs.Parcel.{Parcel}
 use Rattle.collector.specs.Known.{IsKnown}
-use Rattle.stream_collector.specs.Stream.{Stream, bound_of, IsAccounted, HaveNoRecord}
+use Rattle.stream_collector.specs.Stream.{Stream, HaveNoRecord}
 use Rattle.stream_collector.proofs.Standing.{known_accounted, given_up_accounted, known_missed}
 use Rattle.stream_collector.proofs.stream.StreamCollector.watermark.Goals as goal
 
