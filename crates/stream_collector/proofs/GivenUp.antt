@@ -1,5 +1,6 @@
 -- Numbers that are given up by one more parcel without a record.
-use Rattle.std.proofs.Common.{◌≡◌, ℕ, zero, suc, ◌+◌, ◌-◌, ◌<◌, ◌≤◌, List, [], ◌∷◌, ◌++◌, length, Some, ⊎_elim, inl, inr, refl, sym, subst, arith}
+use Rattle.std.proofs.Common.{◌≡◌, ℕ, zero, suc, ◌+◌, ◌-◌, ◌<◌, ◌≤◌, List, [], ◌∷◌, ◌++◌, Some, ⊎_elim, inl}
+use Rattle.std.proofs.Common.{inr, refl, sym, subst, arith}
 use Rattle.std.specs.List.{slice_get}
 use Rattle.std.proofs.lemmas.Option.{none-some}
 use Rattle.trace_model.specs.Record.{Record}
@@ -13,10 +14,6 @@ use Rattle.collector.specs.FirstRun.{IsFirstRun, HoldsOfNone}
 use Rattle.stream_collector.specs.Stream.{HaveNoRecord}
 use Rattle.stream_collector.specs.GivenUp.{run_of, IsInRun, GivesUp, AllGivenUp}
 use Rattle.stream_collector.proofs.Standing.{known_or_not, known_missed}
-
-pub is_empty : {X : Type 0} (xs : List X) → length xs ≡ 0 → xs ≡ []
-is_empty [] e = refl
-is_empty (x ∷ xs) e = absurd (omega arith)
 
 is_it : (p q : Parcel) (k : ℕ) → slice_get (p ∷ []) k ≡ Some q → p ≡ q
 is_it p q zero at = some_is p q at
@@ -75,12 +72,14 @@ all_given_up old cpu first end none no_rest n from below = ⊎_elim
     (λ known. known_missed old cpu n none known)
     (known_or_not old cpu n)
 
-pub gives_up_nothing : (old : List Parcel) (cpu first end : ℕ) → AllGivenUp old cpu first end → GivesUp old old cpu first end
+pub gives_up_nothing : (old : List Parcel) (cpu first end : ℕ) → AllGivenUp old cpu first end
+    → GivesUp old old cpu first end
 gives_up_nothing old cpu first end all c n = (
   λ m. inl m,
   λ either. ⊎_elim
       (λ own. own)
-      (λ (run : IsInRun cpu first end c n). subst (λ (k : ℕ). Misses old k n) (sym run.cpu_is) (all n run.from run.below))
+      (λ (run : IsInRun cpu first end c n). subst (λ (k : ℕ). Misses old k n) (sym run.cpu_is)
+      (all n run.from run.below))
       either,
 )
 

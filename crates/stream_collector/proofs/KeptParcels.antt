@@ -1,6 +1,7 @@
 -- Parcels that are kept one by one, unless they end below the bounds.
-use Rattle.std.proofs.Common.{◌≡◌, ℕ, ◌+◌, ◌<◌, ◌≤◌, Bool, true, false, cond, not, List, [], ◌∷◌, ◌++◌, append-nil, length, take, get_or, sym, ap, ◌∙◌, subst}
-use Rattle.std.proofs.lemmas.List.{take_more, take_all}
+use Rattle.std.proofs.Common.{◌≡◌, ℕ, ◌+◌, ◌<◌, Bool, true, false, cond, not, List, [], ◌∷◌, ◌++◌, append-nil}
+use Rattle.std.proofs.Common.{length, take, get_or, sym, ap, ◌∙◌, subst}
+use Rattle.std.proofs.lemmas.List.{take_more}
 use Rattle.std.proofs.lemmas.List.Elements.{filter-append}
 use Rattle.trace_model.specs.Parcel.{Parcel}
 use Rattle.trace_model.specs.Collection.{IsSame}
@@ -35,7 +36,3 @@ module _ (bounds : ℕ → ℕ) where
       (sym (append-nil (without_ended bounds (take k qs)))
       ∙ ap (λ (xs : List Parcel). without_ended bounds (take k qs) ++ xs) none ∙ one_more qs k q within is)
       same
-
-  pub all_kept : (qs joined : List Parcel) (k : ℕ) → length qs ≤ k → IsSame joined (without_ended bounds (take k qs))
-      → IsSame joined (without_ended bounds qs)
-  all_kept qs joined k past same = subst (λ (xs : List Parcel). IsSame joined (without_ended bounds xs)) (take_all k qs past) same

@@ -1,5 +1,6 @@
 -- The runs of the numbers of a kind.
-use Rattle.std.proofs.Common.{◌≡◌, ◌↔◌, ℕ, ◌+◌, ◌-◌, ◌<◌, ◌≤◌, Bool, true, false, ◌&&◌, [], ◌∷◌, Some, None, ⊎_elim, inl, inr, refl, sym, subst, max, arith}
+use Rattle.std.proofs.Common.{◌≡◌, ◌↔◌, ℕ, ◌+◌, ◌-◌, ◌<◌, ◌≤◌, Bool, true, false, ◌&&◌, [], ◌∷◌, Some, None, ⊎_elim}
+use Rattle.std.proofs.Common.{inl, inr, refl, sym, subst, max, arith}
 use Rattle.std.proofs.lemmas.Bool.{false≢true, cases_lt, cases_eq}
 use Rattle.trace_model.specs.Runs.{AreRuns}
 use Rattle.collector.specs.declared.kinds.Kind.TheVariants.{Missing as MissingThere, Unknown as UnknownThere}
@@ -54,7 +55,8 @@ pub no_run_left : (kind : Kind) (s : Stream) (cpu n end : ℕ) → HoldsOfNone (
 no_run_left kind s cpu n end none =
     none_left (is_of_kind kind s cpu) end n (λ m from below. false_of kind s cpu m (none m from below))
 
-pub first_run_left : (kind : Kind) (s : Stream) (cpu n end first stop : ℕ) → IsFirstRun (IsOfKind kind s cpu) n end first stop
+pub first_run_left : (kind : Kind) (s : Stream) (cpu n end first stop : ℕ) → IsFirstRun
+    (IsOfKind kind s cpu) n end first stop
     → runs_from kind s cpu n end ≡ (first, stop - 1) ∷ runs_from kind s cpu stop end
 first_run_left kind s cpu n end first stop run =
     first_left (is_of_kind kind s cpu) end n first stop run.after run.forward run.up_to

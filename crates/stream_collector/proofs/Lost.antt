@@ -13,7 +13,8 @@ pub none_same : (copy given_up : List Parcel) → HaveNoRecord given_up → IsSa
 none_same copy given_up none same c n r h = none c n r (same.below.has c n r h)
 
 -- a copy has none below the bound itself
-pub lost_none : (s : Stream) (copy : List Parcel) (cpu : ℕ) → IsSame copy s.given_up → GivesUpBelow s copy cpu (bound_of s cpu)
+pub lost_none : (s : Stream) (copy : List Parcel) (cpu : ℕ) → IsSame copy s.given_up → GivesUpBelow s copy cpu
+    (bound_of s cpu)
 lost_none s copy cpu same c n = (
   λ m. inl (same.below.misses c n m),
   λ either. ⊎_elim
@@ -32,13 +33,15 @@ higher s cpu at bound c n up lost = record {
 
 -- the next run of unknown numbers
 pub lost_more : (s : Stream) (mid new : List Parcel) (cpu at bound first end : ℕ) → bound_of s cpu ≤ at
-    → IsFirstRun (IsUnknown s.parcels cpu) at bound first end → GivesUpBelow s mid cpu at → GivesUp mid new cpu first end
+    → IsFirstRun (IsUnknown s.parcels cpu) at bound first end → GivesUpBelow s mid cpu at
+    → GivesUp mid new cpu first end
     → GivesUpBelow s new cpu end
 lost_more s mid new cpu at bound first end from run so_far gives c n = (
   λ m. ⊎_elim
       (λ own. ⊎_elim
       (λ before. inl before)
-      (λ (lost : IsLost s cpu at c n). inr (higher s cpu at end c n (let a = run.after in let b = run.forward in omega arith) lost))
+      (λ (lost : IsLost s cpu at c n). inr (higher s cpu at end c n
+      (let a = run.after in let b = run.forward in omega arith) lost))
       ((so_far c n).0 own))
       (λ (one : IsInRun cpu first end c n). inr record {
         cpu_is = one.cpu_is;
@@ -50,7 +53,8 @@ lost_more s mid new cpu at bound first end from run so_far gives c n = (
   λ either. (gives c n).1 (⊎_elim
       (λ own. inl ((so_far c n).1 (inl own)))
       (λ (lost : IsLost s cpu end c n). ⊎_elim
-      (λ (early : n < at). inl ((so_far c n).1 (inr record { cpu_is = lost.cpu_is; from = lost.from; below = early; unknown = lost.unknown })))
+      (λ (early : n < at). inl
+      ((so_far c n).1 (inr record { cpu_is = lost.cpu_is; from = lost.from; below = early; unknown = lost.unknown })))
       (λ (late : at ≤ n). ⊎_elim
       (λ (skipped : n < first). absurd (run.skipped n late skipped lost.unknown))
       (λ (here : first ≤ n). inr record { cpu_is = lost.cpu_is; from = here; below = lost.below })

@@ -1,5 +1,6 @@
 -- How a number stands.
-use Rattle.std.proofs.Common.{◌≡◌, ◌⊎◌, ℕ, ◌<◌, ◌≤◌, Bool, true, false, List, ⊎_elim, inl, inr, refl, sym, ◌∙◌, Option, Some, None, IfNone, arith}
+use Rattle.std.proofs.Common.{◌≡◌, ◌⊎◌, ℕ, ◌<◌, ◌≤◌, Bool, true, false, List, ⊎_elim, inl, inr, refl, sym, ◌∙◌, Option}
+use Rattle.std.proofs.Common.{Some, None, IfNone, arith}
 use Rattle.std.proofs.lemmas.Bool.{false≢true, cases_lt}
 use Rattle.trace_model.specs.Record.{Record}
 use Rattle.trace_model.specs.Parcel.{Parcel}
@@ -11,7 +12,8 @@ use Rattle.collector.specs.Known.{IsKnown}
 use Rattle.collector.proofs.OfKind.{known_unless, is_of_true, of_is_true}
 use Rattle.collector.proofs.Stretches.{is_missed_true, misses_of_true}
 use Rattle.stream_collector.specs.Marking.{IsReached, by_bound, by_parcels, by_given_up}
-use Rattle.stream_collector.specs.Stream.{Stream, bound_of, IsAccounted, has_record, is_missing, is_undelivered, HaveNoRecord}
+use Rattle.stream_collector.specs.Stream.{Stream, bound_of, IsAccounted, has_record, is_missing, is_undelivered}
+use Rattle.stream_collector.specs.Stream.{HaveNoRecord}
 
 -- a number is known, or nothing is known of it
 pub known_or_not : (ps : List Parcel) (cpu n : ℕ) → IsUnknown ps cpu n ⊎ IsKnown ps cpu n
@@ -29,7 +31,8 @@ known_accounted s cpu n from known = ⊎_elim
 
 pub given_up_accounted : (s : Stream) (cpu n : ℕ) → bound_of s cpu ≤ n → Misses s.given_up cpu n → IsAccounted s cpu n
 given_up_accounted s cpu n from given_up = ⊎_elim
-    (λ (unknown : IsUnknown s.parcels cpu n). is_undelivered record { from = from; given_up = given_up; unknown = unknown })
+    (λ (unknown : IsUnknown s.parcels cpu n).
+    is_undelivered record { from = from; given_up = given_up; unknown = unknown })
     (λ known. known_accounted s cpu n from known)
     (known_or_not s.parcels cpu n)
 

@@ -1,5 +1,6 @@
 -- Each number is accounted for once, and forgetting changes nothing above.
-use Rattle.std.proofs.Common.{◌≡◌, ◌⊎◌, ◌↔◌, ℕ, ◌<◌, ◌≤◌, List, Some, ⊎_elim, inl, inr, refl, sym, ap, ◌∙◌, subst, arith}
+use Rattle.std.proofs.Common.{◌≡◌, ◌⊎◌, ◌↔◌, ℕ, ◌<◌, ◌≤◌, List, Some, ⊎_elim, inl, inr, refl, sym, ap, ◌∙◌, subst}
+use Rattle.std.proofs.Common.{arith}
 use Rattle.std.proofs.lemmas.Bool.{cases_lt, cases_eq}
 use Rattle.trace_model.specs.Record.{Record}
 use Rattle.trace_model.specs.Parcel.{Parcel}
@@ -9,7 +10,8 @@ use Rattle.collector.specs.Known.{IsKnown, IsSameFrom, without_ended}
 use Rattle.collector.proofs.Known.{filtered_from}
 use Rattle.stream_collector.specs.declared.marks.Marks.{Marks}
 use Rattle.stream_collector.specs.Marks.{bounds_of}
-use Rattle.stream_collector.specs.Stream.{Stream, bound_of, end_of, HasRecord, IsMissing, IsUndelivered, IsOpen, IsAccounted, has_record, is_missing, is_undelivered, IsExpected, IsAwaited}
+use Rattle.stream_collector.specs.Stream.{Stream, bound_of, end_of, HasRecord, IsMissing, IsUndelivered, IsOpen}
+use Rattle.stream_collector.specs.Stream.{IsAccounted, has_record, is_missing, is_undelivered, IsExpected, IsAwaited}
 use Rattle.stream_collector.specs.Forgetting.{HasBound, GivesUpBelow}
 use Rattle.stream_collector.proofs.Standing.{known_or_not, known_accounted, given_up_accounted, missed_or_not}
 
@@ -34,8 +36,10 @@ awaited_first s cpu w n o accounted a = ⊎_elim
     (λ (lt : n < w). absurd (not_open s cpu n (accounted n a.is_open.from lt) a.is_open))
     (λ (le : w ≤ n).
     let expected : IsExpected s cpu w = ⊎_elim
-    (λ (there : (later : ℕ) × IsKnown s.parcels cpu later × (n < later)). inl (there.0, there.1, (let lt = there.2 in omega arith)))
-    (λ (there : (end : ℕ) × (end_of s cpu ≡ Some end) × (n < end)). inr (there.0, there.1, (let lt = there.2 in omega arith)))
+    (λ (there : (later : ℕ) × IsKnown s.parcels cpu later × (n < later)). inl
+    (there.0, there.1, (let lt = there.2 in omega arith)))
+    (λ (there : (end : ℕ) × (end_of s cpu ≡ Some end) × (n < end)). inr
+    (there.0, there.1, (let lt = there.2 in omega arith)))
     a.expected in
     (record { is_open = o; expected = expected }, le))
     (cases_lt n w)
@@ -45,9 +49,11 @@ awaited_first s cpu w n o accounted a = ⊎_elim
 module _ (old new : Stream) (cpu bound : ℕ) (up : bound_of old cpu ≤ bound) (raised : HasBound old new cpu bound) where
   rises : (c : ℕ) → bound_of old c ≤ bound_of new c
   rises c = ⊎_elim
-      (λ (e : c ≡ cpu). let is : bound_of new c ≡ bound = ap (λ (k : ℕ). bound_of new k) e ∙ ap (λ (m : Marks). m.bound) raised.marks in
+      (λ (e : c ≡ cpu). let is : bound_of new c ≡ bound = ap (λ (k : ℕ). bound_of new k) e ∙ ap
+      (λ (m : Marks). m.bound) raised.marks in
       let same : bound_of old c ≡ bound_of old cpu = ap (λ (k : ℕ). bound_of old k) e in omega arith)
-      (λ (apart : c ≡ cpu → ⊥). let is : bound_of new c ≡ bound_of old c = ap (λ (m : Marks). m.bound) (raised.others c apart) in omega arith)
+      (λ (apart : c ≡ cpu → ⊥). let is : bound_of new c ≡ bound_of old c = ap (λ (m : Marks). m.bound)
+      (raised.others c apart) in omega arith)
       (cases_eq c cpu)
 
   filtered : IsSameFrom (bounds_of new.marks) old.parcels (without_ended (bounds_of new.marks) old.parcels)
@@ -98,7 +104,8 @@ module _ (old new : Stream) (cpu bound : ℕ) (up : bound_of old cpu ≤ bound) 
     },
   )
 
-pub awaited_given_up : (old new : Stream) (cpu bound n : ℕ) → GivesUpBelow old new.given_up cpu bound → IsAwaited old cpu n
+pub awaited_given_up : (old new : Stream) (cpu bound n : ℕ) → GivesUpBelow old new.given_up cpu bound
+    → IsAwaited old cpu n
     → n < bound → Misses new.given_up cpu n
 awaited_given_up old new cpu bound n gives a below = (gives cpu n).1 (inr record {
   cpu_is = refl;

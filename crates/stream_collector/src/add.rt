@@ -18,7 +18,8 @@ impl StreamCollector {
     /// with the kept parcels, is refused, and all stays as it was; the parcel is dropped. Memory is refused only if the
     /// parcel has or misses something that isn't here, and nothing else is wrong.
     pub fn add(&mut self, parcel: Parcel) -> Result<Added, AddFault>
-        ensures new { result ≡ Ok New → self.new ≡ record self.old { parcels = self.old.parcels ++ as_parcel parcel ∷ [] } }
+        ensures new { result ≡ Ok New
+            → self.new ≡ record self.old { parcels = self.old.parcels ++ as_parcel parcel ∷ [] } }
         ensures known { result ≡ Ok Known → self.new ≡ self.old }
         ensures known_exactly { result ≡ Ok Known → IsBelow (as_parcel parcel ∷ []) self.old.parcels }
         ensures new_exactly { result ≡ Ok New → IsBelow (as_parcel parcel ∷ []) self.old.parcels → ⊥ }

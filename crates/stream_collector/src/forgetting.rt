@@ -23,6 +23,7 @@ impl StreamCollector {
     pub fn forgotten(&mut self, cpu: CpuId, bound: RecordNo) -> Result<Marked, MarkFault>
         ensures known { (result ≡ Ok KnownMark) ↔ (bound.0 ≤ bound_of self.old cpu.0) }
         ensures unchanged { result ≡ Ok KnownMark → self.new ≡ self.old }
+        ensures higher { result ≡ Ok NewMark → bound_of self.old cpu.0 < bound.0 }
         ensures raised { result ≡ Ok NewMark → HasBound self.old self.new cpu.0 bound.0 }
         ensures given_up { result ≡ Ok NewMark → self.new.given_up ≡ self.old.given_up }
         ensures fault { IfErr result (λ fault. IsBoundFault self.old cpu.0 bound.0 fault) }
@@ -43,6 +44,7 @@ impl StreamCollector {
     pub fn forget(&mut self, cpu: CpuId, bound: RecordNo) -> Result<Marked, MarkFault>
         ensures known { result ≡ Ok KnownMark → bound.0 ≤ bound_of self.old cpu.0 }
         ensures unchanged { result ≡ Ok KnownMark → self.new ≡ self.old }
+        ensures higher { result ≡ Ok NewMark → bound_of self.old cpu.0 < bound.0 }
         ensures raised { result ≡ Ok NewMark → HasBound self.old self.new cpu.0 bound.0 }
         ensures given_up { result ≡ Ok NewMark → self.new.given_up ≡ self.old.given_up }
         ensures accounted { OnOk result ((n : ℕ) → bound_of self.old cpu.0 ≤ n → n < bound.0
@@ -63,6 +65,7 @@ impl StreamCollector {
         requires { cpu.0 < MAX_CPUS }
         ensures known { (result ≡ Ok KnownMark) ↔ (bound.0 ≤ bound_of self.old cpu.0) }
         ensures unchanged { result ≡ Ok KnownMark → self.new ≡ self.old }
+        ensures higher { result ≡ Ok NewMark → bound_of self.old cpu.0 < bound.0 }
         ensures raised { result ≡ Ok NewMark → HasBound self.old self.new cpu.0 bound.0 }
         ensures given_up { result ≡ Ok NewMark → GivesUpBelow self.old self.new.given_up cpu.0 bound.0 }
         ensures fault { IfErr result (λ fault. IsBoundFault self.old cpu.0 bound.0 fault) }

@@ -43,7 +43,8 @@ fn next_undelivered_run(
     from: RecordNo,
     end: RecordNo,
 ) -> Option<(RecordNo, RecordNo)>
-    ensures run { IfSome result (λ run. IsFirstRun (IsOfKind Kind.Undelivered stream.now cpu.0) from.0 end.0 run.0.0 run.1.0) }
+    ensures run { IfSome result (λ run. IsFirstRun (IsOfKind Kind.Undelivered stream.now cpu.0)
+        from.0 end.0 run.0.0 run.1.0) }
     ensures none { IfNone result (HoldsOfNone (IsOfKind Kind.Undelivered stream.now cpu.0) from.0 end.0) }
 {
     let mut at = from;
@@ -63,7 +64,8 @@ fn next_open_run(
     from: RecordNo,
     end: RecordNo,
 ) -> Option<(RecordNo, RecordNo)>
-    ensures run { IfSome result (λ run. IsFirstRun (IsOfKind Kind.Open stream.now cpu.0) from.0 end.0 run.0.0 run.1.0) }
+    ensures run { IfSome result (λ run. IsFirstRun (IsOfKind Kind.Open stream.now cpu.0)
+        from.0 end.0 run.0.0 run.1.0) }
     ensures none { IfNone result (HoldsOfNone (IsOfKind Kind.Open stream.now cpu.0) from.0 end.0) }
 {
     let mut at = from;

@@ -2,7 +2,8 @@
 ghost use Rattle.std.specs.Prelude.{◌≡◌, ℕ, ◌<◌, ◌≤◌, ◌↔◌, ◌⊎◌};
 ghost use Rattle.trace_model.specs.Record.{Record};
 ghost use Rattle.trace_model.specs.Collection.{Agree, Misses};
-ghost use Rattle.stream_collector.specs.Stream.{Stream, bound_of, HasRecord, IsMissing, IsUndelivered, IsOpen, IsAccounted, IsAwaited};
+ghost use Rattle.stream_collector.specs.Stream.{Stream, bound_of, HasRecord, IsMissing, IsUndelivered};
+ghost use Rattle.stream_collector.specs.Stream.{IsOpen, IsAccounted, IsAwaited};
 ghost use Rattle.stream_collector.specs.Forgetting.{HasBound, GivesUpBelow};
 
 /// From its bound on, each number of a CPU has a record, or is missing, or is undelivered, or is open: one of these,

@@ -17,14 +17,18 @@ returns-in-None-clause-known c = (
   λ all. refl,
 )
 
-union : (c : goal.In-Ok) → IsSame c.add.new.self (c.args.given_up.now ++ run_of c.args.cpu.0 c.args.first c.args.end ∷ [])
-union c = subst (λ (p : Parcel). IsSame c.add.new.self (c.args.given_up.now ++ p ∷ [])) c.in_ok-parcel.ensures c.in-Ok.ensures.union
+union : (c : goal.In-Ok) → IsSame c.add.new.self
+    (c.args.given_up.now ++ run_of c.args.cpu.0 c.args.first c.args.end ∷ [])
+union c = subst (λ (p : Parcel). IsSame c.add.new.self
+    (c.args.given_up.now ++ p ∷ [])) c.in_ok-parcel.ensures c.in-Ok.ensures.union
 
 pub returns-in-Ok-clause-none : goal.returns-in-Ok-clause-none
-returns-in-Ok-clause-none c = none_stays c.args.given_up.now c.add.new.self c.args.cpu.0 c.args.first c.args.end c.requires.none (union c)
+returns-in-Ok-clause-none c =
+    none_stays c.args.given_up.now c.add.new.self c.args.cpu.0 c.args.first c.args.end c.requires.none (union c)
 
 pub returns-in-Ok-clause-given_up : goal.returns-in-Ok-clause-given_up
-returns-in-Ok-clause-given_up c = gives_up c.args.given_up.now c.add.new.self c.args.cpu.0 c.args.first c.args.end c.requires.forward (union c)
+returns-in-Ok-clause-given_up c =
+    gives_up c.args.given_up.now c.add.new.self c.args.cpu.0 c.args.first c.args.end c.requires.forward (union c)
 
 pub returns-in-Ok-clause-known : goal.returns-in-Ok-clause-known
 returns-in-Ok-clause-known c = (

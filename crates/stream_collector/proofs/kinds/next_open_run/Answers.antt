@@ -18,7 +18,8 @@ returns-in-Some-next_unknown_run-clause-run c =
     let run = c.in-Some-next_unknown_run.run' in
     both_run (IsUnknown s.given_up cpu) (IsUnknown s.parcels cpu) c.args.from.0 c.loop-first.at.0 c.args.end.0
     c.in-Some.first.0 c.in-Some.stop.0 run.0.0 run.1.0 c.loop-first.invariant.from c.loop-first.invariant.none
-    (subst (λ (s : Stream). IsFirstRun (IsUnknown s.given_up cpu) c.loop-first.at.0 c.args.end.0 c.in-Some.first.0 c.in-Some.stop.0)
+    (subst (λ (s : Stream). IsFirstRun
+    (IsUnknown s.given_up cpu) c.loop-first.at.0 c.args.end.0 c.in-Some.first.0 c.in-Some.stop.0)
     c.stream.view_is c.in-Some.ensures.run)
     (subst (λ (s : Stream). IsFirstRun (IsUnknown s.parcels cpu) c.in-Some.first.0 c.in-Some.stop.0 run.0.0 run.1.0)
     c.stream.view_is c.in-Some-next_unknown_run.ensures.run)
@@ -28,7 +29,8 @@ loop-first-preserved c =
     let s = c.args.stream.now in
     let cpu = c.args.cpu.0 in
     let one : IsFirstRun (IsUnknown s.given_up cpu) c.loop-first.at.0 c.args.end.0 c.in-Some.first.0 c.in-Some.stop.0 =
-    subst (λ (s : Stream). IsFirstRun (IsUnknown s.given_up cpu) c.loop-first.at.0 c.args.end.0 c.in-Some.first.0 c.in-Some.stop.0)
+    subst (λ (s : Stream). IsFirstRun
+    (IsUnknown s.given_up cpu) c.loop-first.at.0 c.args.end.0 c.in-Some.first.0 c.in-Some.stop.0)
     c.stream.view_is c.in-Some.ensures.run in
     record {
       from = let a = c.loop-first.invariant.from in let b = one.after in let d = one.forward in omega arith;

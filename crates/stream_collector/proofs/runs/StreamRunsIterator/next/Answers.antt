@@ -5,7 +5,8 @@ use Rattle.stream_collector.proofs.runs.StreamRunsIterator.next.Goals as goal
 pub returns-in-None-clause-steps : goal.returns-in-None-clause-steps
 returns-in-None-clause-steps c =
     let here = c.self.inside in
-    let none = sym c.self.view_is ∙ no_run_left here.kind here.stream.now here.cpu.0 here.number here.end c.in-None.ensures.none in
+    let none = sym c.self.view_is
+    ∙ no_run_left here.kind here.stream.now here.cpu.0 here.number here.end c.in-None.ensures.none in
     (none, none)
 
 pub returns-in-Some-clause-steps : goal.returns-in-Some-clause-steps

@@ -8,7 +8,8 @@ use Rattle.stream_collector.proofs.stream.StreamCollector.beyond_end.Goals as go
 pub returns-in-Some-clause-beyond : goal.returns-in-Some-clause-beyond
 returns-in-Some-clause-beyond c = record {
   end = c.in-Some.end;
-  end_is = ap (λ (k : ℕ). end_of c.args.self.now k) (sym c.cpu.ensures.cpu) ∙ ap (λ (m : Marks). m.end) (sym c.marks.ensures)
+  end_is = ap (λ (k : ℕ). end_of c.args.self.now k) (sym c.cpu.ensures.cpu) ∙ ap (λ (m : Marks). m.end)
+      (sym c.marks.ensures)
       ∙ c.in-Some.is;
   beyond = omega arith;
   known = one_known (as_parcel c.args.parcel.now) c.max-in-Some.result (omega arith) (omega arith) (omega arith);

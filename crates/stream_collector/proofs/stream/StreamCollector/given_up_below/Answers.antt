@@ -18,13 +18,16 @@ loop-first-init c = record {
 
 pub loop-first-preserved : goal.loop-first-preserved
 loop-first-preserved c =
-    let run : IsFirstRun (IsUnknown c.args.self.now.parcels c.args.cpu.0) c.loop-first.at.0 c.args.bound c.in-Some.first.0 c.in-Some.end.0 =
-    subst (λ (s : Stream). IsFirstRun (IsUnknown s.parcels c.args.cpu.0) c.loop-first.at.0 c.args.bound c.in-Some.first.0 c.in-Some.end.0)
+    let run : IsFirstRun
+    (IsUnknown c.args.self.now.parcels c.args.cpu.0) c.loop-first.at.0 c.args.bound c.in-Some.first.0 c.in-Some.end.0 =
+    subst (λ (s : Stream). IsFirstRun
+    (IsUnknown s.parcels c.args.cpu.0) c.loop-first.at.0 c.args.bound c.in-Some.first.0 c.in-Some.end.0)
     c.self.view_is c.in-Some.ensures.run in
     record {
       none = c.give_up_run.ensures.none;
       from = let a = c.loop-first.invariant.from in let b = run.after in let d = run.forward in omega arith;
       up_to = run.up_to;
-      so_far = lost_more c.args.self.now c.loop-first.given_up c.give_up_run.new.given_up c.args.cpu.0 c.loop-first.at.0 c.args.bound
-          c.in-Some.first.0 c.in-Some.end.0 c.loop-first.invariant.from run c.loop-first.invariant.so_far c.in_ok-give_up_run.ensures.given_up;
+      so_far = lost_more c.args.self.now c.loop-first.given_up c.give_up_run.new.given_up c.args.cpu.0
+          c.loop-first.at.0 c.args.bound c.in-Some.first.0 c.in-Some.end.0 c.loop-first.invariant.from run
+          c.loop-first.invariant.so_far c.in_ok-give_up_run.ensures.given_up;
     }

@@ -8,7 +8,8 @@ pub returns-clause-new_exactly : goal.returns-clause-new_exactly
 returns-clause-new_exactly c e all =
     elim c.match-give_up_run.branch [
       | in-Ok-true w ↦ let known = w.in-Ok-true.ensures.known.1
-          (subst (λ (s : Stream). AllGivenUp s.given_up c.args.cpu.0 c.args.first.0 c.args.end.0) (sym c.self.view_is) all) in cc
+          (subst (λ (s : Stream). AllGivenUp s.given_up c.args.cpu.0 c.args.first.0 c.args.end.0)
+          (sym c.self.view_is) all) in cc
       | in-Ok-false w ↦ let is = w.result-is in cc
       | in-Err w ↦ let is = w.result-is in cc
     ]

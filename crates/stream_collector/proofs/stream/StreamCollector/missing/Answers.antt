@@ -15,7 +15,8 @@ returns c =
     (λ n h. record { from = h.from; misses = h.of_kind })
     (λ n h. record {
       from = h.from;
-      below = missing_fits s.parcels (subst (λ (s : Stream). AreSound s.parcels) c.self.view_is c.parcels-kept.ensures.sound) cpu n h.misses;
+      below = missing_fits s.parcels
+          (subst (λ (s : Stream). AreSound s.parcels) c.self.view_is c.parcels-kept.ensures.sound) cpu n h.misses;
       of_kind = h.misses;
     })
     c.runs.ensures

@@ -16,7 +16,8 @@ returns-then-reach-count-clause-fault c = (
 
 pub returns-in_err-set-clause-fault : goal.returns-in_err-set-clause-fault
 returns-in_err-set-clause-fault c =
-    let none : end_of c.args.self.now c.args.cpu.0 ≡ None = ap (λ (m : Marks). m.end) (sym c.marks-marks.ensures) ∙ c.in-None.is in
+    let none : end_of c.args.self.now c.args.cpu.0 ≡ None = ap (λ (m : Marks). m.end) (sym c.marks-marks.ensures)
+    ∙ c.in-None.is in
     let all : (n : ℕ) → IsReached c.args.self.now c.args.cpu.0 n → n < c.args.count.0 =
     λ n r. (let below = c.reach-reach.ensures.behind n r in omega arith) in
     search rules

@@ -15,7 +15,9 @@ returns c =
     (λ n h. record { from = h.from; given_up = h.of_kind.0; unknown = h.of_kind.1 })
     (λ n h. record {
       from = h.from;
-      below = missing_fits s.given_up (subst (λ (s : Stream). AreSound s.given_up) c.self.view_is c.parcels-given_up.ensures.sound) cpu n h.given_up;
+      below = missing_fits s.given_up
+          (subst (λ (s : Stream). AreSound s.given_up) c.self.view_is c.parcels-given_up.ensures.sound)
+          cpu n h.given_up;
       of_kind = (h.given_up, h.unknown);
     })
     c.runs.ensures

@@ -18,6 +18,9 @@ returns c =
     (λ n h. record {
       from = h.is_open.from;
       below = (c.expected_end.ensures n h.is_open.unknown).1 h.expected;
-      of_kind = (record { no_record = λ r there. none cpu n r there; not_missing = h.is_open.not_given_up }, h.is_open.unknown);
+      of_kind = (
+        record { no_record = λ r there. none cpu n r there; not_missing = h.is_open.not_given_up },
+        h.is_open.unknown,
+      );
     })
     c.runs.ensures
