@@ -4,6 +4,7 @@ pub mod Index
 pub mod Shown
 pub mod Known
 pub mod Runs
+pub mod FirstRun
 pub mod Listed
 pub mod Entries
 pub mod Faults

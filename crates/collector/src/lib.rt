@@ -17,6 +17,7 @@ mod kinds;
 pub mod laws;
 mod listed;
 mod merge;
+mod next_runs;
 mod ranges;
 mod read;
 mod runs;

@@ -1,0 +1,8 @@
+pub mod OneParcel
+pub mod Standing
+pub mod GivenUp
+pub mod StreamLaws
+pub mod KindRuns
+pub mod BothRuns
+pub mod Lost
+pub mod KeptParcels

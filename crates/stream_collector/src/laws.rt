@@ -1,0 +1,43 @@
+//! Laws over what is known of a stream: each number is accounted for once, and forgetting changes nothing above.
+ghost use Rattle.std.specs.Prelude.{◌≡◌, ℕ, ◌<◌, ◌≤◌, ◌↔◌, ◌⊎◌};
+ghost use Rattle.trace_model.specs.Record.{Record};
+ghost use Rattle.trace_model.specs.Collection.{Agree, Misses};
+ghost use Rattle.stream_collector.specs.Stream.{Stream, bound_of, HasRecord, IsMissing, IsUndelivered};
+ghost use Rattle.stream_collector.specs.Stream.{IsOpen, IsAccounted, IsAwaited};
+ghost use Rattle.stream_collector.specs.Forgetting.{HasBound, GivesUpBelow};
+
+/// From its bound on, each number of a CPU has a record, or is missing, or is undelivered, or is open: one of these,
+/// and no two of them. Up to the watermark there is no open one, so the account has no hole and no overlap.
+pub fn each_number_is_accounted_once()
+    ensures one { (s : Stream) (cpu n : ℕ) → bound_of s cpu ≤ n → (IsOpen s cpu n ⊎ IsAccounted s cpu n) }
+    ensures not_open { (s : Stream) (cpu n : ℕ) → IsAccounted s cpu n → IsOpen s cpu n → ⊥ }
+    ensures one_record { (s : Stream) (cpu n : ℕ) (r other : Record) → Agree s.parcels →
+        HasRecord s cpu n r → HasRecord s cpu n other → r ≡ other }
+    ensures record_not_missing { (s : Stream) (cpu n : ℕ) (r : Record) → Agree s.parcels →
+        HasRecord s cpu n r → IsMissing s cpu n → ⊥ }
+    ensures record_not_undelivered { (s : Stream) (cpu n : ℕ) (r : Record) →
+        HasRecord s cpu n r → IsUndelivered s cpu n → ⊥ }
+    ensures missing_not_undelivered { (s : Stream) (cpu n : ℕ) →
+        IsMissing s cpu n → IsUndelivered s cpu n → ⊥ }
+{}
+
+/// The watermark is the least awaited number, if any is awaited.
+pub fn the_watermark_is_awaited_first()
+    ensures { (s : Stream) (cpu watermark n : ℕ) → IsOpen s cpu watermark →
+        ((m : ℕ) → bound_of s cpu ≤ m → m < watermark → IsAccounted s cpu m) →
+        IsAwaited s cpu n → IsAwaited s cpu watermark × (watermark ≤ n) }
+{}
+
+/// When a bound is raised, nothing changes from the bounds on; with a stream that is given up, all that was awaited
+/// below the bound is given up.
+pub fn forgetting_changes_nothing_above()
+    ensures records { (old new : Stream) (cpu bound : ℕ) → bound_of old cpu ≤ bound → HasBound old new cpu bound →
+        (c n : ℕ) (r : Record) → bound_of new c ≤ n → (HasRecord old c n r ↔ HasRecord new c n r) }
+    ensures missing { (old new : Stream) (cpu bound : ℕ) → bound_of old cpu ≤ bound → HasBound old new cpu bound →
+        (c n : ℕ) → bound_of new c ≤ n → (IsMissing old c n ↔ IsMissing new c n) }
+    ensures undelivered { (old new : Stream) (cpu bound : ℕ) → bound_of old cpu ≤ bound →
+        HasBound old new cpu bound → new.given_up ≡ old.given_up →
+        (c n : ℕ) → bound_of new c ≤ n → (IsUndelivered old c n ↔ IsUndelivered new c n) }
+    ensures given_up { (old new : Stream) (cpu bound n : ℕ) → GivesUpBelow old new.given_up cpu bound →
+        IsAwaited old cpu n → n < bound → Misses new.given_up cpu n }
+{}

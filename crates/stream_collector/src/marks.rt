@@ -1,0 +1,66 @@
+//! The bound and the end of each CPU.
+use std::alloc::Global;
+use std::collections::BTreeMap;
+use trace_model::{CpuId, NoMemory};
+
+/// The bound of a CPU, and its end if that is known.
+#[derive(Clone, Copy)]
+pub(crate) struct Marks {
+    /// What is below is kept no longer; 0 if nothing was forgotten.
+    pub(crate) bound: u64,
+    /// How many records the CPU has.
+    pub(crate) end: Option<u64>,
+}
+
+/// The marks of the CPUs that have any.
+#[derive(Drop)]
+pub(crate) struct CpuMarks {
+    cpus: BTreeMap<u32, Marks>,
+}
+
+impl CpuMarks {
+    ghost use Rattle.std.specs.Prelude.{◌≡◌, ◌≢◌, ℕ, [], IfOk, OnOk, OnErr};
+    ghost use Rattle.stream_collector.specs.Marks.{marks_at};
+
+    /// No CPU has marks.
+    pub(crate) fn new(alloc: Global) -> CpuMarks
+        ensures { result.cpus.entries ≡ [] }
+    {
+        CpuMarks {
+            cpus: BTreeMap::new(alloc),
+        }
+    }
+
+    /// The same marks once more.
+    pub(crate) fn copied(&self) -> Result<CpuMarks, NoMemory>
+        ensures { IfOk result (λ copy. copy.cpus.entries ≡ self.now.cpus.entries) }
+    {
+        Ok(CpuMarks {
+            cpus: self.cpus.clone()?,
+        })
+    }
+
+    /// The marks of a CPU.
+    pub(crate) fn of(&self, cpu: CpuId) -> Marks
+        ensures { result ≡ marks_at self.now.cpus.entries cpu.0 }
+    {
+        match self.cpus.get(&cpu.0) {
+            Some(marks) => *marks,
+            None => Marks {
+                bound: 0,
+                end: None,
+            },
+        }
+    }
+
+    /// Gives a CPU these marks in place of its own.
+    pub(crate) fn set(&mut self, cpu: CpuId, marks: Marks) -> Result<(), NoMemory>
+        ensures here { OnOk result (marks_at self.new.cpus.entries cpu.0 ≡ marks) }
+        ensures others { OnOk result ((other : ℕ) → other ≢ cpu.0
+            → marks_at self.new.cpus.entries other ≡ marks_at self.old.cpus.entries other) }
+        ensures refused { OnErr result (self.new.cpus.entries ≡ self.old.cpus.entries) }
+    {
+        self.cpus.insert(cpu.0, marks)?;
+        Ok(())
+    }
+}

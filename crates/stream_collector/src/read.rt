@@ -1,0 +1,73 @@
+//! Reading what is known.
+use crate::stream::StreamCollector;
+use collector::{CpuRecords, MissingRuns};
+use page_borrow::Entry;
+use trace_model::{CpuId, RecordNo};
+
+impl StreamCollector {
+    ghost use Rattle.std.specs.Prelude.{◌≡◌, ℕ, ◌<◌, ◌≤◌, IfSome, IfNone};
+    ghost use Rattle.trace_model.specs.Record.{Record};
+    ghost use Rattle.page_borrow.specs.Entries.{numbered_record};
+    ghost use Rattle.collector.specs.Listed.{AreRecordsFrom};
+    ghost use Rattle.collector.specs.Runs.{AreMissingRuns};
+    ghost use Rattle.stream_collector.specs.Stream.{bound_of, end_of, HasRecord, IsOpen, IsAccounted};
+
+    /// The bound of a CPU: what is below it is kept no longer. It is 0 if nothing was forgotten.
+    pub fn bound(&self, cpu: CpuId) -> RecordNo
+        ensures { result.0 ≡ bound_of self.now cpu.0 }
+    {
+        RecordNo(self.marks(cpu).bound)
+    }
+
+    /// How many records a CPU has, if that is known.
+    pub fn end_mark(&self, cpu: CpuId) -> Option<RecordNo>
+        ensures end { IfSome result (λ end. end_of self.now cpu.0 ≡ Some end.0) }
+        ensures none { IfNone result (end_of self.now cpu.0 ≡ None) }
+    {
+        self.marks(cpu).end.map(RecordNo)
+    }
+
+    /// The record of a CPU under a number from its bound on, if there is one.
+    pub fn get(&self, cpu: CpuId, number: RecordNo) -> Option<Entry<'_>>
+        ensures number { IfSome result (λ entry. (numbered_record entry).0 ≡ number.0) }
+        ensures has { IfSome result (λ entry. HasRecord self.now cpu.0 number.0 (numbered_record entry).1) }
+        ensures none { IfNone result ((r : Record) → HasRecord self.now cpu.0 number.0 r → ⊥) }
+    {
+        if number < self.bound(cpu) {
+            return None;
+        }
+        self.known.get(cpu, number)
+    }
+
+    /// The records of a CPU from its bound on, by rising number, each with its bytes as they are in a kept page.
+    pub fn records(&self, cpu: CpuId) -> CpuRecords<'_>
+        ensures { AreRecordsFrom self.now.parcels cpu.0 (bound_of self.now cpu.0) result }
+    {
+        self.known.records_from(cpu, self.bound(cpu))
+    }
+
+    /// The runs of the numbers of a CPU that were given up as undelivered, those below its bound too, whether they came
+    /// later or not.
+    pub fn given_up(&self, cpu: CpuId) -> MissingRuns<'_>
+        ensures { AreMissingRuns self.now.given_up cpu.0 result }
+    {
+        self.given_up.missing(cpu)
+    }
+
+    /// The least number of a CPU, from its bound on, that neither has a record, nor is missing, nor was given up. If
+    /// any number is awaited, it is the least of those. The bound may be raised up to it.
+    pub fn watermark(&self, cpu: CpuId) -> RecordNo
+        ensures open { IsOpen self.now cpu.0 result.0 }
+        ensures accounted { (n : ℕ) → bound_of self.now cpu.0 ≤ n → n < result.0 → IsAccounted self.now cpu.0 n }
+    {
+        let mut at = self.bound(cpu);
+        loop {
+            let unknown = self.known.first_unknown(cpu, at);
+            let kept_up = self.given_up.first_unknown(cpu, unknown);
+            if kept_up == unknown {
+                return unknown;
+            }
+            at = kept_up;
+        }
+    }
+}
