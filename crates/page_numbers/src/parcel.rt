@@ -95,6 +95,13 @@ impl Parcel {
         })
     }
 
+    /// The same parcel, with a page of its own that is as long as its data, so that it has no room that isn't used.
+    pub fn trimmed(&self, alloc: Global) -> Result<Parcel, NoMemory>
+        ensures { IfOk result (λ parcel. parcel ≡ fitted_parcel self.now.cpu self.now.page self.now.missed) }
+    {
+        Parcel::fitted(alloc, self.cpu, &self.page, self.missed)
+    }
+
     /// The CPU whose records these are.
     pub fn cpu(&self) -> CpuId
         ensures cpu { result.0 ≡ self.now.cpu }

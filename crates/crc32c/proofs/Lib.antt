@@ -1,0 +1,5 @@
+pub mod Bits
+pub mod Bytes
+pub mod Changes
+pub mod Entries
+pub mod Sums

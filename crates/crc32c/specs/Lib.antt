@@ -1,0 +1,2 @@
+pub mod Castagnoli
+pub mod Changes

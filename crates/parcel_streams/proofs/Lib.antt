@@ -1,0 +1,10 @@
+mod Sums
+pub mod Frames
+pub mod Fitted
+mod Bodies
+pub mod Readings
+pub mod OneFault
+mod Answered
+mod Sealing
+pub mod Streams
+mod Steps

@@ -1,0 +1,53 @@
+//! Why a stream can't be read.
+ghost use Rattle.std.specs.Prelude.{◌≡◌};
+ghost use Rattle.parcel_streams.specs.Answers.{fault_of_parcel};
+
+use page_numbers::ParcelFault;
+
+/// Why the bytes have no piece at their front. What is looked at first, in its bytes, is what is listed here first.
+#[derive(Clone, Copy, Debug, PartialEq, Eq)]
+pub enum PieceFault {
+    /// They don't begin with the magic; or there are fewer than eight, and it doesn't begin with them.
+    NotPacked,
+    /// They end within the piece: there are fewer than 32, or fewer than the length that is stated.
+    Cut,
+    /// The version isn't 1.
+    BadVersion,
+    /// The length that is stated isn't one of a piece.
+    BadLength,
+    /// The checksum isn't that of the bytes before it.
+    BadSum,
+    /// It is neither a parcel nor the end of a CPU's records.
+    BadKind,
+    /// The parcel has this fault, which isn't `ParcelFault::NoMemory`.
+    Parcel(ParcelFault),
+    /// The bytes read as a parcel, and aren't those that are written for it: more follow its page's data, or its image
+    /// stores a count of missed records, or has bits set that mean nothing.
+    Loose,
+    /// The piece that says that a CPU has no more records isn't 56 bytes long, or there is no such CPU.
+    BadEnd,
+    /// Memory was refused. The bytes have a piece at their front.
+    NoMemory,
+}
+
+/// Why the bytes aren't a stream: the first piece that can't be read.
+#[derive(Clone, Copy, Debug, PartialEq, Eq)]
+pub struct StreamFault {
+    /// How many whole pieces are before it.
+    pub index: usize,
+    /// Where it begins, in bytes.
+    pub at: usize,
+    /// What is wrong with it.
+    pub fault: PieceFault,
+}
+
+impl From<ParcelFault> for PieceFault {
+    ghost from_gives = { λ f e. e ≡ fault_of_parcel f };
+
+    fn from(fault: ParcelFault) -> PieceFault {
+        match fault {
+            ParcelFault::NoMemory => PieceFault::NoMemory,
+            fault => PieceFault::Parcel(fault),
+        }
+    }
+}

@@ -1,0 +1,74 @@
+//! Laws over streams of parcels.
+ghost use Rattle.std.specs.Prelude.{◌≡◌, ℕ, ◌+◌, ◌⊎◌, ◌++◌, List, length, take};
+ghost use Rattle.trace_model.specs.FirstFault.{AreBytes};
+ghost use Rattle.trace_model.specs.Parcel.{Parcel as ParcelSeen};
+ghost use Rattle.trace_model.specs.ParcelBytes.{DecodesParcel};
+ghost use Rattle.trace_model.specs.declared.limits.TheConstants.{MAX_SIZE};
+ghost use Rattle.parcel_streams.specs.Pieces.{Packed, parcel_piece, bytes_of_piece, IsPiece, BeginsWith, bytes_of_pieces, IsStream};
+ghost use Rattle.parcel_streams.specs.Faults.{stream_in, body_in, HoldsParcel, PieceCause, FirstPieceFault, FirstStreamFault};
+ghost use Rattle.parcel_streams.specs.declared.limits.TheConstants.{HEAD, SUM, END_PIECE, MAX_PIECE, PARCEL_HEAD, END_BODY};
+
+/// What is written is read back: a piece, whatever follows it, is the one piece at the front. A parcel's states its
+/// stream, and its bytes read as the parcel.
+pub fn spelled_is_read()
+    ensures piece { (piece other : Packed) (rest : List ℕ) → IsPiece piece
+        → BeginsWith (bytes_of_piece piece ++ rest) other → other ≡ piece }
+    ensures parcel { (bytes : List ℕ) (stream : ℕ) (parcel : ParcelSeen) (time : ℕ) (contents : List ℕ)
+        → BeginsWith bytes (parcel_piece stream parcel time contents)
+        → HoldsParcel bytes × (stream_in bytes ≡ stream) × DecodesParcel (body_in bytes) parcel }
+{}
+
+/// What is read was spelled exactly so: a piece has one spelling, and so has a stream.
+pub fn read_is_spelled()
+    ensures piece { (bytes : List ℕ) (piece : Packed) → BeginsWith bytes piece
+        → take (length (bytes_of_piece piece)) bytes ≡ bytes_of_piece piece }
+    ensures stream { (bytes other : List ℕ) (pieces : List Packed) → IsStream bytes pieces → IsStream other pieces
+        → bytes ≡ other }
+{}
+
+/// Bytes begin with a piece or have a first fault: one of the two and never both. The piece is one, and the fault is
+/// one.
+pub fn bytes_have_a_piece_or_a_fault()
+    ensures one { (bytes : List ℕ) → AreBytes bytes
+        → ((piece : Packed) × BeginsWith bytes piece) ⊎ ((cause : PieceCause) × FirstPieceFault bytes cause) }
+    ensures piece_is_no_fault { (bytes : List ℕ) (piece : Packed) (cause : PieceCause)
+        → BeginsWith bytes piece → ¬ FirstPieceFault bytes cause }
+    ensures one_piece { (bytes : List ℕ) (piece other : Packed)
+        → BeginsWith bytes piece → BeginsWith bytes other → piece ≡ other }
+    ensures one_fault { (bytes : List ℕ) (cause other : PieceCause)
+        → FirstPieceFault bytes cause → FirstPieceFault bytes other → cause ≡ other }
+{}
+
+/// Bytes are a stream or have a first fault: one of the two and never both. The fault is one, at one place.
+pub fn bytes_are_a_stream_or_have_a_fault()
+    ensures one { (bytes : List ℕ) → AreBytes bytes → ((pieces : List Packed) × IsStream bytes pieces)
+        ⊎ ((index at : ℕ) × (cause : PieceCause) × FirstStreamFault bytes index at cause) }
+    ensures stream_is_no_fault { (bytes : List ℕ) (pieces : List Packed) (index at : ℕ) (cause : PieceCause)
+        → IsStream bytes pieces → ¬ FirstStreamFault bytes index at cause }
+    ensures one_fault { (bytes : List ℕ) (index at : ℕ) (cause : PieceCause) (other there : ℕ) (reason : PieceCause)
+        → FirstStreamFault bytes index at cause → FirstStreamFault bytes other there reason
+        → (index ≡ other) × (at ≡ there) × (cause ≡ reason) }
+{}
+
+/// A stream has one cut: its bytes are those of no other pieces.
+pub fn streams_have_one_cut()
+    ensures { (bytes : List ℕ) (pieces others : List Packed) → IsStream bytes pieces → IsStream bytes others
+        → pieces ≡ others }
+{}
+
+/// Streams that are put one after the other are the stream of the pieces of the one and then of the other.
+pub fn joined_streams()
+    ensures bytes { (pieces others : List Packed)
+        → bytes_of_pieces (pieces ++ others) ≡ bytes_of_pieces pieces ++ bytes_of_pieces others }
+    ensures stream { (bytes behind : List ℕ) (pieces others : List Packed) → IsStream bytes pieces
+        → IsStream behind others → IsStream (bytes ++ behind) (pieces ++ others) }
+{}
+
+/// The numbers have these values. The contracts name them, so that one that is changed is refused here.
+pub fn constants_are()
+    ensures head { HEAD ≡ 32 }
+    ensures sum { SUM ≡ 8 }
+    ensures parcel_head { PARCEL_HEAD ≡ 48 }
+    ensures end_piece { END_PIECE ≡ HEAD + END_BODY + SUM }
+    ensures max_piece { MAX_PIECE ≡ HEAD + (PARCEL_HEAD + MAX_SIZE) + SUM }
+{}
