@@ -1,0 +1,4 @@
+pub mod ByNumber
+pub mod InTurn
+pub mod ByTime
+pub mod Changed

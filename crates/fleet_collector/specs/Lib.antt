@@ -1,0 +1,3 @@
+pub mod Fleet
+pub mod Listing
+pub mod Lines

@@ -1,0 +1,11 @@
+//! What is known of the streams of a fleet: a collector for each of them, by its id.
+#![tactic(auto)]
+
+mod add;
+mod fleet;
+mod listing;
+mod streams;
+
+pub use fleet::Fleet;
+pub use listing::FleetLine;
+pub use streams::Streams;
