@@ -1,2 +1,6 @@
 pub mod OneParcel
 pub mod Standing
+pub mod GivenUp
+pub mod BothRuns
+pub mod Lost
+pub mod KeptParcels

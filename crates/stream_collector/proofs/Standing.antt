@@ -1,6 +1,6 @@
 -- How a number stands.
-use Rattle.std.proofs.Common.{◌≡◌, ◌⊎◌, ℕ, ◌<◌, ◌≤◌, Bool, true, false, List, ⊎_elim, inl, inr, refl, sym, ◌∙◌, Option, Some, None, IfNone}
-use Rattle.std.proofs.lemmas.Bool.{false≢true}
+use Rattle.std.proofs.Common.{◌≡◌, ◌⊎◌, ℕ, ◌<◌, ◌≤◌, Bool, true, false, List, ⊎_elim, inl, inr, refl, sym, ◌∙◌, Option, Some, None, IfNone, arith}
+use Rattle.std.proofs.lemmas.Bool.{false≢true, cases_lt}
 use Rattle.trace_model.specs.Record.{Record}
 use Rattle.trace_model.specs.Parcel.{Parcel}
 use Rattle.trace_model.specs.Collection.{Has, Misses}
@@ -9,6 +9,7 @@ use Rattle.collector.specs.Runs.{is_of_kind}
 use Rattle.collector.specs.Shown.{IsUnknown}
 use Rattle.collector.specs.Known.{IsKnown}
 use Rattle.collector.proofs.OfKind.{known_unless, is_of_true, of_is_true}
+use Rattle.stream_collector.specs.Marking.{IsReached, by_bound, by_parcels, by_given_up}
 use Rattle.stream_collector.specs.Stream.{Stream, bound_of, IsAccounted, has_record, is_missing, is_undelivered, HaveNoRecord}
 
 -- a number is known, or nothing is known of it
@@ -41,3 +42,22 @@ known_missed ps cpu n none known = ⊎_elim
 pub none_gives : {X : Type 0} (o : Option X) (P Q : Type 0) → IfNone o P → (P → Q) → IfNone o Q
 none_gives None P Q p f = f p
 none_gives (Some x) P Q p f = tt
+
+pub not_both : (ps : List Parcel) (cpu n : ℕ) → IsUnknown ps cpu n → IsKnown ps cpu n → ⊥
+not_both ps cpu n unknown known = ⊎_elim
+    (λ (there : (r : Record) × Has ps cpu n r). unknown.no_record there.0 there.1)
+    (λ (m : Misses ps cpu n). unknown.not_missing m)
+    known
+
+-- a number is reached only below the bound and what is known and given up
+pub reached_below : (s : Stream) (cpu top : ℕ) → bound_of s cpu ≤ top → ((n : ℕ) → top ≤ n → IsUnknown s.parcels cpu n)
+    → ((n : ℕ) → top ≤ n → IsUnknown s.given_up cpu n) → (n : ℕ) → IsReached s cpu n → n < top
+reached_below s cpu top up parcels marks n (by_bound lt) = omega arith
+reached_below s cpu top up parcels marks n (by_parcels k) = ⊎_elim
+    (λ (lt : n < top). lt)
+    (λ (le : top ≤ n). absurd (not_both s.parcels cpu n (parcels n le) k))
+    (cases_lt n top)
+reached_below s cpu top up parcels marks n (by_given_up m) = ⊎_elim
+    (λ (lt : n < top). lt)
+    (λ (le : top ≤ n). absurd ((marks n le).not_missing m))
+    (cases_lt n top)

@@ -16,3 +16,7 @@ or_no_marks (Some marks) = marks
 -- the marks of a CPU in the list of those that have any
 abbrev pub marks_at : List (ℕ × Marks) → ℕ → Marks
 marks_at marks cpu = or_no_marks (lookup (is_at (nat_cmp cpu)) marks)
+
+-- the bound of each CPU
+abbrev pub bounds_of : List (ℕ × Marks) → ℕ → ℕ
+bounds_of marks cpu = (marks_at marks cpu).bound

@@ -10,3 +10,12 @@ pub enum Added {
     /// It ends below the bound of its CPU; it isn't kept.
     Forgotten,
 }
+
+/// What became of a mark that was added.
+#[derive(Clone, Copy, Debug, PartialEq, Eq)]
+pub enum Marked {
+    /// It says something new.
+    New,
+    /// All that it says was known already.
+    Known,
+}

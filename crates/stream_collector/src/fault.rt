@@ -1,5 +1,5 @@
 //! Why a piece isn't added.
-use trace_model::{CpuId, RecordNo};
+use trace_model::{CpuId, NoMemory, RecordNo};
 
 /// Why a parcel isn't added. Nothing has changed.
 #[derive(Clone, Copy, Debug, PartialEq, Eq)]
@@ -18,5 +18,30 @@ impl From<collector::AddFault> for AddFault {
 
     fn from(fault: collector::AddFault) -> AddFault {
         AddFault::Refused(fault)
+    }
+}
+
+/// Why a mark isn't added, or a bound not raised. Nothing has changed.
+#[derive(Clone, Copy, Debug, PartialEq, Eq)]
+pub enum MarkFault {
+    /// The CPU has another end, this one.
+    OtherEnd(RecordNo),
+    /// The CPU would have its end at or below this number, which is known, given up, or below the bound.
+    BeyondEnd(RecordNo),
+    /// This number neither has a record nor is missing, nor was it given up; it is the least such number from the
+    /// CPU's bound on.
+    NotFinal(RecordNo),
+    /// Memory was refused; nothing else is wrong.
+    NoMemory,
+}
+
+impl From<NoMemory> for MarkFault {
+    ghost use Rattle.std.specs.Prelude.{◌≡◌};
+    ghost use Rattle.stream_collector.specs.declared.fault.MarkFault.TheVariants.{NoMemory as MemoryIs};
+
+    ghost from_gives = { λ _ e. e ≡ MemoryIs };
+
+    fn from(_refused: NoMemory) -> MarkFault {
+        MarkFault::NoMemory
     }
 }

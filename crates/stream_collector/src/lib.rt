@@ -6,11 +6,19 @@
 
 mod add;
 mod added;
+mod dropping;
+mod ending;
 mod fault;
+mod forgetting;
+mod given_up;
+mod kinds;
 mod marks;
 mod read;
+mod runs;
 mod stream;
+mod undelivered;
 
-pub use added::Added;
-pub use fault::AddFault;
+pub use added::{Added, Marked};
+pub use fault::{AddFault, MarkFault};
+pub use runs::StreamRuns;
 pub use stream::StreamCollector;

@@ -19,7 +19,7 @@ pub(crate) struct CpuMarks {
 }
 
 impl CpuMarks {
-    ghost use Rattle.std.specs.Prelude.{◌≡◌, ◌≢◌, ℕ, [], OnOk, OnErr};
+    ghost use Rattle.std.specs.Prelude.{◌≡◌, ◌≢◌, ℕ, [], IfOk, OnOk, OnErr};
     ghost use Rattle.stream_collector.specs.Marks.{marks_at};
 
     /// No CPU has marks.
@@ -29,6 +29,15 @@ impl CpuMarks {
         CpuMarks {
             cpus: BTreeMap::new(alloc),
         }
+    }
+
+    /// The same marks once more.
+    pub(crate) fn copied(&self) -> Result<CpuMarks, NoMemory>
+        ensures { IfOk result (λ copy. copy.cpus.entries ≡ self.now.cpus.entries) }
+    {
+        Ok(CpuMarks {
+            cpus: self.cpus.clone()?,
+        })
     }
 
     /// The marks of a CPU.

@@ -1,0 +1,46 @@
+-- What becomes of a stream when the bound of a CPU is raised.
+use Rattle.std.specs.Prelude.{◌≡◌, ℕ, ◌<◌, ◌≤◌, ◌⊎◌, ◌↔◌, List, Some}
+use Rattle.trace_model.specs.Parcel.{Parcel}
+use Rattle.trace_model.specs.Collection.{Misses, IsSame}
+use Rattle.collector.specs.Shown.{IsUnknown}
+use Rattle.collector.specs.Known.{without_ended}
+use Rattle.stream_collector.specs.Marks.{marks_at, bounds_of}
+use Rattle.stream_collector.specs.Stream.{Stream, bound_of, end_of, IsOpen, IsAccounted}
+use Rattle.stream_collector.specs.declared.fault.MarkFault.{MarkFault}
+use Rattle.stream_collector.specs.declared.fault.MarkFault.TheVariants.{OtherEnd, BeyondEnd, NotFinal, NoMemory}
+
+-- The CPU has this bound, and the other marks are as they were. What is known is what the parcels have and miss that
+-- don't end below the bounds.
+pub record HasBound (old new : Stream) (cpu bound : ℕ) : Type 0 where
+  pub marks : marks_at new.marks cpu ≡ record { bound = bound; end = end_of old cpu }
+  pub others : (other : ℕ) → (other ≡ cpu → ⊥) → marks_at new.marks other ≡ marks_at old.marks other
+  pub kept : IsSame new.parcels (without_ended (bounds_of new.marks) old.parcels)
+
+-- the number is one of the CPU from its bound up to this one, and nothing is known of it
+pub record IsLost (stream : Stream) (cpu bound other number : ℕ) : Type 0 where
+  pub cpu_is : other ≡ cpu
+  pub from : bound_of stream cpu ≤ number
+  pub below : number < bound
+  pub unknown : IsUnknown stream.parcels cpu number
+
+-- these are given up, and what was given up before
+abbrev pub GivesUpBelow : Stream → (given_up : List Parcel) → (cpu bound : ℕ) → Type 0
+GivesUpBelow stream given_up cpu bound = (other number : ℕ)
+    → (Misses given_up other number ↔ (Misses stream.given_up other number ⊎ IsLost stream cpu bound other number))
+
+-- why a bound isn't taken: it is above the end of the CPU, or memory was refused for a higher one
+abbrev pub IsBoundFault : Stream → (cpu bound : ℕ) → MarkFault → Type 0
+IsBoundFault stream cpu bound (OtherEnd end) = ⊥
+IsBoundFault stream cpu bound (BeyondEnd end) = (end_of stream cpu ≡ Some end.0) × (end.0 < bound)
+IsBoundFault stream cpu bound (NotFinal number) = ⊥
+IsBoundFault stream cpu bound NoMemory = (bound_of stream cpu < bound)
+    × ((end : ℕ) → end_of stream cpu ≡ Some end → bound ≤ end)
+
+-- why it isn't, if it has to be final
+abbrev pub IsForgetFault : Stream → (cpu bound : ℕ) → MarkFault → Type 0
+IsForgetFault stream cpu bound (OtherEnd end) = ⊥
+IsForgetFault stream cpu bound (BeyondEnd end) = (end_of stream cpu ≡ Some end.0) × (end.0 < bound)
+IsForgetFault stream cpu bound (NotFinal number) = IsOpen stream cpu number.0 × (number.0 < bound)
+    × ((n : ℕ) → bound_of stream cpu ≤ n → n < number.0 → IsAccounted stream cpu n)
+IsForgetFault stream cpu bound NoMemory = (bound_of stream cpu < bound)
+    × ((end : ℕ) → end_of stream cpu ≡ Some end → bound ≤ end)
