@@ -73,6 +73,7 @@ impl StreamCollector {
     pub fn missing(&self, cpu: CpuId) -> StreamRuns<'_>
         ensures { AreRuns (IsMissing self.now cpu.0) result }
     {
+        let _kept = self.known.parcels();
         self.runs(Kind::Missing, cpu, u64::MAX)
     }
 
@@ -80,6 +81,7 @@ impl StreamCollector {
     pub fn undelivered(&self, cpu: CpuId) -> StreamRuns<'_>
         ensures { AreRuns (IsUndelivered self.now cpu.0) result }
     {
+        let _given_up = self.given_up.parcels();
         self.runs(Kind::Undelivered, cpu, u64::MAX)
     }
 
@@ -88,6 +90,7 @@ impl StreamCollector {
     pub fn unknown(&self, cpu: CpuId) -> StreamRuns<'_>
         ensures { AreRuns (IsAwaited self.now cpu.0) result }
     {
+        let _given_up = &self.given_up;
         self.runs(Kind::Open, cpu, self.expected_end(cpu))
     }
 
