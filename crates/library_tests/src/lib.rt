@@ -13,4 +13,6 @@ mod images;
 #[cfg(test)]
 mod pages;
 #[cfg(test)]
+mod streams;
+#[cfg(test)]
 mod words;

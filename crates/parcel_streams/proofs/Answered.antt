@@ -56,19 +56,22 @@ same_cause cause other e = sym (named other) ∙ ap parcel_cause (sym e) ∙ nam
 -- ---- one piece
 
 -- a fault that is reported names the cause that is there
-pub cause_is : (bytes : List ℕ) (cause : PieceCause) → IsPieceFault bytes (piece_fault cause) → FirstPieceFault bytes cause
+pub cause_is : (bytes : List ℕ) (cause : PieceCause) → IsPieceFault bytes (piece_fault cause)
+    → FirstPieceFault bytes cause
 cause_is bytes not_packed is = is
 cause_is bytes cut is = is
 cause_is bytes bad_version is = is
 cause_is bytes bad_length is = is
 cause_is bytes bad_sum is = is
 cause_is bytes bad_kind is = is
-cause_is bytes (bad_parcel cause) is = subst (λ (c : ParcelCause). FirstPieceFault bytes (bad_parcel c)) (same_cause cause is.0 is.1) is.2
+cause_is bytes (bad_parcel cause) is = subst (λ (c : ParcelCause). FirstPieceFault bytes (bad_parcel c))
+    (same_cause cause is.0 is.1) is.2
 cause_is bytes loose is = is
 cause_is bytes bad_end is = is
 
 -- each fault that is reported has a cause, but for refused memory
-pub fault_named : (bytes : List ℕ) (fault : PieceFault) → IsPieceFault bytes fault → (fault ≡ NoMemory) ⊎ ((cause : PieceCause) × (fault ≡ piece_fault cause) × FirstPieceFault bytes cause)
+pub fault_named : (bytes : List ℕ) (fault : PieceFault) → IsPieceFault bytes fault
+    → (fault ≡ NoMemory) ⊎ ((cause : PieceCause) × (fault ≡ piece_fault cause) × FirstPieceFault bytes cause)
 fault_named bytes NotPacked f = inr (not_packed, refl, f)
 fault_named bytes Cut f = inr (cut, refl, f)
 fault_named bytes BadVersion f = inr (bad_version, refl, f)
@@ -81,7 +84,8 @@ fault_named bytes BadEnd f = inr (bad_end, refl, f)
 fault_named bytes NoMemory f = inl refl
 
 -- if there is a cause, it is the one that is reported
-reported_is : (bytes : List ℕ) (reported : PieceFault) (cause : PieceCause) → IsPieceFault bytes reported → FirstPieceFault bytes cause → reported ≡ piece_fault cause
+reported_is : (bytes : List ℕ) (reported : PieceFault) (cause : PieceCause) → IsPieceFault bytes reported
+    → FirstPieceFault bytes cause → reported ≡ piece_fault cause
 reported_is bytes reported cause f g = ⊎_elim
     (λ refused. absurd (of_memory (subst (IsPieceFault bytes) refused f)))
     (λ faulty. faulty.1 ∙ ap piece_fault (one_fault bytes faulty.0 cause faulty.2 g))
@@ -94,21 +98,27 @@ reported_is bytes reported cause f g = ⊎_elim
 abbrev pub ReadAs : List ℕ → Piece × ℕ → Type 0
 ReadAs bytes read = BeginsWith bytes (piece_seen read.0)
 
-reports_cause : (bytes : List ℕ) (r : Result (Piece × ℕ) PieceFault) (cause : PieceCause) → IfOk r (ReadAs bytes) → IfErr r (IsPieceFault bytes) → FirstPieceFault bytes cause → r ≡ Err (piece_fault cause)
+reports_cause : (bytes : List ℕ) (r : Result (Piece × ℕ) PieceFault) (cause : PieceCause) → IfOk r (ReadAs bytes)
+    → IfErr r (IsPieceFault bytes) → FirstPieceFault bytes cause → r ≡ Err (piece_fault cause)
 reports_cause bytes (Ok read) cause reads fault is = absurd (piece_no_fault bytes (piece_seen read.0) cause reads is)
-reports_cause bytes (Err reported) cause reads fault is = ap (λ (f : PieceFault). Err f) (reported_is bytes reported cause fault is)
+reports_cause bytes (Err reported) cause reads fault is = ap (λ (f : PieceFault). Err f)
+    (reported_is bytes reported cause fault is)
 
-pub fault-iff : (bytes : List ℕ) (r : Result (Piece × ℕ) PieceFault) (cause : PieceCause) → IfOk r (ReadAs bytes) → IfErr r (IsPieceFault bytes) → (r ≡ Err (piece_fault cause)) ↔ FirstPieceFault bytes cause
+pub fault-iff : (bytes : List ℕ) (r : Result (Piece × ℕ) PieceFault) (cause : PieceCause) → IfOk r (ReadAs bytes)
+    → IfErr r (IsPieceFault bytes) → (r ≡ Err (piece_fault cause)) ↔ FirstPieceFault bytes cause
 fault-iff bytes r cause reads fault = (
   λ e. cause_is bytes cause (subst (λ (x : Result (Piece × ℕ) PieceFault). IfErr x (IsPieceFault bytes)) e fault),
   λ is. reports_cause bytes r cause reads fault is,
 )
 
 -- no fault is there where a piece is
-only_memory : (bytes : List ℕ) (piece : Packed) (fault : PieceFault) → BeginsWith bytes piece → IsPieceFault bytes fault → fault ≡ NoMemory
-only_memory bytes piece fault b f = ⊎_elim (λ refused. refused) (λ faulty. absurd (piece_no_fault bytes piece faulty.0 b faulty.2)) (fault_named bytes fault f)
+only_memory : (bytes : List ℕ) (piece : Packed) (fault : PieceFault) → BeginsWith bytes piece
+    → IsPieceFault bytes fault → fault ≡ NoMemory
+only_memory bytes piece fault b f = ⊎_elim (λ refused. refused)
+    (λ faulty. absurd (piece_no_fault bytes piece faulty.0 b faulty.2)) (fault_named bytes fault f)
 
-pub read_back : (bytes : List ℕ) (r : Result (Piece × ℕ) PieceFault) (piece : Packed) → IfOk r (ReadAs bytes) → IfErr r (IsPieceFault bytes) → BeginsWith bytes piece
+pub read_back : (bytes : List ℕ) (r : Result (Piece × ℕ) PieceFault) (piece : Packed) → IfOk r (ReadAs bytes)
+    → IfErr r (IsPieceFault bytes) → BeginsWith bytes piece
     → MatchResult r (λ read. piece_seen read.0 ≡ piece) (λ fault. fault ≡ NoMemory)
 read_back bytes (Ok read) piece reads fault is = one_piece bytes (piece_seen read.0) piece reads is
 read_back bytes (Err reported) piece reads fault is = only_memory bytes piece reported is fault

@@ -8,3 +8,4 @@ mod Answered
 mod Sealing
 pub mod Streams
 mod Steps
+mod Changed

@@ -1,20 +1,20 @@
 -- Bytes begin with one piece or have one first fault, and never both.
-use Rattle.std.proofs.Common.{◌≡◌, ◌≢◌, ◌⊎◌, inl, inr, ⊎_elim, ℕ, ◌+◌, ◌-◌, ◌^◌, ◌<◌, ◌≤◌, List, [], ◌∷◌, length, take, drop, refl, sym, ap, ◌∙◌, subst, arith}
+use Rattle.std.proofs.Common.{◌≡◌, ◌≢◌, ◌⊎◌, inl, inr, ⊎_elim, ℕ, ◌+◌, ◌<◌, ◌≤◌, List, [], ◌∷◌, length, take, drop, refl, sym, ap, ◌∙◌, subst, arith}
 use Rattle.std.proofs.lemmas.Bool.{cases_lt}
 use Rattle.std.proofs.lemmas.Bool.Decides.{eqb_tells}
 use Rattle.crc32c.specs.Castagnoli.{crc32c}
 use Rattle.trace_model.specs.FirstFault.{AreBytes}
 use Rattle.trace_model.specs.Image.{le64, from_le64, commit_word, commit_of}
 use Rattle.trace_model.specs.Parcel.{Parcel as ParcelSeen}
-use Rattle.trace_model.specs.ParcelBytes.{bytes_of_parcel, DecodesParcel, ParcelCause, FirstParcelFault}
+use Rattle.trace_model.specs.ParcelBytes.{DecodesParcel, ParcelCause}
 use Rattle.trace_model.specs.declared.limits.TheConstants.{MAX_CPUS}
 use Rattle.trace_model.proofs.images.ImageParts.{from_le64-le64}
 use Rattle.trace_model.proofs.images.Parcels.{parcel_read_or_faulty, DecodesParcel-FirstParcelFault, DecodesParcel-unique, FirstParcelFault-unique}
 use Rattle.parcel_streams.specs.Pieces.{Packed, parcel_piece, end_piece, magic, BeginsWith}
-use Rattle.parcel_streams.specs.Faults.{version_in, kind_in, length_in, body_in, summed_in, sum_in, HasMagic, HasHead, HasVersion, HasLength, IsWhole, IsSealed, HoldsParcel, HoldsEnd, IsFitted, IsLoose, IsBadEnd, IsCut, PieceCause, not_packed, cut, bad_version, bad_length, bad_sum, bad_kind, bad_parcel, loose, bad_end, FirstPieceFault}
+use Rattle.parcel_streams.specs.Faults.{version_in, kind_in, length_in, body_in, summed_in, sum_in, HasMagic, HasVersion, HasLength, IsWhole, IsSealed, HoldsParcel, HoldsEnd, IsFitted, IsLoose, IsCut, PieceCause, not_packed, cut, bad_version, bad_length, bad_sum, bad_kind, bad_parcel, loose, bad_end, FirstPieceFault}
 use Rattle.parcel_streams.specs.Answers.{HasPiece}
-use Rattle.parcel_streams.proofs.Fitted.{IsTight, IsFitted-from, IsTight-from}
-use Rattle.parcel_streams.proofs.Readings.{body_len, AreBytes-body, has_parcel, has_end, length-end, parcel_frame, end_frame, decodes}
+use Rattle.parcel_streams.proofs.Fitted.{IsFitted-from, IsTight-from}
+use Rattle.parcel_streams.proofs.Readings.{AreBytes-body, has_parcel, has_end, length-end, parcel_frame, end_frame, decodes}
 
 -- ---- a fault excludes what is looked at before it
 
@@ -48,7 +48,8 @@ not_both bytes h g = let one = h.kind_is in let two = g.kind_is in omega arith
 
 -- ---- one fault
 
-pub one_fault : (bytes : List ℕ) (fault other : PieceCause) → FirstPieceFault bytes fault → FirstPieceFault bytes other → fault ≡ other
+pub one_fault : (bytes : List ℕ) (fault other : PieceCause) → FirstPieceFault bytes fault
+    → FirstPieceFault bytes other → fault ≡ other
 one_fault bytes not_packed not_packed f g = refl
 one_fault bytes not_packed cut f g = absurd (f (magic_cut bytes g))
 one_fault bytes not_packed bad_version f g = absurd (f g.0.packed)
@@ -109,8 +110,10 @@ one_fault bytes (bad_parcel cause) bad_version f g = absurd (g.1 f.0.seal.whole.
 one_fault bytes (bad_parcel cause) bad_length f g = absurd (out_of bytes f.0.seal.whole.stated g.1)
 one_fault bytes (bad_parcel cause) bad_sum f g = absurd (g.1 f.0.seal.sum_is)
 one_fault bytes (bad_parcel cause) bad_kind f g = absurd (no_parcel bytes g.1 f.0)
-one_fault bytes (bad_parcel cause) (bad_parcel other) f g = ap bad_parcel (FirstParcelFault-unique (body_in bytes) cause other f.1 g.1)
-one_fault bytes (bad_parcel cause) loose f g = absurd (DecodesParcel-FirstParcelFault (body_in bytes) g.1.parcel cause g.1.reads f.1)
+one_fault bytes (bad_parcel cause) (bad_parcel other) f g = ap bad_parcel
+    (FirstParcelFault-unique (body_in bytes) cause other f.1 g.1)
+one_fault bytes (bad_parcel cause) loose f g = absurd
+    (DecodesParcel-FirstParcelFault (body_in bytes) g.1.parcel cause g.1.reads f.1)
 one_fault bytes (bad_parcel cause) bad_end f g = absurd (not_both bytes f.0 g.0)
 one_fault bytes loose not_packed f g = absurd (g f.0.seal.whole.stated.version.head.packed)
 one_fault bytes loose cut f g = absurd (cut_whole bytes g f.0.seal.whole)
@@ -118,7 +121,8 @@ one_fault bytes loose bad_version f g = absurd (g.1 f.0.seal.whole.stated.versio
 one_fault bytes loose bad_length f g = absurd (out_of bytes f.0.seal.whole.stated g.1)
 one_fault bytes loose bad_sum f g = absurd (g.1 f.0.seal.sum_is)
 one_fault bytes loose bad_kind f g = absurd (no_parcel bytes g.1 f.0)
-one_fault bytes loose (bad_parcel other) f g = absurd (DecodesParcel-FirstParcelFault (body_in bytes) f.1.parcel other f.1.reads g.1)
+one_fault bytes loose (bad_parcel other) f g = absurd
+    (DecodesParcel-FirstParcelFault (body_in bytes) f.1.parcel other f.1.reads g.1)
 one_fault bytes loose loose f g = refl
 one_fault bytes loose bad_end f g = absurd (not_both bytes f.0 g.0)
 one_fault bytes bad_end not_packed f g = absurd (g f.0.seal.whole.stated.version.head.packed)
@@ -135,27 +139,46 @@ one_fault bytes bad_end bad_end f g = refl
 
 -- what is stated where the bytes begin with a piece: a parcel that is read, or an end
 HoldsPiece : List ℕ → Type 0
-HoldsPiece bytes = (HoldsParcel bytes × ((parcel : ParcelSeen) × DecodesParcel (body_in bytes) parcel × IsFitted (body_in bytes) parcel)) ⊎ (HoldsEnd bytes × (length_in bytes ≡ 56) × (from_le64 (body_in bytes) < MAX_CPUS))
+HoldsPiece bytes = (HoldsParcel bytes × ((parcel : ParcelSeen) × DecodesParcel (body_in bytes) parcel × IsFitted
+    (body_in bytes) parcel)) ⊎ (HoldsEnd bytes × (length_in bytes ≡ 56) × (from_le64 (body_in bytes) < MAX_CPUS))
 
 holds : (bytes : List ℕ) (piece : Packed) → BeginsWith bytes piece → HoldsPiece bytes
 unfolding HoldsPiece
 holds bytes (parcel_piece stream parcel time contents) b =
     let frame = parcel_frame bytes stream parcel time contents b in
-    inl (record { seal = frame.seal; kind_is = frame.kind_is }, (parcel, subst (λ (x : List ℕ). DecodesParcel x parcel) (sym frame.body_is) (decodes stream parcel time contents b.sound), (time, contents, frame.body_is)))
+    inl (
+      record { seal = frame.seal; kind_is = frame.kind_is },
+      (
+        parcel,
+        subst
+            (λ (x : List ℕ). DecodesParcel x parcel) (sym frame.body_is)
+            (decodes stream parcel time contents b.sound),
+        (time, contents, frame.body_is),
+      ),
+    )
 holds bytes (end_piece stream cpu count) b =
     let frame = end_frame bytes stream cpu count b in
-    let cpu_is : from_le64 (body_in bytes) ≡ cpu = ap from_le64 frame.body_is ∙ from_le64-le64 cpu (le64 count) (let known = b.sound.cpu_known in omega arith) in
+    let cpu_is : from_le64 (body_in bytes) ≡ cpu = ap from_le64 frame.body_is
+    ∙ from_le64-le64 cpu (le64 count) (let known = b.sound.cpu_known in omega arith) in
     let known = b.sound.cpu_known in
-    inr (record { seal = frame.seal; kind_is = frame.kind_is }, frame.length_is ∙ ap (λ (n : ℕ). 40 + n) (length-end cpu count), omega arith)
+    inr (
+      record { seal = frame.seal; kind_is = frame.kind_is },
+      frame.length_is
+          ∙ ap (λ (n : ℕ). 40 + n) (length-end cpu count),
+      omega arith,
+    )
 
-loose_not_fitted : (body : List ℕ) (parcel : ParcelSeen) → DecodesParcel body parcel → IsFitted body parcel → IsLoose body → ⊥
-loose_not_fitted body parcel d fitted l = l.otherwise (subst (IsFitted body) (DecodesParcel-unique body parcel l.parcel d l.reads) fitted)
+loose_not_fitted : (body : List ℕ) (parcel : ParcelSeen) → DecodesParcel body parcel → IsFitted body parcel
+    → IsLoose body → ⊥
+loose_not_fitted body parcel d fitted l = l.otherwise
+    (subst (IsFitted body) (DecodesParcel-unique body parcel l.parcel d l.reads) fitted)
 
 sealed_no_fault : (bytes : List ℕ) (fault : PieceCause) → HoldsPiece bytes → FirstPieceFault bytes fault → ⊥
 unfolding HoldsPiece
 sealed_no_fault bytes fault h f = ⊎_elim (λ p. parcel_no_fault fault p f) (λ e. end_no_fault fault e f) h
   where
-    seal_no_fault : (fault : PieceCause) → IsSealed bytes → FirstPieceFault bytes fault → (kind_in bytes ≤ 1) → ((cause : ParcelCause) → fault ≡ bad_parcel cause → ⊥) → (fault ≡ loose → ⊥) → (fault ≡ bad_end → ⊥) → ⊥
+    seal_no_fault : (fault : PieceCause) → IsSealed bytes → FirstPieceFault bytes fault → (kind_in bytes ≤ 1)
+        → ((cause : ParcelCause) → fault ≡ bad_parcel cause → ⊥) → (fault ≡ loose → ⊥) → (fault ≡ bad_end → ⊥) → ⊥
     seal_no_fault not_packed s f low p l e = f s.whole.stated.version.head.packed
     seal_no_fault cut s f low p l e = cut_whole bytes f s.whole
     seal_no_fault bad_version s f low p l e = f.1 s.whole.stated.version.version_is
@@ -165,23 +188,31 @@ sealed_no_fault bytes fault h f = ⊎_elim (λ p. parcel_no_fault fault p f) (λ
     seal_no_fault (bad_parcel cause) s f low p l e = p cause refl
     seal_no_fault loose s f low p l e = l refl
     seal_no_fault bad_end s f low p l e = e refl
-    parcel_no_fault : (fault : PieceCause) → (HoldsParcel bytes × ((parcel : ParcelSeen) × DecodesParcel (body_in bytes) parcel × IsFitted (body_in bytes) parcel)) → FirstPieceFault bytes fault → ⊥
+
+    parcel_no_fault : (fault : PieceCause)
+        → (HoldsParcel bytes × ((parcel : ParcelSeen) × DecodesParcel (body_in bytes) parcel × IsFitted
+        (body_in bytes) parcel)) → FirstPieceFault bytes fault → ⊥
     parcel_no_fault fault p f =
         let is = p.0.kind_is in
         seal_no_fault fault p.0.seal f (omega arith)
-        (λ cause e. let g = subst (FirstPieceFault bytes) e f in DecodesParcel-FirstParcelFault (body_in bytes) p.1.0 cause p.1.1 g.1)
+        (λ cause e. let g = subst (FirstPieceFault bytes) e f in DecodesParcel-FirstParcelFault (body_in bytes)
+        p.1.0 cause p.1.1 g.1)
         (λ e. let g = subst (FirstPieceFault bytes) e f in loose_not_fitted (body_in bytes) p.1.0 p.1.1 p.1.2 g.1)
         (λ e. let g = subst (FirstPieceFault bytes) e f in not_both bytes p.0 g.0)
-    end_no_fault : (fault : PieceCause) → (HoldsEnd bytes × (length_in bytes ≡ 56) × (from_le64 (body_in bytes) < MAX_CPUS)) → FirstPieceFault bytes fault → ⊥
+
+    end_no_fault : (fault : PieceCause) → (HoldsEnd bytes × (length_in bytes ≡ 56)
+        × (from_le64 (body_in bytes) < MAX_CPUS)) → FirstPieceFault bytes fault → ⊥
     end_no_fault fault p f =
         let is = p.0.kind_is in
         let known = p.2 in
         seal_no_fault fault p.0.seal f (omega arith)
         (λ cause e. let g = subst (FirstPieceFault bytes) e f in not_both bytes g.0 p.0)
         (λ e. let g = subst (FirstPieceFault bytes) e f in not_both bytes g.0 p.0)
-        (λ e. let g = subst (FirstPieceFault bytes) e f in ⊎_elim (λ other. other p.1) (λ (past : MAX_CPUS ≤ from_le64 (body_in bytes)). omega arith) g.1)
+        (λ e. let g = subst (FirstPieceFault bytes) e f in ⊎_elim (λ other. other p.1)
+        (λ (past : MAX_CPUS ≤ from_le64 (body_in bytes)). omega arith) g.1)
 
-pub piece_no_fault : (bytes : List ℕ) (piece : Packed) (fault : PieceCause) → BeginsWith bytes piece → FirstPieceFault bytes fault → ⊥
+pub piece_no_fault : (bytes : List ℕ) (piece : Packed) (fault : PieceCause) → BeginsWith bytes piece
+    → FirstPieceFault bytes fault → ⊥
 piece_no_fault bytes piece fault b f = sealed_no_fault bytes fault (holds bytes piece b) f
 
 -- ---- one of the two
@@ -208,8 +239,20 @@ from_parcel : (bytes : List ℕ) → AreBytes bytes → HoldsParcel bytes → Ha
 from_parcel bytes small h = ⊎_elim
     (λ read. ⊎_elim
     (λ tight. inl (has_parcel bytes read.0 small h read.1 (IsFitted-from body read.0 read.1 tight.1)))
-    (λ other. inr (loose, (h, record { parcel = read.0; reads = read.1; otherwise = λ fitted. other.1 (IsTight-from body read.0 read.1 fitted) })))
-    (eqb_tells (from_le64 (drop 40 body)) (commit_word (commit_of (drop 48 body) (from_le64 (drop 24 body)) (length (drop 48 body))))))
+    (λ other. inr (
+      loose,
+      (
+        h,
+        record {
+          parcel = read.0;
+          reads = read.1;
+          otherwise = λ fitted. other.1
+              (IsTight-from body read.0 read.1 fitted);
+        },
+      ),
+    ))
+    (eqb_tells (from_le64 (drop 40 body)) (commit_word
+    (commit_of (drop 48 body) (from_le64 (drop 24 body)) (length (drop 48 body))))))
     (λ faulty. inr (bad_parcel faulty.0, (h, faulty.1)))
     (parcel_read_or_faulty body (AreBytes-body bytes small))
   where
@@ -256,7 +299,8 @@ from_magic : (bytes : List ℕ) → AreBytes bytes → HasMagic bytes → HasPie
 from_magic bytes small h = ⊎_elim
     (λ short. inr (cut, inl (h, short)))
     (λ long. ⊎_elim
-    (λ version. from_version bytes small (record { head = record { packed = h; long = long }; version_is = version.1 }))
+    (λ version. from_version bytes small (record
+    { head = record { packed = h; long = long }; version_is = version.1 }))
     (λ other. inr (bad_version, (record { packed = h; long = long }, other.1)))
     (eqb_tells (version_in bytes) 1))
     (cases_lt (length bytes) 32)

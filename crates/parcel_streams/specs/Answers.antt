@@ -82,7 +82,8 @@ pub record HasFrame (bytes : List ℕ) (frame : Frame) : Type 0 where
   pub body_is : frame.body.now ≡ body_in bytes
   pub len_is : frame.len ≡ length_in bytes
 
--- The body is the one that is written for this parcel, whose page has no unused room; and in any stream that is a piece.
+-- The body is the one that is written for this parcel, whose page has no unused room; and in any stream that is a
+-- piece.
 pub record IsParcelBody (body : List ℕ) (parcel : ParcelValue) : Type 0 where
   pub body_is :
       body
@@ -115,8 +116,8 @@ IsBodyFault kind body NoMemory =
 abbrev pub stream_fault : ℕ → ℕ → PieceCause → StreamFault
 stream_fault index at cause = record { index = index; at = at; fault = piece_fault cause }
 
--- What an answer without a stream says of the bytes: pieces were read up to here, and what follows, which isn't nothing,
--- has this first fault, or begins with a piece for which memory was refused.
+-- What an answer without a stream says of the bytes: pieces were read up to here, and what follows, which isn't
+-- nothing, has this first fault, or begins with a piece for which memory was refused.
 pub record IsStreamFault (bytes : List ℕ) (fault : StreamFault) : Type 0 where
   pub rest : List ℕ
   pub before : ReadsTo bytes fault.index fault.at rest

@@ -84,9 +84,9 @@ IsFitted body parcel =
 -- ---- the causes
 
 -- not_packed: it doesn't begin with the magic. cut: it ends before its head does, or before its stated length.
--- bad_version: another version. bad_length: no piece has the stated length. bad_sum: another checksum. bad_kind: neither
--- a parcel nor an end. bad_parcel: a parcel's bytes have this first fault. loose: they are a parcel, in another spelling
--- than the one that is written. bad_end: an end of another length, or of a CPU that there isn't.
+-- bad_version: another version. bad_length: no piece has the stated length. bad_sum: another checksum. bad_kind:
+-- neither a parcel nor an end. bad_parcel: a parcel's bytes have this first fault. loose: they are a parcel, in another
+-- spelling than the one that is written. bad_end: an end of another length, or of a CPU that there isn't.
 pub data PieceCause : Type 0 where
   not_packed : PieceCause
   cut : PieceCause

@@ -1,5 +1,5 @@
--- Streams of parcels: pieces, one after the other. A piece is a parcel, or it says that a CPU has no more records. All of
--- it is this project's own, stated in docs/FORMATS.md, "Streams of parcels".
+-- Streams of parcels: pieces, one after the other. A piece is a parcel, or it says that a CPU has no more records. All
+-- of it is this project's own, stated in docs/FORMATS.md, "Streams of parcels".
 use Rattle.std.specs.Prelude.{◌≡◌, ℕ, ◌+◌, ◌*◌, ◌^◌, ◌<◌, ◌≤◌, ⊤, List, [], ◌∷◌, ◌++◌, length}
 use Rattle.crc32c.specs.Castagnoli.{crc32c}
 use Rattle.trace_model.specs.Words.{Decodes}
@@ -18,8 +18,8 @@ pub data Packed : Type 0 where
 abbrev pub magic : List ℕ
 magic = 84 ∷ 82 ∷ 80 ∷ 65 ∷ 82 ∷ 67 ∷ 69 ∷ 76 ∷ []
 
--- a piece without its checksum: the magic, version 1 with the kind above it, the length of the whole piece in bytes, the
--- stream, and what the kind has of its own
+-- a piece without its checksum: the magic, version 1 with the kind above it, the length of the whole piece in bytes,
+-- the stream, and what the kind has of its own
 unfoldable pub unsealed : (kind stream : ℕ) → List ℕ → List ℕ
 unsealed kind stream body =
     magic ++ (le64 (1 + 2 ^ 32 * kind) ++ (le64 (40 + length body) ++ (le64 stream ++ body)))
@@ -35,8 +35,8 @@ bytes_of_piece (parcel_piece stream parcel time contents) =
     sealed 0 stream (bytes_of_parcel parcel time contents (length contents))
 bytes_of_piece (end_piece stream cpu count) = sealed 1 stream (le64 cpu ++ le64 count)
 
--- What holds of a parcel's piece: the parcel is one, the numbers fit 64 bits, there isn't too much data, and it reads as
--- the parcel's records.
+-- What holds of a parcel's piece: the parcel is one, the numbers fit 64 bits, there isn't too much data, and it reads
+-- as the parcel's records.
 pub record IsParcelPiece (stream : ℕ) (parcel : Parcel) (time : ℕ) (contents : List ℕ) : Type 0 where
   pub stream_fits : stream < 2 ^ 64
   pub sound : IsParcel parcel

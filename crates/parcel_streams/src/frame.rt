@@ -97,8 +97,7 @@ pub(crate) fn read_frame(bytes: &[u8]) -> Result<Frame<'_>, PieceFault>
 
 /// Whether the bytes begin as a stream of parcels does. All of the first eight bytes are needed for that.
 pub fn is_stream(bytes: &[u8]) -> bool
-    ensures begins { IsTrue result → HasMagic bytes.now × (8 ≤ length bytes.now) }
-    ensures whole { 8 ≤ length bytes.now → HasMagic bytes.now → IsTrue result }
+    ensures { IsTrue result ↔ (HasMagic bytes.now × (8 ≤ length bytes.now)) }
 {
-    bytes.starts_with(&MAGIC)
+    bytes.len() >= MAGIC.len() && has_magic(bytes)
 }

@@ -1,5 +1,6 @@
 //! Laws over streams of parcels.
-ghost use Rattle.std.specs.Prelude.{◌≡◌, ℕ, ◌+◌, ◌⊎◌, ◌++◌, List, length, take};
+ghost use Rattle.std.specs.Prelude.{◌≡◌, ℕ, ◌+◌, ◌<◌, ◌≤◌, ◌⊎◌, ◌++◌, List, length, take};
+ghost use Rattle.crc32c.specs.Changes.{DifferAt};
 ghost use Rattle.trace_model.specs.FirstFault.{AreBytes};
 ghost use Rattle.trace_model.specs.Parcel.{Parcel as ParcelSeen};
 ghost use Rattle.trace_model.specs.ParcelBytes.{DecodesParcel};
@@ -62,6 +63,15 @@ pub fn joined_streams()
         → bytes_of_pieces (pieces ++ others) ≡ bytes_of_pieces pieces ++ bytes_of_pieces others }
     ensures stream { (bytes behind : List ℕ) (pieces others : List Packed) → IsStream bytes pieces
         → IsStream behind others → IsStream (bytes ++ behind) (pieces ++ others) }
+{}
+
+/// A byte that changes alone is seen: no two pieces differ in one byte. So if a byte of a piece changes, and it isn't
+/// one of those that state the piece's length, no piece is read.
+pub fn a_changed_byte_is_refused()
+    ensures pieces { (piece other : Packed) (at : ℕ) → ¬ DifferAt (bytes_of_piece piece) (bytes_of_piece other) at }
+    ensures reading { (bytes changed : List ℕ) (piece : Packed) (at : ℕ) → BeginsWith bytes piece
+        → DifferAt bytes changed at → at < length (bytes_of_piece piece) → (at < 16) ⊎ (24 ≤ at)
+        → (other : Packed) → ¬ BeginsWith changed other }
 {}
 
 /// The numbers have these values. The contracts name them, so that one that is changed is refused here.

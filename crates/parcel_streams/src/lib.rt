@@ -1,8 +1,8 @@
 //! Streams of parcels: parcels packed one after the other as bytes, as collectors on many machines store and send them.
 //!
 //! A piece of a stream is a parcel, or it says that a CPU has no more records. Each states its version, its length and
-//! its stream, and ends in a checksum. Streams that are put one after the other are a stream. The format is specified in
-//! `docs/FORMATS.md`, "Streams of parcels".
+//! its stream, and ends in a checksum. Streams that are put one after the other are a stream. The format is specified
+//! in `docs/FORMATS.md`, "Streams of parcels".
 #![tactic(auto)]
 
 mod body;

@@ -50,7 +50,12 @@ pub fn pack_parcel(alloc: Global, stream: StreamId, parcel: &Parcel) -> Result<V
 }
 
 /// The bytes of the piece which says that this CPU of the stream has `count` records, and none of this number or above.
-pub fn pack_end(alloc: Global, stream: StreamId, cpu: CpuId, count: u64) -> Result<Vec<u8>, NoMemory>
+pub fn pack_end(
+    alloc: Global,
+    stream: StreamId,
+    cpu: CpuId,
+    count: u64,
+) -> Result<Vec<u8>, NoMemory>
     requires { cpu.0 < MAX_CPUS }
     ensures bytes { IfOk result (λ bytes. bytes.items ≡ bytes_of_piece (end_piece stream.0 cpu.0 count)) }
     ensures sound { IsPiece (end_piece stream.0 cpu.0 count) }

@@ -58,10 +58,10 @@ pub fn read_stream(alloc: Global, bytes: &[u8]) -> Result<Vec<Piece>, StreamFaul
         → result ≡ Err (stream_fault index at cause) → FirstStreamFault bytes.now index at cause }
     ensures faulty { (index at : ℕ) (cause : PieceCause) → FirstStreamFault bytes.now index at cause
         → MatchResult result (λ _. ⊥)
-            (λ fault. (fault ≡ stream_fault index at cause) ⊎ (fault.fault ≡ PieceFault.NoMemory)) }
+        (λ fault. (fault ≡ stream_fault index at cause) ⊎ (fault.fault ≡ PieceFault.NoMemory)) }
     ensures read_back { (pieces : List Packed) → IsStream bytes.now pieces
         → MatchResult result (λ read. pieces_seen read.items ≡ pieces)
-            (λ fault. fault.fault ≡ PieceFault.NoMemory) }
+        (λ fault. fault.fault ≡ PieceFault.NoMemory) }
     ensures no_memory { IfErr result (λ fault. fault.fault ≡ PieceFault.NoMemory
         → HasPieceAt bytes.now fault.index fault.at) }
 {

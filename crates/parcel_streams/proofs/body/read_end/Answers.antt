@@ -1,4 +1,4 @@
-use Rattle.std.proofs.Common.{◌≡◌, ◌++◌, sym, ◌∙◌, arith, rules}
+use Rattle.std.proofs.Common.{◌++◌, sym, ◌∙◌, arith}
 use Rattle.trace_model.specs.Image.{le64}
 use Rattle.parcel_streams.proofs.Bodies.{two_numbers}
 use Rattle.parcel_streams.proofs.body.read_end.Goals as goal

@@ -7,7 +7,8 @@ use Rattle.parcel_streams.proofs.Bodies.{reported, fitted_fault, IsParcelBody-re
 use Rattle.parcel_streams.proofs.body.read_parcel.Goals as goal
 
 pub unfitted_fault-requires : goal.unfitted_fault-requires
-unfitted_fault-requires c = λ parcel d fitted. true≢false (sym ((c.is_fitted.ensures parcel d).1 fitted) ∙ c.if-not-is_fitted.true)
+unfitted_fault-requires c = λ parcel d fitted. true≢false
+    (sym ((c.is_fitted.ensures parcel d).1 fitted) ∙ c.if-not-is_fitted.true)
 
 pub returns-in_err-from_bytes-clause-fault : goal.returns-in_err-from_bytes-clause-fault
 returns-in_err-from_bytes-clause-fault c =
@@ -24,4 +25,5 @@ returns-clause-parcel c =
     let read = c.in_ok-from_bytes.ensures in
     let parcel = c.in_ok-from_bytes.field-0 in
     IsParcelBody-read body parcel read.reads read.page
-    (IsTight-from body (as_parcel parcel) read.reads ((c.is_fitted.ensures (as_parcel parcel) read.reads).0 c.if-not-is_fitted.false))
+    (IsTight-from body (as_parcel parcel) read.reads
+    ((c.is_fitted.ensures (as_parcel parcel) read.reads).0 c.if-not-is_fitted.false))

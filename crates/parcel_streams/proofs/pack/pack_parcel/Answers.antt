@@ -8,4 +8,9 @@ seal-requires-clause-limit c =
     let parcel = c.in_ok-trimmed.field-0 in
     let written = c.in_ok-body.ensures.written in
     let limit = written.limit in
-    omega (arith, ap length (c.deref.ensures.value ∙ written.bytes_is), length-bytes_of_parcel (as_parcel parcel) parcel.page.time parcel.page.bytes parcel.page.size written.fits)
+    omega (
+      arith,
+      ap length (c.deref.ensures.value ∙ written.bytes_is),
+      length-bytes_of_parcel (as_parcel parcel)
+          parcel.page.time parcel.page.bytes parcel.page.size written.fits,
+    )

@@ -1,4 +1,4 @@
-use Rattle.std.proofs.Common.{◌+◌, ◌<◌, ℕ, List, length, sym, subst, arith}
+use Rattle.std.proofs.Common.{ℕ, List, subst, arith}
 use Rattle.std.proofs.lemmas.List.{take_rest}
 use Rattle.parcel_streams.specs.Answers.{PutsPiece}
 use Rattle.parcel_streams.proofs.Steps.{stands_next}
@@ -19,4 +19,5 @@ loop-at-preserved c =
     let bytes = c.args.bytes.now in
     let at = c.loop-at.at in
     stands_next bytes c.loop-at.pieces.items c.put_piece.new.pieces.items at c.in-Ok.len c.loop-at.invariant
-    (subst (λ (b : List ℕ). PutsPiece b c.loop-at.pieces.items c.put_piece.new.pieces.items c.in-Ok.len) (take_rest bytes at) c.in-Ok.ensures.piece)
+    (subst (λ (b : List ℕ). PutsPiece b c.loop-at.pieces.items c.put_piece.new.pieces.items c.in-Ok.len)
+    (take_rest bytes at) c.in-Ok.ensures.piece)
