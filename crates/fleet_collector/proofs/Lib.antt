@@ -2,3 +2,4 @@ pub mod ByNumber
 pub mod InTurn
 pub mod ByTime
 pub mod Changed
+pub mod Marked

@@ -2,10 +2,14 @@
 #![tactic(auto)]
 
 mod add;
+mod fault;
 mod fleet;
 mod listing;
+mod marks;
+mod piece;
 mod streams;
 
+pub use fault::PieceFault;
 pub use fleet::Fleet;
 pub use listing::FleetLine;
 pub use streams::Streams;
