@@ -1,0 +1,158 @@
+-- Lines by stream, CPU and number: one CPU after the other, and one stream after the other.
+use Rattle.std.proofs.Common.{◌≡◌, ◌⊎◌, inl, inr, ⊎_elim, ℕ, zero, suc, ◌+◌, ◌<◌, ◌≤◌, List, [], ◌∷◌, ◌++◌, length, map, Some, refl, sym, ap, ◌∙◌, subst, arith}
+use Rattle.std.specs.List.{slice_get}
+use Rattle.std.proofs.lemmas.Bool.{cases_lt}
+use Rattle.std.proofs.lemmas.Option.{none-some}
+use Rattle.trace_model.specs.Record.{Record}
+use Rattle.trace_model.proofs.collections.Elements.{some_is, get_in_front, get_behind, get_in_either}
+use Rattle.collector.specs.Listed.{AreListed, AreRecordsFrom}
+use Rattle.stream_collector.specs.Stream.{Stream, bound_of, HasRecord}
+use Rattle.time_merge.proofs.Ordered.{ordered_append, before_each, ordered_rising, ordered_map, mapped_at, at_mapped}
+use Rattle.fleet_collector.specs.Listing.{Line, line_for, IsBeforeAtOnce}
+use Rattle.fleet_collector.specs.Lines.{line_of, IsAmong, AreLinesOf, HasOf, HasIn}
+
+-- it holds of the record of this line
+abbrev of_line : ((stream cpu number : ℕ) → Record → Type 0) → Line → Type 0
+of_line holds line = holds line.stream line.cpu line.number record { moment = line.moment; bytes = line.bytes }
+
+-- lines behind others, if each of those is before each of them
+module _ (first second both : (stream cpu number : ℕ) → Record → Type 0)
+    (in_front : (s c n : ℕ) (r : Record) → first s c n r → both s c n r)
+    (behind : (s c n : ℕ) (r : Record) → second s c n r → both s c n r)
+    (either : (s c n : ℕ) (r : Record) → both s c n r → first s c n r ⊎ second s c n r)
+    (before : (a b : Line) → of_line first a → of_line second b → IsBeforeAtOnce a b) where
+  pub lines_append : (xs ys : List Line) → AreLinesOf first xs → AreLinesOf second ys → AreLinesOf both (xs ++ ys)
+  lines_append xs ys p q = record {
+    ordered = ordered_append IsBeforeAtOnce xs ys p.ordered q.ordered
+        (λ k x at. before_each IsBeforeAtOnce x ys (λ j y there. before x y (p.of_them x (k, at)) (q.of_them y (j, there))));
+    of_them = λ line s. ⊎_elim
+        (λ (front : IsAmong xs line). in_front line.stream line.cpu line.number record { moment = line.moment; bytes = line.bytes }
+        (p.of_them line front))
+        (λ (back : IsAmong ys line). behind line.stream line.cpu line.number record { moment = line.moment; bytes = line.bytes }
+        (q.of_them line back))
+        (get_in_either xs ys s.0 line s.1);
+    whole = λ s c n r h. ⊎_elim
+        (λ (one : first s c n r). let at = p.whole s c n r one in (at.0, get_in_front xs ys at.0 (line_for s c n r) at.1))
+        (λ (other : second s c n r). let at = q.whole s c n r other in (length xs + at.0, get_behind xs ys at.0 ∙ at.1))
+        (either s c n r h);
+  }
+
+-- ---- one CPU of a stream
+
+-- it is a record of this CPU of this stream
+record IsOf (stream : ℕ) (known : Stream) (cpu other c n : ℕ) (r : Record) : Type 0 where
+  stream_is : other ≡ stream
+  cpu_is : c ≡ cpu
+  has : HasRecord known cpu n r
+
+cpu_lines : (stream : ℕ) (known : Stream) (cpu : ℕ) (list : List (ℕ × Record)) → AreListed (HasRecord known cpu) list
+    → AreLinesOf (IsOf stream known cpu) (map (line_of stream cpu) list)
+cpu_lines stream known cpu list records = record {
+  ordered = ordered_map (λ (a b : ℕ × Record). a.0 < b.0) IsBeforeAtOnce (line_of stream cpu)
+      (λ a b lt. inr (refl, inr (refl, lt))) list
+      (ordered_rising (λ (a b : ℕ × Record). a.0 < b.0) (λ x y z p q. let e : x.0 < z.0 = omega (arith, p, q) in e) list records.rising);
+  of_them = λ line s.
+      let found = mapped_at (line_of stream cpu) list s.0 line s.1 in
+      subst (λ (z : Line). IsOf stream known cpu z.stream z.cpu z.number record { moment = z.moment; bytes = z.bytes }) found.2
+      record { stream_is = refl; cpu_is = refl; has = records.of_them s.0 found.0 found.1 };
+  whole = λ s c n r h.
+      let at = records.whole n r h.has in
+      let there : slice_get (map (line_of stream cpu) list) at.0 ≡ Some (line_for stream cpu n r) =
+      at_mapped (line_of stream cpu) list at.0 (n, r) at.1 in
+      (at.0, there ∙ ap (λ q. Some (line_for q cpu n r)) (sym h.stream_is) ∙ ap (λ q. Some (line_for s q n r)) (sym h.cpu_is));
+}
+
+-- one CPU more
+pub stream_more : (stream : ℕ) (known : Stream) (cpu : ℕ) (lines : List Line) (list : List (ℕ × Record))
+    → AreListed (HasRecord known cpu) list → AreLinesOf (HasOf stream known cpu) lines
+    → AreLinesOf (HasOf stream known (cpu + 1)) (lines ++ map (line_of stream cpu) list)
+stream_more stream known cpu lines list records before =
+    lines_append (HasOf stream known cpu) (IsOf stream known cpu) (HasOf stream known (cpu + 1))
+    (λ s c n r h. record { stream_is = h.stream_is; below = let b = h.below in omega arith; has = h.has })
+    (λ s c n r h. record {
+      stream_is = h.stream_is;
+      below = let b = h.cpu_is in omega arith;
+      has = subst (λ q. HasRecord known q n r) (sym h.cpu_is) h.has;
+    })
+    (λ s c n r h. ⊎_elim
+    (λ (lt : c < cpu). inl record { stream_is = h.stream_is; below = lt; has = h.has })
+    (λ (ge : cpu ≤ c).
+    let b = h.below in
+    let e : c ≡ cpu = omega arith in
+    inr record { stream_is = h.stream_is; cpu_is = e; has = subst (λ q. HasRecord known q n r) e h.has })
+    (cases_lt c cpu))
+    (λ a b p q.
+    let lt = p.below in
+    let is = q.cpu_is in
+    let less : a.cpu < b.cpu = omega arith in
+    inr (p.stream_is ∙ sym q.stream_is, inl less))
+    lines (map (line_of stream cpu) list) before (cpu_lines stream known cpu list records)
+
+-- no CPU: no line
+pub stream_none : (stream : ℕ) (known : Stream) → AreLinesOf (HasOf stream known 0) []
+stream_none stream known = record {
+  ordered = tt;
+  of_them = λ line s. absurd (none-some line s.1);
+  whole = λ s c n r h. let b = h.below in absurd (omega arith);
+}
+
+-- the records from the bound on are those that the stream has
+pub listed_of : (known : Stream) (cpu : ℕ) (list : List (ℕ × Record)) → AreRecordsFrom known.parcels cpu (bound_of known cpu) list
+    → AreListed (HasRecord known cpu) list
+listed_of known cpu list records = record {
+  rising = records.rising;
+  of_them = λ k a at. let h = records.of_them k a at in record { from = h.up; has = h.has };
+  whole = λ n r h. records.whole n r record { has = h.has; up = h.from };
+}
+
+-- ---- one stream more
+
+-- each of these streams is before this one
+abbrev pub AreBelow : List (ℕ × Stream) → ℕ → Type 0
+AreBelow front stream = (k : ℕ) (entry : ℕ × Stream) → slice_get front k ≡ Some entry → entry.0 < stream
+
+pub fleet_more : (front : List (ℕ × Stream)) (stream : ℕ) (known : Stream) (end : ℕ) (lines more : List Line)
+    → AreBelow front stream
+    → ((c n : ℕ) (r : Record) → HasRecord known c n r → c < end)
+    → AreLinesOf (HasIn front) lines
+    → AreLinesOf (HasOf stream known end) more
+    → AreLinesOf (HasIn (front ++ (stream, known) ∷ [])) (lines ++ more)
+fleet_more front stream known end lines more low few p q =
+    lines_append (HasIn front) (HasOf stream known end) (HasIn (front ++ (stream, known) ∷ []))
+    (λ s c n r h. record {
+      index = h.index;
+      known = h.known;
+      at = get_in_front front ((stream, known) ∷ []) h.index (s, h.known) h.at;
+      has = h.has;
+    })
+    (λ s c n r h. record {
+      index = length front + 0;
+      known = known;
+      at = get_behind front ((stream, known) ∷ []) 0 ∙ ap (λ q. Some (q, known)) (sym h.stream_is);
+      has = h.has;
+    })
+    (λ s c n r h. ⊎_elim
+    (λ (there : (k : ℕ) × (slice_get front k ≡ Some (s, h.known))). inl record { index = there.0; known = h.known; at = there.1; has = h.has })
+    (λ (here : (k : ℕ) × (slice_get ((stream, known) ∷ []) k ≡ Some (s, h.known))).
+    let is : (stream, known) ≡ (s, h.known) = only (stream, known) here.0 (s, h.known) here.1 in
+    let has : HasRecord known c n r = subst (λ x. HasRecord x c n r) (sym (ap (λ (e : ℕ × Stream). e.1) is)) h.has in
+    inr record { stream_is = sym (ap (λ (e : ℕ × Stream). e.0) is); below = few c n r has; has = has })
+    (get_in_either front ((stream, known) ∷ []) h.index (s, h.known) h.at))
+    (λ a b h k.
+    let less = low h.index (a.stream, h.known) h.at in
+    let is = k.stream_is in
+    let before : a.stream < b.stream = omega arith in
+    inl before)
+    lines more p q
+  where
+    only : {X : Type 0} (x : X) (k : ℕ) (y : X) → slice_get (x ∷ []) k ≡ Some y → x ≡ y
+    only x zero y at = some_is x y at
+    only x (suc k) y at = absurd (none-some y at)
+
+-- no stream: no line
+pub fleet_none : AreLinesOf (HasIn []) []
+fleet_none = record {
+  ordered = tt;
+  of_them = λ line s. absurd (none-some line s.1);
+  whole = λ s c n r h. absurd (none-some (s, h.known) h.at);
+}

@@ -1,0 +1,43 @@
+-- What is known of the streams of a fleet: of each that is there its id, and what is known of it, by rising id.
+use Rattle.std.specs.Prelude.{◌≡◌, ◌≢◌, ℕ, ◌<◌, List, [], Option, Some, None}
+use Rattle.std.specs.Ordering.{nat_cmp}
+use Rattle.std.specs.BTreeMap.{is_at}
+use Rattle.std.specs.Map.{lookup}
+use Rattle.std.specs.Borrow.{Bor}
+use Rattle.trace_model.specs.Record.{Record}
+use Rattle.trace_model.specs.Collection.{Has}
+use Rattle.trace_model.specs.declared.limits.TheConstants.{MAX_CPUS}
+use Rattle.parcel_streams.specs.declared.piece.StreamId.{StreamId}
+use Rattle.stream_collector.specs.Stream.{Stream}
+
+-- what is known of the stream of this id, if it is there
+abbrev pub stream_in : List (ℕ × Stream) → ℕ → Option Stream
+stream_in fleet id = lookup (is_at (nat_cmp id)) fleet
+
+-- nothing is known of it
+abbrev pub empty_stream : Stream
+empty_stream = record { parcels = []; marks = []; given_up = [] }
+
+abbrev pub or_empty : Option Stream → Stream
+or_empty None = empty_stream
+or_empty (Some stream) = stream
+
+-- what is known of the stream of this id: nothing, if it isn't there
+abbrev pub stream_at : List (ℕ × Stream) → ℕ → Stream
+stream_at fleet id = or_empty (stream_in fleet id)
+
+-- all streams but this one stay as they were, those that weren't there too
+abbrev pub KeepsOthers : (old new : List (ℕ × Stream)) (id : ℕ) → Type 0
+KeepsOthers old new id = (other : ℕ) → other ≢ id → stream_in new other ≡ stream_in old other
+
+-- a stream that is handed out: its id, and what is known of it
+abbrev pub entry_seen : StreamId × Bor Stream → ℕ × Stream
+entry_seen entry = (entry.0.0, entry.1.now)
+
+-- the stream has records of CPUs that there are, and of no others
+abbrev pub HasKnownCpus : Stream → Type 0
+HasKnownCpus stream = (cpu number : ℕ) (r : Record) → Has stream.parcels cpu number r → cpu < MAX_CPUS
+
+-- so have all of them
+abbrev pub AllHaveKnownCpus : List (ℕ × Stream) → Type 0
+AllHaveKnownCpus fleet = (id : ℕ) (stream : Stream) → stream_in fleet id ≡ Some stream → HasKnownCpus stream

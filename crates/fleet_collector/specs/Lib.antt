@@ -1,0 +1,4 @@
+pub mod Fleet
+pub mod Pieces
+pub mod Listing
+pub mod Lines

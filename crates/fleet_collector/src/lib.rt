@@ -1,0 +1,15 @@
+//! What is known of the streams of a fleet: a collector for each of them, by its id.
+#![tactic(auto)]
+
+mod add;
+mod fault;
+mod fleet;
+mod listing;
+mod marks;
+mod piece;
+mod streams;
+
+pub use fault::PieceFault;
+pub use fleet::Fleet;
+pub use listing::FleetLine;
+pub use streams::Streams;
