@@ -8,6 +8,12 @@ use ring_frames::write_padded;
 use step_text::Asked;
 use trace_model::NoMemory;
 
+/// A loop whose steps are told, and one whose steps aren't. Each has a copy of its own of what a step does: so large a
+/// function is inlined only if it has one call.
+pub(crate) enum Told {}
+
+pub(crate) enum Untold {}
+
 /// More steps than a frame or a take makes in a ring of the most pages.
 pub(crate) const MOST_STEPS: u64 = 8192;
 
@@ -69,7 +75,7 @@ impl<'a> Lane<'a> {
         let _payload = self.payloads[depth - 1];
         let mut steps = 0;
         while steps < count && self.payloads.len() == depth {
-            let answer = self.step_once();
+            let answer = self.step_once::<Untold>();
             reports.log(at, answer)?;
             steps += 1;
         }
@@ -89,7 +95,7 @@ impl<'a> Lane<'a> {
         let payload = self.payloads[depth - 1];
         let mut steps = 0;
         while steps < count && self.payloads.len() == depth {
-            let answer = self.step_once();
+            let answer = self.step_once::<Told>();
             reports.report(at, Asked::Top(payload), answer, &self.core)?;
             steps += 1;
         }
@@ -98,18 +104,18 @@ impl<'a> Lane<'a> {
 
     /// One step of the frame on top (`ask_top`). The payload of a frame that is gone is dropped.
     #[inline(always)]
-    fn step_once(&mut self) -> Answer
+    fn step_once<Steps>(&mut self) -> Answer
         requires { (cpu : ℕ) × IsLaneOf cpu self.old }
         ensures { StepsOnce self.old result self.new }
     {
-        let answer = self.ask_top();
+        let answer = self.ask_top::<Steps>();
         self.forget_gone();
         answer
     }
 
     /// One step of the ring's frame on top: if its record is reserved, its payload is written, and it ends.
     #[inline(always)]
-    fn ask_top(&mut self) -> Answer
+    fn ask_top<Steps>(&mut self) -> Answer
         requires { (cpu : ℕ) × IsLaneOf cpu self.old }
         ensures ring { self.new ≡ record self.old { core = self.new.core } }
         ensures step { AsksTop self.old result self.new.core }

@@ -56,7 +56,7 @@ one_kept inside seen slot kept is of top fits same =
 -- ---- the frame on top has no slot
 
 pub returns-in_default-clause-step : goal.returns-in_default-clause-step
-returns-in_default-clause-step c =
+returns-in_default-clause-step g c =
     let v : LaneValue = lane_of c.self.inside in
     subst (λ (x : LaneValue). AsksTop x c.step.result c.step.new.self) c.self.view_is
     (asked_step v c.step.result c.step.new.self
@@ -65,19 +65,19 @@ returns-in_default-clause-step c =
 -- ---- it has one
 
 pub overflow_sub-len : goal.overflow_sub-len
-overflow_sub-len c =
+overflow_sub-len g c =
     let ok = c.self.inside.payloads.ok in
     let slot = c.in-Ok.ensures.slot.lent in
     let some = one_kept c.self.inside _ slot.slot c.len.result c.self.view_is c.requires slot.on_top (c.in-Ok.ensures.fits slot.slot slot.on_top) (c.len.ensures ∙ ok.0) in
     omega (arith, some)
 
 pub index-payload-requires : goal.index-payload-requires
-index-payload-requires c = let ok = c.self.inside.payloads.ok in
-    let some = overflow_sub-len c in
+index-payload-requires g c = let ok = c.self.inside.payloads.ok in
+    let some = overflow_sub-len g c in
     omega (arith, some, c.len.ensures, ok.0)
 
 pub write_padded-requires : goal.write_padded-requires
-write_padded-requires c =
+write_padded-requires g c =
     let lent = c.in-Ok.ensures.slot.lent in
     let has = top_payload c.self.inside _ lent.slot c.self.view_is c.requires lent.on_top
     (c.in-Ok.ensures.fits lent.slot lent.on_top) in
@@ -90,7 +90,7 @@ write_padded-requires c =
     (is_first bytes kept.items (c.len.result - 1) c.index-payload.result.now last c.index-payload.ensures))
 
 pub returns-clause-step : goal.returns-clause-step
-returns-clause-step c =
+returns-clause-step g c =
     let v : LaneValue = lane_of c.self.inside in
     let lent = c.in-Ok.ensures.slot.lent in
     let fits = c.in-Ok.ensures.fits lent.slot lent.on_top in

@@ -7,7 +7,7 @@ use Rattle.script_replay.proofs.lane.Lane.step_once.Goals as goal
 
 -- the payloads of frames that are gone are dropped from the value that the step leaves
 pub returns : goal.returns
-returns c = λ n size start cpu lane is.
+returns g c = λ n size start cpu lane is.
     let s = c.ask_top-answer.ensures.step n size start cpu lane is in
     let left : value_behind c.args.self.now c.ask_top-answer.new.self.core
     ≡ c.forget_gone.new.self = sym (c.forget_gone.ensures
