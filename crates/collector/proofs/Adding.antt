@@ -18,7 +18,7 @@ use Rattle.collector.specs.declared.fault.AddFault.{AddFault}
 use Rattle.collector.specs.declared.fault.AddFault.TheVariants.{Clash, TakenAndMissing, NoMemory}
 use Rattle.collector.proofs.Walks.{one_of_both}
 use Rattle.collector.proofs.Places.{get_pushed}
-use Rattle.collector.proofs.Indexing.{same_record, record_at}
+use Rattle.collector.proofs.Indexing.{same_record, record_at, in_taken}
 
 -- ---- who has it
 
@@ -134,15 +134,11 @@ front_agrees ps p n agree fits = record {
         (cases_lt m (p.first - p.missed))))
         front
 
-in_has : (ps : List Parcel) (i cpu n : ℕ) → IsIn ps i cpu n → (r : Record) × Has ps cpu n r
-in_has ps i cpu n x = let found = record_at x.parcel cpu n x.cpu_is x.from x.below in
-    (found.0, record { index = i; parcel = x.parcel; at = x.at; pair = found.1 })
-
 pub missing_is_taken : (ps : List Parcel) (p : Parcel) (i cpu n : ℕ) → cpu ≡ p.cpu → Agree ps → IsIn ps i cpu n
     → p.first - p.missed ≤ n → n < p.first → ((m : ℕ) → p.first - p.missed ≤ m → m < n → FitsAt ps p p.cpu m)
     → IsTakenAndMissingAt (ps ++ p ∷ []) cpu n × AgreeBefore (ps ++ p ∷ []) cpu n
 missing_is_taken ps p i cpu n e agree x low high fits =
-    let found = in_has ps i cpu n x in (
+    let found = in_taken ps i cpu n x in (
       record {
         one = found.0;
         has = (joined_left ps (p ∷ [])).has cpu n found.0 found.1;

@@ -18,7 +18,7 @@ use Rattle.collector.specs.declared.index.Index.{Index}
 use Rattle.collector.specs.Ranges.{IsLaid}
 use Rattle.collector.specs.Index.{ReportsOf, HasCpu, AreAllApart, AreAllStated, ReportSameOf, IsIndexCopy, IsIn, IsFoundBy, IsIndexed}
 use Rattle.collector.specs.Shown.{IsContentAt}
-use Rattle.collector.specs.Known.{IsKnown, IsCpuKnown}
+use Rattle.collector.specs.Known.{IsTaken, IsKnown, IsCpuKnown}
 use Rattle.collector.proofs.Places.{get_pushed, get_last, get_within}
 use Rattle.collector.proofs.Indexes.{copies_apart, copies_stated, copies_same}
 
@@ -94,17 +94,23 @@ record_at p cpu n cpu_is from below =
     let found = get_within p.records (n - p.first) (omega arith) in
     (found.0, record { index = n - p.first; cpu_is = cpu_is; number_is = omega arith; record_is = found.1 })
 
-module _ (ps : List Parcel) (index : Index) (x : IsIndexed ps index) (cpu : ℕ) where
-  reported_known : (n : ℕ) (content : Content) → ReportsOf index cpu n content → IsKnown ps cpu n
-  reported_known n (Kept i) t = let p = x.kept cpu n i t in
-      let found = record_at p.parcel cpu n p.cpu_is p.from p.below in
-      inl (found.0, record { index = i; parcel = p.parcel; at = p.at; pair = found.1 })
-  reported_known n Missing t = inr (x.missing cpu n t)
+pub in_taken : (ps : List Parcel) (i cpu n : ℕ) → IsIn ps i cpu n → IsTaken ps cpu n
+in_taken ps i cpu n x = let found = record_at x.parcel cpu n x.cpu_is x.from x.below in
+    (found.0, record { index = i; parcel = x.parcel; at = x.at; pair = found.1 })
 
+pub known_of : (ps : List Parcel) (cpu n : ℕ) (content : Content) → IsContentAt ps cpu n (Some content)
+    → IsKnown ps cpu n
+known_of ps cpu n (Kept i) shown = inl (in_taken ps i cpu n shown)
+known_of ps cpu n Missing shown = inr shown
+
+module _ (ps : List Parcel) (index : Index) (x : IsIndexed ps index) (cpu : ℕ) where
   ranges_known : (o : Option Ranges) → get nat_cmp index.cpus cpu ≡ o → IsSome o → IsCpuKnown ps cpu
   ranges_known None e some = absurd (false≢true some)
-  ranges_known (Some ranges) e some = let stated = x.stated cpu ranges e in
-      (stated.0, reported_known stated.0 stated.1 record { ranges = ranges; at = e; reports = stated.2 })
+  ranges_known (Some ranges) e some = let stated = x.stated cpu ranges e in (
+    stated.0,
+    known_of ps cpu stated.0 stated.1 (shown_here ps index x cpu stated.0 (Some stated.1)
+        record { ranges = ranges; at = e; reports = stated.2 } tt),
+  )
 
   pub has_known : HasCpu index cpu → IsCpuKnown ps cpu
   has_known has = ranges_known (get nat_cmp index.cpus cpu) refl has

@@ -13,7 +13,8 @@ use Rattle.collector.specs.Shown.{IsUnknown, IsContentAt}
 use Rattle.collector.specs.Known.{IsKnown}
 use Rattle.collector.specs.Listed.{first_record}
 use Rattle.collector.specs.Runs.{IsOfKind, is_missed, is_unknown, is_of_kind, states_kind}
-use Rattle.collector.proofs.Stretches.{has_in, record_fits, missing_fits, or_right, false_unless, is_missed_true, misses_of_true, is_missed_false}
+use Rattle.collector.proofs.Indexing.{in_taken, known_of}
+use Rattle.collector.proofs.Stretches.{record_fits, missing_fits, or_right, false_unless, is_missed_true, misses_of_true, is_missed_false}
 use Rattle.collector.proofs.RecordsLeft.{first_has, some_first, has_none}
 
 -- ---- unknown, computed
@@ -84,17 +85,15 @@ stated_of MissingKind ps cpu n (Some Missing) e shown = shown
 stated_of UnknownKind ps cpu n None e shown = shown
 stated_of UnknownKind ps cpu n (Some content) e shown = absurd (false≢true e)
 
-known_not_unknown : (ps : List Parcel) (cpu n : ℕ) (content : Content) → IsContentAt ps cpu n (Some content)
-    → IsUnknown ps cpu n → ⊥
-known_not_unknown ps cpu n (Kept i) shown unknown = let h = has_in ps i cpu n shown in unknown.no_record h.0 h.1
-known_not_unknown ps cpu n Missing shown unknown = unknown.not_missing shown
+known_not_unknown : (ps : List Parcel) (cpu n : ℕ) → IsKnown ps cpu n → IsUnknown ps cpu n → ⊥
+known_not_unknown ps cpu n known unknown = ⊎_elim (λ (r, h). unknown.no_record r h) (λ m. unknown.not_missing m) known
 
 pub stated_not_of : (kind : Kind) (ps : List Parcel) (cpu n : ℕ) (o : Option Content) → Agree ps
     → states_kind kind o ≡ false → IsContentAt ps cpu n o → IsOfKind kind ps cpu n → ⊥
 stated_not_of MissingKind ps cpu n None agree e shown m = shown.not_missing m
 stated_not_of MissingKind ps cpu n (Some (Kept i)) agree e shown m =
-    let h = has_in ps i cpu n shown in agree.not_missing cpu n h.0 h.1 m
+    let h = in_taken ps i cpu n shown in agree.not_missing cpu n h.0 h.1 m
 stated_not_of MissingKind ps cpu n (Some Missing) agree e shown m = false≢true (sym e)
 stated_not_of UnknownKind ps cpu n None agree e shown unknown = false≢true (sym e)
 stated_not_of UnknownKind ps cpu n (Some content) agree e shown unknown =
-    known_not_unknown ps cpu n content shown unknown
+    known_not_unknown ps cpu n (known_of ps cpu n content shown) unknown

@@ -22,17 +22,8 @@ use Rattle.collector.specs.Known.{IsTaken, IsKnown}
 use Rattle.collector.specs.Beside.{pair_of, IsBeside, IsSeen, IsSameAt, FitTogether}
 use Rattle.collector.specs.Faults.{IsClashAt, IsTakenAndMissingAt, IsBeforeNumber, AgreeBefore}
 use Rattle.collector.proofs.Walks.{one_of_both}
-use Rattle.collector.proofs.Indexing.{record_at}
+use Rattle.collector.proofs.Indexing.{record_at, in_taken, known_of}
 use Rattle.collector.proofs.Looking.{in_within}
-
-in_taken : (ps : List Parcel) (i cpu n : ℕ) → IsIn ps i cpu n → IsTaken ps cpu n
-in_taken ps i cpu n x = let found = record_at x.parcel cpu n x.cpu_is x.from x.below in
-    (found.0, record { index = i; parcel = x.parcel; at = x.at; pair = found.1 })
-
-pub known_of : (ps : List Parcel) (cpu n : ℕ) (content : Content) → IsContentAt ps cpu n (Some content)
-    → IsKnown ps cpu n
-known_of ps cpu n (Kept i) shown = inl (in_taken ps i cpu n shown)
-known_of ps cpu n Missing shown = inr shown
 
 pub beside_of : (ps qs : List Parcel) (cpu n : ℕ) (o p : Option Content) → IsContentAt ps cpu n o → IsContentAt qs cpu n p → IsBeside ps qs cpu n (pair_of o p)
 beside_of ps qs cpu n None None a b = inl (a, b)

@@ -10,15 +10,8 @@ use Rattle.trace_model.proofs.collections.Elements.{some_is}
 use Rattle.collector.specs.declared.ranges.Content.{Content}
 use Rattle.collector.specs.declared.ranges.Content.TheVariants.{Kept, Missing}
 use Rattle.collector.specs.Sound.{AreSound}
-use Rattle.collector.specs.Index.{IsIn}
 use Rattle.collector.specs.Shown.{IsContentAt}
 use Rattle.collector.specs.Runs.{is_missed}
-use Rattle.collector.proofs.Indexing.{record_at}
-
-pub has_in : (ps : List Parcel) (i cpu n : ℕ) → IsIn ps i cpu n → (r : Record) × Has ps cpu n r
-has_in ps i cpu n h =
-    let found = record_at h.parcel cpu n h.cpu_is h.from h.below in
-    (found.0, record { index = i; parcel = h.parcel; at = h.at; pair = found.1 })
 
 pub shown_no_record : (ps : List Parcel) (cpu n : ℕ) (o : Option Content) → Agree ps → ((i : ℕ) → o ≡ Some (Kept i) → ⊥) → IsContentAt ps cpu n o → (r : Record) → Has ps cpu n r → ⊥
 shown_no_record ps cpu n (Some (Kept i)) agree not shown r h = not i refl

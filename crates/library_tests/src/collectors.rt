@@ -60,3 +60,22 @@ fn a_parcel_is_read_with_its_page(rt: HostRuntime) -> Result<(), Fail> {
     compare(&rt, &read, ONE_OF_36)?;
     Ok(())
 }
+
+/// Number 6 is missing and number 7 has a record: all others are unknown.
+#[test]
+fn what_is_unknown_is_told(rt: HostRuntime) -> Result<(), Fail> {
+    let mut collector = Collector::new(rt.alloc());
+    assert!(rt; collector.cpus().next().is_none() && collector.known_end(CpuId(0)) == 0);
+    assert!(rt; collector.add(Parcel::from_bytes(rt.alloc(), ONE_OF_36)?) == Ok(Added::New));
+    assert!(rt; collector.watermark(CpuId(0)) == RecordNo(0));
+    assert!(rt; collector.first_unknown(CpuId(0), RecordNo(6)) == RecordNo(8));
+    assert!(rt; collector.first_unknown(CpuId(0), RecordNo(u64::MAX)) == RecordNo(u64::MAX));
+    assert!(rt; collector.known_end(CpuId(0)) == 8 && collector.known_end(CpuId(1)) == 0);
+    let mut unknown = collector.unknown(CpuId(0), 10);
+    assert!(rt; unknown.next() == Some((RecordNo(0), RecordNo(5))));
+    assert!(rt; unknown.next() == Some((RecordNo(8), RecordNo(9))));
+    assert!(rt; unknown.next().is_none());
+    let mut cpus = collector.cpus();
+    assert!(rt; cpus.next() == Some(CpuId(0)) && cpus.next().is_none());
+    Ok(())
+}

@@ -2,8 +2,7 @@ use Rattle.std.proofs.Common.{◌-◌, Some, None, subst}
 use Rattle.page_numbers.specs.Parcels.{as_parcels}
 use Rattle.collector.specs.Shown.{IsUnknown}
 use Rattle.collector.specs.Known.{IsKnown}
-use Rattle.collector.proofs.Indexing.{shown_here}
-use Rattle.collector.proofs.SideBySide.{known_of}
+use Rattle.collector.proofs.Indexing.{shown_here, known_of}
 use Rattle.collector.proofs.collector.Collector.known_end.Goals as goal
 
 pub returns-clause-behind : goal.returns-clause-behind
