@@ -9,7 +9,7 @@ use Rattle.trace_model.specs.Parcel.{Parcel}
 use Rattle.trace_model.specs.Collection.{Has, Misses}
 use Rattle.trace_model.proofs.collections.Elements.{some_is}
 use Rattle.collector.specs.Known.{IsKnown}
-use Rattle.collector.proofs.Stretches.{has_in}
+use Rattle.collector.proofs.Indexing.{in_taken}
 
 -- from its first missing number up to the one after its last record, all numbers are known
 pub one_known : (p : Parcel) (n : ℕ) → p.missed ≤ p.first → p.first - p.missed ≤ n → n < p.first + length p.records
@@ -21,7 +21,7 @@ one_known p n fits from below = ⊎_elim
       at = refl;
       missing = record { cpu_is = refl; low = omega arith; high = lt };
     })
-    (λ (le : p.first ≤ n). inl (has_in (p ∷ []) 0 p.cpu n
+    (λ (le : p.first ≤ n). inl (in_taken (p ∷ []) 0 p.cpu n
     record { parcel = p; at = refl; cpu_is = refl; from = le; below = below }))
     (cases_lt n p.first)
 
