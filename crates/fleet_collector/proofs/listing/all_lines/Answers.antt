@@ -1,7 +1,8 @@
 use Rattle.std.proofs.Common.{[], ◌∙◌, ℕ, List, sym, subst, map}
 use Rattle.std.specs.Borrow.{Bor}
 use Rattle.parcel_streams.specs.declared.piece.StreamId.{StreamId}
-use Rattle.std.proofs.lemmas.Iterator.Consumers.{YieldsList-from_first, YieldsList-so_far, YieldsList-turn, YieldsList-end}
+use Rattle.std.proofs.lemmas.Iterator.Consumers.{YieldsList-from_first, YieldsList-so_far, YieldsList-turn}
+use Rattle.std.proofs.lemmas.Iterator.Consumers.{YieldsList-end}
 use Rattle.fleet_collector.specs.declared.listing.FleetLine.{FleetLine}
 use Rattle.stream_collector.specs.Stream.{Stream}
 use Rattle.fleet_collector.specs.Fleet.{entry_seen}
