@@ -1,5 +1,6 @@
 -- Lines by stream, CPU and number: one CPU after the other, and one stream after the other.
-use Rattle.std.proofs.Common.{◌≡◌, ◌⊎◌, inl, inr, ⊎_elim, ℕ, zero, suc, ◌+◌, ◌<◌, ◌≤◌, List, [], ◌∷◌, ◌++◌, length, map, Some, refl, sym, ap, ◌∙◌, subst, arith}
+use Rattle.std.proofs.Common.{◌≡◌, ◌⊎◌, inl, inr, ⊎_elim, ℕ, zero, suc, ◌+◌, ◌<◌, ◌≤◌, List, [], ◌∷◌, ◌++◌, length}
+use Rattle.std.proofs.Common.{map, Some, refl, sym, ap, ◌∙◌, subst, arith}
 use Rattle.std.specs.List.{slice_get}
 use Rattle.std.proofs.lemmas.Bool.{cases_lt}
 use Rattle.std.proofs.lemmas.Option.{none-some}
@@ -24,15 +25,19 @@ module _ (first second both : (stream cpu number : ℕ) → Record → Type 0)
   pub lines_append : (xs ys : List Line) → AreLinesOf first xs → AreLinesOf second ys → AreLinesOf both (xs ++ ys)
   lines_append xs ys p q = record {
     ordered = ordered_append IsBeforeAtOnce xs ys p.ordered q.ordered
-        (λ k x at. before_each IsBeforeAtOnce x ys (λ j y there. before x y (p.of_them x (k, at)) (q.of_them y (j, there))));
+        (λ k x at. before_each IsBeforeAtOnce x ys (λ j y there. before x y (p.of_them x (k, at))
+        (q.of_them y (j, there))));
     of_them = λ line s. ⊎_elim
-        (λ (front : IsAmong xs line). in_front line.stream line.cpu line.number record { moment = line.moment; bytes = line.bytes }
+        (λ (front : IsAmong xs line). in_front line.stream line.cpu line.number record
+        { moment = line.moment; bytes = line.bytes }
         (p.of_them line front))
-        (λ (back : IsAmong ys line). behind line.stream line.cpu line.number record { moment = line.moment; bytes = line.bytes }
+        (λ (back : IsAmong ys line). behind line.stream line.cpu line.number record
+        { moment = line.moment; bytes = line.bytes }
         (q.of_them line back))
         (get_in_either xs ys s.0 line s.1);
     whole = λ s c n r h. ⊎_elim
-        (λ (one : first s c n r). let at = p.whole s c n r one in (at.0, get_in_front xs ys at.0 (line_for s c n r) at.1))
+        (λ (one : first s c n r). let at = p.whole s c n r one in
+        (at.0, get_in_front xs ys at.0 (line_for s c n r) at.1))
         (λ (other : second s c n r). let at = q.whole s c n r other in (length xs + at.0, get_behind xs ys at.0 ∙ at.1))
         (either s c n r h);
   }
@@ -50,16 +55,21 @@ cpu_lines : (stream : ℕ) (known : Stream) (cpu : ℕ) (list : List (ℕ × Rec
 cpu_lines stream known cpu list records = record {
   ordered = ordered_map (λ (a b : ℕ × Record). a.0 < b.0) IsBeforeAtOnce (line_of stream cpu)
       (λ a b lt. inr (refl, inr (refl, lt))) list
-      (ordered_rising (λ (a b : ℕ × Record). a.0 < b.0) (λ x y z p q. let e : x.0 < z.0 = omega (arith, p, q) in e) list records.rising);
+      (ordered_rising (λ (a b : ℕ × Record). a.0 < b.0) (λ x y z p q. let e : x.0 < z.0 = omega (arith, p, q) in e)
+      list records.rising);
   of_them = λ line s.
       let found = mapped_at (line_of stream cpu) list s.0 line s.1 in
-      subst (λ (z : Line). IsOf stream known cpu z.stream z.cpu z.number record { moment = z.moment; bytes = z.bytes }) found.2
+      subst (λ (z : Line). IsOf stream known cpu z.stream z.cpu z.number record
+      { moment = z.moment; bytes = z.bytes }) found.2
       record { stream_is = refl; cpu_is = refl; has = records.of_them s.0 found.0 found.1 };
   whole = λ s c n r h.
       let at = records.whole n r h.has in
       let there : slice_get (map (line_of stream cpu) list) at.0 ≡ Some (line_for stream cpu n r) =
-      at_mapped (line_of stream cpu) list at.0 (n, r) at.1 in
-      (at.0, there ∙ ap (λ q. Some (line_for q cpu n r)) (sym h.stream_is) ∙ ap (λ q. Some (line_for s q n r)) (sym h.cpu_is));
+      at_mapped (line_of stream cpu) list at.0 (n, r) at.1 in (
+        at.0,
+        there ∙ ap (λ q. Some (line_for q cpu n r)) (sym h.stream_is) ∙ ap (λ q. Some (line_for s q n r))
+            (sym h.cpu_is),
+      );
 }
 
 -- one CPU more
@@ -97,7 +107,8 @@ stream_none stream known = record {
 }
 
 -- the records from the bound on are those that the stream has
-pub listed_of : (known : Stream) (cpu : ℕ) (list : List (ℕ × Record)) → AreRecordsFrom known.parcels cpu (bound_of known cpu) list
+pub listed_of : (known : Stream) (cpu : ℕ) (list : List (ℕ × Record)) → AreRecordsFrom known.parcels cpu
+    (bound_of known cpu) list
     → AreListed (HasRecord known cpu) list
 listed_of known cpu list records = record {
   rising = records.rising;
@@ -132,7 +143,8 @@ fleet_more front stream known end lines more low few p q =
       has = h.has;
     })
     (λ s c n r h. ⊎_elim
-    (λ (there : (k : ℕ) × (slice_get front k ≡ Some (s, h.known))). inl record { index = there.0; known = h.known; at = there.1; has = h.has })
+    (λ (there : (k : ℕ) × (slice_get front k ≡ Some (s, h.known))). inl record
+    { index = there.0; known = h.known; at = there.1; has = h.has })
     (λ (here : (k : ℕ) × (slice_get ((stream, known) ∷ []) k ≡ Some (s, h.known))).
     let is : (stream, known) ≡ (s, h.known) = only (stream, known) here.0 (s, h.known) here.1 in
     let has : HasRecord known c n r = subst (λ x. HasRecord x c n r) (sym (ap (λ (e : ℕ × Stream). e.1) is)) h.has in

@@ -1,5 +1,7 @@
 -- Lines in the order of time: moved about, and sorted by moment, stream, CPU and number.
-use Rattle.std.proofs.Common.{◌≡◌, ◌⊎◌, inl, inr, ⊎_elim, ℕ, suc, ◌<◌, ◌≤◌, Bool, true, false, true≢false, eqb, ◌&&◌, List, [], ◌∷◌, get_or, map, Option, Some, None, refl, sym, ap, ◌∙◌, subst, arith, Ordering, Less, Equal, Greater}
+use Rattle.std.proofs.Common.{◌≡◌, ◌⊎◌, inl, inr, ⊎_elim, ℕ, suc, ◌<◌, ◌≤◌, Bool, true, false, true≢false, eqb, ◌&&◌}
+use Rattle.std.proofs.Common.{List, [], ◌∷◌, get_or, map, Option, Some, None, refl, sym, ap, ◌∙◌, subst, arith}
+use Rattle.std.proofs.Common.{Ordering, Less, Equal, Greater}
 use Rattle.std.specs.List.{slice_get, Contains, IsDistinct, AllByRecursion}
 use Rattle.std.specs.List.Sorted.{IsPermutation, IsSortedBy, IsStrictlySortedBy}
 use Rattle.std.specs.BTreeMap.{is_at}
@@ -40,7 +42,8 @@ apart a b before = ⊎_elim
     same.1)
     before
 
-apart_behind : (x : Line) (xs : List Line) → IsBeforeAll IsBeforeAtOnce x xs → AllByRecursion (λ y. alike x y ≡ false) xs
+apart_behind : (x : Line) (xs : List Line) → IsBeforeAll IsBeforeAtOnce x xs → AllByRecursion
+    (λ y. alike x y ≡ false) xs
 apart_behind x [] h = tt
 apart_behind x (y ∷ ys) h = (apart x y h.0, apart_behind x ys h.1)
 
@@ -63,7 +66,8 @@ neighbours_differ xs ys ordered moved k a b at next =
 -- ---- sorted by moment, stream, CPU and number
 
 -- if n isn't below m, it is above it, or the next numbers decide
-not_below : (m n : ℕ) (o : Ordering) → is_lt (ordering_then (nat_cmp n m) o) ≡ false → (m < n) ⊎ ((m ≡ n) × (is_lt o ≡ false))
+not_below : (m n : ℕ) (o : Ordering) → is_lt (ordering_then (nat_cmp n m) o) ≡ false → (m < n) ⊎
+    ((m ≡ n) × (is_lt o ≡ false))
 not_below m n o h = ⊎_elim
     (λ (lt : m < n). inl lt)
     (λ (ge : n ≤ m). ⊎_elim
@@ -90,21 +94,30 @@ before_next a b h differ =
     ⊎_elim
     (λ (lt : a.moment < b.moment). inl lt)
     (λ (one : (a.moment ≡ b.moment) × (is_lt (ordering_then streams (ordering_then cpus numbers)) ≡ false)).
-    inr (one.0, ⊎_elim
-    (λ (lt : a.stream < b.stream). inl lt)
-    (λ (two : (a.stream ≡ b.stream) × (is_lt (ordering_then cpus numbers) ≡ false)).
-    inr (two.0, ⊎_elim
-    (λ (lt : a.cpu < b.cpu). inl lt)
-    (λ (three : (a.cpu ≡ b.cpu) × (is_lt numbers ≡ false)).
-    let up : a.number ≤ b.number = ge_from_not_lt b.number a.number three.1 in
-    inr (three.0, ⊎_elim
-    (λ (lt : a.number < b.number). lt)
-    (λ (down : b.number ≤ a.number).
-    let e : a.number ≡ b.number = omega arith in
-    absurd (true≢false (sym (same_all a b two.0 three.0 e) ∙ differ)))
-    (cases_lt a.number b.number)))
-    (not_below a.cpu b.cpu numbers two.1)))
-    (not_below a.stream b.stream (ordering_then cpus numbers) one.1)))
+    inr (
+      one.0,
+      ⊎_elim
+          (λ (lt : a.stream < b.stream). inl lt)
+          (λ (two : (a.stream ≡ b.stream) × (is_lt (ordering_then cpus numbers) ≡ false)).
+          inr (
+            two.0,
+            ⊎_elim
+                (λ (lt : a.cpu < b.cpu). inl lt)
+                (λ (three : (a.cpu ≡ b.cpu) × (is_lt numbers ≡ false)).
+                let up : a.number ≤ b.number = ge_from_not_lt b.number a.number three.1 in
+                inr (
+                  three.0,
+                  ⊎_elim
+                      (λ (lt : a.number < b.number). lt)
+                      (λ (down : b.number ≤ a.number).
+                      let e : a.number ≡ b.number = omega arith in
+                      absurd (true≢false (sym (same_all a b two.0 three.0 e) ∙ differ)))
+                      (cases_lt a.number b.number),
+                ))
+                (not_below a.cpu b.cpu numbers two.1),
+          ))
+          (not_below a.stream b.stream (ordering_then cpus numbers) one.1),
+    ))
     (not_below a.moment b.moment (ordering_then streams (ordering_then cpus numbers))
     (ap is_lt (then_moves moments streams cpus numbers) ∙ h))
   where
@@ -133,7 +146,8 @@ has_in : (fleet : List (ℕ × Stream)) (stream cpu number : ℕ) (r : Record)
     → HasRecord (stream_at fleet stream) cpu number r → HasIn fleet stream cpu number r
 has_in fleet stream cpu number r h = at (stream_in fleet stream) refl h
   where
-    at : (o : Option Stream) → stream_in fleet stream ≡ o → HasRecord (or_empty o) cpu number r → HasIn fleet stream cpu number r
+    at : (o : Option Stream) → stream_in fleet stream ≡ o → HasRecord (or_empty o) cpu number r → HasIn fleet stream
+        cpu number r
     at None e h = let has = h.has in absurd (none-some has.parcel has.at)
     at (Some known) e h =
         let place = place_from_lookup (is_at (nat_cmp stream)) fleet known e in
@@ -147,7 +161,8 @@ has_in fleet stream cpu number r h = at (stream_in fleet stream) refl h
 
 -- and the other way round, if their ids rise
 in_has : (fleet : List (ℕ × Stream)) → IsStrictlySortedBy nat_cmp (map (λ (e : ℕ × Stream). e.0) fleet)
-    → (stream cpu number : ℕ) (r : Record) → HasIn fleet stream cpu number r → HasRecord (stream_at fleet stream) cpu number r
+    → (stream cpu number : ℕ) (r : Record) → HasIn fleet stream cpu number r → HasRecord (stream_at fleet stream) cpu
+    number r
 in_has fleet rising stream cpu number r h =
     let found = stream_in_place fleet rising h.index stream h.known h.at in
     subst (λ (o : Option Stream). HasRecord (or_empty o) cpu number r) (sym found) h.has
@@ -164,12 +179,14 @@ stands_still : (xs ys : List Line) (x : Line) → IsPermutation xs ys → IsAmon
 stands_still xs ys x moved s = stands_at ys x (Contains-permutation xs ys x moved (contains_at xs x s))
 
 -- lines by stream, CPU and number, moved about and sorted by time
-sorted_lines : (fleet : List (ℕ × Stream)) (xs ys : List Line) → IsStrictlySortedBy nat_cmp (map (λ (e : ℕ × Stream). e.0) fleet)
+sorted_lines : (fleet : List (ℕ × Stream)) (xs ys : List Line) → IsStrictlySortedBy nat_cmp
+    (map (λ (e : ℕ × Stream). e.0) fleet)
     → AreLinesOf (HasIn fleet) xs → IsPermutation xs ys → IsSortedBy comes_before ys → IsListing fleet ys
 sorted_lines fleet xs ys rising lines moved sorted = record {
   ordered = λ k a b at next. before_next a b (sorted_pairs comes_before ys sorted k a b at next)
       (neighbours_differ xs ys lines.ordered moved k a b at next);
-  of_them = λ k line at. in_has fleet rising line.stream line.cpu line.number record { moment = line.moment; bytes = line.bytes }
+  of_them = λ k line at. in_has fleet rising line.stream line.cpu line.number record
+      { moment = line.moment; bytes = line.bytes }
       (lines.of_them line (stands_still ys xs line (IsPermutation-sym xs ys moved) (k, at)));
   whole = λ stream cpu number r h. stands_still xs ys (line_for stream cpu number r) moved
       (lines.whole stream cpu number r (has_in fleet stream cpu number r h));

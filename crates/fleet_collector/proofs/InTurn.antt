@@ -1,5 +1,6 @@
 -- The streams of a fleet, one after the other.
-use Rattle.std.proofs.Common.{◌≡◌, ℕ, ◌<◌, List, [], ◌∷◌, ◌++◌, length, map, take, drop, get_or, Some, sym, ap, ◌∙◌, subst, arith}
+use Rattle.std.proofs.Common.{◌≡◌, ℕ, ◌<◌, List, [], ◌∷◌, ◌++◌, length, map, take, drop, get_or, Some, sym, ap, ◌∙◌}
+use Rattle.std.proofs.Common.{subst, arith}
 use Rattle.std.specs.Borrow.{Bor}
 use Rattle.std.specs.List.{slice_get}
 use Rattle.std.specs.List.Sorted.{IsStrictlyIncreasing, IsStrictlySortedBy}
@@ -23,10 +24,12 @@ abbrev ids : List (ℕ × Stream) → List ℕ
 ids fleet = map (λ (e : ℕ × Stream). e.0) fleet
 
 -- the stream at a place is the one of its id
-pub stream_in_place : (fleet : List (ℕ × Stream)) → IsStrictlySortedBy nat_cmp (ids fleet) → (k stream : ℕ) (known : Stream)
+pub stream_in_place : (fleet : List (ℕ × Stream)) → IsStrictlySortedBy nat_cmp (ids fleet) → (k stream : ℕ)
+    (known : Stream)
     → slice_get fleet k ≡ Some (stream, known) → stream_in fleet stream ≡ Some known
 stream_in_place fleet rising k stream known at =
-    lookup_from_place (eq_by_cmp_equiv nat_cmp_total) fleet k stream known (IsDistinct-from_sorted nat_cmp (ids fleet) rising) at
+    lookup_from_place (eq_by_cmp_equiv nat_cmp_total) fleet k stream known
+    (IsDistinct-from_sorted nat_cmp (ids fleet) rising) at
 
 -- of streams by rising id, those before this one are below it
 below_next : (fleet : List (ℕ × Stream)) → IsStrictlyIncreasing (ids fleet) → (n : ℕ) (entry : ℕ × Stream)
@@ -35,17 +38,20 @@ below_next fleet rising n entry within is k e at =
     let early = slice_get_within (take n fleet) k e at in
     let short : length (take n fleet) ≡ n = length-take-le n fleet (omega arith) in
     let here : slice_get fleet k ≡ Some e =
-    subst (λ es. slice_get es k ≡ Some e) (take-append-drop n fleet) (get_in_front (take n fleet) (drop n fleet) k e at) in
+    subst (λ es. slice_get es k ≡ Some e) (take-append-drop n fleet)
+    (get_in_front (take n fleet) (drop n fleet) k e at) in
     let there : slice_get fleet n ≡ Some entry = slice_get-get_or fleet n entry within ∙ ap (λ x. Some x) (sym is) in
     let first = at_mapped (λ (x : ℕ × Stream). x.0) fleet k e here in
     let second = at_mapped (λ (x : ℕ × Stream). x.0) fleet n entry there in
-    let less = below_from_sorted (ids fleet) k n 0 (sorted_from_strictly_increasing (ids fleet) rising) (omega arith) (slice_get_within (ids fleet) n entry.0 second) in
+    let less = below_from_sorted (ids fleet) k n 0 (sorted_from_strictly_increasing (ids fleet) rising) (omega arith)
+    (slice_get_within (ids fleet) n entry.0 second) in
     let a = get_or_from_slice_get (ids fleet) k e.0 0 first in
     let b = get_or_from_slice_get (ids fleet) n entry.0 0 second in
     omega arith
 
 -- the lines of one stream more
-pub lines_more : (fleet : List (ℕ × Stream)) (before : List (StreamId × Bor Stream)) (item : StreamId × Bor Stream) (lines more new : List Line)
+pub lines_more : (fleet : List (ℕ × Stream)) (before : List (StreamId × Bor Stream)) (item : StreamId × Bor Stream)
+    (lines more new : List Line)
     → IsStrictlyIncreasing (ids fleet) → AllHaveKnownCpus fleet
     → map entry_seen before ≡ take (length before) fleet
     → length before < length fleet → entry_seen item ≡ get_or fleet (length before) (entry_seen item)
@@ -56,9 +62,12 @@ pub lines_more : (fleet : List (ℕ × Stream)) (before : List (StreamId × Bor 
 lines_more fleet before item lines more new rising known_cpus so_far within is old put e =
     let at : slice_get fleet (length before) ≡ Some (entry_seen item) =
     slice_get-get_or fleet (length before) (entry_seen item) within ∙ ap (λ (x : ℕ × Stream). Some x) (sym is) in
-    let there = stream_in_place fleet (sorted_from_strictly_increasing (ids fleet) rising) (length before) item.0.0 item.1.now at in
-    let below = subst (λ (es : List (ℕ × Stream)). AreBelow es item.0.0) (sym so_far) (below_next fleet rising (length before) (entry_seen item) within is) in
+    let there = stream_in_place fleet (sorted_from_strictly_increasing (ids fleet) rising) (length before) item.0.0
+    item.1.now at in
+    let below = subst (λ (es : List (ℕ × Stream)). AreBelow es item.0.0) (sym so_far)
+    (below_next fleet rising (length before) (entry_seen item) within is) in
     let all = fleet_more (map entry_seen before) item.0.0 item.1.now MAX_CPUS lines more below
     (λ c n r h. known_cpus item.0.0 item.1.now there c n r h.has) old put in
     subst (AreLinesOf (HasIn (map entry_seen (before ++ item ∷ [])))) (sym e)
-    (subst (λ (es : List (ℕ × Stream)). AreLinesOf (HasIn es) (lines ++ more)) (sym (map-append entry_seen before (item ∷ []))) all)
+    (subst (λ (es : List (ℕ × Stream)). AreLinesOf (HasIn es) (lines ++ more))
+    (sym (map-append entry_seen before (item ∷ []))) all)

@@ -33,8 +33,8 @@ abbrev pub line_for : (stream cpu number : ℕ) → Record → Line
 line_for stream cpu number r =
     record { moment = r.moment; stream = stream; cpu = cpu; number = number; bytes = r.bytes }
 
--- The listing of a fleet: a line for each record that a stream has from the bound of its CPU on, and no other, in strict
--- order.
+-- The listing of a fleet: a line for each record that a stream has from the bound of its CPU on, and no other, in
+-- strict order.
 pub record IsListing (fleet : List (ℕ × Stream)) (lines : List Line) : Type 0 where
   pub ordered : IsTimeOrdered lines
   pub of_them : (k : ℕ) (line : Line)

@@ -5,7 +5,12 @@ use Rattle.fleet_collector.proofs.ByNumber.{stream_none, stream_more}
 use Rattle.fleet_collector.proofs.listing.put_stream.Goals as goal
 
 pub loop-cpu-init : goal.loop-cpu-init
-loop-cpu-init c = ([], stream_none c.args.stream.0 c.args.known.now, sym (append-nil (map line_seen c.args.lines.now.items)))
+loop-cpu-init c = (
+  [],
+  stream_none c.args.stream.0 c.args.known.now,
+  sym
+      (append-nil (map line_seen c.args.lines.now.items)),
+)
 
 pub loop-cpu-preserved : goal.loop-cpu-preserved
 loop-cpu-preserved c =
@@ -14,5 +19,6 @@ loop-cpu-preserved c =
     let more = map (line_of c.args.stream.0 c.loop-cpu.cpu) put.0 in (
       before.0 ++ more,
       stream_more c.args.stream.0 c.args.known.now c.loop-cpu.cpu before.0 put.0 put.1 before.1,
-      put.2 ∙ ap (λ (ls : List Line). ls ++ more) before.2 ∙ append_assoc (map line_seen c.args.lines.now.items) before.0 more,
+      put.2 ∙ ap (λ (ls : List Line). ls ++ more) before.2 ∙ append_assoc (map line_seen c.args.lines.now.items)
+          before.0 more,
     )

@@ -29,51 +29,64 @@ invariant_of-self c =
 pub returns-in-Some-clause-unchanged : goal.returns-in-Some-clause-unchanged
 returns-in-Some-clause-unchanged c e =
     let after = c.set_end.new.self in
-    same_put c.self.inside.streams.entries (c.get_mut.follows.lender after).entries c.args.stream.0 c.in-Some.known.now after
+    same_put c.self.inside.streams.entries (c.get_mut.follows.lender after).entries c.args.stream.0
+    c.in-Some.known.now after
     (sym c.in-Some.ensures.value) (c.get_mut.follows.holds after).0 (c.set_end.ensures.unchanged e) ∙ c.self.view_is
 
 pub returns-in-Some-clause-refused : goal.returns-in-Some-clause-refused
 returns-in-Some-clause-refused c =
     let after = c.set_end.new.self in
     on_err_weaker c.set_end.result
-    (λ (e : after ≡ c.in-Some.known.now). same_put c.self.inside.streams.entries (c.get_mut.follows.lender after).entries c.args.stream.0 c.in-Some.known.now after
+    (λ (e : after ≡ c.in-Some.known.now). same_put c.self.inside.streams.entries
+    (c.get_mut.follows.lender after).entries c.args.stream.0 c.in-Some.known.now after
     (sym c.in-Some.ensures.value) (c.get_mut.follows.holds after).0 e ∙ c.self.view_is)
     c.set_end.ensures.refused
 
 pub returns-in-Some-clause-fault : goal.returns-in-Some-clause-fault
 returns-in-Some-clause-fault c =
-    let is : stream_at c.self.inside.streams.entries c.args.stream.0 ≡ c.in-Some.known.now = ap or_empty (sym c.in-Some.ensures.value) in
-    let was : stream_at c.args.self.now c.args.stream.0 ≡ c.in-Some.known.now = ap (λ (fleet : List (ℕ × Stream)). stream_at fleet c.args.stream.0) (sym c.self.view_is) ∙ is in
-    subst (λ (s : Stream). IfErr c.set_end.result (λ fault. IsEndFault s c.args.cpu.0 c.args.count.0 fault)) (sym was) c.set_end.ensures.fault
+    let is : stream_at c.self.inside.streams.entries c.args.stream.0 ≡ c.in-Some.known.now = ap or_empty
+    (sym c.in-Some.ensures.value) in
+    let was : stream_at c.args.self.now c.args.stream.0 ≡ c.in-Some.known.now = ap
+    (λ (fleet : List (ℕ × Stream)). stream_at fleet c.args.stream.0) (sym c.self.view_is) ∙ is in
+    subst (λ (s : Stream). IfErr c.set_end.result (λ fault. IsEndFault s c.args.cpu.0 c.args.count.0 fault))
+    (sym was) c.set_end.ensures.fault
 
 pub returns-in-Some-clause-nothing_beyond : goal.returns-in-Some-clause-nothing_beyond
 returns-in-Some-clause-nothing_beyond c e n reached =
-    let is : stream_at c.self.inside.streams.entries c.args.stream.0 ≡ c.in-Some.known.now = ap or_empty (sym c.in-Some.ensures.value) in
-    let was : stream_at c.args.self.now c.args.stream.0 ≡ c.in-Some.known.now = ap (λ (fleet : List (ℕ × Stream)). stream_at fleet c.args.stream.0) (sym c.self.view_is) ∙ is in
+    let is : stream_at c.self.inside.streams.entries c.args.stream.0 ≡ c.in-Some.known.now = ap or_empty
+    (sym c.in-Some.ensures.value) in
+    let was : stream_at c.args.self.now c.args.stream.0 ≡ c.in-Some.known.now = ap
+    (λ (fleet : List (ℕ × Stream)). stream_at fleet c.args.stream.0) (sym c.self.view_is) ∙ is in
     c.set_end.ensures.nothing_beyond e n (subst (λ (s : Stream). IsReached s c.args.cpu.0 n) was reached)
 
 -- ---- it isn't there
 
 pub invariant_of-self-in-Break-1 : goal.invariant_of-self-in-Break-1
-invariant_of-self-in-Break-1 c = subst (λ (m : BTreeMap ℕ StreamCollector). AllHaveKnownCpus m.entries) (sym c.get_mut.follows.holds-at-none) c.self.invariant
+invariant_of-self-in-Break-1 c = subst (λ (m : BTreeMap ℕ StreamCollector). AllHaveKnownCpus m.entries)
+    (sym c.get_mut.follows.holds-at-none) c.self.invariant
 
 pub invariant_of-self-else-eq : goal.invariant_of-self-else-eq
-invariant_of-self-else-eq c = subst (λ (m : BTreeMap ℕ StreamCollector). AllHaveKnownCpus m.entries) (sym c.get_mut.follows.holds-at-none) c.self.invariant
+invariant_of-self-else-eq c = subst (λ (m : BTreeMap ℕ StreamCollector). AllHaveKnownCpus m.entries)
+    (sym c.get_mut.follows.holds-at-none) c.self.invariant
 
 pub returns-in_err-marked-clause-fault : goal.returns-in_err-marked-clause-fault
 returns-in_err-marked-clause-fault c =
     let first = c.new-first.ensures in
     let was : stream_at c.args.self.now c.args.stream.0 ≡ c.new-first.result =
     ap (λ (fleet : List (ℕ × Stream)). stream_at fleet c.args.stream.0) (sym c.self.view_is)
-    ∙ was_nothing c.self.inside.streams.entries c.args.stream.0 c.new-first.result (sym c.in_default.ensures.value) first.parcels first.marks first.given_up in
-    let fault : IsEndFault (stream_at c.args.self.now c.args.stream.0) c.args.cpu.0 c.args.count.0 c.in_err-marked.field-0.0 =
-    subst (λ (s : Stream). IsEndFault s c.args.cpu.0 c.args.count.0 c.in_err-marked.field-0.0) (sym was) c.in_err-marked.ensures.fault in
+    ∙ was_nothing c.self.inside.streams.entries c.args.stream.0 c.new-first.result (sym c.in_default.ensures.value)
+    first.parcels first.marks first.given_up in
+    let fault : IsEndFault (stream_at c.args.self.now c.args.stream.0) c.args.cpu.0 c.args.count.0
+    c.in_err-marked.field-0.0 =
+    subst (λ (s : Stream). IsEndFault s c.args.cpu.0 c.args.count.0 c.in_err-marked.field-0.0) (sym was)
+    c.in_err-marked.ensures.fault in
     search rules
 
 pub invariant_of-self-then-eq : goal.invariant_of-self-then-eq
 invariant_of-self-then-eq c =
     let old = c.get_mut.follows.lender-at-none in
-    let known : AllHaveKnownCpus old.entries = subst (λ (m : BTreeMap ℕ StreamCollector). AllHaveKnownCpus m.entries) (sym c.get_mut.follows.holds-at-none) c.self.invariant in
+    let known : AllHaveKnownCpus old.entries = subst (λ (m : BTreeMap ℕ StreamCollector). AllHaveKnownCpus m.entries)
+    (sym c.get_mut.follows.holds-at-none) c.self.invariant in
     let after = c.set_end-2.new.self in
     let a = c.set_end-2.ensures in
     let few = cpus_ended c.set_end-2.result c.new-first.result after c.args.cpu.0 c.args.count.0
@@ -86,9 +99,12 @@ returns-then-is_err-clause-fault c =
     let first = c.new-first.ensures in
     let was : stream_at c.args.self.now c.args.stream.0 ≡ c.new-first.result =
     ap (λ (fleet : List (ℕ × Stream)). stream_at fleet c.args.stream.0) (sym c.self.view_is)
-    ∙ was_nothing c.self.inside.streams.entries c.args.stream.0 c.new-first.result (sym c.in_default.ensures.value) first.parcels first.marks first.given_up in
+    ∙ was_nothing c.self.inside.streams.entries c.args.stream.0 c.new-first.result (sym c.in_default.ensures.value)
+    first.parcels first.marks first.given_up in
     let is : c.in_ok-marked.marked ≡ New = search rules in
     let fresh : c.set_end-2.result ≡ Ok New = c.in_ok-marked.was ∙ ap (λ (a : Marked). Ok a) is in
-    let none : end_of c.new-first.result c.args.cpu.0 ≡ None = ap (λ (ms : List (ℕ × Marks)). (marks_at ms c.args.cpu.0).end) first.marks in
-    subst (λ (s : Stream). (end_of s c.args.cpu.0 ≡ None) × ((n : ℕ) → IsReached s c.args.cpu.0 n → n < c.args.count.0)) (sym was)
+    let none : end_of c.new-first.result c.args.cpu.0 ≡ None = ap
+    (λ (ms : List (ℕ × Marks)). (marks_at ms c.args.cpu.0).end) first.marks in
+    subst (λ (s : Stream). (end_of s c.args.cpu.0 ≡ None) × ((n : ℕ) → IsReached s c.args.cpu.0 n → n <
+    c.args.count.0)) (sym was)
     (none, c.set_end-2.ensures.nothing_beyond fresh)
