@@ -119,6 +119,7 @@ fn put_hex(out: &mut Vec<u8>, bytes: &[u8]) -> Result<(), NoMemory>
 }
 
 /// Puts the payload in lower-case hexadecimal, `-` if it is empty. If memory is refused, the text is as before.
+#[inline(always)]
 pub fn put_payload(out: &mut Vec<u8>, payload: &[u8]) -> Result<(), NoMemory>
     ensures text { OnOk result (out.new.items ≡ out.old.items ++ hex_text payload.now) }
     ensures kept { OnErr result (out.new.items ≡ out.old.items) }
