@@ -8,10 +8,11 @@ use ring_frames::write_padded;
 use step_text::Asked;
 use trace_model::NoMemory;
 
-/// A loop whose steps are told, and one whose steps aren't. Each has a copy of its own of what a step does: so large a
-/// function is inlined only if it has one call.
+/// For what is called where steps are told. What is called elsewhere is a copy of its own, since so large a function is
+/// inlined only if it has one call.
 pub(crate) enum Told {}
 
+/// For what is called where they aren't.
 pub(crate) enum Untold {}
 
 /// More steps than a frame or a take makes in a ring of the most pages.
