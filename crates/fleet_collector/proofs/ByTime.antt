@@ -6,15 +6,14 @@ use Rattle.std.specs.List.{slice_get, Contains, IsDistinct, AllByRecursion}
 use Rattle.std.specs.List.Sorted.{IsPermutation, IsSortedBy, IsStrictlySortedBy}
 use Rattle.std.specs.BTreeMap.{is_at}
 use Rattle.std.specs.Ordering.{nat_cmp, is_lt, is_eq, ordering_then}
-use Rattle.std.specs.Cmp.{IsStrictWeakOrder, nat_cmp_is}
-use Rattle.std.proofs.lemmas.Cmp.{nat_cmp_total, on_total, then_total}
+use Rattle.std.specs.Cmp.{nat_cmp_is}
 use Rattle.std.proofs.lemmas.Bool.{cases_lt}
 use Rattle.std.proofs.lemmas.Bool.Decides.{nat_tests}
 use Rattle.std.proofs.lemmas.Map.Entries.{place_from_lookup}
 use Rattle.std.proofs.lemmas.Map.Keys.{ge_from_not_lt, IsDistinct-IsPermutation, apart_from_distinct}
 use Rattle.std.proofs.lemmas.Map.Lookups.{exact_unsigned}
 use Rattle.std.proofs.lemmas.Option.{none-some, slice_get_within, get_or_from_slice_get, slice_get-get_or}
-use Rattle.std.proofs.lemmas.List.Sorted.{ranks_by, IsPermutation-sym, Contains-permutation}
+use Rattle.std.proofs.lemmas.List.Sorted.{IsPermutation-sym, Contains-permutation}
 use Rattle.trace_model.specs.Record.{Record}
 use Rattle.time_merge.specs.Lines.{IsBeforeAll, AreOrdered}
 use Rattle.time_merge.proofs.Pairs.{sorted_pairs, sorted_map}
@@ -123,16 +122,6 @@ before_next a b h differ =
   where
     same_all : (a b : Line) → a.stream ≡ b.stream → a.cpu ≡ b.cpu → a.number ≡ b.number → alike a b ≡ true
     same_all a b p q r = grind (arith, nat_tests)
-
--- the order of lines is one
-pub front_is_order : IsStrictWeakOrder comes_before
-front_is_order =
-    ranks_by (then_total (then_total (then_total
-    (on_total (λ (l : Line). l.moment) nat_cmp_total)
-    (on_total (λ (l : Line). l.stream) nat_cmp_total))
-    (on_total (λ (l : Line). l.cpu) nat_cmp_total))
-    (on_total (λ (l : Line). l.number) nat_cmp_total))
-    (λ (l : Line). l)
 
 -- ---- which stream has a record
 
