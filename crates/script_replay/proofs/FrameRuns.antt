@@ -1,5 +1,5 @@
 -- The frame on top makes one step more, and steps until it is gone: the exchanges, and what is logged of them.
-use Rattle.std.proofs.Common.{◌≡◌, ◌≢◌, ℕ, zero, suc, ◌+◌, ◌-◌, ◌<◌, ◌≤◌, ◌⊎◌, ⊎_elim, inl, inr, List, [], ◌∷◌, ◌++◌, length, drop, get_or, map, reverse, refl, sym, Bor, ap, ◌∙◌, subst, arith, append-nil, length-append}
+use Rattle.std.proofs.Common.{◌≡◌, ◌≢◌, ℕ, zero, suc, ◌+◌, ◌-◌, ◌<◌, ◌≤◌, ◌⊎◌, ⊎_elim, inl, inr, List, [], ◌∷◌, ◌++◌, length, drop, get_or, map, reverse, refl, sym, Bor, ap, ◌∙◌, subst, arith, length-append}
 use mathlib.Core.Logic.{dite}
 use native.Mathlib.Decide.{dec_le}
 use Rattle.trace_model.specs.declared.limits.TheConstants.{MAX_PAGES}
@@ -21,7 +21,7 @@ use Rattle.ring_core.specs.Value.{CoreValue}
 use Rattle.step_text.specs.declared.asked.Asked.{Asked}
 use Rattle.step_text.specs.Tells.{IsAsked, IsStepOf}
 use Rattle.script_replay.specs.declared.reports.Reports.{Reports}
-use Rattle.script_replay.specs.Reports.{Reported, KnowsRing, IsReported}
+use Rattle.script_replay.specs.Reports.{KnowsRing, IsReported}
 use Rattle.script_replay.specs.declared.lane.Lane.TheInside.{Inside}
 use Rattle.script_replay.specs.Value.{LaneValue, lane_of}
 use Rattle.script_replay.specs.Lanes.{IsLane, Happens, MakesExchanges}

@@ -28,9 +28,9 @@ use Rattle.ring_core.specs.Answers.{GivesBack}
 use Rattle.ring_core.specs.Steps.{MakesStep}
 use Rattle.script_replay.specs.Value.{LaneValue}
 use Rattle.step_text.specs.declared.asked.Asked.{Asked}
-use Rattle.step_text.specs.Tells.{IsAsked, IsStepOf}
+use Rattle.step_text.specs.Tells.{IsAsked}
 use Rattle.script_replay.specs.declared.reports.Reports.{Reports}
-use Rattle.script_replay.specs.Reports.{KnowsRing, IsReported}
+use Rattle.script_replay.specs.Reports.{IsReported}
 use Rattle.script_replay.specs.Lanes.{IsLane, IsLaneOf, MakesExchanges}
 use Rattle.script_replay.specs.Takes.{ReadsOnce, MayKeep, Keeps}
 use Rattle.script_replay.proofs.LaneValues.{moved_lane}

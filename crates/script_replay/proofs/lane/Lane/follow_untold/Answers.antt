@@ -1,10 +1,7 @@
-use Rattle.std.proofs.Common.{inl, inr, sym, ◌∙◌, subst, arith}
+use Rattle.std.proofs.Common.{inl, inr, sym, ◌∙◌, arith}
 use Rattle.step_text.specs.declared.asked.Asked.TheVariants.{Top}
-use Rattle.script_replay.specs.Value.{LaneValue}
-use Rattle.script_replay.specs.Reports.{MayReport, IsReported}
 use Rattle.script_replay.proofs.LaneValues.{depth_is, kept_many}
-use Rattle.script_replay.proofs.Reporting.{may_report, knows_after}
-use Rattle.script_replay.proofs.FrameRuns.{part_way_none, part_way_turn, top_step, first_payload, asks_top, followed}
+use Rattle.script_replay.proofs.FrameRuns.{part_way_none, part_way_turn, first_payload, asks_top, followed}
 use Rattle.script_replay.proofs.lane.Lane.follow_untold.Goals as goal
 
 pub loop-steps-init : goal.loop-steps-init

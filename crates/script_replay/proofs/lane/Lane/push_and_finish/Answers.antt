@@ -2,12 +2,10 @@ use Rattle.std.proofs.Common.{sym, subst}
 use Rattle.std.proofs.lemmas.Result.{on_ok_weaker}
 use Rattle.world_model.specs.Lanes.{lane_with}
 use Rattle.ring_frames.specs.declared.answer.Answer.{Answer}
-use Rattle.ring_frames.specs.declared.answer.Answer.TheVariants.{Pushed}
-use Rattle.script_replay.specs.Value.{LaneValue}
 use Rattle.script_replay.specs.Frames.{push_event}
-use Rattle.script_replay.specs.Reports.{MayReport, IsReported}
-use Rattle.script_replay.proofs.Reporting.{may_report, knows_after}
-use Rattle.script_replay.proofs.PushedLanes.{pushed_step, push_reported, written, not_written}
+use Rattle.script_replay.specs.Reports.{IsReported}
+use Rattle.script_replay.proofs.Reporting.{knows_after}
+use Rattle.script_replay.proofs.PushedLanes.{push_reported, written, not_written}
 use Rattle.script_replay.proofs.lane.Lane.push_and_finish.Goals as goal
 
 pub finish-requires : goal.finish-requires

@@ -1,6 +1,5 @@
-use Rattle.std.proofs.Common.{◌≡◌, List, ◌++◌, ap, ◌∙◌}
+use Rattle.std.proofs.Common.{◌++◌, ◌∙◌}
 use Rattle.std.proofs.lemmas.Result.{on_ok_weaker}
-use Rattle.text_model.specs.Log.{LogLine}
 use Rattle.world_model.specs.Log.{logged}
 use Rattle.replay_log.specs.LogTypes.{shown_log}
 use Rattle.script_replay.proofs.Reporting.{step_reported}
