@@ -35,7 +35,8 @@ pub fn put_parcel(out: &mut [u8], cpu: CpuId, page: &Page, missed: u64) -> usize
     ensures reads { IsPage page.now → IsParcel (parcel_of_page cpu.0 page.now missed)
         → DecodesParcel (bytes_of_page cpu.0 page.now missed) (parcel_of_page cpu.0 page.now missed) }
     ensures used_reads { IsPage page.now → IsParcel (parcel_of_page cpu.0 page.now missed)
-        → DecodesParcel (bytes_of_page cpu.0 (used_page page.now missed) missed) (parcel_of_page cpu.0 page.now missed) }
+        → DecodesParcel (bytes_of_page cpu.0 (used_page page.now missed) missed)
+        (parcel_of_page cpu.0 page.now missed) }
 {
     let size = page.end() + room(page);
     let stored = stores_count(page.end(), missed, size);

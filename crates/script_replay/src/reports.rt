@@ -75,8 +75,8 @@ impl Reports {
         self.steps.is_some()
     }
 
-    /// Reports an answer where no step is told: nothing is reported of most answers to a writer. The answer is moved, so
-    /// that it needs no place in memory.
+    /// Reports an answer where no step is told: nothing is reported of most answers to a writer. The answer is moved,
+    /// so that it needs no place in memory.
     #[inline(always)]
     pub(crate) fn log(&mut self, at: At, answer: Answer) -> Result<(), NoMemory>
         requires { self.old.steps ≡ None }

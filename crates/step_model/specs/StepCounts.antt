@@ -1,5 +1,5 @@
--- How the counts of what is seen of a ring follow from a step's answer and the frame on top, before and after it: what a
--- program that prints steps reckons with.
+-- How the counts of what is seen of a ring follow from a step's answer and the frame on top, before and after it: what
+-- a program that prints steps reckons with.
 use Rattle.std.specs.Prelude.{◌≡◌, ℕ, ◌+◌, max, Bool, true, false, if◌then◌else◌, ◌&&◌, ◌==◌, List, [], ◌∷◌, length}
 use Rattle.trace_model.specs.History.{last_moment, reserved_records}
 use Rattle.trace_model.specs.HistoryLaws.{committed_count}

@@ -74,7 +74,8 @@ GainsLeadOn = (earlier : List Parcel) (parcel : Parcel) (delivery : Delivery) (c
 
 -- a step text is that of the script's world
 abbrev pub TextsAreOfWorlds : Type 0
-TextsAreOfWorlds = (script : Script) (after : World) (text : List ℕ) → IsStepText script after text → WorldOf script after
+TextsAreOfWorlds =
+    (script : Script) (after : World) (text : List ℕ) → IsStepText script after text → WorldOf script after
 
 -- and there is one
 abbrev pub TextsAreOne : Type 0

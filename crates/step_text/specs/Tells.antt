@@ -55,7 +55,8 @@ pub record IsToldOf (line cpu : ℕ) (before after : Core) (event : model.Event)
   pub known : IsKnownOf k after
 
 -- so of each step that this may be
-abbrev pub TellsStepOf : (line cpu : ℕ) → Asked → Answer → CoreValue → KnownValue → (old new : List ℕ) → KnownValue → Type 0
+abbrev pub TellsStepOf : (line cpu : ℕ) → Asked → Answer → CoreValue → KnownValue → (old new : List ℕ) → KnownValue
+    → Type 0
 TellsStepOf line cpu asked answer ring k old new told = (n size start : ℕ) (before after : Core) (event : model.Event)
     (reported : model.Answer)
     → IsKnownOf k before

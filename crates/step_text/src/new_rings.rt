@@ -39,7 +39,8 @@ pub(crate) fn put_trace_line(out: &mut Vec<u8>, script: &Script) -> Result<(), N
 
 /// What is known of a new ring.
 pub(crate) fn new_ring(alloc: Global, script: &Script) -> Result<Known, NoMemory>
-    ensures { IfOk result (λ known. (c : model.Core) → IsStart script.now.pages script.now.start c → IsKnownOf (known_in known) c) }
+    ensures { IfOk result (λ known. (c : model.Core) → IsStart script.now.pages script.now.start c
+        → IsKnownOf (known_in known) c) }
 {
     let start = script.start().0;
     let ring = Core::new_at(alloc, script.pages(), script.size(), start)?;

@@ -119,8 +119,8 @@ pub record AreNumbersOf (page : Contents) (missed len : ℕ) (taken : Taken) : T
   pub count : taken.count ≡ page.count
   pub len_is : taken.len ≡ len
 
--- The page is given as parcel bytes, at the front of the buffer, with its numbers. The bytes that `len` counts are those
--- of its parcel without the room that isn't used.
+-- The page is given as parcel bytes, at the front of the buffer, with its numbers. The bytes that `len` counts are
+-- those of its parcel without the room that isn't used.
 pub record IsGiven (cpu : ℕ) (page : Contents) (missed : ℕ) (out left : List ℕ) (reported : Taken) : Type 0 where
   pub bytes : HasAtFront out (bytes_of_page cpu page missed) left
   pub numbers : AreNumbersOf page missed (48 + used_size page missed) reported
@@ -142,8 +142,8 @@ pub data IsNext (old : HeldReader) (page : Contents) (missed : ℕ) (new : HeldR
       → AnswersTake old.reader (Page page missed) new.reader
       → IsNext old page missed new
 
--- No page is next: no closed page is unread, and the answer is 15; or a move of the head isn't finished, or the take has
--- made as many steps as it may, and the answer is 16.
+-- No page is next: no closed page is unread, and the answer is 15; or a move of the head isn't finished, or the take
+-- has made as many steps as it may, and the answer is 16.
 pub data HasNoNext (old : HeldReader) (code : ℤ) (new : HeldReader) : Type 0 where
   is_empty : (done : ℕ)
       → (back : List ℕ)

@@ -21,7 +21,8 @@ use page_image::Page;
 use parcel_buffer::parcel_len;
 use std::alloc::Global;
 
-/// Takes the next page of a ring, and adds it to a collector. If it isn't added, the reader keeps it, and gives it next.
+/// Takes the next page of a ring, and adds it to a collector. If it isn't added, the reader keeps it, and gives it
+/// next.
 #[unsafe(no_mangle)]
 pub extern "C" fn tracering_raw_collector_take(
     alloc: Global,

@@ -66,8 +66,8 @@ impl<'a> Lane<'a> {
         self.push_and_finish(at, Asked::PushClose, Event::PushClose, &[], reports)
     }
 
-    /// Pushes a frame with this payload, and lets it make steps until it is gone. Whether that is told is asked once, as
-    /// in `follow`.
+    /// Pushes a frame with this payload, and lets it make steps until it is gone. Whether that is told is asked once,
+    /// as in `follow`.
     #[inline(always)]
     fn push_and_finish(
         &mut self,
