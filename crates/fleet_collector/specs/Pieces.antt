@@ -1,5 +1,5 @@
 -- What adding a piece makes of a fleet.
-use Rattle.std.specs.Prelude.{◌≡◌, ℕ, List, [], ◌∷◌, ◌++◌, Some}
+use Rattle.std.specs.Prelude.{◌≡◌, ℕ, List, [], ◌∷◌, ◌++◌, Some, None}
 use Rattle.trace_model.specs.Parcel.{Parcel}
 use Rattle.trace_model.specs.Collection.{IsBelow}
 use Rattle.page_numbers.specs.Parcels.{as_parcel}
@@ -22,10 +22,11 @@ AddsParcel old new stream parcel New = KeepsOthers old new stream × (stream_in 
 AddsParcel old new stream parcel Known = (new ≡ old) × IsBelow (parcel ∷ []) (stream_at old stream).parcels
 AddsParcel old new stream parcel Forgotten = (new ≡ old) × IsForgotten (stream_at old stream) parcel
 
--- the CPU of the stream has this end afterwards, and all other streams stay; or it had it before, and all stays
+-- the CPU of the stream had no end and has this one afterwards, and all other streams stay; or it had it before, and
+-- all stays
 abbrev pub AddsEnd : (old new : List (ℕ × Stream)) (stream cpu end : ℕ) → Added → Type 0
-AddsEnd old new stream cpu end New =
-    KeepsOthers old new stream × HasEnd (stream_at old stream) (stream_at new stream) cpu end
+AddsEnd old new stream cpu end New = KeepsOthers old new stream × (end_of (stream_at old stream) cpu ≡ None)
+    × HasEnd (stream_at old stream) (stream_at new stream) cpu end
 AddsEnd old new stream cpu end Known = (new ≡ old) × (end_of (stream_at old stream) cpu ≡ Some end)
 AddsEnd old new stream cpu end Forgotten = ⊥
 

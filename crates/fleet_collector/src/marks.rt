@@ -5,7 +5,7 @@ use stream_collector::{MarkFault, Marked, StreamCollector};
 use trace_model::{CpuId, RecordNo};
 
 impl Fleet {
-    ghost use Rattle.std.specs.Prelude.{◌≡◌, ℕ, ◌<◌, ◌↔◌, Some, IsSome, Ok, IfErr, OnErr};
+    ghost use Rattle.std.specs.Prelude.{◌≡◌, ℕ, ◌<◌, ◌↔◌, Some, None, IsSome, Ok, IfErr, OnErr};
     ghost use Rattle.stream_collector.specs.Stream.{end_of};
     ghost use Rattle.stream_collector.specs.Marking.{IsReached, HasEnd, IsEndFault};
     ghost use Rattle.stream_collector.specs.declared.added.Marked.TheVariants.{New as NewMark, Known as KnownMark};
@@ -21,6 +21,7 @@ impl Fleet {
     ) -> Result<Marked, MarkFault>
         ensures known { (result ≡ Ok KnownMark) ↔ (end_of (stream_at self.old stream.0) cpu.0 ≡ Some count.0) }
         ensures unchanged { result ≡ Ok KnownMark → self.new ≡ self.old }
+        ensures first { result ≡ Ok NewMark → end_of (stream_at self.old stream.0) cpu.0 ≡ None }
         ensures ended { result ≡ Ok NewMark
             → HasEnd (stream_at self.old stream.0) (stream_at self.new stream.0) cpu.0 count.0 }
         ensures there { result ≡ Ok NewMark → IsSome (stream_in self.new stream.0) }

@@ -6,7 +6,7 @@ use crate::stream::StreamCollector;
 use trace_model::{CpuId, RecordNo};
 
 impl StreamCollector {
-    ghost use Rattle.std.specs.Prelude.{◌≡◌, ℕ, ◌-◌, ◌<◌, ◌≤◌, ◌↔◌, Some, Ok, IfErr, OnErr};
+    ghost use Rattle.std.specs.Prelude.{◌≡◌, ℕ, ◌-◌, ◌<◌, ◌≤◌, ◌↔◌, Some, None, Ok, IfErr, OnErr};
     ghost use Rattle.stream_collector.specs.Stream.{bound_of, end_of};
     ghost use Rattle.stream_collector.specs.Marking.{IsReached, HasEnd, IsEndFault};
     ghost use Rattle.stream_collector.specs.declared.added.Marked.TheVariants.{New as NewMark, Known as KnownMark};
@@ -16,6 +16,7 @@ impl StreamCollector {
     pub fn set_end(&mut self, cpu: CpuId, count: RecordNo) -> Result<Marked, MarkFault>
         ensures known { (result ≡ Ok KnownMark) ↔ (end_of self.old cpu.0 ≡ Some count.0) }
         ensures unchanged { result ≡ Ok KnownMark → self.new ≡ self.old }
+        ensures first { result ≡ Ok NewMark → end_of self.old cpu.0 ≡ None }
         ensures ended { result ≡ Ok NewMark → HasEnd self.old self.new cpu.0 count.0 }
         ensures nothing_beyond { result ≡ Ok NewMark → (n : ℕ) → IsReached self.old cpu.0 n → n < count.0 }
         ensures fault { IfErr result (λ fault. IsEndFault self.old cpu.0 count.0 fault) }
