@@ -6,3 +6,4 @@ pub mod KindRuns
 pub mod BothRuns
 pub mod Lost
 pub mod KeptParcels
+pub mod WithinEnds

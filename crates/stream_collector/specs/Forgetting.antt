@@ -5,7 +5,7 @@ use Rattle.trace_model.specs.Collection.{Misses, IsSame}
 use Rattle.collector.specs.Shown.{IsUnknown}
 use Rattle.collector.specs.Known.{without_ended}
 use Rattle.stream_collector.specs.Marks.{marks_at, bounds_of}
-use Rattle.stream_collector.specs.Stream.{Stream, bound_of, end_of, IsOpen, IsAccounted}
+use Rattle.stream_collector.specs.Stream.{Stream, bound_of, end_of, IsUpToEnd, IsOpen, IsAccounted}
 use Rattle.stream_collector.specs.declared.fault.MarkFault.{MarkFault}
 use Rattle.stream_collector.specs.declared.fault.MarkFault.TheVariants.{OtherEnd, BeyondEnd, NotFinal, NoMemory}
 
@@ -33,8 +33,7 @@ abbrev pub IsBoundFault : Stream → (cpu bound : ℕ) → MarkFault → Type 0
 IsBoundFault stream cpu bound (OtherEnd end) = ⊥
 IsBoundFault stream cpu bound (BeyondEnd end) = (end_of stream cpu ≡ Some end.0) × (end.0 < bound)
 IsBoundFault stream cpu bound (NotFinal number) = ⊥
-IsBoundFault stream cpu bound NoMemory = (bound_of stream cpu < bound)
-    × ((end : ℕ) → end_of stream cpu ≡ Some end → bound ≤ end)
+IsBoundFault stream cpu bound NoMemory = (bound_of stream cpu < bound) × IsUpToEnd stream cpu bound
 
 -- why it isn't, if it has to be final
 abbrev pub IsForgetFault : Stream → (cpu bound : ℕ) → MarkFault → Type 0
@@ -42,5 +41,4 @@ IsForgetFault stream cpu bound (OtherEnd end) = ⊥
 IsForgetFault stream cpu bound (BeyondEnd end) = (end_of stream cpu ≡ Some end.0) × (end.0 < bound)
 IsForgetFault stream cpu bound (NotFinal number) = IsOpen stream cpu number.0 × (number.0 < bound)
     × ((n : ℕ) → bound_of stream cpu ≤ n → n < number.0 → IsAccounted stream cpu n)
-IsForgetFault stream cpu bound NoMemory = (bound_of stream cpu < bound)
-    × ((end : ℕ) → end_of stream cpu ≡ Some end → bound ≤ end)
+IsForgetFault stream cpu bound NoMemory = (bound_of stream cpu < bound) × IsUpToEnd stream cpu bound

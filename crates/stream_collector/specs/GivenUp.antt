@@ -2,7 +2,7 @@
 use Rattle.std.specs.Prelude.{◌≡◌, ℕ, ◌-◌, ◌<◌, ◌≤◌, ◌⊎◌, ◌↔◌, List, [], Some}
 use Rattle.trace_model.specs.Parcel.{Parcel}
 use Rattle.trace_model.specs.Collection.{Misses}
-use Rattle.stream_collector.specs.Stream.{Stream, end_of}
+use Rattle.stream_collector.specs.Stream.{Stream, end_of, IsUpToEnd}
 use Rattle.stream_collector.specs.declared.fault.MarkFault.{MarkFault}
 use Rattle.stream_collector.specs.declared.fault.MarkFault.TheVariants.{OtherEnd, BeyondEnd, NotFinal, NoMemory}
 
@@ -40,4 +40,4 @@ IsUndeliveredFault stream cpu first end (OtherEnd other) = ⊥
 IsUndeliveredFault stream cpu first end (BeyondEnd number) = IsFirstBeyond stream cpu first end number.0
 IsUndeliveredFault stream cpu first end (NotFinal number) = ⊥
 IsUndeliveredFault stream cpu first end NoMemory = (AllGivenUp stream.given_up cpu first end → ⊥)
-    × ((mark : ℕ) → end_of stream cpu ≡ Some mark → end ≤ mark)
+    × IsUpToEnd stream cpu end

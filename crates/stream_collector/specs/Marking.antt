@@ -3,7 +3,7 @@ use Rattle.std.specs.Prelude.{◌≡◌, ℕ, ◌<◌, ◌≤◌, Some, None}
 use Rattle.trace_model.specs.Collection.{Misses}
 use Rattle.collector.specs.Known.{IsKnown}
 use Rattle.stream_collector.specs.Marks.{marks_at}
-use Rattle.stream_collector.specs.Stream.{Stream, bound_of, end_of}
+use Rattle.stream_collector.specs.Stream.{Stream, bound_of, end_of, HaveNoRecord}
 use Rattle.stream_collector.specs.declared.fault.MarkFault.{MarkFault}
 use Rattle.stream_collector.specs.declared.fault.MarkFault.TheVariants.{OtherEnd, BeyondEnd, NotFinal, NoMemory}
 
@@ -12,6 +12,16 @@ pub data IsReached (stream : Stream) (cpu number : ℕ) : Type 0 where
   by_bound : number < bound_of stream cpu → IsReached stream cpu number
   by_parcels : IsKnown stream.parcels cpu number → IsReached stream cpu number
   by_given_up : Misses stream.given_up cpu number → IsReached stream cpu number
+
+-- of a CPU with an end, each number that is reached is below it
+abbrev pub AreWithinEnds : Stream → Type 0
+AreWithinEnds stream = (cpu end number : ℕ)
+    → end_of stream cpu ≡ Some end → IsReached stream cpu number → number < end
+
+-- what holds of each stream at all times
+pub record IsStanding (stream : Stream) : Type 0 where
+  pub no_record : HaveNoRecord stream.given_up
+  pub within : AreWithinEnds stream
 
 -- the CPU has this end, and all else is as it was
 pub record HasEnd (old new : Stream) (cpu end : ℕ) : Type 0 where

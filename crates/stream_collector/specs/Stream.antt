@@ -23,6 +23,10 @@ bound_of stream cpu = (marks_at stream.marks cpu).bound
 abbrev pub end_of : Stream → ℕ → Option ℕ
 end_of stream cpu = (marks_at stream.marks cpu).end
 
+-- the CPU has no end below this number
+abbrev pub IsUpToEnd : Stream → (cpu bound : ℕ) → Type 0
+IsUpToEnd stream cpu bound = (end : ℕ) → end_of stream cpu ≡ Some end → bound ≤ end
+
 -- ---- how a number stands, from the bound of its CPU on
 
 -- it has this record

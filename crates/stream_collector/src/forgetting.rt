@@ -12,7 +12,7 @@ impl StreamCollector {
     ghost use Rattle.std.specs.Prelude.{◌≡◌, ℕ, ◌<◌, ◌≤◌, ◌↔◌, Ok, IfOk, IfErr, OnOk, OnErr};
     ghost use Rattle.trace_model.specs.Collection.{IsSame};
     ghost use Rattle.trace_model.specs.declared.limits.TheConstants.{MAX_CPUS};
-    ghost use Rattle.stream_collector.specs.Stream.{bound_of, IsAccounted, HaveNoRecord};
+    ghost use Rattle.stream_collector.specs.Stream.{bound_of, IsUpToEnd, IsAccounted, HaveNoRecord};
     ghost use Rattle.stream_collector.specs.Forgetting.{HasBound, GivesUpBelow, IsBoundFault, IsForgetFault};
     ghost use Rattle.stream_collector.specs.declared.added.Marked.TheVariants.{New as NewMark, Known as KnownMark};
 
@@ -26,9 +26,11 @@ impl StreamCollector {
         ensures higher { result ≡ Ok NewMark → bound_of self.old cpu.0 < bound.0 }
         ensures raised { result ≡ Ok NewMark → HasBound self.old self.new cpu.0 bound.0 }
         ensures given_up { result ≡ Ok NewMark → self.new.given_up ≡ self.old.given_up }
+        ensures within { OnOk result (IsUpToEnd self.old cpu.0 bound.0) }
         ensures fault { IfErr result (λ fault. IsBoundFault self.old cpu.0 bound.0 fault) }
         ensures refused { OnErr result (self.new ≡ self.old) }
     {
+        let _marks = &self.marks;
         if bound.0 <= self.marks(cpu).bound {
             return Ok(Marked::Known);
         }
@@ -49,6 +51,7 @@ impl StreamCollector {
         ensures given_up { result ≡ Ok NewMark → self.new.given_up ≡ self.old.given_up }
         ensures accounted { OnOk result ((n : ℕ) → bound_of self.old cpu.0 ≤ n → n < bound.0
             → IsAccounted self.old cpu.0 n) }
+        ensures within { OnOk result (IsUpToEnd self.old cpu.0 bound.0) }
         ensures fault { IfErr result (λ fault. IsForgetFault self.old cpu.0 bound.0 fault) }
         ensures refused { OnErr result (self.new ≡ self.old) }
     {
@@ -68,9 +71,11 @@ impl StreamCollector {
         ensures higher { result ≡ Ok NewMark → bound_of self.old cpu.0 < bound.0 }
         ensures raised { result ≡ Ok NewMark → HasBound self.old self.new cpu.0 bound.0 }
         ensures given_up { result ≡ Ok NewMark → GivesUpBelow self.old self.new.given_up cpu.0 bound.0 }
+        ensures within { OnOk result (IsUpToEnd self.old cpu.0 bound.0) }
         ensures fault { IfErr result (λ fault. IsBoundFault self.old cpu.0 bound.0 fault) }
         ensures refused { OnErr result (self.new ≡ self.old) }
     {
+        let _marks = &self.marks;
         if bound.0 <= self.marks(cpu).bound {
             return Ok(Marked::Known);
         }
@@ -91,7 +96,7 @@ impl StreamCollector {
     fn check_end(&self, cpu: CpuId, bound: u64) -> Result<(), MarkFault>
         requires { bound_of self.now cpu.0 < bound }
         ensures fault { IfErr result (λ fault. IsBoundFault self.now cpu.0 bound fault) }
-        ensures within { OnOk result (IsBoundFault self.now cpu.0 bound MarkFault.NoMemory) }
+        ensures within { OnOk result (IsUpToEnd self.now cpu.0 bound) }
     {
         match self.marks(cpu).end {
             Some(end) if end < bound => Err(MarkFault::BeyondEnd(RecordNo(end))),
@@ -101,6 +106,7 @@ impl StreamCollector {
 
     /// Sets the bound of a CPU, and drops the parcels that end below it.
     fn raise_bound(&mut self, cpu: CpuId, bound: u64) -> Result<(), NoMemory>
+        requires { IsUpToEnd self.old cpu.0 bound }
         ensures raised { OnOk result (HasBound self.old self.new cpu.0 bound) }
         ensures given_up { OnOk result (self.new.given_up ≡ self.old.given_up) }
         ensures refused { OnErr result (self.new ≡ self.old) }

@@ -10,7 +10,8 @@ impl StreamCollector {
     ghost use Rattle.page_borrow.specs.Entries.{numbered_record};
     ghost use Rattle.collector.specs.Listed.{AreRecordsFrom};
     ghost use Rattle.collector.specs.Runs.{AreMissingRuns};
-    ghost use Rattle.stream_collector.specs.Stream.{bound_of, end_of, HasRecord, IsOpen, IsAccounted};
+    ghost use Rattle.stream_collector.specs.Stream.{bound_of, end_of, HasRecord, IsUpToEnd, IsOpen, IsAccounted};
+    ghost use Rattle.stream_collector.specs.Marking.{IsReached};
 
     /// The bound of a CPU: what is below it is kept no longer. It is 0 if nothing was forgotten.
     pub fn bound(&self, cpu: CpuId) -> RecordNo
@@ -19,11 +20,14 @@ impl StreamCollector {
         RecordNo(self.marks(cpu).bound)
     }
 
-    /// How many records a CPU has, if that is known.
+    /// How many records a CPU has, if that is known. Each number of the CPU that has a record, is missing, was given up
+    /// or is below the bound is below it.
     pub fn end_mark(&self, cpu: CpuId) -> Option<RecordNo>
         ensures end { IfSome result (λ end. end_of self.now cpu.0 ≡ Some end.0) }
         ensures none { IfNone result (end_of self.now cpu.0 ≡ None) }
+        ensures within { IfSome result (λ end. (n : ℕ) → IsReached self.now cpu.0 n → n < end.0) }
     {
+        let _known = &self.known;
         self.marks(cpu).end.map(RecordNo)
     }
 
@@ -55,10 +59,11 @@ impl StreamCollector {
     }
 
     /// The least number of a CPU, from its bound on, that neither has a record, nor is missing, nor was given up. If
-    /// any number is awaited, it is the least of those. The bound may be raised up to it.
+    /// any number is awaited, it is the least of those. The bound may be raised up to it. It is at most the CPU's end.
     pub fn watermark(&self, cpu: CpuId) -> RecordNo
         ensures open { IsOpen self.now cpu.0 result.0 }
         ensures accounted { (n : ℕ) → bound_of self.now cpu.0 ≤ n → n < result.0 → IsAccounted self.now cpu.0 n }
+        ensures within { IsUpToEnd self.now cpu.0 result.0 }
     {
         let mut at = self.bound(cpu);
         loop {

@@ -25,7 +25,8 @@ pub struct StreamCollector {
 }
 
 impl Model for StreamCollector {
-    ghost use Rattle.stream_collector.specs.Stream.{Stream, HaveNoRecord};
+    ghost use Rattle.stream_collector.specs.Stream.{Stream};
+    ghost use Rattle.stream_collector.specs.Marking.{IsStanding};
 
     ghost Value = { Stream };
 
@@ -35,7 +36,11 @@ impl Model for StreamCollector {
       given_up = s.given_up;
     } };
 
-    ghost invariant = { λ s. HaveNoRecord s.given_up };
+    ghost invariant = { λ s. IsStanding record {
+      parcels = s.known;
+      marks = s.marks.cpus.entries;
+      given_up = s.given_up;
+    } };
 }
 
 impl StreamCollector {

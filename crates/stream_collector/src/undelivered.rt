@@ -6,8 +6,9 @@ use crate::stream::StreamCollector;
 use trace_model::{CpuId, RecordNo};
 
 impl StreamCollector {
-    ghost use Rattle.std.specs.Prelude.{◌≡◌, ◌<◌, Ok, IfErr, OnErr};
+    ghost use Rattle.std.specs.Prelude.{◌≡◌, ◌<◌, Ok, IfErr, OnOk, OnErr};
     ghost use Rattle.trace_model.specs.declared.limits.TheConstants.{MAX_CPUS};
+    ghost use Rattle.stream_collector.specs.Stream.{IsUpToEnd};
     ghost use Rattle.stream_collector.specs.GivenUp.{GivesUp, AllGivenUp, IsUndeliveredFault};
     ghost use Rattle.stream_collector.specs.declared.added.Marked.TheVariants.{New as NewMark, Known as KnownMark};
 
@@ -26,6 +27,7 @@ impl StreamCollector {
         ensures given_up { result ≡ Ok NewMark → GivesUp self.old.given_up self.new.given_up cpu.0 first.0 end.0 }
         ensures parcels { self.new.parcels ≡ self.old.parcels }
         ensures marks { self.new.marks ≡ self.old.marks }
+        ensures within { OnOk result (first.0 < end.0 → IsUpToEnd self.old cpu.0 end.0) }
         ensures fault { IfErr result (λ fault. IsUndeliveredFault self.old cpu.0 first.0 end.0 fault) }
         ensures refused { OnErr result (self.new ≡ self.old) }
     {

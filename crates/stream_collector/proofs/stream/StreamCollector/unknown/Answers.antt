@@ -9,7 +9,7 @@ pub returns : goal.returns
 returns c =
     let s = c.args.self.now in
     let cpu = c.args.cpu.0 in
-    let none = subst (λ (s : Stream). HaveNoRecord s.given_up) c.self.view_is c.self.invariant in
+    let none = subst (λ (s : Stream). HaveNoRecord s.given_up) c.self.view_is c.self.invariant.no_record in
     same_runs {P = IsOfKindWithin Open s cpu c.expected_end.result} {Q = IsAwaited s cpu} c.runs.result
     (λ n h. record {
       is_open = record { from = h.from; not_given_up = h.of_kind.0.not_missing; unknown = h.of_kind.1 };
