@@ -35,10 +35,16 @@ IsBoundFault stream cpu bound (BeyondEnd end) = (end_of stream cpu ≡ Some end.
 IsBoundFault stream cpu bound (NotFinal number) = ⊥
 IsBoundFault stream cpu bound NoMemory = (bound_of stream cpu < bound) × IsUpToEnd stream cpu bound
 
--- why it isn't, if it has to be final
+-- each number of the CPU from its bound up to this one is accounted for
+abbrev pub AllAccounted : Stream → (cpu bound : ℕ) → Type 0
+AllAccounted stream cpu bound = (number : ℕ)
+    → bound_of stream cpu ≤ number → number < bound → IsAccounted stream cpu number
+
+-- Why it isn't, if it has to be final: this is the least open number, and it is below the bound; or all below a higher
+-- bound is accounted for, and memory was refused. Such a bound is never above the end.
 abbrev pub IsForgetFault : Stream → (cpu bound : ℕ) → MarkFault → Type 0
 IsForgetFault stream cpu bound (OtherEnd end) = ⊥
-IsForgetFault stream cpu bound (BeyondEnd end) = (end_of stream cpu ≡ Some end.0) × (end.0 < bound)
+IsForgetFault stream cpu bound (BeyondEnd end) = ⊥
 IsForgetFault stream cpu bound (NotFinal number) = IsOpen stream cpu number.0 × (number.0 < bound)
-    × ((n : ℕ) → bound_of stream cpu ≤ n → n < number.0 → IsAccounted stream cpu n)
-IsForgetFault stream cpu bound NoMemory = (bound_of stream cpu < bound) × IsUpToEnd stream cpu bound
+    × AllAccounted stream cpu number.0
+IsForgetFault stream cpu bound NoMemory = (bound_of stream cpu < bound) × AllAccounted stream cpu bound

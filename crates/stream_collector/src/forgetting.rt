@@ -12,8 +12,8 @@ impl StreamCollector {
     ghost use Rattle.std.specs.Prelude.{◌≡◌, ℕ, ◌<◌, ◌≤◌, ◌↔◌, Ok, IfOk, IfErr, OnOk, OnErr};
     ghost use Rattle.trace_model.specs.Collection.{IsSame};
     ghost use Rattle.trace_model.specs.declared.limits.TheConstants.{MAX_CPUS};
-    ghost use Rattle.stream_collector.specs.Stream.{bound_of, IsUpToEnd, IsAccounted, HaveNoRecord};
-    ghost use Rattle.stream_collector.specs.Forgetting.{HasBound, GivesUpBelow, IsBoundFault, IsForgetFault};
+    ghost use Rattle.stream_collector.specs.Stream.{bound_of, IsUpToEnd, HaveNoRecord};
+    ghost use Rattle.stream_collector.specs.Forgetting.{HasBound, GivesUpBelow, AllAccounted, IsBoundFault, IsForgetFault};
     ghost use Rattle.stream_collector.specs.declared.added.Marked.TheVariants.{New as NewMark, Known as KnownMark};
 
     /// What is below this bound of a CPU was forgotten, as the mark of a snapshot says: the CPU's bound is raised to
@@ -42,15 +42,14 @@ impl StreamCollector {
     }
 
     /// The same, if all numbers of the CPU from its bound up to this one are accounted for: if each has a record or is
-    /// missing, or was given up. No bound above the watermark is taken.
+    /// missing, or was given up. Just the bounds up to the watermark are taken, and none of those is above the end.
     pub fn forget(&mut self, cpu: CpuId, bound: RecordNo) -> Result<Marked, MarkFault>
-        ensures known { result ≡ Ok KnownMark → bound.0 ≤ bound_of self.old cpu.0 }
+        ensures known { (result ≡ Ok KnownMark) ↔ (bound.0 ≤ bound_of self.old cpu.0) }
         ensures unchanged { result ≡ Ok KnownMark → self.new ≡ self.old }
         ensures higher { result ≡ Ok NewMark → bound_of self.old cpu.0 < bound.0 }
         ensures raised { result ≡ Ok NewMark → HasBound self.old self.new cpu.0 bound.0 }
         ensures given_up { result ≡ Ok NewMark → self.new.given_up ≡ self.old.given_up }
-        ensures accounted { OnOk result ((n : ℕ) → bound_of self.old cpu.0 ≤ n → n < bound.0
-            → IsAccounted self.old cpu.0 n) }
+        ensures accounted { OnOk result (AllAccounted self.old cpu.0 bound.0) }
         ensures within { OnOk result (IsUpToEnd self.old cpu.0 bound.0) }
         ensures fault { IfErr result (λ fault. IsForgetFault self.old cpu.0 bound.0 fault) }
         ensures refused { OnErr result (self.new ≡ self.old) }
