@@ -24,12 +24,17 @@ impl From<collector::AddFault> for AddFault {
 /// Why a mark isn't added, or a bound not raised. Nothing has changed.
 #[derive(Clone, Copy, Debug, PartialEq, Eq)]
 pub enum MarkFault {
-    /// The CPU has another end, this one.
+    /// `set_end`: the CPU has another end, this one.
     OtherEnd(RecordNo),
-    /// The CPU would have its end at or below this number, which is known, given up, or below the bound.
+    /// Something is beyond the end of the CPU:
+    ///
+    /// - `set_end`: this number is known, was given up or is below the bound, and isn't below the end that was to be
+    ///   set; it is the greatest such number.
+    /// - `forgotten` and `give_up`: the CPU has this end, and the bound is above it.
+    /// - `mark_undelivered`: the CPU has an end at or below this number, the least such one of those to be given up.
     BeyondEnd(RecordNo),
-    /// This number neither has a record nor is missing, nor was it given up; it is the least such number from the
-    /// CPU's bound on.
+    /// `forget`: this number, below the bound, neither has a record nor is missing, nor was it given up; it is the
+    /// least such number from the CPU's bound on.
     NotFinal(RecordNo),
     /// Memory was refused; nothing else is wrong.
     NoMemory,
