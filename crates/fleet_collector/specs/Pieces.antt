@@ -1,7 +1,8 @@
 -- What adding a piece makes of a fleet.
-use Rattle.std.specs.Prelude.{◌≡◌, ℕ, List, [], ◌∷◌, ◌++◌, Some, None}
+use Rattle.std.specs.Prelude.{◌≡◌, ℕ, ◌<◌, List, [], ◌∷◌, ◌++◌, ⊤, Some, None}
 use Rattle.trace_model.specs.Parcel.{Parcel}
 use Rattle.trace_model.specs.Collection.{IsBelow}
+use Rattle.trace_model.specs.declared.limits.TheConstants.{MAX_CPUS}
 use Rattle.page_numbers.specs.Parcels.{as_parcel}
 use Rattle.parcel_streams.specs.declared.piece.Piece.{Piece}
 use Rattle.parcel_streams.specs.declared.piece.Piece.TheVariants.{Parcel as ParcelPiece, End}
@@ -29,6 +30,11 @@ AddsEnd old new stream cpu end New = KeepsOthers old new stream × (end_of (stre
     × HasEnd (stream_at old stream) (stream_at new stream) cpu end
 AddsEnd old new stream cpu end Known = (new ≡ old) × (end_of (stream_at old stream) cpu ≡ Some end)
 AddsEnd old new stream cpu end Forgotten = ⊥
+
+-- a mark is of a CPU that there is, as each parcel is
+abbrev pub HasKnownCpu : Piece → Type 0
+HasKnownCpu (ParcelPiece stream parcel) = ⊤
+HasKnownCpu (End stream cpu count) = cpu.0 < MAX_CPUS
 
 -- by the kind of the piece
 abbrev pub AddsPiece : (old new : List (ℕ × Stream)) → Piece → Added → Type 0

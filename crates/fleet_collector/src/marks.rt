@@ -6,6 +6,7 @@ use trace_model::{CpuId, RecordNo};
 
 impl Fleet {
     ghost use Rattle.std.specs.Prelude.{◌≡◌, ℕ, ◌<◌, ◌↔◌, Some, None, IsSome, Ok, IfErr, OnErr};
+    ghost use Rattle.trace_model.specs.declared.limits.TheConstants.{MAX_CPUS};
     ghost use Rattle.stream_collector.specs.Stream.{end_of};
     ghost use Rattle.stream_collector.specs.Marking.{IsReached, HasEnd, IsEndFault};
     ghost use Rattle.stream_collector.specs.declared.added.Marked.TheVariants.{New as NewMark, Known as KnownMark};
@@ -19,6 +20,7 @@ impl Fleet {
         cpu: CpuId,
         count: RecordNo,
     ) -> Result<Marked, MarkFault>
+        requires { cpu.0 < MAX_CPUS }
         ensures known { (result ≡ Ok KnownMark) ↔ (end_of (stream_at self.old stream.0) cpu.0 ≡ Some count.0) }
         ensures unchanged { result ≡ Ok KnownMark → self.new ≡ self.old }
         ensures first { result ≡ Ok NewMark → end_of (stream_at self.old stream.0) cpu.0 ≡ None }

@@ -7,6 +7,7 @@ use trace_model::{CpuId, RecordNo};
 
 impl StreamCollector {
     ghost use Rattle.std.specs.Prelude.{◌≡◌, ℕ, ◌-◌, ◌<◌, ◌≤◌, ◌↔◌, Some, None, Ok, IfErr, OnErr};
+    ghost use Rattle.trace_model.specs.declared.limits.TheConstants.{MAX_CPUS};
     ghost use Rattle.stream_collector.specs.Stream.{bound_of, end_of};
     ghost use Rattle.stream_collector.specs.Marking.{IsReached, HasEnd, IsEndFault};
     ghost use Rattle.stream_collector.specs.declared.added.Marked.TheVariants.{New as NewMark, Known as KnownMark};
@@ -14,6 +15,7 @@ impl StreamCollector {
     /// A CPU has `count` records, and no more. It is refused if the CPU has another end, and then if a number at or
     /// beyond this one is known, was given up or is below the bound.
     pub fn set_end(&mut self, cpu: CpuId, count: RecordNo) -> Result<Marked, MarkFault>
+        requires { cpu.0 < MAX_CPUS }
         ensures known { (result ≡ Ok KnownMark) ↔ (end_of self.old cpu.0 ≡ Some count.0) }
         ensures unchanged { result ≡ Ok KnownMark → self.new ≡ self.old }
         ensures first { result ≡ Ok NewMark → end_of self.old cpu.0 ≡ None }

@@ -21,6 +21,7 @@ impl StreamCollector {
     /// nothing below it is still to come. The kept parcels are shared anew, so it takes time in proportion to all of
     /// them: raise bounds by many records at a time.
     pub fn forgotten(&mut self, cpu: CpuId, bound: RecordNo) -> Result<Marked, MarkFault>
+        requires { cpu.0 < MAX_CPUS }
         ensures known { (result ≡ Ok KnownMark) ↔ (bound.0 ≤ bound_of self.old cpu.0) }
         ensures unchanged { result ≡ Ok KnownMark → self.new ≡ self.old }
         ensures higher { result ≡ Ok NewMark → bound_of self.old cpu.0 < bound.0 }
@@ -44,6 +45,7 @@ impl StreamCollector {
     /// The same, if all numbers of the CPU from its bound up to this one are accounted for: if each has a record or is
     /// missing, or was given up. Just the bounds up to the watermark are taken, and none of those is above the end.
     pub fn forget(&mut self, cpu: CpuId, bound: RecordNo) -> Result<Marked, MarkFault>
+        requires { cpu.0 < MAX_CPUS }
         ensures known { (result ≡ Ok KnownMark) ↔ (bound.0 ≤ bound_of self.old cpu.0) }
         ensures unchanged { result ≡ Ok KnownMark → self.new ≡ self.old }
         ensures higher { result ≡ Ok NewMark → bound_of self.old cpu.0 < bound.0 }
@@ -91,9 +93,8 @@ impl StreamCollector {
         }
     }
 
-    /// Looks whether a bound above a CPU's own is at most its end.
+    /// Looks whether a bound is at most the end of its CPU.
     fn check_end(&self, cpu: CpuId, bound: u64) -> Result<(), MarkFault>
-        requires { bound_of self.now cpu.0 < bound }
         ensures fault { IfErr result (λ fault. IsBoundFault self.now cpu.0 bound fault) }
         ensures within { OnOk result (IsUpToEnd self.now cpu.0 bound) }
     {
