@@ -12,7 +12,7 @@ use Rattle.stream_collector.specs.declared.marks.Marks.{Marks}
 use Rattle.stream_collector.specs.Marks.{bounds_of}
 use Rattle.stream_collector.specs.Stream.{Stream, bound_of, end_of, HasRecord, IsMissing, IsUndelivered, IsOpen}
 use Rattle.stream_collector.specs.Stream.{IsAccounted, has_record, is_missing, is_undelivered, IsExpected, IsAwaited}
-use Rattle.stream_collector.specs.Forgetting.{HasBound, GivesUpBelow}
+use Rattle.stream_collector.specs.Forgetting.{HasBound, IsLost, GivesUpBelow}
 use Rattle.stream_collector.proofs.Standing.{known_or_not, known_accounted, given_up_accounted, missed_or_not}
 
 pub one : (s : Stream) (cpu n : ℕ) → bound_of s cpu ≤ n → (IsOpen s cpu n ⊎ IsAccounted s cpu n)
@@ -45,6 +45,10 @@ awaited_first s cpu w n o accounted a = ⊎_elim
     (cases_lt n w)
 
 -- ---- forgetting
+
+-- from the bounds on, the same numbers were given up
+abbrev pub IsGivenUpSame : (old new : Stream) → Type 0
+IsGivenUpSame old new = (c n : ℕ) → bound_of new c ≤ n → (Misses old.given_up c n ↔ Misses new.given_up c n)
 
 module _ (old new : Stream) (cpu bound : ℕ) (up : bound_of old cpu ≤ bound) (raised : HasBound old new cpu bound) where
   rises : (c : ℕ) → bound_of old c ≤ bound_of new c
@@ -83,24 +87,111 @@ module _ (old new : Stream) (cpu bound : ℕ) (up : bound_of old cpu ≤ bound) 
     λ h. record { from = (let a = rises c in omega arith); misses = misses_back c n from h.misses },
   )
 
-  pub undelivered_stay : new.given_up ≡ old.given_up → (c n : ℕ) → bound_of new c ≤ n
+  unknown_to : (c n : ℕ) → bound_of new c ≤ n → IsUnknown old.parcels c n → IsUnknown new.parcels c n
+  unknown_to c n from u = record {
+    no_record = λ r there. u.no_record r (has_back c n r from there);
+    not_missing = λ there. u.not_missing (misses_back c n from there);
+  }
+
+  unknown_back : (c n : ℕ) → bound_of new c ≤ n → IsUnknown new.parcels c n → IsUnknown old.parcels c n
+  unknown_back c n from u = record {
+    no_record = λ r there. u.no_record r (has_to c n r from there);
+    not_missing = λ there. u.not_missing (misses_to c n from there);
+  }
+
+  pub given_same : new.given_up ≡ old.given_up → IsGivenUpSame old new
+  given_same same c n from = (
+    λ m. subst (λ (ps : List Parcel). Misses ps c n) (sym same) m,
+    λ m. subst (λ (ps : List Parcel). Misses ps c n) same m,
+  )
+
+  -- what is lost is below the bound
+  pub given_lost : GivesUpBelow old new.given_up cpu bound → IsGivenUpSame old new
+  given_lost gives c n from = (
+    λ m. (gives c n).1 (inl m),
+    λ m. ⊎_elim
+        (λ own. own)
+        (λ (lost : IsLost old cpu bound c n).
+        let is : bound_of new c ≡ bound = ap (λ (k : ℕ). bound_of new k) lost.cpu_is
+        ∙ ap (λ (m : Marks). m.bound) raised.marks in
+        let less = lost.below in absurd (omega arith))
+        ((gives c n).0 m),
+  )
+
+  pub undelivered_stay : IsGivenUpSame old new → (c n : ℕ) → bound_of new c ≤ n
       → (IsUndelivered old c n ↔ IsUndelivered new c n)
   undelivered_stay same c n from = (
     λ h. record {
       from = from;
-      given_up = subst (λ (ps : List Parcel). Misses ps c n) (sym same) h.given_up;
-      unknown = record {
-        no_record = λ r there. h.unknown.no_record r (has_back c n r from there);
-        not_missing = λ there. h.unknown.not_missing (misses_back c n from there);
-      };
+      given_up = (same c n from).0 h.given_up;
+      unknown = unknown_to c n from h.unknown;
     },
     λ h. record {
       from = (let a = rises c in omega arith);
-      given_up = subst (λ (ps : List Parcel). Misses ps c n) same h.given_up;
-      unknown = record {
-        no_record = λ r there. h.unknown.no_record r (has_to c n r from there);
-        not_missing = λ there. h.unknown.not_missing (misses_to c n from there);
+      given_up = (same c n from).1 h.given_up;
+      unknown = unknown_back c n from h.unknown;
+    },
+  )
+
+  ends_stay : (c : ℕ) → end_of new c ≡ end_of old c
+  ends_stay c = ⊎_elim
+      (λ (e : c ≡ cpu). ap (λ (k : ℕ). end_of new k) e ∙ ap (λ (m : Marks). m.end) raised.marks
+      ∙ ap (λ (k : ℕ). end_of old k) (sym e))
+      (λ (apart : c ≡ cpu → ⊥). ap (λ (m : Marks). m.end) (raised.others c apart))
+      (cases_eq c cpu)
+
+  expected_to : (c n : ℕ) → bound_of new c ≤ n → IsExpected old c n → IsExpected new c n
+  expected_to c n from expected = ⊎_elim
+      (λ (there : (later : ℕ) × IsKnown old.parcels c later × (n < later)).
+      let lt = there.2 in
+      let up : bound_of new c ≤ there.0 = omega arith in
+      inl (
+        there.0,
+        ⊎_elim
+            (λ (one : (r : Record) × Has old.parcels c there.0 r). inl (one.0, has_to c there.0 one.0 up one.1))
+            (λ (m : Misses old.parcels c there.0). inr (misses_to c there.0 up m))
+            there.1,
+        lt,
+      ))
+      (λ (there : (end : ℕ) × (end_of old c ≡ Some end) × (n < end)).
+      inr (there.0, ends_stay c ∙ there.1, there.2))
+      expected
+
+  expected_back : (c n : ℕ) → bound_of new c ≤ n → IsExpected new c n → IsExpected old c n
+  expected_back c n from expected = ⊎_elim
+      (λ (there : (later : ℕ) × IsKnown new.parcels c later × (n < later)).
+      let lt = there.2 in
+      let up : bound_of new c ≤ there.0 = omega arith in
+      inl (
+        there.0,
+        ⊎_elim
+            (λ (one : (r : Record) × Has new.parcels c there.0 r). inl (one.0, has_back c there.0 one.0 up one.1))
+            (λ (m : Misses new.parcels c there.0). inr (misses_back c there.0 up m))
+            there.1,
+        lt,
+      ))
+      (λ (there : (end : ℕ) × (end_of new c ≡ Some end) × (n < end)).
+      inr (there.0, sym (ends_stay c) ∙ there.1, there.2))
+      expected
+
+  pub awaited_stay : IsGivenUpSame old new → (c n : ℕ) → bound_of new c ≤ n
+      → (IsAwaited old c n ↔ IsAwaited new c n)
+  awaited_stay same c n from = (
+    λ h. record {
+      is_open = record {
+        from = from;
+        not_given_up = λ m. h.is_open.not_given_up ((same c n from).1 m);
+        unknown = unknown_to c n from h.is_open.unknown;
       };
+      expected = expected_to c n from h.expected;
+    },
+    λ h. record {
+      is_open = record {
+        from = (let a = rises c in omega arith);
+        not_given_up = λ m. h.is_open.not_given_up ((same c n from).0 m);
+        unknown = unknown_back c n from h.is_open.unknown;
+      };
+      expected = expected_back c n from h.expected;
     },
   )
 

@@ -28,16 +28,22 @@ pub fn the_watermark_is_awaited_first()
         IsAwaited s cpu n → IsAwaited s cpu watermark × (watermark ≤ n) }
 {}
 
-/// When a bound is raised, nothing changes from the bounds on; with a stream that is given up, all that was awaited
-/// below the bound is given up.
+/// When a bound is raised, nothing changes from the bounds on: each number has the same record there, or is missing,
+/// undelivered or awaited, as before. So it is with a stream that is given up too, and then all that was awaited below
+/// the bound is given up.
 pub fn forgetting_changes_nothing_above()
     ensures records { (old new : Stream) (cpu bound : ℕ) → bound_of old cpu ≤ bound → HasBound old new cpu bound →
         (c n : ℕ) (r : Record) → bound_of new c ≤ n → (HasRecord old c n r ↔ HasRecord new c n r) }
     ensures missing { (old new : Stream) (cpu bound : ℕ) → bound_of old cpu ≤ bound → HasBound old new cpu bound →
         (c n : ℕ) → bound_of new c ≤ n → (IsMissing old c n ↔ IsMissing new c n) }
     ensures undelivered { (old new : Stream) (cpu bound : ℕ) → bound_of old cpu ≤ bound →
-        HasBound old new cpu bound → new.given_up ≡ old.given_up →
+        HasBound old new cpu bound →
+        ((new.given_up ≡ old.given_up) ⊎ GivesUpBelow old new.given_up cpu bound) →
         (c n : ℕ) → bound_of new c ≤ n → (IsUndelivered old c n ↔ IsUndelivered new c n) }
+    ensures awaited { (old new : Stream) (cpu bound : ℕ) → bound_of old cpu ≤ bound →
+        HasBound old new cpu bound →
+        ((new.given_up ≡ old.given_up) ⊎ GivesUpBelow old new.given_up cpu bound) →
+        (c n : ℕ) → bound_of new c ≤ n → (IsAwaited old c n ↔ IsAwaited new c n) }
     ensures given_up { (old new : Stream) (cpu bound n : ℕ) → GivesUpBelow old new.given_up cpu bound →
         IsAwaited old cpu n → n < bound → Misses new.given_up cpu n }
 {}
