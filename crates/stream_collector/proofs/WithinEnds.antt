@@ -18,11 +18,6 @@ use Rattle.stream_collector.specs.Faults.{IsWithinEnd}
 use Rattle.stream_collector.specs.Forgetting.{HasBound, GivesUpBelow, IsLost}
 use Rattle.stream_collector.specs.GivenUp.{IsInRun, GivesUp}
 
--- no CPU has an end
-pub none_within : (s : Stream) → s.marks ≡ [] → AreWithinEnds s
-none_within s none cpu end n is r =
-    absurd (none-some end (ap (λ (ms : List (ℕ × Marks)). (marks_at ms cpu).end) (sym none) ∙ is))
-
 known_either : (ps qs : List Parcel) (cpu n : ℕ) → IsKnown (ps ++ qs) cpu n → IsKnown ps cpu n ⊎ IsKnown qs cpu n
 known_either ps qs cpu n known = ⊎_elim
     (λ (there : (r : Record) × Has (ps ++ qs) cpu n r). ⊎_elim
