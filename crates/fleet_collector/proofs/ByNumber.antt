@@ -1,16 +1,19 @@
 -- Lines by stream, CPU and number: one CPU after the other, and one stream after the other.
-use Rattle.std.proofs.Common.{◌≡◌, ◌⊎◌, inl, inr, ⊎_elim, ℕ, zero, suc, ◌+◌, ◌<◌, ◌≤◌, List, [], ◌∷◌, ◌++◌, length}
-use Rattle.std.proofs.Common.{map, Some, refl, sym, ap, ◌∙◌, subst, arith}
+use Rattle.std.proofs.Common.{◌≡◌, ◌⊎◌, inl, inr, ⊎_elim, ℕ, zero, suc, ◌+◌, ◌<◌, List, [], ◌∷◌, ◌++◌, length}
+use Rattle.std.proofs.Common.{map, take, drop, get_or, Some, refl, sym, ap, ◌∙◌, subst, arith}
 use Rattle.std.specs.List.{slice_get}
-use Rattle.std.proofs.lemmas.Bool.{cases_lt}
-use Rattle.std.proofs.lemmas.Option.{none-some}
+use Rattle.std.specs.List.Sorted.{IsStrictlyIncreasing}
+use Rattle.std.proofs.lemmas.List.{take-append-drop, length-take-le}
+use Rattle.std.proofs.lemmas.Map.Keys.{below_from_sorted, sorted_from_strictly_increasing}
+use Rattle.std.proofs.lemmas.Option.{none-some, slice_get_within, get_or_from_slice_get, slice_get-get_or}
 use Rattle.trace_model.specs.Record.{Record}
 use Rattle.trace_model.proofs.collections.Elements.{some_is, get_in_front, get_behind, get_in_either}
+use Rattle.collector.specs.Known.{AreCpusOf}
 use Rattle.collector.specs.Listed.{AreListed, AreRecordsFrom}
 use Rattle.stream_collector.specs.Stream.{Stream, bound_of, HasRecord}
 use Rattle.time_merge.proofs.Ordered.{ordered_append, before_each, ordered_rising, ordered_map, mapped_at, at_mapped}
 use Rattle.fleet_collector.specs.Listing.{Line, line_for, IsBeforeAtOnce}
-use Rattle.fleet_collector.specs.Lines.{line_of, IsAmong, AreLinesOf, HasOf, HasIn}
+use Rattle.fleet_collector.specs.Lines.{line_of, IsAmong, AreLinesOf, HasOf, HasAmong, HasIn}
 
 -- it holds of the record of this line
 abbrev of_line : ((stream cpu number : ℕ) → Record → Type 0) → Line → Type 0
@@ -72,39 +75,85 @@ cpu_lines stream known cpu list records = record {
       );
 }
 
+-- each of these numbers is below this one
+abbrev pub AreFewer : List ℕ → ℕ → Type 0
+AreFewer front cpu = (k other : ℕ) → slice_get front k ≡ Some other → other < cpu
+
+only : {X : Type 0} (x : X) (k : ℕ) (y : X) → slice_get (x ∷ []) k ≡ Some y → x ≡ y
+only x zero y at = some_is x y at
+only x (suc k) y at = absurd (none-some y at)
+
 -- one CPU more
-pub stream_more : (stream : ℕ) (known : Stream) (cpu : ℕ) (lines : List Line) (list : List (ℕ × Record))
-    → AreListed (HasRecord known cpu) list → AreLinesOf (HasOf stream known cpu) lines
-    → AreLinesOf (HasOf stream known (cpu + 1)) (lines ++ map (line_of stream cpu) list)
-stream_more stream known cpu lines list records before =
-    lines_append (HasOf stream known cpu) (IsOf stream known cpu) (HasOf stream known (cpu + 1))
-    (λ s c n r h. record { stream_is = h.stream_is; below = let b = h.below in omega arith; has = h.has })
+pub stream_more : (stream : ℕ) (known : Stream) (front : List ℕ) (cpu : ℕ) (lines : List Line) (list : List (ℕ × Record))
+    → AreFewer front cpu
+    → AreListed (HasRecord known cpu) list → AreLinesOf (HasAmong stream known front) lines
+    → AreLinesOf (HasAmong stream known (front ++ cpu ∷ [])) (lines ++ map (line_of stream cpu) list)
+stream_more stream known front cpu lines list low records before =
+    lines_append (HasAmong stream known front) (IsOf stream known cpu) (HasAmong stream known (front ++ cpu ∷ []))
     (λ s c n r h. record {
       stream_is = h.stream_is;
-      below = let b = h.cpu_is in omega arith;
+      index = h.index;
+      at = get_in_front front (cpu ∷ []) h.index c h.at;
+      has = h.has;
+    })
+    (λ s c n r h. record {
+      stream_is = h.stream_is;
+      index = length front + 0;
+      at = get_behind front (cpu ∷ []) 0 ∙ ap (λ q. Some q) (sym h.cpu_is);
       has = subst (λ q. HasRecord known q n r) (sym h.cpu_is) h.has;
     })
     (λ s c n r h. ⊎_elim
-    (λ (lt : c < cpu). inl record { stream_is = h.stream_is; below = lt; has = h.has })
-    (λ (ge : cpu ≤ c).
-    let b = h.below in
-    let e : c ≡ cpu = omega arith in
+    (λ (there : (k : ℕ) × (slice_get front k ≡ Some c)). inl record
+    { stream_is = h.stream_is; index = there.0; at = there.1; has = h.has })
+    (λ (here : (k : ℕ) × (slice_get (cpu ∷ []) k ≡ Some c)).
+    let e : c ≡ cpu = sym (only cpu here.0 c here.1) in
     inr record { stream_is = h.stream_is; cpu_is = e; has = subst (λ q. HasRecord known q n r) e h.has })
-    (cases_lt c cpu))
+    (get_in_either front (cpu ∷ []) h.index c h.at))
     (λ a b p q.
-    let lt = p.below in
+    let lt = low p.index a.cpu p.at in
     let is = q.cpu_is in
     let less : a.cpu < b.cpu = omega arith in
     inr (p.stream_is ∙ sym q.stream_is, inl less))
     lines (map (line_of stream cpu) list) before (cpu_lines stream known cpu list records)
 
 -- no CPU: no line
-pub stream_none : (stream : ℕ) (known : Stream) → AreLinesOf (HasOf stream known 0) []
+pub stream_none : (stream : ℕ) (known : Stream) → AreLinesOf (HasAmong stream known []) []
 stream_none stream known = record {
   ordered = tt;
   of_them = λ line s. absurd (none-some line s.1);
-  whole = λ s c n r h. let b = h.below in absurd (omega arith);
+  whole = λ s c n r h. absurd (none-some c h.at);
 }
+
+-- all CPUs of which something is known
+pub stream_all : (stream : ℕ) (known : Stream) (cpus : List ℕ) (lines : List Line) → AreCpusOf known.parcels cpus
+    → AreLinesOf (HasAmong stream known cpus) lines → AreLinesOf (HasOf stream known) lines
+stream_all stream known cpus lines are p = record {
+  ordered = p.ordered;
+  of_them = λ line s. let h = p.of_them line s in record { stream_is = h.stream_is; has = h.has };
+  whole = λ s c n r h.
+      let there = (are.known c).1 (n, inl (r, h.has.has)) in
+      p.whole s c n r record {
+        stream_is = h.stream_is;
+        index = there.0;
+        at = slice_get-get_or cpus there.0 c there.1 ∙ ap (λ q. Some q) there.2;
+        has = h.has;
+      };
+}
+
+-- of rising numbers, those before a place are below the one there
+pub fewer_next : (cpus : List ℕ) → IsStrictlyIncreasing cpus → (n cpu : ℕ) → n < length cpus → cpu ≡ get_or cpus n cpu
+    → AreFewer (take n cpus) cpu
+fewer_next cpus rising n cpu within is k other at =
+    let early = slice_get_within (take n cpus) k other at in
+    let short : length (take n cpus) ≡ n = length-take-le n cpus (omega arith) in
+    let here : slice_get cpus k ≡ Some other =
+    subst (λ xs. slice_get xs k ≡ Some other) (take-append-drop n cpus)
+    (get_in_front (take n cpus) (drop n cpus) k other at) in
+    let there : slice_get cpus n ≡ Some cpu = slice_get-get_or cpus n cpu within ∙ ap (λ q. Some q) (sym is) in
+    let less = below_from_sorted cpus k n 0 (sorted_from_strictly_increasing cpus rising) (omega arith) within in
+    let a = get_or_from_slice_get cpus k other 0 here in
+    let b = get_or_from_slice_get cpus n cpu 0 there in
+    omega arith
 
 -- the records from the bound on are those that the stream has
 pub listed_of : (known : Stream) (cpu : ℕ) (list : List (ℕ × Record)) → AreRecordsFrom known.parcels cpu
@@ -122,14 +171,13 @@ listed_of known cpu list records = record {
 abbrev pub AreBelow : List (ℕ × Stream) → ℕ → Type 0
 AreBelow front stream = (k : ℕ) (entry : ℕ × Stream) → slice_get front k ≡ Some entry → entry.0 < stream
 
-pub fleet_more : (front : List (ℕ × Stream)) (stream : ℕ) (known : Stream) (end : ℕ) (lines more : List Line)
+pub fleet_more : (front : List (ℕ × Stream)) (stream : ℕ) (known : Stream) (lines more : List Line)
     → AreBelow front stream
-    → ((c n : ℕ) (r : Record) → HasRecord known c n r → c < end)
     → AreLinesOf (HasIn front) lines
-    → AreLinesOf (HasOf stream known end) more
+    → AreLinesOf (HasOf stream known) more
     → AreLinesOf (HasIn (front ++ (stream, known) ∷ [])) (lines ++ more)
-fleet_more front stream known end lines more low few p q =
-    lines_append (HasIn front) (HasOf stream known end) (HasIn (front ++ (stream, known) ∷ []))
+fleet_more front stream known lines more low p q =
+    lines_append (HasIn front) (HasOf stream known) (HasIn (front ++ (stream, known) ∷ []))
     (λ s c n r h. record {
       index = h.index;
       known = h.known;
@@ -148,7 +196,7 @@ fleet_more front stream known end lines more low few p q =
     (λ (here : (k : ℕ) × (slice_get ((stream, known) ∷ []) k ≡ Some (s, h.known))).
     let is : (stream, known) ≡ (s, h.known) = only (stream, known) here.0 (s, h.known) here.1 in
     let has : HasRecord known c n r = subst (λ x. HasRecord x c n r) (sym (ap (λ (e : ℕ × Stream). e.1) is)) h.has in
-    inr record { stream_is = sym (ap (λ (e : ℕ × Stream). e.0) is); below = few c n r has; has = has })
+    inr record { stream_is = sym (ap (λ (e : ℕ × Stream). e.0) is); has = has })
     (get_in_either front ((stream, known) ∷ []) h.index (s, h.known) h.at))
     (λ a b h k.
     let less = low h.index (a.stream, h.known) h.at in
@@ -156,10 +204,6 @@ fleet_more front stream known end lines more low few p q =
     let before : a.stream < b.stream = omega arith in
     inl before)
     lines more p q
-  where
-    only : {X : Type 0} (x : X) (k : ℕ) (y : X) → slice_get (x ∷ []) k ≡ Some y → x ≡ y
-    only x zero y at = some_is x y at
-    only x (suc k) y at = absurd (none-some y at)
 
 -- no stream: no line
 pub fleet_none : AreLinesOf (HasIn []) []

@@ -10,12 +10,11 @@ use Rattle.std.proofs.lemmas.List.{take-append-drop, length-take-le, map-append}
 use Rattle.std.proofs.lemmas.Map.Entries.{lookup_from_place}
 use Rattle.std.proofs.lemmas.Map.Keys.{below_from_sorted, sorted_from_strictly_increasing, IsDistinct-from_sorted}
 use Rattle.std.proofs.lemmas.Option.{slice_get_within, get_or_from_slice_get, slice_get-get_or}
-use Rattle.trace_model.specs.declared.limits.TheConstants.{MAX_CPUS}
 use Rattle.trace_model.proofs.collections.Elements.{get_in_front}
 use Rattle.time_merge.proofs.Ordered.{at_mapped}
 use Rattle.stream_collector.specs.Stream.{Stream}
 use Rattle.parcel_streams.specs.declared.piece.StreamId.{StreamId}
-use Rattle.fleet_collector.specs.Fleet.{stream_in, entry_seen, AllHaveKnownCpus}
+use Rattle.fleet_collector.specs.Fleet.{stream_in, entry_seen}
 use Rattle.fleet_collector.specs.Listing.{Line}
 use Rattle.fleet_collector.specs.Lines.{AreLinesOf, HasOf, HasIn}
 use Rattle.fleet_collector.proofs.ByNumber.{AreBelow, fleet_more}
@@ -52,22 +51,18 @@ below_next fleet rising n entry within is k e at =
 -- the lines of one stream more
 pub lines_more : (fleet : List (ℕ × Stream)) (before : List (StreamId × Bor Stream)) (item : StreamId × Bor Stream)
     (lines more new : List Line)
-    → IsStrictlyIncreasing (ids fleet) → AllHaveKnownCpus fleet
+    → IsStrictlyIncreasing (ids fleet)
     → map entry_seen before ≡ take (length before) fleet
     → length before < length fleet → entry_seen item ≡ get_or fleet (length before) (entry_seen item)
     → AreLinesOf (HasIn (map entry_seen before)) lines
-    → AreLinesOf (HasOf item.0.0 item.1.now MAX_CPUS) more
+    → AreLinesOf (HasOf item.0.0 item.1.now) more
     → new ≡ lines ++ more
     → AreLinesOf (HasIn (map entry_seen (before ++ item ∷ []))) new
-lines_more fleet before item lines more new rising known_cpus so_far within is old put e =
-    let at : slice_get fleet (length before) ≡ Some (entry_seen item) =
-    slice_get-get_or fleet (length before) (entry_seen item) within ∙ ap (λ (x : ℕ × Stream). Some x) (sym is) in
-    let there = stream_in_place fleet (sorted_from_strictly_increasing (ids fleet) rising) (length before) item.0.0
-    item.1.now at in
+lines_more fleet before item lines more new rising so_far within is old put e =
     let below = subst (λ (es : List (ℕ × Stream)). AreBelow es item.0.0) (sym so_far)
     (below_next fleet rising (length before) (entry_seen item) within is) in
-    let all = fleet_more (map entry_seen before) item.0.0 item.1.now MAX_CPUS lines more below
-    (λ c n r h. known_cpus item.0.0 item.1.now there c n r h.has) old put in
+    let all = fleet_more (map entry_seen before) item.0.0 item.1.now lines more below
+    old put in
     subst (AreLinesOf (HasIn (map entry_seen (before ++ item ∷ [])))) (sym e)
     (subst (λ (es : List (ℕ × Stream)). AreLinesOf (HasIn es) (lines ++ more))
     (sym (map-append entry_seen before (item ∷ []))) all)

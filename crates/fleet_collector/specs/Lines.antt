@@ -1,5 +1,5 @@
 -- Lines by stream, CPU and number, before they are sorted by time.
-use Rattle.std.specs.Prelude.{◌≡◌, ℕ, ◌<◌, Bool, List, Some}
+use Rattle.std.specs.Prelude.{◌≡◌, ℕ, Bool, List, Some}
 use Rattle.std.specs.List.{slice_get}
 use Rattle.std.specs.Ordering.{nat_cmp, is_lt, ordering_then}
 use Rattle.trace_model.specs.Record.{Record}
@@ -41,10 +41,16 @@ pub record AreLinesOf (holds : (stream cpu number : ℕ) → Record → Type 0) 
       → holds stream cpu number r
       → IsAmong lines (line_for stream cpu number r)
 
--- this stream has the record, and its CPU is below this one
-pub record HasOf (stream : ℕ) (known : Stream) (end other cpu number : ℕ) (r : Record) : Type 0 where
+-- this stream has the record
+pub record HasOf (stream : ℕ) (known : Stream) (other cpu number : ℕ) (r : Record) : Type 0 where
   pub stream_is : other ≡ stream
-  pub below : cpu < end
+  pub has : HasRecord known cpu number r
+
+-- so it has, of one of these CPUs
+pub record HasAmong (stream : ℕ) (known : Stream) (cpus : List ℕ) (other cpu number : ℕ) (r : Record) : Type 0 where
+  pub stream_is : other ≡ stream
+  pub index : ℕ
+  pub at : slice_get cpus index ≡ Some cpu
   pub has : HasRecord known cpu number r
 
 -- one of these streams has the record

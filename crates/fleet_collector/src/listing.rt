@@ -1,7 +1,6 @@
 //! The listing of a fleet.
 ghost use Rattle.std.specs.Prelude.{◌≡◌, ◌++◌, ℕ, List, map, IfOk, OnOk};
 ghost use Rattle.trace_model.specs.Record.{Record};
-ghost use Rattle.trace_model.specs.declared.limits.TheConstants.{MAX_CPUS};
 ghost use Rattle.page_borrow.specs.Entries.{numbered_record};
 ghost use Rattle.collector.specs.Listed.{AreListed};
 ghost use Rattle.stream_collector.specs.Stream.{HasRecord};
@@ -13,7 +12,7 @@ use page_borrow::Entry;
 use parcel_streams::StreamId;
 use std::alloc::Global;
 use stream_collector::StreamCollector;
-use trace_model::{CpuId, MAX_CPUS, Moment, NoMemory, RecordNo};
+use trace_model::{CpuId, Moment, NoMemory, RecordNo};
 
 /// A record of a fleet's listing. Its bytes are the kept page's own, with those that fill the record's slot.
 #[derive(Clone, Copy, Debug, PartialEq, Eq)]
@@ -65,11 +64,11 @@ fn put_stream<'a>(
     stream: StreamId,
     known: &'a StreamCollector,
 ) -> Result<(), NoMemory>
-    ensures { OnOk result ((more : List Line) × AreLinesOf (HasOf stream.0 known.now MAX_CPUS) more
+    ensures { OnOk result ((more : List Line) × AreLinesOf (HasOf stream.0 known.now) more
         × (map line_seen lines.new.items ≡ map line_seen lines.old.items ++ more)) }
 {
-    for cpu in 0..MAX_CPUS {
-        put_cpu(lines, stream, known, CpuId(cpu))?;
+    for cpu in known.known_cpus() {
+        put_cpu(lines, stream, known, cpu)?;
     }
     Ok(())
 }

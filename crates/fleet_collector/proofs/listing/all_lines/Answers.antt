@@ -27,7 +27,7 @@ loop-stream-preserved c =
     let put = c.in_ok-put_stream.ensures in
     lines_more fleet c.loop-stream.yielded item (map line_seen c.loop-stream.lines.items) put.0
     (map line_seen c.put_stream.new.lines.items)
-    start.rising start.known_cpus (YieldsList-so_far yields c.loop-stream.yielded _ c.loop-stream.yielded_by)
+    start.rising (YieldsList-so_far yields c.loop-stream.yielded _ c.loop-stream.yielded_by)
     turn.0 turn.1 c.loop-stream.invariant put.1 put.2
 
 pub returns : goal.returns
