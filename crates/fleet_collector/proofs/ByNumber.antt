@@ -84,7 +84,8 @@ only x zero y at = some_is x y at
 only x (suc k) y at = absurd (none-some y at)
 
 -- one CPU more
-pub stream_more : (stream : ℕ) (known : Stream) (front : List ℕ) (cpu : ℕ) (lines : List Line) (list : List (ℕ × Record))
+pub stream_more : (stream : ℕ) (known : Stream) (front : List ℕ) (cpu : ℕ) (lines : List Line)
+    (list : List (ℕ × Record))
     → AreFewer front cpu
     → AreListed (HasRecord known cpu) list → AreLinesOf (HasAmong stream known front) lines
     → AreLinesOf (HasAmong stream known (front ++ cpu ∷ [])) (lines ++ map (line_of stream cpu) list)

@@ -18,8 +18,8 @@ use Rattle.fleet_collector.specs.declared.fault.PieceFault.{PieceFault}
 use Rattle.fleet_collector.specs.declared.fault.PieceFault.TheVariants.{Parcel as ParcelFault, Mark}
 use Rattle.fleet_collector.specs.Fleet.{stream_in, stream_at, KeepsOthers}
 
--- A parcel says something new, and doesn't end below its CPU's bound: it is kept as the last of its stream's, with which
--- it agrees, and has and misses nothing beyond an end. All other streams stay.
+-- A parcel says something new, and doesn't end below its CPU's bound: it is kept as the last of its stream's, with
+-- which it agrees, and has and misses nothing beyond an end. All other streams stay.
 pub record AddsNewParcel (old new : List (ℕ × Stream)) (stream : ℕ) (parcel : Parcel) : Type 0 where
   pub others : KeepsOthers old new stream
   pub kept : stream_in new stream

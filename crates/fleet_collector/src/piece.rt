@@ -9,8 +9,8 @@ impl Fleet {
     ghost use Rattle.std.specs.Prelude.{◌≡◌, IfOk, IfErr, OnErr};
     ghost use Rattle.fleet_collector.specs.Pieces.{HasKnownCpu, AddsPiece, IsPieceFault};
 
-    /// Adds to its stream what a piece says. On a fault nothing has changed. What `parcel_streams` reads is of CPUs that
-    /// there are.
+    /// Adds to its stream what a piece says. On a fault nothing has changed. What `parcel_streams` reads is of CPUs
+    /// that there are.
     pub fn add_piece(&mut self, piece: Piece) -> Result<Added, PieceFault>
         requires { HasKnownCpu piece }
         ensures added { IfOk result (λ added. AddsPiece self.old self.new piece added) }

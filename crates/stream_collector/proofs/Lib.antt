@@ -7,3 +7,4 @@ pub mod BothRuns
 pub mod Lost
 pub mod KeptParcels
 pub mod WithinEnds
+pub mod CpusMarked

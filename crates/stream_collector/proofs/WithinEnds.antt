@@ -2,7 +2,6 @@
 use Rattle.std.proofs.Common.{◌≡◌, ◌⊎◌, ℕ, ◌-◌, ◌<◌, ◌≤◌, List, [], ◌∷◌, ◌++◌, Some, ⊎_elim, inl, inr}
 use Rattle.std.proofs.Common.{sym, ap, ◌∙◌, subst, arith}
 use Rattle.std.proofs.lemmas.Bool.{cases_lt, cases_eq}
-use Rattle.std.proofs.lemmas.Option.{none-some}
 use Rattle.trace_model.specs.Record.{Record}
 use Rattle.trace_model.specs.Parcel.{Parcel}
 use Rattle.trace_model.specs.Collection.{Has, Misses}
@@ -10,10 +9,11 @@ use Rattle.collector.specs.Known.{IsKnown}
 use Rattle.collector.proofs.Known.{filtered_from}
 use Rattle.collector.proofs.SideBySide.{has_either, misses_either}
 use Rattle.stream_collector.specs.declared.marks.Marks.{Marks}
-use Rattle.stream_collector.specs.Marks.{marks_at, bounds_of}
+use Rattle.stream_collector.specs.Marks.{marks_at, bounds_of, AllSaySomething}
 use Rattle.stream_collector.specs.Stream.{Stream, bound_of, end_of, IsUpToEnd, IsAccounted, has_record, is_missing}
 use Rattle.stream_collector.specs.Stream.{is_undelivered, HaveNoRecord}
-use Rattle.stream_collector.specs.Marking.{IsReached, by_bound, by_parcels, by_given_up, AreWithinEnds, IsStanding, HasEnd}
+use Rattle.stream_collector.specs.Marking.{IsReached, by_bound, by_parcels, by_given_up, AreWithinEnds, IsStanding}
+use Rattle.stream_collector.specs.Marking.{HasEnd}
 use Rattle.stream_collector.specs.Faults.{IsWithinEnd}
 use Rattle.stream_collector.specs.Forgetting.{HasBound, GivesUpBelow, IsLost}
 use Rattle.stream_collector.specs.GivenUp.{IsInRun, GivesUp}
@@ -168,8 +168,10 @@ pub added_standing : (s : Stream) (p : Parcel) (new : List Parcel) → IsStandin
     → (new ≡ s.parcels ++ p ∷ []) ⊎ (new ≡ s.parcels) → IsStanding record s { parcels = new }
 added_standing s p new was fits either = record {
   no_record = was.no_record;
+  says = was.says;
   within = ⊎_elim
-      (λ (is : new ≡ s.parcels ++ p ∷ []). subst (λ (ps : List Parcel). AreWithinEnds record s { parcels = ps }) (sym is)
+      (λ (is : new ≡ s.parcels ++ p ∷ []).
+      subst (λ (ps : List Parcel). AreWithinEnds record s { parcels = ps }) (sym is)
       (added_within s p was.within fits))
       (λ (is : new ≡ s.parcels). subst (λ (ps : List Parcel). AreWithinEnds record s { parcels = ps }) (sym is)
       was.within)
@@ -177,15 +179,18 @@ added_standing s p new was fits either = record {
 }
 
 pub ended_standing : (old new : Stream) (cpu count : ℕ) → IsStanding old → HasEnd old new cpu count
-    → ((n : ℕ) → IsReached old cpu n → n < count) → IsStanding new
-ended_standing old new cpu count was has all = record {
+    → ((n : ℕ) → IsReached old cpu n → n < count) → AllSaySomething new.marks → IsStanding new
+ended_standing old new cpu count was has all says = record {
+  says = says;
   no_record = subst HaveNoRecord (sym has.given_up) was.no_record;
   within = ended_within old new cpu count was.within has all;
 }
 
 pub raised_standing : (old new : Stream) (cpu bound : ℕ) → IsStanding old → HasBound old new cpu bound
-    → new.given_up ≡ old.given_up → IsUpToEnd old cpu bound → IsStanding new
-raised_standing old new cpu bound was raised same up = record {
+    → new.given_up ≡ old.given_up → IsUpToEnd old cpu bound → AllSaySomething new.marks
+    → IsStanding new
+raised_standing old new cpu bound was raised same up says = record {
+  says = says;
   no_record = subst HaveNoRecord (sym same) was.no_record;
   within = raised_within old new cpu bound was.within raised same up;
 }
@@ -193,12 +198,13 @@ raised_standing old new cpu bound was raised same up = record {
 pub run_standing : (s : Stream) (given_up : List Parcel) (cpu first end : ℕ) → IsStanding s → HaveNoRecord given_up
     → GivesUp s.given_up given_up cpu first end → IsUpToEnd s cpu end → IsStanding record s { given_up = given_up }
 run_standing s given_up cpu first end was none gives up =
-    record { no_record = none; within = run_within s given_up cpu first end was.within gives up }
+    record { no_record = none; within = run_within s given_up cpu first end was.within gives up; says = was.says }
 
 pub lost_standing : (old new : Stream) (given_up : List Parcel) (cpu bound : ℕ) → IsStanding new
     → HaveNoRecord given_up → HasBound old new cpu bound → new.given_up ≡ old.given_up → IsUpToEnd old cpu bound
     → GivesUpBelow old given_up cpu bound → IsStanding record new { given_up = given_up }
 lost_standing old new given_up cpu bound was none raised same up gives = record {
   no_record = none;
+  says = was.says;
   within = lost_within old new given_up cpu bound was.within raised same up gives;
 }

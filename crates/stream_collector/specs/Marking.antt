@@ -2,7 +2,7 @@
 use Rattle.std.specs.Prelude.{◌≡◌, ℕ, ◌<◌, ◌≤◌, Some, None}
 use Rattle.trace_model.specs.Collection.{Misses}
 use Rattle.collector.specs.Known.{IsKnown}
-use Rattle.stream_collector.specs.Marks.{marks_at}
+use Rattle.stream_collector.specs.Marks.{marks_at, AllSaySomething}
 use Rattle.stream_collector.specs.Stream.{Stream, bound_of, end_of, HaveNoRecord}
 use Rattle.stream_collector.specs.declared.fault.MarkFault.{MarkFault}
 use Rattle.stream_collector.specs.declared.fault.MarkFault.TheVariants.{OtherEnd, BeyondEnd, NotFinal, NoMemory}
@@ -22,6 +22,7 @@ AreWithinEnds stream = (cpu end number : ℕ)
 pub record IsStanding (stream : Stream) : Type 0 where
   pub no_record : HaveNoRecord stream.given_up
   pub within : AreWithinEnds stream
+  pub says : AllSaySomething stream.marks
 
 -- the CPU has this end, and all else is as it was
 pub record HasEnd (old new : Stream) (cpu end : ℕ) : Type 0 where

@@ -13,7 +13,8 @@ impl StreamCollector {
     ghost use Rattle.trace_model.specs.Collection.{IsSame};
     ghost use Rattle.trace_model.specs.declared.limits.TheConstants.{MAX_CPUS};
     ghost use Rattle.stream_collector.specs.Stream.{bound_of, IsUpToEnd, HaveNoRecord};
-    ghost use Rattle.stream_collector.specs.Forgetting.{HasBound, GivesUpBelow, AllAccounted, IsBoundFault, IsForgetFault};
+    ghost use Rattle.stream_collector.specs.Forgetting.{HasBound, GivesUpBelow, AllAccounted};
+    ghost use Rattle.stream_collector.specs.Forgetting.{IsBoundFault, IsForgetFault};
     ghost use Rattle.stream_collector.specs.declared.added.Marked.TheVariants.{New as NewMark, Known as KnownMark};
 
     /// What is below this bound of a CPU was forgotten, as the mark of a snapshot says: the CPU's bound is raised to
@@ -106,7 +107,8 @@ impl StreamCollector {
 
     /// Sets the bound of a CPU, and drops the parcels that end below it.
     fn raise_bound(&mut self, cpu: CpuId, bound: u64) -> Result<(), NoMemory>
-        requires { IsUpToEnd self.old cpu.0 bound }
+        requires within { IsUpToEnd self.old cpu.0 bound }
+        requires above { bound_of self.old cpu.0 < bound }
         ensures raised { OnOk result (HasBound self.old self.new cpu.0 bound) }
         ensures given_up { OnOk result (self.new.given_up ≡ self.old.given_up) }
         ensures refused { OnErr result (self.new ≡ self.old) }

@@ -6,6 +6,7 @@
 
 mod add;
 mod added;
+mod cpus;
 mod dropping;
 mod ending;
 mod fault;
@@ -20,6 +21,7 @@ mod stream;
 mod undelivered;
 
 pub use added::{Added, Marked};
+pub use cpus::MarkedCpus;
 pub use fault::{AddFault, MarkFault};
 pub use runs::StreamRuns;
 pub use stream::StreamCollector;

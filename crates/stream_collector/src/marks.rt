@@ -1,6 +1,7 @@
 //! The bound and the end of each CPU.
 use std::alloc::Global;
 use std::collections::BTreeMap;
+use std::collections::btree_map::Keys;
 use trace_model::{CpuId, NoMemory};
 
 /// The bound of a CPU, and its end if that is known.
@@ -19,8 +20,13 @@ pub(crate) struct CpuMarks {
 }
 
 impl CpuMarks {
-    ghost use Rattle.std.specs.Prelude.{◌≡◌, ◌≢◌, ℕ, [], IfOk, OnOk, OnErr};
-    ghost use Rattle.stream_collector.specs.Marks.{marks_at};
+    ghost use Rattle.std.specs.Prelude.{◌≡◌, ◌≢◌, ◌↔◌, ℕ, [], IsSome, IfOk, OnOk, OnErr};
+    ghost use Rattle.std.specs.List.{Contains};
+    ghost use Rattle.std.specs.List.Sorted.{IsStrictlyIncreasing};
+    ghost use Rattle.std.specs.Ordering.{nat_cmp};
+    ghost use Rattle.std.specs.BTreeMap.{is_at};
+    ghost use Rattle.std.specs.Map.{lookup};
+    ghost use Rattle.stream_collector.specs.Marks.{marks_at, SaySomething, AllSaySomething};
 
     /// No CPU has marks.
     pub(crate) fn new(alloc: Global) -> CpuMarks
@@ -53,11 +59,22 @@ impl CpuMarks {
         }
     }
 
-    /// Gives a CPU these marks in place of its own.
+    /// The CPUs that have any, rising.
+    pub(crate) fn cpus(&self) -> Keys<'_, u32, Marks>
+        ensures rising { IsStrictlyIncreasing result }
+        ensures there { (cpu : ℕ)
+            → (Contains result cpu ↔ IsSome (lookup (is_at (nat_cmp cpu)) self.now.cpus.entries)) }
+    {
+        self.cpus.keys()
+    }
+
+    /// Gives a CPU these marks, which say something, in place of its own.
     pub(crate) fn set(&mut self, cpu: CpuId, marks: Marks) -> Result<(), NoMemory>
+        requires { SaySomething marks }
         ensures here { OnOk result (marks_at self.new.cpus.entries cpu.0 ≡ marks) }
         ensures others { OnOk result ((other : ℕ) → other ≢ cpu.0
             → marks_at self.new.cpus.entries other ≡ marks_at self.old.cpus.entries other) }
+        ensures says { OnOk result (AllSaySomething self.old.cpus.entries → AllSaySomething self.new.cpus.entries) }
         ensures refused { OnErr result (self.new.cpus.entries ≡ self.old.cpus.entries) }
     {
         self.cpus.insert(cpu.0, marks)?;

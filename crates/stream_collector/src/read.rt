@@ -1,6 +1,6 @@
 //! Reading what is known.
 use crate::stream::StreamCollector;
-use collector::{CpuRecords, KnownCpus, MissingRuns};
+use collector::{CpuRecords, MissingRuns};
 use page_borrow::Entry;
 use trace_model::{CpuId, RecordNo};
 
@@ -8,7 +8,6 @@ impl StreamCollector {
     ghost use Rattle.std.specs.Prelude.{◌≡◌, ℕ, ◌<◌, ◌≤◌, IfSome, IfNone};
     ghost use Rattle.trace_model.specs.Record.{Record};
     ghost use Rattle.page_borrow.specs.Entries.{numbered_record};
-    ghost use Rattle.collector.specs.Known.{AreCpusOf};
     ghost use Rattle.collector.specs.Listed.{AreRecordsFrom};
     ghost use Rattle.collector.specs.Runs.{AreMissingRuns};
     ghost use Rattle.stream_collector.specs.Stream.{bound_of, end_of, HasRecord, IsUpToEnd, IsOpen, IsAccounted};
@@ -49,13 +48,6 @@ impl StreamCollector {
         ensures { AreRecordsFrom self.now.parcels cpu.0 (bound_of self.now cpu.0) result }
     {
         self.known.records_from(cpu, self.bound(cpu))
-    }
-
-    /// The CPUs of which the kept parcels have or miss something, by rising number.
-    pub fn known_cpus(&self) -> KnownCpus<'_>
-        ensures { AreCpusOf self.now.parcels result }
-    {
-        self.known.cpus()
     }
 
     /// The runs of the numbers of a CPU that were given up as undelivered, those below its bound too, whether they came

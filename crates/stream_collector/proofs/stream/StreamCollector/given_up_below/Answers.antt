@@ -9,7 +9,8 @@ use Rattle.stream_collector.proofs.stream.StreamCollector.given_up_below.Goals a
 pub loop-first-init : goal.loop-first-init
 loop-first-init c = record {
   none = none_same c.in_ok-given_up.given_up c.args.self.now.given_up
-      (subst (λ (s : Stream). HaveNoRecord s.given_up) c.self.view_is c.self.invariant.no_record) c.in_ok-given_up.ensures;
+      (subst (λ (s : Stream). HaveNoRecord s.given_up) c.self.view_is c.self.invariant.no_record)
+      c.in_ok-given_up.ensures;
   from = let is = c.bound-at.ensures in omega arith;
   up_to = let is = c.bound-at.ensures in let up = c.requires.above in omega arith;
   so_far = subst (GivesUpBelow c.args.self.now c.in_ok-given_up.given_up c.args.cpu.0) (sym c.bound-at.ensures)

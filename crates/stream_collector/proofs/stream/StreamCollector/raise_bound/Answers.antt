@@ -1,8 +1,8 @@
-use Rattle.std.proofs.Common.{ℕ, List, ◌∙◌, ap, subst}
+use Rattle.std.proofs.Common.{ℕ, List, ◌∙◌, sym, ap, subst}
 use Rattle.trace_model.specs.Collection.{IsSame}
 use Rattle.collector.specs.Known.{without_ended}
 use Rattle.stream_collector.specs.declared.marks.Marks.{Marks}
-use Rattle.stream_collector.specs.Marks.{marks_at, bounds_of}
+use Rattle.stream_collector.specs.Marks.{marks_at, bounds_of, AllSaySomething}
 use Rattle.stream_collector.specs.Stream.{Stream}
 use Rattle.stream_collector.specs.Marking.{IsStanding}
 use Rattle.stream_collector.specs.Forgetting.{HasBound}
@@ -24,4 +24,5 @@ invariant_of-self c =
           c.self.view_is c.in_ok-known.ensures;
     } in
     raised_standing old new c.args.cpu.0 c.args.bound (subst IsStanding c.self.view_is c.self.invariant) raised
-    (ap (λ (s : Stream). s.given_up) c.self.view_is) c.requires
+    (ap (λ (s : Stream). s.given_up) c.self.view_is) c.requires.within
+    (c.in_ok-set.ensures.says (subst AllSaySomething (sym c.in_ok-marks.ensures) c.self.invariant.says))

@@ -46,3 +46,4 @@ invariant_of-self-2 c =
     } in
     ended_standing old new c.args.cpu.0 c.args.count.0 (subst IsStanding c.self.view_is c.self.invariant) has
     (λ n r. (let below = c.reach-reach.ensures.behind n r in omega arith))
+    (c.in_ok-set.ensures.says c.self.invariant.says)
