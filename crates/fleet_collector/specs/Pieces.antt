@@ -29,7 +29,7 @@ pub record AddsNewParcel (old new : List (ℕ × Stream)) (stream : ℕ) (parcel
   pub not_there : IsBelow (parcel ∷ []) (stream_at old stream).parcels → ⊥
   pub not_forgotten : IsForgotten (stream_at old stream) parcel → ⊥
 
--- all that it says is there already, from its CPU's bound on and below its end, and all stays
+-- all that it says is there already, it doesn't end below its CPU's bound, and all stays
 pub record HasParcel (old new : List (ℕ × Stream)) (stream : ℕ) (parcel : Parcel) : Type 0 where
   pub unchanged : new ≡ old
   pub there : IsBelow (parcel ∷ []) (stream_at old stream).parcels
