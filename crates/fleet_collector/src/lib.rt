@@ -4,13 +4,14 @@
 mod add;
 mod change;
 mod fleet;
+pub mod laws;
 mod listing;
 mod marks;
 mod piece;
 mod refusal;
 mod streams;
 
-pub use refusal::PieceRefusal;
 pub use fleet::Fleet;
 pub use listing::FleetLine;
+pub use refusal::PieceRefusal;
 pub use streams::Streams;
