@@ -3,10 +3,14 @@
 #![tactic(auto)]
 
 mod cpus;
+mod fault;
 mod lines;
 mod listed;
+mod piece;
 mod run;
 mod runs;
 
-pub use listed::{Listed, listed};
+pub use fault::{PieceTrouble, put_fault};
+pub use listed::Listed;
+pub use piece::{PiecePlace, put_piece};
 pub use run::{FleetRun, RunKind};

@@ -1,0 +1,3 @@
+pub mod CpuSets
+pub mod CpusInOrder
+pub mod RunsInOrder
