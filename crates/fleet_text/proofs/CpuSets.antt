@@ -12,7 +12,7 @@ use Rattle.stream_collector.specs.Marks.{AreMarkedCpus}
 use Rattle.stream_collector.specs.Stream.{Stream}
 use Rattle.fleet_text.specs.Cpus.{IsAmong, IsThere, HasBoth}
 
-only : {X : Type 0} (x : X) (k : ℕ) (y : X) → slice_get (x ∷ []) k ≡ Some y → x ≡ y
+pub only : {X : Type 0} (x : X) (k : ℕ) (y : X) → slice_get (x ∷ []) k ≡ Some y → x ≡ y
 only x zero y at = some_is x y at
 only x (suc k) y at = absurd (none-some y at)
 
@@ -35,38 +35,39 @@ put_by o k x xs = match_ordering o (k ∷ x ∷ xs) (x ∷ xs) (x ∷ insert_key
 -- what is among them then was before, or it is the one
 pub put_either : (ks : List ℕ) (k q : ℕ) → IsAmong (insert_key nat_cmp ks k) q → IsAmong ks q ⊎ (k ≡ q)
 put_either [] k q s = ⊎_elim (λ is. inr is) (λ none. absurd (none-some q none.1)) (first_or_behind k [] q s)
-put_either (x ∷ xs) k q s = by (nat_cmp k x) s
+put_either (x ∷ xs) k q s = by (nat_cmp k x) (λ more. put_either xs k q more) s
   where
-    by : (o : Ordering) → IsAmong (put_by o k x xs) q → IsAmong (x ∷ xs) q ⊎ (k ≡ q)
-    by Less s = ⊎_elim (λ is. inr is) (λ old. inl old) (first_or_behind k (x ∷ xs) q s)
-    by Equal s = inl s
-    by Greater s =
+    by : (o : Ordering) → (IsAmong (insert_key nat_cmp xs k) q → IsAmong xs q ⊎ (k ≡ q)) → IsAmong (put_by o k x xs) q
+        → IsAmong (x ∷ xs) q ⊎ (k ≡ q)
+    by Less rec s = ⊎_elim (λ is. inr is) (λ old. inl old) (first_or_behind k (x ∷ xs) q s)
+    by Equal rec s = inl s
+    by Greater rec s =
         ⊎_elim (λ is. inl (zero, ap (λ y. Some y) is))
-        (λ more. ⊎_elim (λ old. inl (behind_one x xs q old)) (λ is. inr is) (put_either xs k q more))
+        (λ more. ⊎_elim (λ old. inl (behind_one x xs q old)) (λ is. inr is) (rec more))
         (first_or_behind x (insert_key nat_cmp xs k) q s)
 
 -- what was among them still is
 pub put_keeps : (ks : List ℕ) (k q : ℕ) → IsAmong ks q → IsAmong (insert_key nat_cmp ks k) q
 put_keeps [] k q s = absurd (none-some q s.1)
-put_keeps (x ∷ xs) k q s = by (nat_cmp k x)
+put_keeps (x ∷ xs) k q s = by (nat_cmp k x) (λ old. put_keeps xs k q old)
   where
-    by : (o : Ordering) → IsAmong (put_by o k x xs) q
-    by Less = behind_one k (x ∷ xs) q s
-    by Equal = s
-    by Greater =
+    by : (o : Ordering) → (IsAmong xs q → IsAmong (insert_key nat_cmp xs k) q) → IsAmong (put_by o k x xs) q
+    by Less rec = behind_one k (x ∷ xs) q s
+    by Equal rec = s
+    by Greater rec =
         ⊎_elim (λ is. (zero, ap (λ y. Some y) is))
-        (λ old. behind_one x (insert_key nat_cmp xs k) q (put_keeps xs k q old))
+        (λ old. behind_one x (insert_key nat_cmp xs k) q (rec old))
         (first_or_behind x xs q s)
 
 -- and the one is
 pub put_is_there : (ks : List ℕ) (k : ℕ) → IsAmong (insert_key nat_cmp ks k) k
 put_is_there [] k = (zero, refl)
-put_is_there (x ∷ xs) k = by (nat_cmp k x) refl
+put_is_there (x ∷ xs) k = by (nat_cmp k x) refl (put_is_there xs k)
   where
-    by : (o : Ordering) → nat_cmp k x ≡ o → IsAmong (put_by o k x xs) k
-    by Less is = (zero, refl)
-    by Equal is = (zero, ap (λ y. Some y) (sym (exact_unsigned k x is)))
-    by Greater is = behind_one x (insert_key nat_cmp xs k) k (put_is_there xs k)
+    by : (o : Ordering) → nat_cmp k x ≡ o → IsAmong (insert_key nat_cmp xs k) k → IsAmong (put_by o k x xs) k
+    by Less is rec = (zero, refl)
+    by Equal is rec = (zero, ap (λ y. Some y) (sym (exact_unsigned k x is)))
+    by Greater is rec = behind_one x (insert_key nat_cmp xs k) k rec
 
 pub both_none : (old : List ℕ) → HasBoth old old []
 both_none old = record {

@@ -135,7 +135,7 @@ none_there : (cpu : ℕ) → IsThere (or_empty None) cpu → ⊥
 none_there cpu (inl known) = none_known cpu known
 none_there cpu (inr (inl given_up)) = none_known cpu given_up
 none_there cpu (inr (inr (inl bound))) = omega arith
-none_there cpu (inr (inr (inr end))) = absurd end
+none_there cpu (inr (inr (inr end))) = cc
 
 is_equal : (o : Ordering) → is_eq o ≡ true → o ≡ Equal
 is_equal Less e = cc

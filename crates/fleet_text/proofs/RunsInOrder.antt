@@ -1,8 +1,8 @@
 -- The runs of one CPU after the other.
-use Rattle.std.proofs.Common.{◌≡◌, ◌⊎◌, inl, inr, ⊎_elim, ℕ, zero, suc, ◌+◌, ◌<◌, ◌≤◌, ◌-◌, List, [], ◌∷◌, ◌++◌, length, map, take, drop, get_or, Option, Some, IsSome, refl, sym, ap, ◌∙◌, subst, arith}
+use Rattle.std.proofs.Common.{◌≡◌, ◌⊎◌, inl, inr, ⊎_elim, ℕ, zero, suc, ◌+◌, ◌<◌, ◌≤◌, ◌-◌, List, [], ◌∷◌, ◌++◌, length, map, take, drop, get_or, Option, Some, IsSome, Result, Ok, Err, OnOk, refl, sym, ap, ◌∙◌, subst, arith}
 use Rattle.std.specs.List.{slice_get}
-use Rattle.std.proofs.lemmas.List.{take-append-drop, length-take-le, map-append}
-use Rattle.std.proofs.lemmas.Option.{none-some, slice_get_within, slice_get-get_or}
+use Rattle.std.proofs.lemmas.List.{take-append-drop, take_more, length-take-le, map-append}
+use Rattle.std.proofs.lemmas.Option.{none-some, slice_get_within, get_or_from_slice_get, slice_get-get_or}
 use Rattle.trace_model.specs.Runs.{AreRuns, InRun as InRunOf}
 use Rattle.trace_model.proofs.collections.Elements.{some_is, get_in_front, get_behind, get_in_either}
 use Rattle.time_merge.specs.Lines.{IsBeforeAll, AreOrdered}
@@ -11,7 +11,8 @@ use Rattle.stream_collector.specs.Stream.{Stream, bound_of, IsExpected}
 use Rattle.fleet_collector.specs.Fleet.{stream_at}
 use Rattle.fleet_text.specs.declared.run.RunKind.{RunKind}
 use Rattle.fleet_text.specs.declared.run.RunKind.TheVariants.{Missing, Unknown, Undelivered, Forgotten}
-use Rattle.fleet_text.specs.Cpus.{FleetCpu, IsAmong, IsBefore, IsThere, AreCpusOfFleet}
+use Rattle.fleet_text.specs.declared.cpus.StreamCpu.{StreamCpu}
+use Rattle.fleet_text.specs.Cpus.{FleetCpu, cpu_seen, IsAmong, IsBefore, IsThere, AreCpusOfFleet}
 use Rattle.fleet_text.specs.Runs.{Run, run_at, IsOfKind, IsApart, InRun, AreRunsOf, IsOfKindAmong, AreRunsOfFleet}
 use Rattle.fleet_text.proofs.CpuSets.{only}
 
@@ -53,6 +54,19 @@ module _ (first second both : (stream cpu number : ℕ) → Type 0)
         { run = r.run; among = (length xs + r.among.0, get_behind xs ys r.among.0 ∙ r.among.1); stream_is = r.stream_is; cpu_is = r.cpu_is; from = r.from; to = r.to })
         (either s c n h);
   }
+
+on_ok : {T E : Type 0} (r : Result T E) {P Q : Type 0} → (P → Q) → OnOk r P → OnOk r Q
+on_ok (Ok x) f p = f p
+on_ok (Err e) f p = tt
+
+-- runs of a kind were put
+pub put_of_kind : {E : Type 0} (kind own : RunKind) (at : StreamCpu) (result : Result (Unit {0}) E) (list : List (ℕ × ℕ))
+    (old new : List Run) → kind ≡ own → AreRuns (IsOfKind own at.known.now at.cpu.0) list
+    → OnOk result (new ≡ old ++ map (run_at at.stream.0 at.cpu.0) list)
+    → OnOk result ((xs : List (ℕ × ℕ)) × AreRuns (IsOfKind kind at.known.now at.cpu.0) xs
+    × (new ≡ old ++ map (run_at at.stream.0 at.cpu.0) xs))
+put_of_kind kind own at result list old new is are put =
+    on_ok result (λ p. (list, subst (λ k. AreRuns (IsOfKind k at.known.now at.cpu.0) list) (sym is) are, p)) put
 
 -- ---- one CPU
 
@@ -198,6 +212,27 @@ front_before cpus n at ordered there x (k, is) =
     subst (λ (xs : List FleetCpu). slice_get xs k ≡ Some x) (take-append-drop n cpus) (get_in_front (take n cpus) (drop n cpus) k x is) in
     ordered_at IsBefore cpus ordered k n x at (omega arith) here there
 
+-- ---- one CPU more, of those in a list
+
+pub next_cpu : (kind : RunKind) (cpus : List StreamCpu) (n : ℕ) (at : StreamCpu) (runs : List Run) (list : List (ℕ × ℕ))
+    (new : List Run)
+    → AreOrdered IsBefore (map cpu_seen cpus) → n < length cpus → at ≡ get_or cpus n at
+    → AreRunsOf (IsOfKindAmong kind (take n (map cpu_seen cpus))) runs
+    → AreRuns (IsOfKind kind at.known.now at.cpu.0) list
+    → new ≡ runs ++ map (run_at at.stream.0 at.cpu.0) list
+    → AreRunsOf (IsOfKindAmong kind (take (n + 1) (map cpu_seen cpus))) new
+next_cpu kind cpus n at runs list new ordered within is before one put =
+    let seen = map cpu_seen cpus in
+    let there : slice_get cpus n ≡ Some at = slice_get-get_or cpus n at within ∙ ap (λ x. Some x) (sym is) in
+    let here : slice_get seen n ≡ Some (cpu_seen at) = at_mapped cpu_seen cpus n at there in
+    let inside = slice_get_within seen n (cpu_seen at) here in
+    let last : get_or seen n (cpu_seen at) ≡ cpu_seen at = get_or_from_slice_get seen n (cpu_seen at) (cpu_seen at) here in
+    let more : take (n + 1) seen ≡ take n seen ++ cpu_seen at ∷ [] =
+    take_more seen n (cpu_seen at) inside ∙ ap (λ x. take n seen ++ x ∷ []) last in
+    subst (λ xs. AreRunsOf (IsOfKindAmong kind xs) new) (sym more)
+    (subst (AreRunsOf (IsOfKindAmong kind (take n seen ++ cpu_seen at ∷ []))) (sym put)
+    (runs_more kind (take n seen) (cpu_seen at) runs list (front_before seen n (cpu_seen at) ordered here) one before))
+
 -- ---- all CPUs of a fleet
 
 kind_there : (kind : RunKind) (known : Stream) (cpu n : ℕ) → IsOfKind kind known cpu n → IsThere known cpu
@@ -206,7 +241,7 @@ kind_there Unknown known cpu n h = by h.expected
   where
     by : IsExpected known cpu n → IsThere known cpu
     by (inl later) = inl (later.0, later.1)
-    by (inr end) = inr (inr (inr (subst IsSome (sym end.1) tt)))
+    by (inr end) = inr (inr (inr (subst IsSome (sym end.1) refl)))
 kind_there Undelivered known cpu n h = inr (inl (n, inr h.given_up))
 kind_there Forgotten known cpu n h = inr (inr (inl (omega arith)))
 

@@ -10,6 +10,7 @@ use Rattle.page_numbers.specs.declared.fault.ParcelFault.{ParcelFault}
 use Rattle.page_numbers.specs.declared.fault.ParcelFault.TheVariants as parcels
 use Rattle.parcel_streams.specs.declared.fault.PieceFault.{PieceFault}
 use Rattle.parcel_streams.specs.declared.fault.PieceFault.TheVariants as pieces
+use Rattle.collector.specs.declared.fault.AddFault.{AddFault as Collected}
 use Rattle.collector.specs.declared.fault.AddFault.TheVariants as collected
 use Rattle.stream_collector.specs.declared.fault.AddFault.{AddFault}
 use Rattle.stream_collector.specs.declared.fault.AddFault.TheVariants as added
@@ -61,13 +62,16 @@ piece_fault_name pieces.NoMemory = codes "NoMemory"
 abbrev pub numbered_cpu : (stream cpu number : ℕ) → List ℕ
 numbered_cpu stream cpu number = cpu_text stream cpu ++ space ∷ decimal number
 
+-- by the parcels that are kept
+abbrev pub refused_by_parcels : (stream : ℕ) → Collected → List ℕ
+refused_by_parcels stream (collected.Clash cpu number) = codes "Clash " ++ numbered_cpu stream cpu.0 number.0
+refused_by_parcels stream (collected.TakenAndMissing cpu number) =
+    codes "TakenAndMissing " ++ numbered_cpu stream cpu.0 number.0
+refused_by_parcels stream collected.NoMemory = codes "NoMemory"
+
 abbrev pub refused_parcel : (stream : ℕ) → AddFault → List ℕ
 refused_parcel stream (added.BeyondEnd cpu number) = codes "BeyondEnd " ++ numbered_cpu stream cpu.0 number.0
-refused_parcel stream (added.Refused (collected.Clash cpu number)) =
-    codes "Clash " ++ numbered_cpu stream cpu.0 number.0
-refused_parcel stream (added.Refused (collected.TakenAndMissing cpu number)) =
-    codes "TakenAndMissing " ++ numbered_cpu stream cpu.0 number.0
-refused_parcel stream (added.Refused collected.NoMemory) = codes "NoMemory"
+refused_parcel stream (added.Refused fault) = refused_by_parcels stream fault
 
 abbrev pub refused_mark : (stream cpu : ℕ) → MarkFault → List ℕ
 refused_mark stream cpu (marked.OtherEnd number) = codes "OtherEnd " ++ numbered_cpu stream cpu number.0

@@ -25,10 +25,10 @@ run_at stream cpu run = record { stream = stream; cpu = cpu; first = run.0; last
 
 -- a number of a stream's CPU is of this kind
 abbrev pub IsOfKind : RunKind → Stream → (cpu number : ℕ) → Type 0
-IsOfKind Missing stream cpu number = IsMissing stream cpu number
-IsOfKind Unknown stream cpu number = IsUnknownYet stream cpu number
-IsOfKind Undelivered stream cpu number = IsUndelivered stream cpu number
-IsOfKind Forgotten stream cpu number = number < bound_of stream cpu
+IsOfKind Missing = IsMissing
+IsOfKind Unknown = IsUnknownYet
+IsOfKind Undelivered = IsUndelivered
+IsOfKind Forgotten = λ stream cpu number. number < bound_of stream cpu
 
 -- by stream, then by CPU, then by number, and a number lies between two runs of one CPU
 abbrev pub IsApart : Run → Run → Type 0

@@ -2,7 +2,7 @@
 ghost use Rattle.std.specs.Prelude.{◌≡◌, ◌++◌, codes};
 ghost use Rattle.std.specs.Fmt.{decimal};
 ghost use Rattle.text_buffer.specs.Putting.{has_failed, Puts};
-ghost use Rattle.fleet_text.specs.Faults.{word_fault_name, image_fault_name, parcel_fault_name, piece_fault_name, refused_parcel, refused_mark, trouble_text, fault_line, numbered_cpu, is_no_memory, is_memory_fault, is_memory_refusal};
+ghost use Rattle.fleet_text.specs.Faults.{word_fault_name, image_fault_name, parcel_fault_name, piece_fault_name, refused_by_parcels, refused_parcel, refused_mark, trouble_text, fault_line, numbered_cpu, is_no_memory, is_memory_fault, is_memory_refusal};
 
 use crate::lines::{put_cpu, put_numbered};
 use command_io::Sink;
@@ -170,6 +170,30 @@ fn put_number_of<W: Sink>(
     put_numbered(buffer, writer, b" ", number.0);
 }
 
+/// Puts why a collector refuses a parcel.
+fn put_collected<W: Sink>(
+    buffer: &mut TextBuffer,
+    writer: &mut W,
+    stream: StreamId,
+    fault: collector::AddFault,
+)
+    requires { has_failed buffer.old ≡ W.failed writer.old }
+    ensures tied { has_failed buffer.new ≡ W.failed writer.new }
+    ensures put { Puts (refused_by_parcels stream.0 fault)
+        buffer.old (W.contents writer.old) (W.failed writer.old)
+        buffer.new (W.contents writer.new) (W.failed writer.new) }
+{
+    match fault {
+        collector::AddFault::Clash(cpu, number) => {
+            put_number_of(buffer, writer, b"Clash ", stream, cpu, number);
+        }
+        collector::AddFault::TakenAndMissing(cpu, number) => {
+            put_number_of(buffer, writer, b"TakenAndMissing ", stream, cpu, number);
+        }
+        collector::AddFault::NoMemory => buffer.put(writer, b"NoMemory"),
+    }
+}
+
 /// Puts why a parcel is refused.
 fn put_refused_parcel<W: Sink>(
     buffer: &mut TextBuffer,
@@ -187,13 +211,7 @@ fn put_refused_parcel<W: Sink>(
         AddFault::BeyondEnd(cpu, number) => {
             put_number_of(buffer, writer, b"BeyondEnd ", stream, cpu, number);
         }
-        AddFault::Refused(collector::AddFault::Clash(cpu, number)) => {
-            put_number_of(buffer, writer, b"Clash ", stream, cpu, number);
-        }
-        AddFault::Refused(collector::AddFault::TakenAndMissing(cpu, number)) => {
-            put_number_of(buffer, writer, b"TakenAndMissing ", stream, cpu, number);
-        }
-        AddFault::Refused(collector::AddFault::NoMemory) => buffer.put(writer, b"NoMemory"),
+        AddFault::Refused(fault) => put_collected(buffer, writer, stream, fault),
     }
 }
 

@@ -25,6 +25,7 @@ impl Gatherer {
     /// Nothing was gathered.
     pub(crate) fn new(alloc: Global) -> Result<Gatherer, NoMemory>
         ensures sound { IfOk result (λ gatherer. has_failed gatherer.kept ≡ false) }
+        ensures none { IfOk result (λ gatherer. gatherer.fleet ≡ []) }
         ensures empty { IfOk result (λ gatherer. (contents : Option (List ℕ)) →
             HasGathered contents contents false gatherer.kept gatherer.fleet []) }
     {

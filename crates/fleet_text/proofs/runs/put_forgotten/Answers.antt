@@ -11,10 +11,3 @@ returns-in_ok-push c = (
   some_forgotten c.args.at.now.known.now c.args.at.now.cpu.0 c.bound-bound.result.0 c.bound-bound.ensures c.if-bound-gt0.true,
   rw c.in_ok-push.ensures.items (map-append run_seen c.args.runs.now.items _),
 )
-
-pub returns : goal.returns
-returns c = (
-  [],
-  none_forgotten c.args.at.now.known.now c.args.at.now.cpu.0 ?,
-  sym (append-nil (map run_seen c.args.runs.now.items)),
-)
