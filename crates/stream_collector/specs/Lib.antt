@@ -5,3 +5,5 @@ pub mod Marking
 pub mod Forgetting
 pub mod Kinds
 pub mod Faults
+pub mod Merging
+pub mod Same
