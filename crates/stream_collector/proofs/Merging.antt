@@ -88,7 +88,7 @@ kept_from bounds all kept others same kept_same =
       );
     }
 
-without_below : (bounds : ℕ → ℕ) (ps : List Parcel) → IsBelow (without_ended bounds ps) ps
+pub without_below : (bounds : ℕ → ℕ) (ps : List Parcel) → IsBelow (without_ended bounds ps) ps
 without_below bounds [] = below_itself []
 without_below bounds (p ∷ ps) = one (without_below bounds ps) (ends_below bounds p)
   where
