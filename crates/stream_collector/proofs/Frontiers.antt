@@ -1,5 +1,6 @@
 -- Up to which moment all is known, and what is before it.
-use Rattle.std.proofs.Common.{◌≡◌, ◌⊎◌, ℕ, zero, suc, ◌<◌, ◌≤◌, List, [], ◌∷◌, ◌++◌, Option, Some, None, IfSome, IfNone, ⊎_elim}
+use Rattle.std.proofs.Common.{◌≡◌, ◌⊎◌, ℕ, zero, suc, ◌<◌, ◌≤◌, List, [], ◌∷◌, ◌++◌, Option, Some, None}
+use Rattle.std.proofs.Common.{IfSome, IfNone, ⊎_elim}
 use Rattle.std.proofs.Common.{inl, inr, refl, sym, ap, ◌∙◌, subst, arith}
 use Rattle.std.specs.List.{slice_get}
 use Rattle.std.proofs.lemmas.Bool.{cases_lt, cases_eq}
@@ -21,7 +22,8 @@ use Rattle.stream_collector.specs.Stream.{Stream, bound_of, end_of, HasRecord, H
 use Rattle.stream_collector.specs.Marking.{IsReached, by_bound, by_parcels, by_given_up, AreWithinEnds, IsStanding}
 use Rattle.stream_collector.specs.Forgetting.{AreRaised}
 use Rattle.stream_collector.specs.Frontier.{IsWatermark, IsComplete, IsLastMoment, by_last, by_none}
-use Rattle.stream_collector.specs.Frontier.{IsHeldAt, IsCpuThere, by_marks, by_known, by_undelivered, IsNotAfter, IsOfOne}
+use Rattle.stream_collector.specs.Frontier.{IsHeldAt, IsCpuThere, by_marks, by_known, by_undelivered}
+use Rattle.stream_collector.specs.Frontier.{IsNotAfter, IsOfOne}
 use Rattle.stream_collector.specs.Frontier.{IsFrontier, IsCut, HasCutMarks}
 use Rattle.stream_collector.specs.Frontier.{NeverFall}
 use Rattle.stream_collector.proofs.Standing.{known_or_not, missed_or_not}
@@ -288,7 +290,8 @@ later_after s later frontier cpu cut is there c agree within rises n r from h = 
     let up = next.2 in
     ⊎_elim
     (λ (e : n ≡ cut).
-    let same : next.0 ≡ r = agree.one_record cpu cut next.0 r own (subst (λ (k : ℕ). Has (s.parcels ++ later) cpu k r) e h)
+    let same : next.0 ≡ r = agree.one_record cpu cut next.0 r own
+    (subst (λ (k : ℕ). Has (s.parcels ++ later) cpu k r) e h)
     in
     subst (λ (q : Record). frontier.0 ≤ q.moment) same up)
     (λ (apart : n ≡ cut → ⊥). let rise = rises cut n next.0 r own h (omega arith) in omega arith)

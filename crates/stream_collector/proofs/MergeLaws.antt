@@ -176,7 +176,8 @@ pub merged_regrouped : (a b c ab bc left right : Stream) → IsMerge a b ab → 
     → IsMerge a bc right → IsSameStream left right
 merged_regrouped a b c ab bc left right m l k r =
     let bounds : (q : ℕ) → bound_of left q ≡ bound_of right q =
-    λ q. (let one = m.bounds q in let two = l.bounds q in let three = k.bounds q in let four = r.bounds q in omega arith)
+    λ q. (let one = m.bounds q in let two = l.bounds q in let three = k.bounds q in let four = r.bounds q in
+    omega arith)
     in
     same_by left right record {
       bounds = bounds;

@@ -12,8 +12,8 @@ impl StreamCollector {
     ghost use Rattle.stream_collector.specs.Marks.{marks_at, AllSaySomething};
     ghost use Rattle.stream_collector.specs.Frontier.{IsCut, IsForgottenBefore, HasCutMarks};
 
-    /// Up to where the records of a CPU, from its bound on, are before a moment: the greatest number up to the watermark
-    /// such that all records before it are. It takes a pass over those records.
+    /// Up to where the records of a CPU, from its bound on, are before a moment: the greatest number up to the
+    /// watermark such that all records before it are. It takes a pass over those records.
     pub fn cut(&self, cpu: CpuId, moment: Moment) -> RecordNo
         ensures { IsCut self.now cpu.0 moment.0 result.0 }
     {
@@ -29,8 +29,8 @@ impl StreamCollector {
         watermark
     }
 
-    /// Raises the bound of each CPU to its cut at a moment, and drops the parcels that end below the bounds, in one pass
-    /// over all of them. If memory is refused, nothing has changed.
+    /// Raises the bound of each CPU to its cut at a moment, and drops the parcels that end below the bounds, in one
+    /// pass over all of them. If memory is refused, nothing has changed.
     pub fn forget_before(&mut self, moment: Moment) -> Result<(), NoMemory>
         ensures forgotten { OnOk result (IsForgottenBefore self.old self.new moment.0) }
         ensures refused { OnErr result (self.new ≡ self.old) }

@@ -29,7 +29,8 @@ impl StreamCollector {
     ghost use Rattle.std.specs.List.{Contains};
     ghost use Rattle.std.specs.List.Sorted.{IsStrictlyIncreasing};
     ghost use Rattle.stream_collector.specs.Marks.{marks_at, SaySomething};
-    ghost use Rattle.stream_collector.specs.Frontier.{IsFrontier, IsComplete, IsHeldAt, IsCpuThere, IsNotAfter, IsOfOne};
+    ghost use Rattle.stream_collector.specs.Frontier.{IsFrontier, IsComplete, IsHeldAt, IsCpuThere};
+    ghost use Rattle.stream_collector.specs.Frontier.{IsNotAfter, IsOfOne};
 
     /// The moment up to which all is known, if each CPU's moments never fall: the least of those of the last records
     /// before the watermarks, or 0 if a CPU has no record there, over the CPUs that aren't complete. It is none if each
