@@ -1,5 +1,5 @@
 -- Up to which moment a fleet is known, and what was forgotten before it.
-use Rattle.std.proofs.Common.{◌≡◌, ◌⊎◌, inl, inr, ⊎_elim, ℕ, suc, ◌+◌, ◌<◌, ◌≤◌, List, [], ◌∷◌, ◌++◌, length, map, get_or}
+use Rattle.std.proofs.Common.{◌≡◌, ◌⊎◌, inl, inr, ⊎_elim, ℕ, ◌+◌, ◌<◌, ◌≤◌, List, [], ◌∷◌, ◌++◌, length, map}
 use Rattle.std.proofs.Common.{Bool, not, Result, Ok, Err, OnOk, OnErr, Option, Some, None, IsSome, refl, sym, ap, ◌∙◌, subst, arith}
 use Rattle.std.specs.Borrow.{Bor}
 use Rattle.std.specs.List.{slice_get}
@@ -8,24 +8,22 @@ use Rattle.std.proofs.lemmas.Bool.{cases_lt, cases_eq}
 use Rattle.std.proofs.lemmas.List.{map-append}
 use Rattle.std.proofs.lemmas.Map.Keys.{below_from_sorted, sorted_from_strictly_increasing}
 use Rattle.std.proofs.lemmas.Option.{none-some, slice_get_within, get_or_from_slice_get}
-use Rattle.trace_model.specs.Record.{Record}
 use Rattle.trace_model.specs.Parcel.{Parcel}
-use Rattle.trace_model.specs.Collection.{Has, Misses}
+use Rattle.trace_model.specs.Collection.{Misses}
 use Rattle.trace_model.specs.declared.limits.TheConstants.{MAX_CPUS}
 use Rattle.trace_model.specs.declared.numbers.Moment.{Moment}
 use Rattle.trace_model.proofs.collections.Collections.{same_itself}
 use Rattle.trace_model.proofs.collections.Elements.{get_in_either}
-use Rattle.collector.specs.Known.{IsKnown, IsTaken, ends_below}
+use Rattle.collector.specs.Known.{IsTaken, ends_below}
 use Rattle.parcel_streams.specs.declared.piece.StreamId.{StreamId}
-use Rattle.stream_collector.specs.Marks.{bounds_of, marks_at}
+use Rattle.stream_collector.specs.Marks.{bounds_of}
 use Rattle.stream_collector.specs.Stream.{Stream, bound_of, end_of, IsAccounted, has_record, is_missing, is_undelivered}
 use Rattle.stream_collector.specs.Frontier.{IsHeldAt, IsCpuThere, by_marks, by_known, by_undelivered, IsNotAfter, IsOfOne}
 use Rattle.stream_collector.specs.Frontier.{IsFrontier, IsForgottenBefore}
 use Rattle.stream_collector.proofs.Frontiers.{not_after}
 use Rattle.time_merge.proofs.Ordered.{at_mapped}
 use Rattle.fleet_collector.specs.Fleet.{known_of, stream_at, or_empty, empty_stream, entry_seen, HasKnownCpus, KeepsOthers}
-use Rattle.fleet_collector.specs.Frontier.{IsOfSome, IsFleetFrontier, AllForgottenBefore, SomeForgottenBefore}
-use Rattle.fleet_collector.proofs.Changed.{cpus_of_empty}
+use Rattle.fleet_collector.specs.Frontier.{IsOfSome, AllForgottenBefore, SomeForgottenBefore}
 use Rattle.fleet_collector.proofs.Joined.{place_of}
 use Rattle.fleet_collector.proofs.Marked.{get_filtered}
 use Rattle.fleet_collector.proofs.Telling.{only}

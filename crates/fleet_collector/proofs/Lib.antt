@@ -7,4 +7,5 @@ pub mod Adding
 pub mod Joined
 pub mod Forgotten
 pub mod BeforeCut
+pub mod GoesOut
 pub mod Marked
