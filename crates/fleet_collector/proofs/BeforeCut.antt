@@ -151,7 +151,8 @@ first_below done list cut index is low j a lt at =
 
 -- ---- by what is shown
 
-pub all_shown : (fleet : List (ℕ × Stream)) (lines : List Line) → IsListingShown None fleet lines → IsListing fleet lines
+pub all_shown : (fleet : List (ℕ × Stream)) (lines : List Line) → IsListingShown None fleet lines
+    → IsListing fleet lines
 all_shown fleet lines p = record { ordered = p.ordered; of_them = p.of_them; whole = p.whole }
 
 pub before_shown : (fleet : List (ℕ × Stream)) (moment : Moment) (lines : List Line)

@@ -1,6 +1,7 @@
 -- Fleets that are put together, and fleets that are the same.
 use Rattle.std.proofs.Common.{◌≡◌, ◌↔◌, ◌⊎◌, inl, inr, ⊎_elim, ℕ, ◌<◌, ◌≤◌, Bool, true, false, cond, List, [], ◌∷◌}
-use Rattle.std.proofs.Common.{◌++◌, map, Option, Some, None, IsSome, Result, Ok, Err, OnOk, OnErr, Ordering, Less, Equal, Greater, refl, sym}
+use Rattle.std.proofs.Common.{◌++◌, map, Option, Some, None, IsSome, Result, Ok, Err, OnOk, OnErr, Ordering, Less}
+use Rattle.std.proofs.Common.{Equal, Greater, refl, sym}
 use Rattle.std.proofs.Common.{ap, ◌∙◌, subst, arith}
 use Rattle.std.specs.Borrow.{Bor}
 use Rattle.std.specs.List.{slice_get}
@@ -258,7 +259,8 @@ module _ (pieces others : List Packed) (id : ℕ) where
       { time = t.time; contents = t.contents; told = back })
       ((told_in_either pieces others (parcel_piece id p t.time t.contents)).0 t.told)
 
-  module _ (s o new : Stream) (was : IsStreamOf pieces id s) (too : IsStreamOf others id o) (merge : IsMerge s o new) where
+  module _ (s o new : Stream) (was : IsStreamOf pieces id s) (too : IsStreamOf others id o)
+      (merge : IsMerge s o new) where
     bounds : (cpu : ℕ) → IsBoundTold (pieces ++ others) id cpu (bound_of new cpu)
     bounds cpu =
         let is = merge.bounds cpu in

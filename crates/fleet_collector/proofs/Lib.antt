@@ -8,4 +8,5 @@ pub mod Joined
 pub mod Forgotten
 pub mod BeforeCut
 pub mod GoesOut
+pub mod Snapshots
 pub mod Marked

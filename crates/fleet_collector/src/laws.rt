@@ -4,17 +4,19 @@ ghost use Rattle.trace_model.specs.Collection.{Has, Agree};
 ghost use Rattle.trace_model.specs.Parcel.{Parcel};
 ghost use Rattle.trace_model.specs.Record.{Record};
 ghost use Rattle.trace_model.specs.declared.numbers.Moment.{Moment};
-ghost use Rattle.parcel_streams.specs.Pieces.{Packed, BeginsWith};
+ghost use Rattle.parcel_streams.specs.Pieces.{Packed, BeginsWith, IsStream};
 ghost use Rattle.parcel_streams.specs.Answers.{piece_seen};
 ghost use Rattle.parcel_streams.specs.declared.piece.Piece.{Piece};
 ghost use Rattle.stream_collector.specs.Frontier.{IsCpuThere, IsCut, NeverFall};
 ghost use Rattle.stream_collector.specs.Marking.{AreWithinEnds};
+ghost use Rattle.stream_collector.specs.Same.{IsSameStream};
 ghost use Rattle.stream_collector.specs.Stream.{Stream};
 ghost use Rattle.fleet_collector.specs.Fleet.{stream_at};
 ghost use Rattle.fleet_collector.specs.Frontier.{IsFleetFrontier, AllForgottenBefore};
 ghost use Rattle.fleet_collector.specs.Lines.{IsAmong};
 ghost use Rattle.fleet_collector.specs.Merging.{IsSameFleet};
 ghost use Rattle.fleet_collector.specs.Pieces.{HasKnownCpu};
+ghost use Rattle.fleet_collector.specs.Snapshot.{IsSnapshot};
 ghost use Rattle.fleet_collector.specs.Told.{IsFleetOf, HaveSamePieces, IsListingOf};
 ghost use Rattle.fleet_collector.specs.Listing.{Line, IsListing, IsListingBefore};
 
@@ -78,4 +80,11 @@ pub fn a_listing_goes_out_as_it_grows()
         → ((id cpu : ℕ) → NeverFall (stream_at old id).parcels cpu)
         → IsListingBefore old frontier.0 first → AllForgottenBefore old new frontier.0 → IsListing new rest
         → IsListing old (first ++ rest) }
+{}
+
+/// A snapshot of a stream is that stream: a fleet of its pieces knows the same of it.
+pub fn a_snapshot_is_its_stream()
+    ensures { (id : ℕ) (stream : Stream) (bytes : List ℕ) (pieces : List Packed) (fleet : List (ℕ × Stream))
+        → IsSnapshot id stream bytes → IsStream bytes pieces → IsFleetOf pieces fleet
+        → IsSameStream stream (stream_at fleet id) }
 {}

@@ -10,7 +10,11 @@ use Rattle.fleet_collector.proofs.BeforeCut.{none_above, one_more_below, first_b
 use Rattle.fleet_collector.proofs.listing.put_before_cut.Goals as goal
 
 pub loop-entry-init : goal.loop-entry-init
-loop-entry-init c = record { put = sym (append-nil (map line_seen c.args.lines.now.items)); low = none_above c.cut-cut.result.0 }
+loop-entry-init c = record {
+  put = sym (append-nil (map line_seen c.args.lines.now.items));
+  low = none_above
+      c.cut-cut.result.0;
+}
 
 pub loop-entry-preserved : goal.loop-entry-preserved
 loop-entry-preserved c = record {

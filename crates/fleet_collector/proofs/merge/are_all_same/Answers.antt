@@ -17,7 +17,8 @@ loop-stream-preserved c =
     let item : StreamId × Bor Stream = (c.in-Some.stream, c.in-Some._known) in
     let same : IsSameStream c.known_or.result.now c.known_or-in-loop-stream.result.now =
     c.same.ensures.0 c.if-not-same.false in
-    each_more (λ q. IsSameStream (stream_at one q) (stream_at other q)) c.loop-stream.yielded item c.loop-stream.invariant
+    each_more (λ q. IsSameStream (stream_at one q) (stream_at other q)) c.loop-stream.yielded item
+    c.loop-stream.invariant
     (subst (λ (s : Stream). IsSameStream s (stream_at other id)) c.known_or.ensures.known
     (subst (λ (o : Stream). IsSameStream c.known_or.result.now o) c.known_or-in-loop-stream.ensures.known same))
 
