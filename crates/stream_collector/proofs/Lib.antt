@@ -8,3 +8,5 @@ pub mod Lost
 pub mod KeptParcels
 pub mod WithinEnds
 pub mod CpusMarked
+pub mod Merging
+pub mod MarkWalks

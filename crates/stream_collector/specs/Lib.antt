@@ -5,3 +5,4 @@ pub mod Marking
 pub mod Forgetting
 pub mod Kinds
 pub mod Faults
+pub mod Merging

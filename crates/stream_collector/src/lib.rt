@@ -15,6 +15,7 @@ mod given_up;
 mod kinds;
 pub mod laws;
 mod marks;
+mod merge;
 mod read;
 mod runs;
 mod stream;
@@ -22,6 +23,6 @@ mod undelivered;
 
 pub use added::{Added, Marked};
 pub use cpus::MarkedCpus;
-pub use fault::{AddFault, MarkFault};
+pub use fault::{AddFault, MarkFault, MergeFault};
 pub use runs::StreamRuns;
 pub use stream::StreamCollector;
