@@ -12,25 +12,20 @@ static inline void must_nats(natsStatus status, const char *call)
         die(call, natsStatus_GetText(status));
 }
 
-static inline void on_connected(natsConnection *connection, void *closure)
-{
-    (void)connection;
-    (void)closure;
-}
-
-// Servers are given as `--servers nats://HOST:PORT,..`. None of them need be there yet.
+// Servers are given as `--servers nats://HOST:PORT,..`. It is null if none of them is there yet. (The library would try
+// on by itself, natsOptions_SetRetryOnFailedConnect; but in libnats 3.4.1 it may give up for good then, if a server
+// closes a connection as soon as it has accepted it.)
 static inline natsConnection *connect_to_bus(char **words)
 {
     char text[1024] = "";
     const char *servers[16], *given = word_after(words, "--servers", "nats://127.0.0.1:4222");
     int count = 0;
-    for (char *server = strtok(strncpy(text, given, sizeof text - 1), ","); server && count < 16; server = strtok(NULL, ","))
-        servers[count++] = server;
+    for (char *at = strtok(strncpy(text, given, sizeof text - 1), ","); at && count < 16; at = strtok(NULL, ","))
+        servers[count++] = at;
     natsOptions *options;
     natsConnection *connection = NULL;
     must_nats(natsOptions_Create(&options), "natsOptions_Create");
     must_nats(natsOptions_SetServers(options, servers, count), given);
-    natsOptions_SetRetryOnFailedConnect(options, true, on_connected, NULL);
     natsOptions_SetMaxReconnect(options, -1);
     natsOptions_SetReconnectWait(options, 100);
     natsOptions_SetReconnectJitter(options, 50, 50);
@@ -40,15 +35,15 @@ static inline natsConnection *connect_to_bus(char **words)
     natsOptions_SetMaxPingsOut(options, 2);
     natsOptions_SetWriteDeadline(options, 1000);
     natsOptions_SetIgnoreDiscoveredServers(options, true);
-    natsStatus status = natsConnection_Connect(&connection, options);
-    if (status != NATS_NOT_YET_CONNECTED)
-        must_nats(status, given);
+    (void)natsConnection_Connect(&connection, options);
     natsOptions_Destroy(options);
     return connection;
 }
 
 static inline bool is_connected(natsConnection *connection)
 {
+    if (natsConnection_IsClosed(connection))
+        die("the bus", "the connection is closed for good");
     return natsConnection_Status(connection) == NATS_CONN_STATUS_CONNECTED;
 }
 #endif

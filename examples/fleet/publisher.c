@@ -12,6 +12,8 @@
 
 static struct host host;
 static struct piece piece;
+static natsConnection *connection;
+static jsCtx *js;
 static uint64_t sent, resent, sent_bytes;
 
 // The pieces that are on the way, and of these the ones that are to be published again. (The library's thread gives
@@ -29,9 +31,9 @@ static void put_back(natsMsg *message)
 }
 
 // An acknowledgment, a refusal, or neither in time.
-static void on_answer(jsCtx *js, natsMsg *message, jsPubAck *ack, jsPubAckErr *fault, void *closure)
+static void on_answer(jsCtx *of, natsMsg *message, jsPubAck *ack, jsPubAckErr *fault, void *closure)
 {
-    (void)js;
+    (void)of;
     (void)fault;
     (void)closure;
     if (!ack) {
@@ -43,7 +45,7 @@ static void on_answer(jsCtx *js, natsMsg *message, jsPubAck *ack, jsPubAckErr *f
     on_the_way--;
 }
 
-static bool publish(jsCtx *js, natsMsg *message)
+static bool publish(natsMsg *message)
 {
     jsPubOptions options;
     jsPubOptions_Init(&options);
@@ -54,16 +56,16 @@ static bool publish(jsCtx *js, natsMsg *message)
     return false;
 }
 
-static bool publish_again(jsCtx *js)
+static bool publish_again(void)
 {
     pthread_mutex_lock(&lock);
     natsMsg *message = refused_count ? refused[--refused_count] : NULL;
     pthread_mutex_unlock(&lock);
     resent += message != NULL;
-    return message && publish(js, message);
+    return message && publish(message);
 }
 
-static bool publish_next(jsCtx *js, unsigned window)
+static bool publish_next(unsigned window)
 {
     char subject[64];
     natsMsg *message;
@@ -74,14 +76,23 @@ static bool publish_next(jsCtx *js, unsigned window)
     on_the_way++;
     sent++;
     sent_bytes += piece.len;
-    return publish(js, message);
+    return publish(message);
 }
 
-// The stream of the bus which has all subjects of hosts: made by whoever is first.
-static bool make_stream(jsCtx *js, char **words)
+// Connects, and makes the bus's stream, which has the subjects of all hosts, if no other host did. False: not yet.
+static bool reach_bus(char **words)
 {
     const char *subjects[] = {"trace.>"};
+    jsOptions options;
     jsStreamConfig config;
+    if (!connection) {
+        if (!(connection = connect_to_bus(words)))
+            return false;
+        jsOptions_Init(&options);
+        options.Wait = 2000;
+        options.PublishAsync.AckHandler = on_answer;
+        must_nats(natsConnection_JetStream(&js, connection, &options), "natsConnection_JetStream");
+    }
     jsStreamConfig_Init(&config);
     config.Name = "TRACE";
     config.Subjects = subjects;
@@ -96,23 +107,14 @@ int main(int argc, char **argv)
     unsigned window = (unsigned)number_after(argv, "--window", 256);
     double patience = (double)number_after(argv, "--patience", 60), until = 0;
     bool is_there = false;
-    jsOptions options;
-    jsCtx *js;
     (void)argc;
     stop_at_signals();
     if (!(refused = calloc(window, sizeof *refused)))
         die("calloc", strerror(errno));
     start_host(&host, argv); // it records from here on, whether the bus is there or not
-    natsConnection *connection = connect_to_bus(argv);
-    jsOptions_Init(&options);
-    options.Wait = 2000;
-    options.PublishAsync.AckHandler = on_answer;
-    must_nats(natsConnection_JetStream(&js, connection, &options), "natsConnection_JetStream");
     while (host.ended < host.cpus || on_the_way) {
-        bool is_busy = false;
-        if (is_connected(connection) && (is_there || (is_there = make_stream(js, argv))))
-            is_busy = publish_again(js) || publish_next(js, window);
-        if (!is_busy)
+        is_there = is_there || reach_bus(argv);
+        if (!is_there || !is_connected(connection) || !(publish_again() || publish_next(window)))
             wait_a_millisecond();
         if (host.is_written && until <= 0)
             until = seconds_now() + patience;
@@ -123,6 +125,8 @@ int main(int argc, char **argv)
     printf("sent %" PRIu64 " again %" PRIu64 " bytes %" PRIu64 "\n", sent, resent, sent_bytes);
     if (!is_sent)
         fprintf(stderr, "the bus didn't acknowledge all in time\n");
-    (void)fflush(NULL);
-    _Exit(is_sent ? 0 : 3); // (the library's threads may still be at work)
+    jsCtx_Destroy(js);
+    natsConnection_Destroy(connection);
+    nats_Close();
+    return is_sent ? 0 : 3;
 }
