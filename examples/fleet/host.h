@@ -19,6 +19,7 @@ struct host {
     uint32_t cpus, turn, ended;
     FILE *ledger;
     pthread_t thread;
+    double writing;         // how many seconds of a processor its thread took
     atomic_bool is_written; // all that this host writes is written
     bool is_joined;
     struct ring rings[RINGS];
@@ -64,6 +65,7 @@ static inline void *write_events(void *given)
         if (h->rate)
             wait_a_millisecond();
     }
+    h->writing = (double)nanoseconds(CLOCK_THREAD_CPUTIME_ID) / 1e9;
     h->is_written = true;
     return NULL;
 }

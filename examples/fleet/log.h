@@ -5,27 +5,30 @@
 
 #include "fleet.h"
 
+enum { AT_A_TIME = 1024 };
+
 struct log {
     FILE *file;
     struct tracering_fleet fleet;
     uint64_t added, known, refused;
 };
 
-// What is below a CPU's watermark is known for good, and is in the log: the fleet needn't keep it.
+// What is below a CPU's watermark is known for good, and is in the log: the fleet needn't keep it. (To forget takes time
+// by what the stream keeps, so it is done for many records at a time.)
 static inline void forget_final(struct log *l, uint64_t stream, uint32_t cpu)
 {
     struct tracering_stream_fault at;
     struct tracering_cpu_state state;
     must(tracering_fleet_state(&l->fleet, stream, cpu, &state), "state");
-    if (state.watermark > state.bound)
+    if (state.watermark >= state.bound + AT_A_TIME || (state.has_end && state.watermark == state.end))
         must(tracering_fleet_forget(&l->fleet, stream, cpu, state.watermark, &at), "forget");
 }
 
 // Adds the first piece of these bytes.
-static inline int32_t add_piece(struct log *l, const uint8_t *bytes, size_t len, size_t *used)
+static inline int32_t add_piece(struct log *l, const uint8_t *bytes, size_t len, size_t *used,
+    struct tracering_stream_fault *at)
 {
-    struct tracering_stream_fault at = {.stream = 0};
-    int32_t code = tracering_fleet_add(&l->fleet, bytes, len, used, &at);
+    int32_t code = tracering_fleet_add(&l->fleet, bytes, len, used, at);
     l->added += code == TRACERING_DONE;
     l->known += code < TRACERING_DONE;
     if (code == TRACERING_DONE)
@@ -50,7 +53,8 @@ static inline void open_log(struct log *l, const char *path)
         die(path, strerror(errno));
     must(tracering_fleet_new(&l->fleet), "new");
     for (int32_t code = 0; at < len && code != TRACERING_PIECE_CUT; at += used, used = 0) {
-        code = add_piece(l, bytes + at, len - at, &used);
+        struct tracering_stream_fault odds;
+        code = add_piece(l, bytes + at, len - at, &used, &odds);
         if (code > TRACERING_DONE && code != TRACERING_PIECE_CUT) {
             fprintf(stderr, "%s, byte %zu: %s\n", path, at, tracering_text(code));
             exit(1);
@@ -70,11 +74,13 @@ static inline void add_message(struct log *l, const void *message, size_t len)
 {
     const uint8_t *bytes = message;
     for (size_t used; len; bytes += used, len -= used) {
+        struct tracering_stream_fault at = {.stream = 0};
         used = 0;
-        int32_t code = add_piece(l, bytes, len, &used);
+        int32_t code = add_piece(l, bytes, len, &used, &at);
         if (code > TRACERING_DONE) {
             l->refused++;
-            fprintf(stderr, "a piece is refused: %s\n", tracering_text(code));
+            fprintf(stderr, "a piece is refused: %s, stream %016" PRIx64 " CPU %" PRIu32 " number %" PRIu64 "\n",
+                tracering_text(code), at.stream, at.cpu, at.number);
         }
         if (code == TRACERING_DONE && fwrite(bytes, used, 1, l->file) != 1)
             die("the log", strerror(errno));
