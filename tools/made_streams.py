@@ -11,7 +11,7 @@ import random
 import struct
 from pathlib import Path
 
-from plain_fleet import HEAD, SUM, mark_bytes, sealed
+from plain_fleet import HEAD, SUM, Collected, mark_bytes, sealed
 from printed_texts import CAPTURES, data_of
 
 from lib.images import LIMIT, Fault, reading
@@ -168,9 +168,9 @@ class Source:
                 found.append(owner.false_mark() if is_false else owner.true_mark())
             if self.random.random() < 0.2:
                 found.append(self.random.choice(found))
-        for owner in owners:
-            if self.random.random() < 0.4:
-                is_false = self.random.random() < falsehood
+        for owner in owners * 2:
+            if self.random.random() < 0.3:
+                is_false = self.random.random() < 3 * falsehood
                 found.append(owner.mark("end", owner.number() if is_false else owner.end))
         return found
 
@@ -218,3 +218,11 @@ class Source:
         inputs = [b"".join(file) for file in files]
         inputs = [data for data in inputs if data.startswith(b"TRPARCEL")]
         return (inputs, is_true) if inputs else self.inputs()
+
+
+def texts(count, seed, is_json=False):
+    """What is printed of so many fleets, of which all that pieces say is true."""
+    source = Source(seed)
+    for at in range(count):
+        pieces = source.pieces(source.owners(), 0)
+        yield f"fleet-{at}", Collected(pieces, is_json).text
