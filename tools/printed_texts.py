@@ -18,8 +18,8 @@ KINDS = ("records", "missing", "unknown", "damaged", "awaited", "undelivered", "
 
 
 class Section:
-    """What a text says of one collector, or of captures or a fleet: its collector is None then. The CPU of a fleet's row
-    is the id of its stream, as it is printed, and the CPU. What a fleet has as unknown are runs: they are awaited."""
+    """What a text says of one collector, or of captures or a fleet: its collector is None then. The CPU of a fleet's
+    row is the id of its stream, as it is printed, and the CPU. What a fleet has as unknown are runs: awaited ones."""
 
     def __init__(self, collector=None):
         self.collector, self.audit = collector, None
