@@ -10,3 +10,5 @@ pub mod WithinEnds
 pub mod CpusMarked
 pub mod Merging
 pub mod MarkWalks
+pub mod OneList
+pub mod SameStreams

@@ -6,3 +6,4 @@ pub mod Forgetting
 pub mod Kinds
 pub mod Faults
 pub mod Merging
+pub mod Same

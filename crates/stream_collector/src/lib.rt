@@ -18,6 +18,7 @@ mod marks;
 mod merge;
 mod read;
 mod runs;
+mod same;
 mod stream;
 mod undelivered;
 
