@@ -334,47 +334,43 @@ def mark_json(piece):
 
 
 class Stopped(Exception):
-    """The line of the fault that ends the reading of inputs."""
-
-
-def pieces_of(data):
-    """The offset of each piece of an input, and the piece; the fault of the first one that can't be read."""
-    index = offset = 0
-    while offset < len(data):
-        try:
-            piece = read_piece(data[offset : offset + MOST])
-        except Fault as fault:
-            raise Stopped(f"stream: {fault} at {offset} piece {index}") from fault
-        yield index, offset, piece
-        index, offset = index + 1, offset + len(piece.data)
+    """The line of the fault that ends the reading of inputs, and which of them has it."""
 
 
 def all_pieces(inputs):
+    """All pieces: of each the input, how many are before it there, and how many bytes."""
     for at, data in enumerate(inputs):
-        for index, offset, piece in pieces_of(data):
+        index = offset = 0
+        while offset < len(data):
+            try:
+                piece = read_piece(data[offset : offset + MOST])
+            except Fault as fault:
+                raise Stopped(f"stream: {fault} at {offset} piece {index}", at) from fault
             yield at, index, offset, piece
+            index, offset = index + 1, offset + len(piece.data)
 
 
 def new_pieces(inputs, taken):
     """Puts all pieces into `taken`, and gives the bytes of each one that is new when it comes."""
     places = {}
-    for _, index, offset, piece in all_pieces(inputs):
+    for at, index, offset, piece in all_pieces(inputs):
         try:
             is_new = places.setdefault(piece.place, Kept()).add(piece)
         except Refused as refused:
             cause, number = refused.args
             name = name_of(*piece.place)
-            raise Stopped(f"stream: {cause} {name} {number} at {offset} piece {index}") from refused
+            raise Stopped(f"stream: {cause} {name} {number} at {offset} piece {index}", at) from refused
         taken.append(piece)
         if is_new:
             yield piece.data
 
 
 class Collected:
-    """What `collect` does with inputs: its exit status, the lines that it prints, and the bytes that it keeps."""
+    """What `collect` does with inputs: its exit status, the lines that it prints, the bytes that it keeps, and which
+    input has the fault, if there is one."""
 
     def __init__(self, inputs, is_json=False, parcels=False):
-        self.status, self.lines, self.kept, taken = 0, [], b"", []
+        self.status, self.lines, self.kept, self.faulty, taken = 0, [], b"", None, []
         try:
             if parcels:
                 for at, _, offset, piece in all_pieces(inputs):
@@ -384,7 +380,8 @@ class Collected:
                     self.kept += data
                 self.lines = listing(taken, is_json)
         except Stopped as stopped:
-            self.status, self.lines = 1, [*self.lines, str(stopped)]
+            line, self.faulty = stopped.args
+            self.status, self.lines = 1, [*self.lines, line]
 
     @property
     def text(self):
