@@ -146,7 +146,8 @@ class Source:
         self.real = real_pages()
 
     def owners(self):
-        found = []
+        """CPUs of streams, some of which have the same history, so that they have records of one moment."""
+        found, known = [], []
         for stream in self.random.sample(STREAMS, self.random.choice([1, 1, 2, 3])):
             self.parcels.begin()
             for cpu, history in self.parcels.histories.items():
@@ -154,7 +155,8 @@ class Source:
                     at = self.random.randrange(len(self.real) - PAGES)
                     found.append(Real(self, stream, cpu, self.real[at : at + self.random.randint(1, PAGES)]))
                 else:
-                    found.append(Made(self, stream, cpu, history))
+                    known.append(history)
+                    found.append(Made(self, stream, cpu, self.random.choice([history, known[0]])))
         return found
 
     def pieces(self, owners, falsehood):
