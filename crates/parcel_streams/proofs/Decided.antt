@@ -125,7 +125,7 @@ no_cut bytes d f = ⊎_elim
 length_out : (len other : ℕ) → other ≡ len → (len < 56) ⊎ (65608 < len) → (other < 56) ⊎ (65608 < other)
 length_out len other is f = subst (λ (n : ℕ). (n < 56) ⊎ (65608 < n)) (sym is) f
 
-fault_stays : (bytes more : List ℕ) (cause : PieceCause) → IsDecided bytes → FirstPieceFault bytes cause
+pub fault_stays : (bytes more : List ℕ) (cause : PieceCause) → IsDecided bytes → FirstPieceFault bytes cause
     → FirstPieceFault (bytes ++ more) cause
 fault_stays bytes more cause d f = stays cause f
   where
