@@ -12,3 +12,5 @@ pub mod Merging
 pub mod MarkWalks
 pub mod OneList
 pub mod SameStreams
+pub mod Frontiers
+pub mod MergeLaws

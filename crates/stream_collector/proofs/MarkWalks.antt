@@ -3,6 +3,7 @@ use Rattle.std.proofs.Common.{◌≡◌, ◌⊎◌, ℕ, ◌<◌, ◌≤◌, IsS
 use Rattle.std.proofs.Common.{subst, arith}
 use Rattle.std.proofs.lemmas.Bool.{cases_lt}
 use Rattle.std.specs.List.{Contains}
+use Rattle.std.specs.List.Sorted.{IsStrictlyIncreasing}
 use Rattle.collector.proofs.CpuWalks.{Leaves}
 use Rattle.stream_collector.specs.declared.marks.Marks.{Marks}
 use Rattle.stream_collector.specs.Marks.{marks_at, SaySomething, AreMarkedCpus}
@@ -47,3 +48,7 @@ has_marks_or_not marks cpu = at (marks_at marks cpu).bound (marks_at marks cpu).
         (λ is. cc)
         either))
         (cases_lt 0 bound)
+
+-- those of a list that rises
+pub all_listed : (IsDone : ℕ → Type 0) (cpus : List ℕ) → IsStrictlyIncreasing cpus → Leaves (Contains cpus) IsDone cpus
+all_listed IsDone cpus rising = record { rising = rising; of_them = λ c h. h; done = λ c h. inl h }

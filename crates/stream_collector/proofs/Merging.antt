@@ -1,5 +1,6 @@
 -- Two streams that are put together.
-use Rattle.std.proofs.Common.{◌≡◌, ◌⊎◌, ◌↔◌, ℕ, ◌<◌, ◌≤◌, max, Bool, true, false, cond, not, List, [], ◌∷◌, ◌++◌, Option}
+use Rattle.std.proofs.Common.{◌≡◌, ◌⊎◌, ◌↔◌, ℕ, ◌<◌, ◌≤◌, max, Bool, true, false, cond, not, List, [], ◌∷◌, ◌++◌}
+use Rattle.std.proofs.Common.{Option}
 use Rattle.std.proofs.Common.{IsSome, Some, None, ⊎_elim, inl, inr, refl, sym, ap, ◌∙◌, subst, arith}
 use Rattle.std.proofs.lemmas.Bool.{cases_lt}
 use Rattle.trace_model.specs.Parcel.{Parcel}
@@ -21,7 +22,8 @@ use Rattle.stream_collector.specs.Merging.{either_end, joined_marks, IsMerge, Ha
 use Rattle.stream_collector.specs.Merging.{IsEndsFault, IsReachFault, IsPartFault, IsMergeFault}
 use Rattle.stream_collector.specs.declared.fault.MergeFault.{MergeFault}
 use Rattle.stream_collector.specs.declared.fault.MergeFault.TheVariants.{OtherEnd, BeyondEnd, Clash as ClashHere}
-use Rattle.stream_collector.specs.declared.fault.MergeFault.TheVariants.{TakenAndMissing as TakenHere, NoMemory as MemoryHere}
+use Rattle.stream_collector.specs.declared.fault.MergeFault.TheVariants.{TakenAndMissing as TakenHere}
+use Rattle.stream_collector.specs.declared.fault.MergeFault.TheVariants.{NoMemory as MemoryHere}
 use Rattle.stream_collector.proofs.WithinEnds.{known_either}
 
 -- ---- what is at odds, in parcels that have and miss the same
@@ -88,7 +90,7 @@ kept_from bounds all kept others same kept_same =
       );
     }
 
-without_below : (bounds : ℕ → ℕ) (ps : List Parcel) → IsBelow (without_ended bounds ps) ps
+pub without_below : (bounds : ℕ → ℕ) (ps : List Parcel) → IsBelow (without_ended bounds ps) ps
 without_below bounds [] = below_itself []
 without_below bounds (p ∷ ps) = one (without_below bounds ps) (ends_below bounds p)
   where
@@ -102,7 +104,8 @@ without_below bounds (p ∷ ps) = one (without_below bounds ps) (ends_below boun
 pub kept_below : (bounds : ℕ → ℕ) (all kept others : List Parcel) → IsSame all others
     → IsSame kept (without_ended bounds all) → IsBelow kept others
 kept_below bounds all kept others same kept_same =
-    below_below kept all others (below_below kept (without_ended bounds all) all kept_same.below (without_below bounds all))
+    below_below kept all others
+    (below_below kept (without_ended bounds all) all kept_same.below (without_below bounds all))
     same.below
 
 -- ---- marks

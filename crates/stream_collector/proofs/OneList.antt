@@ -70,7 +70,8 @@ module _ (P : ℕ → Type 0) where
       let there = q.whole (suc y.1) (r.of_them (suc y.1) (in_first x xs (suc y.1) (omega arith) (omega arith))) in
       ⊎_elim
       (λ (here : (y.0 ≤ suc y.1) × (suc y.1 ≤ y.1)). let no = here.1 in absurd (omega arith))
-      (λ (later : InRun ys (suc y.1)). let no = behind y ys (apart_of (y ∷ ys) q) (suc y.1) later in absurd (omega arith))
+      (λ (later : InRun ys (suc y.1)).
+      let no = behind y ys (apart_of (y ∷ ys) q) (suc y.1) later in absurd (omega arith))
       (here_or_behind y ys (suc y.1) there))
       (λ (le : x.1 ≤ y.1). le)
       (cases_lt y.1 x.1)

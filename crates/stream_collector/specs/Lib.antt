@@ -7,3 +7,4 @@ pub mod Kinds
 pub mod Faults
 pub mod Merging
 pub mod Same
+pub mod Frontier

@@ -7,10 +7,12 @@
 mod add;
 mod added;
 mod cpus;
+mod cuts;
 mod dropping;
 mod ending;
 mod fault;
 mod forgetting;
+mod frontier;
 mod given_up;
 mod kinds;
 pub mod laws;

@@ -8,7 +8,8 @@ use Rattle.stream_collector.proofs.stream.StreamCollector.known_same.Goals as go
 pub loop-cpu-init : goal.loop-cpu-init
 loop-cpu-init c = subst (Leaves (IsCpuKnown c.args.self.now.parcels) (IsKnownSame c.args.self.now c.args.other.now))
     (sym c.into_iter-cpu-iterator.ensures.into_iter_gives)
-    (all_left (IsKnownSame c.args.self.now c.args.other.now) c.args.self.now.parcels c.known_cpus-cpu-items.result c.known_cpus-cpu-items.ensures)
+    (all_left (IsKnownSame c.args.self.now c.args.other.now) c.args.self.now.parcels c.known_cpus-cpu-items.result
+    c.known_cpus-cpu-items.ensures)
 
 pub loop-cpu-preserved : goal.loop-cpu-preserved
 loop-cpu-preserved c = next_done (IsCpuKnown c.args.self.now.parcels) (IsKnownSame c.args.self.now c.args.other.now)
