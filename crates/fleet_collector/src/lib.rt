@@ -7,11 +7,14 @@ mod fleet;
 pub mod laws;
 mod listing;
 mod marks;
+mod merge;
+mod merge_fault;
 mod piece;
 mod refusal;
 mod streams;
 
 pub use fleet::Fleet;
 pub use listing::FleetLine;
+pub use merge_fault::FleetMergeFault;
 pub use refusal::PieceRefusal;
 pub use streams::Streams;

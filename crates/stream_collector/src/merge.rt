@@ -81,6 +81,16 @@ impl StreamCollector {
         ensures fault { IfErr result (λ fault. IsMergeFault self.old other.now fault) }
         ensures refused { OnErr result (self.new ≡ self.old) }
     {
+        *self = self.merged(other)?;
+        Ok(())
+    }
+
+    /// What both know together: what `merge` makes of this stream.
+    pub fn merged(&self, other: &StreamCollector) -> Result<StreamCollector, MergeFault>
+        ensures merged { IfOk result (λ both. IsMerge self.now other.now both) }
+        ensures fit { OnOk result (FitTogether self.now other.now) }
+        ensures fault { IfErr result (λ fault. IsMergeFault self.now other.now fault) }
+    {
         let _own = &self.marks;
         let _others = &other.marks;
         self.check_one_end(other)?;
@@ -89,10 +99,12 @@ impl StreamCollector {
         let marks = self.marks_with(other)?;
         let known = self.parcels_with(other, &marks)?;
         let given_up = self.given_up_with(other)?;
-        self.marks = marks;
-        self.known = known;
-        self.given_up = given_up;
-        Ok(())
+        Ok(StreamCollector {
+            known,
+            given_up,
+            marks,
+            alloc: self.alloc,
+        })
     }
 
     /// Looks whether a CPU has two ends.

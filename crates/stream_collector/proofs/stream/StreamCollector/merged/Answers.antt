@@ -6,7 +6,7 @@ use Rattle.stream_collector.specs.Marking.{IsStanding}
 use Rattle.stream_collector.specs.Merging.{IsMerge, HaveFittingEnds}
 use Rattle.stream_collector.proofs.Merging.{ends_fault, reach_fault, part_fault, ends_joined, given_up_either}
 use Rattle.stream_collector.proofs.Merging.{merged_standing}
-use Rattle.stream_collector.proofs.stream.StreamCollector.merge.Goals as goal
+use Rattle.stream_collector.proofs.stream.StreamCollector.merged.Goals as goal
 
 pub returns-in_err-check_one_end-clause-fault : goal.returns-in_err-check_one_end-clause-fault
 returns-in_err-check_one_end-clause-fault c =
@@ -36,8 +36,8 @@ returns-in_err-known-clause-fault c =
     let fault = part_fault c.args.self.now c.args.other.now c.in_err-known.field-0.0 fit c.in_err-known.ensures.fault in
     search rules
 
-pub invariant_of-self : goal.invariant_of-self
-invariant_of-self c =
+pub invariant_of-result : goal.invariant_of-result
+invariant_of-result c =
     let s = c.args.self.now in
     let o = c.args.other.now in
     let new : Stream = record {
