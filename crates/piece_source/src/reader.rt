@@ -40,6 +40,19 @@ impl<R> PieceReader<R> {
     {
         self.at
     }
+
+    /// The source. Of it more may have been read than the pieces that were given.
+    pub fn into_source(self) -> R
+        ensures { result ≡ source_of self }
+    {
+        let PieceReader {
+            source,
+            window: _,
+            index: _,
+            at: _,
+        } = self;
+        source
+    }
 }
 
 impl<R: Source> PieceReader<R> {
