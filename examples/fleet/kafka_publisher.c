@@ -57,7 +57,7 @@ int main(int argc, char **argv)
         bool is_busy = is_held && publish(topic);
         is_held = is_held && !is_busy;
         if (!is_busy)
-            wait_a_millisecond();
+            wait_milliseconds(1);
         if (host.is_written && until <= 0)
             until = seconds_now() + patience;
         if (until > 0 && seconds_now() > until)
