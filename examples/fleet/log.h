@@ -14,8 +14,8 @@ struct log {
     char buffer[1 << 20];
 };
 
-// What is below a CPU's watermark is known for good, and is in the log: the fleet needn't keep it. (To forget takes time
-// by what the stream keeps, so it is done for many records at a time.)
+// What is below a CPU's watermark is known for good, and is in the log: the fleet needn't keep it. (To forget takes
+// time by what the stream keeps, so it is done for many records at a time.)
 static inline void forget_final(struct log *l, uint64_t stream, uint32_t cpu)
 {
     struct tracering_stream_fault at;

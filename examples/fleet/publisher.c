@@ -123,7 +123,8 @@ int main(int argc, char **argv)
             break;
     }
     bool is_sent = host.ended == host.cpus && !on_the_way;
-    printf("sent %" PRIu64 " again %" PRIu64 " bytes %" PRIu64 " writing %.3f\n", sent, resent, sent_bytes, host.writing);
+    printf("sent %" PRIu64 " again %" PRIu64 " bytes %" PRIu64 " writing %.3f\n", sent, resent, sent_bytes,
+        host.writing);
     if (!is_sent)
         fprintf(stderr, "the bus didn't acknowledge all in time\n");
     jsCtx_Destroy(js);
