@@ -1,6 +1,6 @@
-// How a fleet grows: `fleet_scale PARCELS STREAMS ORDER [forget]` adds so many parcels of so many streams, each stream's
-// in their order (`rising`) or all shuffled (`shuffled`), and prints what that took, a number a line with its name. With
-// `forget` each stream's bound is raised to its watermark after some parcels.
+// How a fleet grows: `fleet_scale PARCELS STREAMS ORDER [forget]` adds so many parcels of so many streams, each
+// stream's in their order (`rising`) or all shuffled (`shuffled`), and prints what that took, a number a line with its
+// name. With `forget` each stream's bound is raised to its watermark after some parcels.
 //
 // A parcel has RECORDS records with payloads of 24 bytes, and every eighth one a number that is missing before them.
 #define _GNU_SOURCE
@@ -12,7 +12,8 @@
 #include <string.h>
 #include <time.h>
 
-enum { RECORDS = 10, PAYLOAD = 24, PARCEL = TRACERING_HEADER + RECORDS * (4 + PAYLOAD), BATCH = 1000, LISTED = 2000000 };
+enum { RECORDS = 10, PAYLOAD = 24, PARCEL = TRACERING_HEADER + RECORDS * (4 + PAYLOAD) };
+enum { BATCH = 1000, LISTED = 2000000 };
 
 static uint8_t batch[BATCH][TRACERING_PIECE(PARCEL)];
 static size_t lens[BATCH];

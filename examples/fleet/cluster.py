@@ -186,7 +186,8 @@ class Nats:
         for node in self.nodes:
             node.configure(self.nodes, ports[-1])
         self.ways = []
-        self.words = ["--servers", ",".join(f"nats://{HOST}:{node.clients.port}" for node in self.nodes), "--copies", count]
+        servers = ",".join(f"nats://{HOST}:{node.clients.port}" for node in self.nodes)
+        self.words = ["--servers", servers, "--copies", count]
 
     async def start(self):
         for node in self.nodes:
@@ -249,9 +250,9 @@ class Nats:
                 return
 
     async def trouble(self, rng):
-        """One fault, then a wait until all copies are up to date: so two of three nodes always have all. Answers its name."""
+        """One fault, then a wait until all copies are up to date: so two of three nodes have all. Answers its name."""
         if not self.ways:
-            self.ways = [self.cut_clients, self.hold_clients]
+            self.ways = [self.cut_clients, self.hold_clients, self.lose_clients]
             if len(self.nodes) > 1:
                 self.ways += [self.kill, self.freeze, self.cut_links, self.hold_links]
         way = self.ways.pop(rng.randrange(len(self.ways)))
@@ -282,6 +283,12 @@ class Nats:
 
     async def hold_clients(self, node, seconds):
         return await self.closed([node.clients], Proxy.hold, seconds)
+
+    async def lose_clients(self, node, seconds):
+        """What is on the way is lost."""
+        node.clients.hold()
+        await asyncio.sleep(seconds)
+        return await self.closed([node.clients], Proxy.cut, 1)
 
     async def closed(self, proxies, way, seconds):
         for proxy in proxies:

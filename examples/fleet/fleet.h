@@ -63,9 +63,9 @@ static inline double seconds_now(void)
     return (double)nanoseconds(CLOCK_MONOTONIC) / 1e9;
 }
 
-static inline void wait_a_millisecond(void)
+static inline void wait_milliseconds(long count)
 {
-    (void)nanosleep(&(struct timespec){.tv_nsec = 1000000}, NULL);
+    (void)nanosleep(&(struct timespec){.tv_nsec = count * 1000000}, NULL);
 }
 
 static inline void on_stop(int signal)

@@ -63,7 +63,7 @@ static inline void *write_events(void *given)
             for (uint32_t cpu = 0; cpu < h->cpus; cpu++)
                 record(h, cpu, count % 16 == 0 ? 3 : 1);
         if (h->rate)
-            wait_a_millisecond();
+            wait_milliseconds(1);
     }
     h->writing = (double)nanoseconds(CLOCK_THREAD_CPUTIME_ID) / 1e9;
     h->is_written = true;

@@ -1,8 +1,9 @@
 // A host of the fleet over the Kafka protocol: as publisher.c, but librdkafka sends what it is given again by itself,
 // until the brokers have acknowledged it. A ring's pieces have one key, so that they are in one partition.
 //
-//     kafka_publisher [--servers HOST:PORT,..] [--topic NAME] [--window N] [--patience SECONDS] [and the words of host.h]
+//     kafka_publisher [--servers HOST:PORT,..] [--topic NAME] [--window N] [--patience SECONDS] [a host's words]
 //
+// A host's words are as those of publisher.c, from `--host` to `--seconds`, and `--ledger`.
 // The status is 3 if the brokers didn't acknowledge all of it in `--patience` seconds after the last event.
 #include "host.h"
 #include "kafka_bus.h"
@@ -29,7 +30,8 @@ static bool publish(rd_kafka_topic_t *topic)
 {
     char key[64];
     int len = snprintf(key, sizeof key, "%016" PRIx64 ":%" PRIu32, host.stream, piece.cpu);
-    if (rd_kafka_produce(topic, RD_KAFKA_PARTITION_UA, RD_KAFKA_MSG_F_COPY, piece.bytes, piece.len, key, (size_t)len, NULL))
+    if (rd_kafka_produce(topic, RD_KAFKA_PARTITION_UA, RD_KAFKA_MSG_F_COPY, piece.bytes, piece.len, key, (size_t)len,
+            NULL))
         return false;
     on_the_way++;
     sent++;
@@ -57,7 +59,7 @@ int main(int argc, char **argv)
         bool is_busy = is_held && publish(topic);
         is_held = is_held && !is_busy;
         if (!is_busy)
-            wait_a_millisecond();
+            wait_milliseconds(1);
         if (host.is_written && until <= 0)
             until = seconds_now() + patience;
         if (until > 0 && seconds_now() > until)

@@ -11,10 +11,11 @@ struct log {
     FILE *file;
     struct tracering_fleet fleet;
     uint64_t added, known, refused;
+    char buffer[1 << 20];
 };
 
-// What is below a CPU's watermark is known for good, and is in the log: the fleet needn't keep it. (To forget takes time
-// by what the stream keeps, so it is done for many records at a time.)
+// What is below a CPU's watermark is known for good, and is in the log: the fleet needn't keep it. (To forget takes
+// time by what the stream keeps, so it is done for many records at a time.)
 static inline void forget_final(struct log *l, uint64_t stream, uint32_t cpu)
 {
     struct tracering_stream_fault at;
@@ -64,7 +65,7 @@ static inline void open_log(struct log *l, const char *path)
     if ((len && munmap(bytes, len)) || ftruncate(file, (off_t)at) || fsync(file) || above < 0 || fsync(above))
         die(path, strerror(errno));
     (void)close(above);
-    if (!(l->file = fdopen(file, "a")) || setvbuf(l->file, NULL, _IOFBF, 1 << 20))
+    if (!(l->file = fdopen(file, "a")) || setvbuf(l->file, l->buffer, _IOFBF, sizeof l->buffer))
         die(path, strerror(errno));
 }
 

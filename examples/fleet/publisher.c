@@ -113,16 +113,18 @@ int main(int argc, char **argv)
         die("calloc", strerror(errno));
     start_host(&host, argv); // it records from here on, whether the bus is there or not
     while (host.ended < host.cpus || on_the_way) {
-        is_there = is_there || reach_bus(argv);
-        if (!is_there || !is_connected(connection) || !(publish_again() || publish_next(window)))
-            wait_a_millisecond();
+        if (!is_there && !(is_there = reach_bus(argv)))
+            wait_milliseconds(100);
+        else if (!is_connected(connection) || !(publish_again() || publish_next(window)))
+            wait_milliseconds(1);
         if (host.is_written && until <= 0)
             until = seconds_now() + patience;
         if (until > 0 && seconds_now() > until)
             break;
     }
     bool is_sent = host.ended == host.cpus && !on_the_way;
-    printf("sent %" PRIu64 " again %" PRIu64 " bytes %" PRIu64 " writing %.3f\n", sent, resent, sent_bytes, host.writing);
+    printf("sent %" PRIu64 " again %" PRIu64 " bytes %" PRIu64 " writing %.3f\n", sent, resent, sent_bytes,
+        host.writing);
     if (!is_sent)
         fprintf(stderr, "the bus didn't acknowledge all in time\n");
     jsCtx_Destroy(js);
