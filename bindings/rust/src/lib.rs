@@ -88,14 +88,26 @@ pub enum Fault {
     End,
     /// These are ends of two rings.
     OtherRing,
+    NotPacked,
+    PieceCut,
+    BadVersion,
+    BadPieceLength,
+    BadSum,
+    BadKind,
+    Loose,
+    BadMark,
+    BeyondEnd,
+    OtherEnd,
+    NotFinal,
 }
 
-const FAULTS: [Fault; 32] = {
+const FAULTS: [Fault; 43] = {
     use Fault::*;
     [
         TooDeep, TooLong, LateMoment, Crowded, Worn, NoFrame, NotReserved, Absent, InUse, Busy, Null, NoMemory, BadSize,
         BadCpu, Empty, Moving, NoRoom, NotAtRest, Unread, TooShort, BadImageSize, BadCount, Cut, BadLength,
-        TimeOverflow, NumberOverflow, MissedTooMany, MissedDiffers, Clash, TakenAndMissing, End, OtherRing,
+        TimeOverflow, NumberOverflow, MissedTooMany, MissedDiffers, Clash, TakenAndMissing, End, OtherRing, NotPacked,
+        PieceCut, BadVersion, BadPieceLength, BadSum, BadKind, Loose, BadMark, BeyondEnd, OtherEnd, NotFinal,
     ]
 };
 
