@@ -14,22 +14,22 @@ use Rattle.trace_model.proofs.collections.Elements.{some_is, get_in_either}
 use Rattle.stream_collector.specs.Stream.{Stream}
 use Rattle.stream_collector.specs.declared.added.Added.{Added}
 use Rattle.stream_collector.specs.declared.added.Added.TheVariants.{New, Known, Forgotten}
-use Rattle.fleet_collector.specs.Fleet.{stream_in, stream_at, or_empty, HasKnownCpus, AllHaveKnownCpus}
+use Rattle.fleet_collector.specs.Fleet.{known_of, stream_at, or_empty, HasKnownCpus, AllHaveKnownCpus}
 
 -- the stream of this id has this value afterwards, and the others have what they had
 abbrev pub IsPut : (old new : List (ℕ × Stream)) (id : ℕ) (after : Stream) → Type 0
-IsPut old new id after = (q : ℕ) → stream_in new q ≡ cond (is_at (nat_cmp id) q) (Some after) (stream_in old q)
+IsPut old new id after = (q : ℕ) → known_of new q ≡ cond (is_at (nat_cmp id) q) (Some after) (known_of old q)
 
 pub cpus_put : (old new : List (ℕ × Stream)) (id : ℕ) (after : Stream) → IsPut old new id after
     → AllHaveKnownCpus old → HasKnownCpus after → AllHaveKnownCpus new
 cpus_put old new id after put known here q stream at = on (is_at (nat_cmp id) q) (put q)
   where
-    on : (b : Bool) → stream_in new q ≡ cond b (Some after) (stream_in old q) → HasKnownCpus stream
+    on : (b : Bool) → known_of new q ≡ cond b (Some after) (known_of old q) → HasKnownCpus stream
     on true e = subst HasKnownCpus (some_is after stream (sym e ∙ at)) here
     on false e = known q stream (sym e ∙ at)
 
 -- if a stream is written back as it was, so is the fleet
-pub same_put : (old new : List (ℕ × Stream)) (id : ℕ) (before after : Stream) → stream_in old id ≡ Some before
+pub same_put : (old new : List (ℕ × Stream)) (id : ℕ) (before after : Stream) → known_of old id ≡ Some before
     → new ≡ set_value (is_at (nat_cmp id)) old after → after ≡ before → new ≡ old
 same_put old new id before after there put same =
     put ∙ ap (set_value (is_at (nat_cmp id)) old) same ∙ set_value_same (is_at (nat_cmp id)) old before there
@@ -82,7 +82,7 @@ cpus_inserted (Ok t) old new id after ok put err same known here = cpus_put old 
 cpus_inserted (Err e) old new id after ok put err same known here = subst AllHaveKnownCpus (sym (same err)) known
 
 -- a stream of which nothing is known
-pub was_nothing : (fleet : List (ℕ × Stream)) (id : ℕ) (first : Stream) → stream_in fleet id ≡ None
+pub was_nothing : (fleet : List (ℕ × Stream)) (id : ℕ) (first : Stream) → known_of fleet id ≡ None
     → first.parcels ≡ [] → first.marks ≡ [] → first.given_up ≡ [] → stream_at fleet id ≡ first
 was_nothing fleet id first none p m g =
     ap or_empty none ∙ (λ i. record { parcels = sym p i; marks = sym m i; given_up = sym g i })

@@ -11,8 +11,8 @@ use Rattle.parcel_streams.specs.declared.piece.StreamId.{StreamId}
 use Rattle.stream_collector.specs.Stream.{Stream}
 
 -- what is known of the stream of this id, if it is there
-abbrev pub stream_in : List (ℕ × Stream) → ℕ → Option Stream
-stream_in fleet id = lookup (is_at (nat_cmp id)) fleet
+abbrev pub known_of : List (ℕ × Stream) → ℕ → Option Stream
+known_of fleet id = lookup (is_at (nat_cmp id)) fleet
 
 -- nothing is known of it
 abbrev pub empty_stream : Stream
@@ -24,11 +24,11 @@ or_empty (Some stream) = stream
 
 -- what is known of the stream of this id: nothing, if it isn't there
 abbrev pub stream_at : List (ℕ × Stream) → ℕ → Stream
-stream_at fleet id = or_empty (stream_in fleet id)
+stream_at fleet id = or_empty (known_of fleet id)
 
 -- all streams but this one stay as they were, those that weren't there too
 abbrev pub KeepsOthers : (old new : List (ℕ × Stream)) (id : ℕ) → Type 0
-KeepsOthers old new id = (other : ℕ) → other ≢ id → stream_in new other ≡ stream_in old other
+KeepsOthers old new id = (other : ℕ) → other ≢ id → known_of new other ≡ known_of old other
 
 -- a stream that is handed out: its id, and what is known of it
 abbrev pub entry_seen : StreamId × Bor Stream → ℕ × Stream
@@ -40,4 +40,4 @@ HasKnownCpus stream = (cpu number : ℕ) (r : Record) → Has stream.parcels cpu
 
 -- so have all of them
 abbrev pub AllHaveKnownCpus : List (ℕ × Stream) → Type 0
-AllHaveKnownCpus fleet = (id : ℕ) (stream : Stream) → stream_in fleet id ≡ Some stream → HasKnownCpus stream
+AllHaveKnownCpus fleet = (id : ℕ) (stream : Stream) → known_of fleet id ≡ Some stream → HasKnownCpus stream

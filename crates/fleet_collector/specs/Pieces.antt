@@ -14,15 +14,15 @@ use Rattle.stream_collector.specs.declared.fault.AddFault.{AddFault}
 use Rattle.stream_collector.specs.declared.fault.AddFault.TheVariants.{Refused}
 use Rattle.stream_collector.specs.declared.added.Added.{Added}
 use Rattle.stream_collector.specs.declared.added.Added.TheVariants.{New, Known, Forgotten}
-use Rattle.fleet_collector.specs.declared.fault.PieceFault.{PieceFault}
-use Rattle.fleet_collector.specs.declared.fault.PieceFault.TheVariants.{Parcel as ParcelFault, Mark}
-use Rattle.fleet_collector.specs.Fleet.{stream_in, stream_at, KeepsOthers}
+use Rattle.fleet_collector.specs.declared.refusal.PieceRefusal.{PieceRefusal}
+use Rattle.fleet_collector.specs.declared.refusal.PieceRefusal.TheVariants.{Parcel as ParcelFault, Mark}
+use Rattle.fleet_collector.specs.Fleet.{known_of, stream_at, KeepsOthers}
 
 -- A parcel says something new, and doesn't end below its CPU's bound: it is kept as the last of its stream's, with
 -- which it agrees, and has and misses nothing beyond an end. All other streams stay.
 pub record AddsNewParcel (old new : List (ℕ × Stream)) (stream : ℕ) (parcel : Parcel) : Type 0 where
   pub others : KeepsOthers old new stream
-  pub kept : stream_in new stream
+  pub kept : known_of new stream
       ≡ Some record (stream_at old stream) { parcels = (stream_at old stream).parcels ++ parcel ∷ [] }
   pub agree : Agree (stream_at new stream).parcels
   pub within : IsWithinEnd (stream_at old stream) parcel
@@ -46,7 +46,7 @@ AddsParcel old new stream parcel Forgotten = (new ≡ old) × IsForgotten (strea
 -- others stay.
 pub record AddsNewEnd (old new : List (ℕ × Stream)) (stream cpu end : ℕ) : Type 0 where
   pub others : KeepsOthers old new stream
-  pub there : IsSome (stream_in new stream)
+  pub there : IsSome (known_of new stream)
   pub first : end_of (stream_at old stream) cpu ≡ None
   pub ended : HasEnd (stream_at old stream) (stream_at new stream) cpu end
   pub nothing_beyond : (number : ℕ) → IsReached (stream_at old stream) cpu number → number < end
@@ -69,15 +69,15 @@ AddsPiece old new (End stream cpu count) added = AddsEnd old new stream.0 cpu.0 
 
 -- why a parcel isn't added: it has this fault, and doesn't end below its CPU's bound; memory is refused only if it says
 -- something new
-pub record IsParcelFault (stream : Stream) (parcel : Parcel) (fault : AddFault) : Type 0 where
+pub record IsParcelRefusal (stream : Stream) (parcel : Parcel) (fault : AddFault) : Type 0 where
   pub fault_is : IsStreamFault stream parcel fault
   pub not_forgotten : IsForgotten stream parcel → ⊥
   pub no_memory : fault ≡ Refused NoMemory → IsBelow (parcel ∷ []) stream.parcels → ⊥
 
 -- why a piece isn't added
-abbrev pub IsPieceFault : List (ℕ × Stream) → Piece → PieceFault → Type 0
-IsPieceFault fleet (ParcelPiece stream parcel) (ParcelFault fault) =
-    IsParcelFault (stream_at fleet stream.0) (as_parcel parcel) fault
-IsPieceFault fleet (ParcelPiece stream parcel) (Mark fault) = ⊥
-IsPieceFault fleet (End stream cpu count) (ParcelFault fault) = ⊥
-IsPieceFault fleet (End stream cpu count) (Mark fault) = IsEndFault (stream_at fleet stream.0) cpu.0 count fault
+abbrev pub IsRefusal : List (ℕ × Stream) → Piece → PieceRefusal → Type 0
+IsRefusal fleet (ParcelPiece stream parcel) (ParcelFault fault) =
+    IsParcelRefusal (stream_at fleet stream.0) (as_parcel parcel) fault
+IsRefusal fleet (ParcelPiece stream parcel) (Mark fault) = ⊥
+IsRefusal fleet (End stream cpu count) (ParcelFault fault) = ⊥
+IsRefusal fleet (End stream cpu count) (Mark fault) = IsEndFault (stream_at fleet stream.0) cpu.0 count fault

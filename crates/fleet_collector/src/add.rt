@@ -12,12 +12,12 @@ impl Fleet {
     ghost use Rattle.stream_collector.specs.Faults.{IsForgotten, IsWithinEnd, IsStreamFault};
     ghost use Rattle.stream_collector.specs.declared.added.Added.TheVariants.{New, Known, Forgotten};
     ghost use Rattle.stream_collector.specs.declared.fault.AddFault.TheVariants.{Refused};
-    ghost use Rattle.fleet_collector.specs.Fleet.{stream_in, stream_at, KeepsOthers};
+    ghost use Rattle.fleet_collector.specs.Fleet.{known_of, stream_at, KeepsOthers};
 
     /// Adds a parcel to a stream, as `StreamCollector::add` does. A stream that isn't there is made, if the parcel has
     /// or misses something. On a fault nothing has changed.
     pub fn add(&mut self, stream: StreamId, parcel: Parcel) -> Result<Added, AddFault>
-        ensures new { result ≡ Ok New → stream_in self.new stream.0 ≡ Some record (stream_at self.old stream.0)
+        ensures new { result ≡ Ok New → known_of self.new stream.0 ≡ Some record (stream_at self.old stream.0)
             { parcels = (stream_at self.old stream.0).parcels ++ as_parcel parcel ∷ [] } }
         ensures others { KeepsOthers self.old self.new stream.0 }
         ensures known { result ≡ Ok Known → self.new ≡ self.old }

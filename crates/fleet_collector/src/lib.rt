@@ -2,14 +2,15 @@
 #![tactic(auto)]
 
 mod add;
-mod fault;
+mod change;
 mod fleet;
 mod listing;
 mod marks;
 mod piece;
+mod refusal;
 mod streams;
 
-pub use fault::PieceFault;
+pub use refusal::PieceRefusal;
 pub use fleet::Fleet;
 pub use listing::FleetLine;
 pub use streams::Streams;

@@ -10,13 +10,13 @@ use Rattle.stream_collector.specs.declared.added.Added.{Added}
 use Rattle.stream_collector.specs.declared.added.Added.TheVariants.{New, Known, Forgotten}
 use Rattle.stream_collector.specs.declared.added.Marked.{Marked}
 use Rattle.stream_collector.specs.declared.added.Marked.TheVariants.{New as NewMark}
-use Rattle.fleet_collector.specs.Fleet.{stream_in, stream_at, KeepsOthers}
+use Rattle.fleet_collector.specs.Fleet.{known_of, stream_at, KeepsOthers}
 use Rattle.fleet_collector.specs.Pieces.{AddsParcel, AddsPiece}
 use Rattle.fleet_collector.proofs.fleet.Fleet.add_piece.Goals as goal
 
 -- what the clauses of `add` say, by what became of the parcel
 module _ (old new : List (ℕ × Stream)) (stream : ℕ) (p : Parcel) (result : Result Added AddFault)
-    (kept : result ≡ Ok New → stream_in new stream
+    (kept : result ≡ Ok New → known_of new stream
     ≡ Some record (stream_at old stream) { parcels = (stream_at old stream).parcels ++ p ∷ [] })
     (others : KeepsOthers old new stream)
     (unchanged : result ≡ Ok Known → new ≡ old)
