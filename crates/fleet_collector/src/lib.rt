@@ -6,6 +6,7 @@ mod change;
 mod fleet;
 mod listing;
 mod marks;
+mod next;
 mod piece;
 mod refusal;
 mod streams;
