@@ -7,7 +7,7 @@ use Rattle.page_numbers.specs.Parcels.{as_parcel}
 use Rattle.parcel_streams.specs.declared.piece.Piece.{Piece}
 use Rattle.parcel_streams.specs.declared.piece.Piece.TheVariants.{Parcel as ParcelPiece, End}
 use Rattle.stream_collector.specs.Stream.{Stream, end_of}
-use Rattle.stream_collector.specs.Faults.{IsForgotten, IsWithinEnd, IsStreamFault}
+use Rattle.stream_collector.specs.Faults.{IsForgotten, IsWithinEnd, IsNotAdded}
 use Rattle.stream_collector.specs.Marking.{IsReached, HasEnd, IsEndFault}
 use Rattle.collector.specs.declared.fault.AddFault.TheVariants.{NoMemory}
 use Rattle.stream_collector.specs.declared.fault.AddFault.{AddFault}
@@ -70,7 +70,7 @@ AddsPiece old new (End stream cpu count) added = AddsEnd old new stream.0 cpu.0 
 -- why a parcel isn't added: it has this fault, and doesn't end below its CPU's bound; memory is refused only if it says
 -- something new
 pub record IsParcelRefusal (stream : Stream) (parcel : Parcel) (fault : AddFault) : Type 0 where
-  pub fault_is : IsStreamFault stream parcel fault
+  pub fault_is : IsNotAdded stream parcel fault
   pub not_forgotten : IsForgotten stream parcel → ⊥
   pub no_memory : fault ≡ Refused NoMemory → IsBelow (parcel ∷ []) stream.parcels → ⊥
 

@@ -12,7 +12,7 @@ use stream_collector::{StreamCollector, StreamRuns};
 use trace_model::CpuId;
 
 impl ListedFleet {
-    ghost use Rattle.stream_collector.specs.Stream.{IsMissing, IsUndelivered, IsAwaited};
+    ghost use Rattle.stream_collector.specs.Stream.{IsMissing, IsUndelivered, IsUnknownYet};
     ghost use Rattle.fleet_collector.specs.Fleet.{stream_at};
     ghost use Rattle.listed_fleet.specs.Runs.{PutsRuns};
 
@@ -25,9 +25,9 @@ impl ListedFleet {
         put_runs(known_of(&self.fleet, stream, &empty).missing(cpu), out)
     }
 
-    /// The same of those that are awaited.
+    /// The same of those that are unknown yet.
     pub fn put_unknown(&self, alloc: Global, stream: StreamId, cpu: CpuId, out: &mut [Run]) -> usize
-        ensures { PutsRuns (IsAwaited (stream_at self.now.fleet stream.0) cpu.0) out.old result out.new }
+        ensures { PutsRuns (IsUnknownYet (stream_at self.now.fleet stream.0) cpu.0) out.old result out.new }
     {
         let empty = StreamCollector::new(alloc);
         put_runs(known_of(&self.fleet, stream, &empty).unknown(cpu), out)

@@ -149,7 +149,7 @@ bound_within s cpu was end is = ⊎_elim
 reached : (s : Stream) (cpu n : ℕ) → IsAccounted s cpu n → IsReached s cpu n
 reached s cpu n (has_record r h) = by_parcels (inl (r, h.has))
 reached s cpu n (is_missing m) = by_parcels (inr m.misses)
-reached s cpu n (is_undelivered u) = by_given_up u.given_up
+reached s cpu n (is_undelivered from u) = by_given_up u.given_up
 
 -- a number up to which all is accounted for
 pub accounted_within : (s : Stream) (cpu w : ℕ) → AreWithinEnds s → bound_of s cpu ≤ w

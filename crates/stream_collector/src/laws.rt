@@ -1,9 +1,9 @@
 //! Laws over what is known of a stream: each number is accounted for once, and forgetting changes nothing above.
 ghost use Rattle.std.specs.Prelude.{◌≡◌, ℕ, ◌<◌, ◌≤◌, ◌↔◌, ◌⊎◌};
 ghost use Rattle.trace_model.specs.Record.{Record};
-ghost use Rattle.trace_model.specs.Collection.{Agree, Misses};
+ghost use Rattle.trace_model.specs.Collection.{Agree};
 ghost use Rattle.stream_collector.specs.Stream.{Stream, bound_of, HasRecord, IsMissing, IsUndelivered};
-ghost use Rattle.stream_collector.specs.Stream.{IsOpen, IsAccounted, IsAwaited};
+ghost use Rattle.stream_collector.specs.Stream.{IsOpen, IsAccounted, IsUnknownYet};
 ghost use Rattle.stream_collector.specs.Forgetting.{HasBound, GivesUpBelow};
 
 /// From its bound on, each number of a CPU has a record, or is missing, or is undelivered, or is open: one of these,
@@ -21,16 +21,16 @@ pub fn each_number_is_accounted_once()
         IsMissing s cpu n → IsUndelivered s cpu n → ⊥ }
 {}
 
-/// The watermark is the least awaited number, if any is awaited.
-pub fn the_watermark_is_awaited_first()
+/// The watermark is the least number that is unknown yet, if any is.
+pub fn the_watermark_is_unknown_first()
     ensures { (s : Stream) (cpu watermark n : ℕ) → IsOpen s cpu watermark →
         ((m : ℕ) → bound_of s cpu ≤ m → m < watermark → IsAccounted s cpu m) →
-        IsAwaited s cpu n → IsAwaited s cpu watermark × (watermark ≤ n) }
+        IsUnknownYet s cpu n → IsUnknownYet s cpu watermark × (watermark ≤ n) }
 {}
 
 /// When a bound is raised, nothing changes from the bounds on: each number has the same record there, or is missing,
-/// undelivered or awaited, as before. So it is with a stream that is given up too, and then all that was awaited below
-/// the bound is given up.
+/// undelivered or unknown yet, as before. So it is with a stream that is given up too, and then all that was unknown
+/// below the bound is undelivered. What is undelivered stays so, on either side of the bound.
 pub fn forgetting_changes_nothing_above()
     ensures records { (old new : Stream) (cpu bound : ℕ) → bound_of old cpu ≤ bound → HasBound old new cpu bound →
         (c n : ℕ) (r : Record) → bound_of new c ≤ n → (HasRecord old c n r ↔ HasRecord new c n r) }
@@ -40,10 +40,14 @@ pub fn forgetting_changes_nothing_above()
         HasBound old new cpu bound →
         ((new.given_up ≡ old.given_up) ⊎ GivesUpBelow old new.given_up cpu bound) →
         (c n : ℕ) → bound_of new c ≤ n → (IsUndelivered old c n ↔ IsUndelivered new c n) }
-    ensures awaited { (old new : Stream) (cpu bound : ℕ) → bound_of old cpu ≤ bound →
+    ensures unknown { (old new : Stream) (cpu bound : ℕ) → bound_of old cpu ≤ bound →
         HasBound old new cpu bound →
         ((new.given_up ≡ old.given_up) ⊎ GivesUpBelow old new.given_up cpu bound) →
-        (c n : ℕ) → bound_of new c ≤ n → (IsAwaited old c n ↔ IsAwaited new c n) }
-    ensures given_up { (old new : Stream) (cpu bound n : ℕ) → GivesUpBelow old new.given_up cpu bound →
-        IsAwaited old cpu n → n < bound → Misses new.given_up cpu n }
+        (c n : ℕ) → bound_of new c ≤ n → (IsUnknownYet old c n ↔ IsUnknownYet new c n) }
+    ensures stays_undelivered { (old new : Stream) (cpu bound : ℕ) → bound_of old cpu ≤ bound →
+        HasBound old new cpu bound →
+        ((new.given_up ≡ old.given_up) ⊎ GivesUpBelow old new.given_up cpu bound) →
+        (c n : ℕ) → IsUndelivered old c n → IsUndelivered new c n }
+    ensures given_up { (old new : Stream) (cpu bound n : ℕ) → HasBound old new cpu bound →
+        GivesUpBelow old new.given_up cpu bound → IsUnknownYet old cpu n → n < bound → IsUndelivered new cpu n }
 {}

@@ -1,6 +1,6 @@
 //! What a fleet is asked: its streams, how far each is known, its runs, and its listing.
 ghost use Rattle.std.specs.Prelude.{◌≡◌, ◌≢◌, Some, None, IsSome, pos};
-ghost use Rattle.stream_collector.specs.Stream.{IsMissing, IsUndelivered, IsAwaited};
+ghost use Rattle.stream_collector.specs.Stream.{IsMissing, IsUndelivered, IsUnknownYet};
 ghost use Rattle.fleet_collector.specs.Fleet.{known_of, stream_at};
 ghost use Rattle.listed_fleet.specs.Cpus.{IsToldOf};
 ghost use Rattle.listed_fleet.specs.State.{IsStateOf};
@@ -150,7 +150,7 @@ fn missing_of(
     code_of_room(room, *count)
 }
 
-/// The same of its unknown numbers, which are awaited.
+/// The same of its unknown numbers yet.
 #[unsafe(no_mangle)]
 pub extern "C" fn tracering_raw_fleet_unknown(
     alloc: Global,
@@ -164,7 +164,7 @@ pub extern "C" fn tracering_raw_fleet_unknown(
     ensures out_stays { fleet_of f.old.held.value ≡ None → out.new ≡ out.old }
     ensures count_stays { fleet_of f.old.held.value ≡ None → count.new ≡ count.old }
     ensures awaits { (old : EndValue) → fleet_of f.old.held.value ≡ Some old
-        → RunsSo (IsAwaited (stream_at old.listed.fleet stream) cpu) out.old result out.new count.new }
+        → RunsSo (IsUnknownYet (stream_at old.listed.fleet stream) cpu) out.old result out.new count.new }
     ensures stays { fleet_of f.new.held.value ≡ fleet_of f.old.held.value }
 {
     if !f.live {
@@ -182,7 +182,7 @@ fn unknown_of(
     out: &mut [Run],
     count: &mut usize,
 ) -> i32
-    ensures { RunsSo (IsAwaited (stream_at listed.now.fleet stream) cpu) out.old result out.new count.new }
+    ensures { RunsSo (IsUnknownYet (stream_at listed.now.fleet stream) cpu) out.old result out.new count.new }
 {
     let room = out.len();
     *count = listed.put_unknown(alloc, StreamId(stream), CpuId(cpu), out);
