@@ -10,7 +10,8 @@ use std::ptr::null_mut;
 pub const MARK: usize = 64;
 
 extern "C" {
-    fn tracering_raw_pack(stream: u64, bytes: *const u8, len: usize, out: *mut u8, room: usize, used: *mut usize) -> i32;
+    fn tracering_raw_pack(stream: u64, bytes: *const u8, len: usize, out: *mut u8, room: usize, used: *mut usize)
+        -> i32;
     fn tracering_raw_pack_end(stream: u64, cpu: u32, count: u64, out: *mut u8, room: usize, len: *mut usize) -> i32;
     fn tracering_raw_fleet_new(f: *mut Handle) -> i32;
     fn tracering_raw_fleet_add(

@@ -1,1 +1,3 @@
 pub mod LinePlaces
+pub mod LeastFrom
+pub mod NoParcels

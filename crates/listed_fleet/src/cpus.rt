@@ -14,9 +14,9 @@ use trace_model::CpuId;
 
 /// The least of these CPUs from this one on.
 fn least_known(cpus: KnownCpus<'_>, from: u32) -> Option<u32>
-    requires { IsStrictlyIncreasing cpus.entry }
-    ensures least { IfSome result (λ cpu. IsLeastFrom (Contains cpus.entry) from cpu) }
-    ensures none { IfNone result (HasNoneFrom (Contains cpus.entry) from) }
+    requires { IsStrictlyIncreasing cpus }
+    ensures least { IfSome result (λ cpu. IsLeastFrom (Contains cpus) from cpu) }
+    ensures none { IfNone result (HasNoneFrom (Contains cpus) from) }
 {
     for cpu in cpus {
         if cpu.0 >= from {
@@ -28,9 +28,9 @@ fn least_known(cpus: KnownCpus<'_>, from: u32) -> Option<u32>
 
 /// The same of CPUs that have marks.
 fn least_marked(cpus: MarkedCpus<'_>, from: u32) -> Option<u32>
-    requires { IsStrictlyIncreasing cpus.entry }
-    ensures least { IfSome result (λ cpu. IsLeastFrom (Contains cpus.entry) from cpu) }
-    ensures none { IfNone result (HasNoneFrom (Contains cpus.entry) from) }
+    requires { IsStrictlyIncreasing cpus }
+    ensures least { IfSome result (λ cpu. IsLeastFrom (Contains cpus) from cpu) }
+    ensures none { IfNone result (HasNoneFrom (Contains cpus) from) }
 {
     for cpu in cpus {
         if cpu.0 >= from {

@@ -1,7 +1,7 @@
 //! A fleet for a caller that has numbers and buffers alone, as a program in C.
 //!
-//! Pieces come in as bytes, and go out as bytes. The listing is copied once, and its lines go out one at a time, so that
-//! nothing is lent between two calls.
+//! Pieces come in as bytes, and go out as bytes. The listing is copied once, and its lines go out one at a time, so
+//! that nothing is lent between two calls.
 #![tactic(auto)]
 
 mod adding;
