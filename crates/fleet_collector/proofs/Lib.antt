@@ -2,4 +2,6 @@ pub mod ByNumber
 pub mod InTurn
 pub mod ByTime
 pub mod Changed
+pub mod Telling
+pub mod Adding
 pub mod Marked

@@ -1,7 +1,8 @@
 -- What a mark makes of a stream, and what is made of it when a bound is raised: what `StreamCollector` promises, in one
 -- relation for each of its calls.
 use Rattle.std.specs.Prelude.{◌≡◌, ◌↔◌, ℕ, ◌<◌, ◌≤◌, Result, Some, None, Ok, IfErr, OnOk, OnErr}
-use Rattle.trace_model.specs.declared.numbers.RecordNo.{RecordNo}
+use Rattle.parcel_streams.specs.declared.piece.Mark.{Mark}
+use Rattle.parcel_streams.specs.declared.piece.Mark.TheVariants.{End as EndMark, Forgotten as ForgottenMark, Undelivered as UndeliveredMark}
 use Rattle.stream_collector.specs.Stream.{Stream, bound_of, end_of, IsUpToEnd}
 use Rattle.stream_collector.specs.GivenUp.{GivesUp, AllGivenUp, IsUndeliveredFault}
 use Rattle.stream_collector.specs.Marking.{IsReached, HasEnd, IsEndFault}
@@ -69,3 +70,9 @@ IsChangedBy (Forgotten bound) cpu old new result = TakesBound old new cpu bound.
 IsChangedBy (Forget bound) cpu old new result = ForgetsBelow old new cpu bound.0 result
 IsChangedBy (GiveUp bound) cpu old new result = LosesBelow old new cpu bound.0 result
 IsChangedBy (Undelivered first end) cpu old new result = MarksUndelivered old new cpu first.0 end.0 result
+
+-- what a mark says, as a change
+abbrev pub change_of : Mark → Change
+change_of (EndMark count) = End record { 0 = count }
+change_of (ForgottenMark bound) = Forgotten record { 0 = bound }
+change_of (UndeliveredMark first end) = Undelivered record { 0 = first } record { 0 = end }

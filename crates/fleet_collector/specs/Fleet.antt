@@ -4,10 +4,11 @@ use Rattle.std.specs.Ordering.{nat_cmp}
 use Rattle.std.specs.BTreeMap.{is_at}
 use Rattle.std.specs.Map.{lookup}
 use Rattle.std.specs.Borrow.{Bor}
-use Rattle.trace_model.specs.Record.{Record}
-use Rattle.trace_model.specs.Collection.{Has}
+use Rattle.trace_model.specs.Collection.{Misses}
 use Rattle.trace_model.specs.declared.limits.TheConstants.{MAX_CPUS}
 use Rattle.parcel_streams.specs.declared.piece.StreamId.{StreamId}
+use Rattle.collector.specs.Known.{IsKnown}
+use Rattle.stream_collector.specs.Marks.{marks_at, SaySomething}
 use Rattle.stream_collector.specs.Stream.{Stream}
 
 -- what is known of the stream of this id, if it is there
@@ -34,10 +35,12 @@ KeepsOthers old new id = (other : ℕ) → other ≢ id → known_of new other �
 abbrev pub entry_seen : StreamId × Bor Stream → ℕ × Stream
 entry_seen entry = (entry.0.0, entry.1.now)
 
--- the stream has records of CPUs that there are, and of no others
-abbrev pub HasKnownCpus : Stream → Type 0
-HasKnownCpus stream = (cpu number : ℕ) (r : Record) → Has stream.parcels cpu number r → cpu < MAX_CPUS
+-- all that is known of the stream is of CPUs that there are
+pub record HasKnownCpus (stream : Stream) : Type 0 where
+  pub known : (cpu number : ℕ) → IsKnown stream.parcels cpu number → cpu < MAX_CPUS
+  pub given_up : (cpu number : ℕ) → Misses stream.given_up cpu number → cpu < MAX_CPUS
+  pub marked : (cpu : ℕ) → SaySomething (marks_at stream.marks cpu) → cpu < MAX_CPUS
 
--- so have all of them
+-- so it is with all of them
 abbrev pub AllHaveKnownCpus : List (ℕ × Stream) → Type 0
 AllHaveKnownCpus fleet = (id : ℕ) (stream : Stream) → known_of fleet id ≡ Some stream → HasKnownCpus stream

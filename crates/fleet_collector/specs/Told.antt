@@ -5,10 +5,10 @@ use Rattle.trace_model.specs.Record.{Record}
 use Rattle.trace_model.specs.Parcel.{Parcel, IsPairOf, IsMissingOf}
 use Rattle.trace_model.specs.Collection.{Misses}
 use Rattle.parcel_streams.specs.Pieces.{Packed, parcel_piece, mark_piece}
-use Rattle.parcel_streams.specs.declared.piece.Mark.{Mark}
 use Rattle.parcel_streams.specs.declared.piece.Mark.TheVariants.{End, Forgotten, Undelivered}
 use Rattle.stream_collector.specs.Stream.{Stream, bound_of, end_of, HasRecord, IsMissing}
 use Rattle.fleet_collector.specs.Fleet.{stream_at}
+use Rattle.fleet_collector.specs.Listing.{Line, IsTimeOrdered, line_for}
 
 -- the piece is one of these
 abbrev pub IsPieceOf : List Packed → Packed → Type 0
@@ -72,3 +72,13 @@ pub record IsFleetOf (pieces : List Packed) (fleet : List (ℕ × Stream)) : Typ
 -- both have the same pieces, in some order, each once or more often
 abbrev pub HaveSamePieces : List Packed → List Packed → Type 0
 HaveSamePieces pieces others = (piece : Packed) → (IsPieceOf pieces piece ↔ IsPieceOf others piece)
+
+-- The listing of what the pieces tell: a line for each record of it, and no other, in strict order.
+pub record IsListingOf (pieces : List Packed) (lines : List Line) : Type 0 where
+  pub ordered : IsTimeOrdered lines
+  pub of_them : (k : ℕ) (line : Line)
+      → slice_get lines k ≡ Some line
+      → TellRecord pieces line.stream line.cpu line.number record { moment = line.moment; bytes = line.bytes }
+  pub whole : (stream cpu number : ℕ) (r : Record)
+      → TellRecord pieces stream cpu number r
+      → (k : ℕ) × (slice_get lines k ≡ Some (line_for stream cpu number r))

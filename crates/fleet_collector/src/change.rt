@@ -6,6 +6,7 @@ ghost use Rattle.stream_collector.specs.declared.fault.MarkFault.TheVariants.{No
 ghost use Rattle.fleet_collector.specs.Fleet.{HasKnownCpus};
 ghost use Rattle.fleet_collector.specs.Changes.{IsChangedBy};
 
+use parcel_streams::Mark;
 use stream_collector::{MarkFault, Marked, StreamCollector};
 use trace_model::{CpuId, RecordNo};
 
@@ -22,6 +23,21 @@ pub(crate) enum Change {
     GiveUp(RecordNo),
     /// `mark_undelivered` with the numbers from this one up to that one.
     Undelivered(RecordNo, RecordNo),
+}
+
+impl From<Mark> for Change {
+    ghost use Rattle.std.specs.Prelude.{◌≡◌};
+    ghost use Rattle.fleet_collector.specs.Changes.{change_of};
+
+    ghost from_gives = { λ mark change. change ≡ change_of mark };
+
+    fn from(mark: Mark) -> Change {
+        match mark {
+            Mark::End(count) => Change::End(RecordNo(count)),
+            Mark::Forgotten(bound) => Change::Forgotten(RecordNo(bound)),
+            Mark::Undelivered(first, end) => Change::Undelivered(RecordNo(first), RecordNo(end)),
+        }
+    }
 }
 
 /// Changes what is known of a stream.

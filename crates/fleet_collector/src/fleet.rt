@@ -37,10 +37,12 @@ impl Fleet {
     ghost use Rattle.std.specs.Prelude.{◌≡◌, [], IfSome, IfNone, Some, None, map};
     ghost use Rattle.std.specs.List.Sorted.{IsStrictlyIncreasing};
     ghost use Rattle.fleet_collector.specs.Fleet.{known_of, AllHaveKnownCpus};
+    ghost use Rattle.fleet_collector.specs.Told.{IsFleetOf};
 
     /// No stream is there.
     pub fn new(alloc: Global) -> Fleet
-        ensures { result ≡ [] }
+        ensures empty { result ≡ [] }
+        ensures told { IsFleetOf [] result }
     {
         Fleet {
             streams: BTreeMap::new(alloc),

@@ -4,6 +4,7 @@
 mod add;
 mod change;
 mod fleet;
+pub mod laws;
 mod listing;
 mod marks;
 mod next;
@@ -11,7 +12,7 @@ mod piece;
 mod refusal;
 mod streams;
 
-pub use refusal::PieceRefusal;
 pub use fleet::Fleet;
 pub use listing::FleetLine;
+pub use refusal::PieceRefusal;
 pub use streams::Streams;

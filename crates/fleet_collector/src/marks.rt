@@ -147,7 +147,7 @@ impl Fleet {
     }
 
     /// Changes what is known of a stream. One that isn't there is made, if the change says something new.
-    fn change(
+    pub(crate) fn change(
         &mut self,
         stream: StreamId,
         cpu: CpuId,

@@ -1,4 +1,5 @@
 mod Sums
+pub mod Marks
 pub mod Frames
 pub mod Fitted
 mod Bodies

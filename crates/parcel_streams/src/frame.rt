@@ -7,7 +7,7 @@ ghost use Rattle.parcel_streams.specs.Faults.{HasMagic, HasLength, length_in, Is
 ghost use Rattle.parcel_streams.specs.Answers.{IsPieceFault, HasFrame};
 
 use crate::fault::PieceFault;
-use crate::limits::{END_PIECE, HEAD, MAX_PIECE, SUM};
+use crate::limits::{HEAD, MAX_PIECE, MIN_PIECE, SUM};
 use crate::piece::StreamId;
 use crc32c::crc32c;
 use page_image::number_at;
@@ -24,7 +24,7 @@ pub(crate) const KIND: u64 = 1 << 32;
 /// A piece at the front of some bytes, whose checksum is right. What its kind has of its own wasn't looked at.
 #[derive(Clone, Copy)]
 pub(crate) struct Frame<'a> {
-    /// 0 for a parcel, 1 for the end of a CPU's records.
+    /// 0 for a parcel, 1 to 3 for a mark.
     pub(crate) kind: u64,
     pub(crate) stream: StreamId,
     /// What the kind has of its own.
@@ -60,7 +60,7 @@ fn read_len(bytes: &[u8]) -> Result<usize, PieceFault>
         return Err(PieceFault::BadVersion);
     }
     let len = number_at(bytes, 16);
-    if len < END_PIECE as u64 || len > MAX_PIECE as u64 {
+    if len < MIN_PIECE as u64 || len > MAX_PIECE as u64 {
         return Err(PieceFault::BadLength);
     }
     Ok(len as usize)

@@ -7,7 +7,7 @@ ghost use Rattle.trace_model.specs.ParcelBytes.{DecodesParcel};
 ghost use Rattle.trace_model.specs.declared.limits.TheConstants.{MAX_SIZE};
 ghost use Rattle.parcel_streams.specs.Pieces.{Packed, parcel_piece, bytes_of_piece, IsPiece, BeginsWith, bytes_of_pieces, IsStream};
 ghost use Rattle.parcel_streams.specs.Faults.{stream_in, body_in, HoldsParcel, PieceCause, FirstPieceFault, FirstStreamFault};
-ghost use Rattle.parcel_streams.specs.declared.limits.TheConstants.{HEAD, SUM, END_PIECE, MAX_PIECE, PARCEL_HEAD, END_BODY};
+ghost use Rattle.parcel_streams.specs.declared.limits.TheConstants.{HEAD, SUM, MIN_PIECE, MAX_PIECE, PARCEL_HEAD, NUMBER_BODY, RUN_BODY};
 
 /// What is written is read back: a piece, whatever follows it, is the one piece at the front. A parcel's states its
 /// stream, and its bytes read as the parcel.
@@ -79,6 +79,8 @@ pub fn constants_are()
     ensures head { HEAD ≡ 32 }
     ensures sum { SUM ≡ 8 }
     ensures parcel_head { PARCEL_HEAD ≡ 48 }
-    ensures end_piece { END_PIECE ≡ HEAD + END_BODY + SUM }
+    ensures number_body { NUMBER_BODY ≡ 16 }
+    ensures run_body { RUN_BODY ≡ 24 }
+    ensures min_piece { MIN_PIECE ≡ HEAD + NUMBER_BODY + SUM }
     ensures max_piece { MAX_PIECE ≡ HEAD + (PARCEL_HEAD + MAX_SIZE) + SUM }
 {}

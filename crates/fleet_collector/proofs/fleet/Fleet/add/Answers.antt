@@ -101,7 +101,8 @@ invariant_of-self-then-eq c =
     let a = c.add-2.ensures in
     let few = cpus_added c.new-first.result after (as_parcel c.args.parcel)
     (subst (λ (n : ℕ). n < MAX_CPUS) c.cpu-cpu.ensures.cpu c.cpu-cpu.ensures.known)
-    (cpus_of_none c.new-first.result c.new-first.ensures.parcels) c.add-2.result a.new a.known a.forgotten_nothing
+    (cpus_of_none c.new-first.result c.new-first.ensures.parcels
+    c.new-first.ensures.marks c.new-first.ensures.given_up) c.add-2.result a.new a.known a.forgotten_nothing
     a.refused in
     cpus_inserted c.insert.result old.entries c.insert.new.self.entries c.args.stream.0 after
     c.insert.ensures.updates (λ u. u.0) c.insert.ensures.err (λ e. e) known few
