@@ -36,7 +36,7 @@ fn place_of(piece: &Piece) -> (StreamId, CpuId)
 {
     match piece {
         Piece::Parcel(stream, parcel) => (*stream, parcel.cpu()),
-        Piece::End(stream, cpu, _) => (*stream, *cpu),
+        Piece::Mark(stream, cpu, _) => (*stream, *cpu),
     }
 }
 

@@ -17,5 +17,5 @@ pub use adding::{AddAnswer, RefusedPiece};
 pub use buffer::Put;
 pub use listed::{Given, LineNumbers, ListedFleet};
 pub use own_lines::OwnLines;
-pub use packing::{pack_bytes, pack_end_mark};
+pub use packing::{pack_bytes, pack_end};
 pub use state::CpuState;

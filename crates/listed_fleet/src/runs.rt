@@ -51,7 +51,7 @@ impl ListedFleet {
 /// Puts these runs to the front of `out`, as many as it has room for. The answer is how many there are.
 fn put_runs(runs: StreamRuns<'_>, out: &mut [Run]) -> usize
     requires { AreRuns (InRun runs) runs }
-    ensures { ArePut runs out.old result out.new }
+    ensures { ArePut runs.entry out.old result out.new }
 {
     let mut count = 0;
     for (first, last) in runs {

@@ -1,9 +1,8 @@
 -- What the calls of C make of a fleet.
-use Rattle.std.specs.Prelude.{◌≡◌, ℕ, ◌<◌, ◌≤◌, ℤ, pos, List, length, ltb, cond, [], Result, Ok}
-use Rattle.trace_model.specs.declared.limits.TheConstants.{MAX_CPUS}
+use Rattle.std.specs.Prelude.{◌≡◌, ℕ, ℤ, pos, List, length, ltb, cond, [], Option, IfSome, IfNone, unwrap_or, Result, Ok, OnErr}
 use Rattle.listed_collector.specs.declared.missing.Run.{Run}
 use Rattle.stream_collector.specs.declared.added.Marked.{Marked}
-use Rattle.stream_collector.specs.declared.added.Marked.TheVariants.{New}
+use Rattle.stream_collector.specs.declared.added.Marked.TheVariants.{Known}
 use Rattle.stream_collector.specs.declared.fault.MarkFault.{MarkFault}
 use Rattle.stream_collector.specs.Stream.{Stream}
 use Rattle.fleet_collector.specs.Fleet.{stream_at, KeepsOthers}
@@ -18,7 +17,7 @@ use Rattle.listed_fleet.specs.Giving.{GivesSo}
 use Rattle.listed_fleet.specs.Runs.{PutsRuns}
 use Rattle.tracering_c.specs.declared.fleet_codes.StreamFault.{StreamFault}
 use Rattle.tracering_c.specs.declared.fleet_codes.FleetLine.{FleetLine}
-use Rattle.tracering_c.specs.FleetCodes.{answer_code, answer_used, answer_at, marked_code, marked_at, given_code, next_line}
+use Rattle.tracering_c.specs.FleetCodes.{answer_code, answer_used, answer_at, marked_code, marked_at, found_code, given_code, next_line}
 
 -- No stream is there, and no line is to be given.
 pub record IsEmpty (listed : ListedFleet) : Type 0 where
@@ -39,19 +38,17 @@ pub record AddsPieceSo (old : ListedFleet) (bytes : List ℕ) (was_used : ℕ) (
 
 -- A bound of a CPU of a stream is raised, or not, as this says of the stream, and the number and the place are those of
 -- the answer. All other streams stay, and so does the listing; nothing changes, unless the answer is that the bound is
--- new. Or there is no such CPU, and nothing changes.
-pub data RaisesSo (says : Stream → Stream → Result Marked MarkFault → Type 0) (old : ListedFleet) (stream cpu : ℕ)
+-- new.
+pub record RaisesSo (says : Stream → Stream → Result Marked MarkFault → Type 0) (old : ListedFleet) (stream cpu : ℕ)
     (was : StreamFault) (code : ℤ) (at : StreamFault) (new : ListedFleet) : Type 0 where
-  is_bad_cpu : code ≡ pos 14 → MAX_CPUS ≤ cpu → new ≡ old → at ≡ was → RaisesSo says old stream cpu was code at new
-  raises : (answer : Result Marked MarkFault)
-      → cpu < MAX_CPUS
-      → says (stream_at old.fleet stream) (stream_at new.fleet stream) answer
-      → KeepsOthers old.fleet new.fleet stream
-      → new ≡ record old { fleet = new.fleet }
-      → ((answer ≡ Ok New → ⊥) → new ≡ old)
-      → code ≡ marked_code answer
-      → at ≡ marked_at was stream cpu answer
-      → RaisesSo says old stream cpu was code at new
+  pub answer : Result Marked MarkFault
+  pub says_so : says (stream_at old.fleet stream) (stream_at new.fleet stream) answer
+  pub others : KeepsOthers old.fleet new.fleet stream
+  pub listing : new ≡ record old { fleet = new.fleet }
+  pub known : answer ≡ Ok Known → new ≡ old
+  pub refused : OnErr answer (new ≡ old)
+  pub code_is : code ≡ marked_code answer
+  pub at_is : at ≡ marked_at was stream cpu answer
 
 -- so it is with a bound below which all is accounted for
 abbrev pub ForgetsSo : ListedFleet → (stream cpu bound : ℕ) → StreamFault → ℤ → StreamFault → ListedFleet → Type 0
@@ -64,9 +61,12 @@ GivesUpSo old stream cpu bound was code at new =
     RaisesSo (λ before after answer. LosesBelow before after cpu bound answer) old stream cpu was code at new
 
 -- The least number, from one on, of which this holds is given; or there is none, and nothing is.
-pub data GivesLeast (holds : ℕ → Type 0) (from was : ℕ) (code : ℤ) (given : ℕ) : Type 0 where
-  is_least : code ≡ pos 0 → IsLeastFrom holds from given → GivesLeast holds from was code given
-  is_none : code ≡ pos 31 → HasNoneFrom holds from → given ≡ was → GivesLeast holds from was code given
+pub record GivesLeast (holds : ℕ → Type 0) (from was : ℕ) (code : ℤ) (given : ℕ) : Type 0 where
+  pub answer : Option ℕ
+  pub least : IfSome answer (IsLeastFrom holds from)
+  pub none : IfNone answer (HasNoneFrom holds from)
+  pub code_is : code ≡ found_code answer
+  pub given_is : given ≡ unwrap_or answer was
 
 -- Runs are put as far as there is room, and all are counted: 17 if there is too little room.
 pub record RunsSo (holds : ℕ → Type 0) (out : List Run) (code : ℤ) (left : List Run) (count : ℕ) : Type 0 where

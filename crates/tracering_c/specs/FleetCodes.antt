@@ -1,8 +1,9 @@
 -- The numbers by which C is answered of fleets, and what is told beside them.
 use Rattle.std.specs.Prelude.{ℕ, ℤ, pos, negsuc, Option, Some, None, Result, Ok, Err}
 use Rattle.collector.specs.declared.fault.AddFault.TheVariants.{Clash, TakenAndMissing, NoMemory as NoMemoryToAdd}
+use Rattle.page_numbers.specs.declared.fault.ParcelFault.{ParcelFault}
 use Rattle.parcel_streams.specs.declared.fault.PieceFault.{PieceFault}
-use Rattle.parcel_streams.specs.declared.fault.PieceFault.TheVariants.{NotPacked, Cut, BadVersion, BadLength, BadSum, BadKind, Parcel as NoParcel, Loose, BadEnd, NoMemory as NoPieceMemory}
+use Rattle.parcel_streams.specs.declared.fault.PieceFault.TheVariants.{NotPacked, Cut, BadVersion, BadLength, BadSum, BadKind, Parcel as NoParcel, Loose, BadMark, NoMemory as NoPieceMemory}
 use Rattle.stream_collector.specs.declared.added.Added.{Added}
 use Rattle.stream_collector.specs.declared.added.Added.TheVariants.{New, Known, Forgotten}
 use Rattle.stream_collector.specs.declared.added.Marked.{Marked}
@@ -35,7 +36,7 @@ piece_code BadSum = pos 37
 piece_code BadKind = pos 38
 piece_code (NoParcel fault) = parcel_code fault
 piece_code Loose = pos 39
-piece_code BadEnd = pos 40
+piece_code BadMark = pos 40
 piece_code NoPieceMemory = pos 12
 
 -- the number of why a parcel isn't added, and under which number of its CPU
@@ -113,14 +114,21 @@ abbrev pub marked_at : StreamFault → (stream cpu : ℕ) → Result Marked Mark
 marked_at was stream cpu (Ok marked) = was
 marked_at was stream cpu (Err fault) = place_at was stream cpu (mark_number fault)
 
--- the number of what became of bytes that were to go to a buffer, and how many they are
-abbrev pub put_code : Put → ℤ
-put_code (Done len) = pos 0
-put_code (NoRoom len) = pos 17
+-- the number of what became of a piece that was to go to a buffer, and how many bytes it has, if it could be packed
+abbrev pub packed_code : Result Put ParcelFault → ℤ
+packed_code (Ok (Done len)) = pos 0
+packed_code (Ok (NoRoom len)) = pos 17
+packed_code (Err fault) = parcel_code fault
 
-abbrev pub put_len : Put → ℕ
-put_len (Done len) = len
-put_len (NoRoom len) = len
+abbrev pub packed_len : ℕ → Result Put ParcelFault → ℕ
+packed_len was (Ok (Done len)) = len
+packed_len was (Ok (NoRoom len)) = len
+packed_len was (Err fault) = was
+
+-- the number of what is found, or isn't
+abbrev pub found_code : Option ℕ → ℤ
+found_code (Some number) = pos 0
+found_code None = pos 31
 
 -- the number of what is given of a listing, and the numbers of the line that is next
 abbrev pub given_code : Given → ℤ

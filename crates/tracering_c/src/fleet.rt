@@ -1,5 +1,5 @@
 //! The calls that make, change and free fleets.
-ghost use Rattle.std.specs.Prelude.{◌≡◌, ◌≢◌, ◌<◌, Some, None, IsSomeAnd, is_some, true, pos};
+ghost use Rattle.std.specs.Prelude.{◌≡◌, ◌≢◌, ◌<◌, ◌≤◌, Some, None, IsSomeAnd, is_some, true, pos};
 ghost use Rattle.trace_model.specs.declared.limits.TheConstants.{MAX_CPUS};
 ghost use Rattle.tracering_c.specs.declared.ends.HeldFleet.{HeldFleet as EndValue};
 ghost use Rattle.tracering_c.specs.Held.{fleet_of};
@@ -83,10 +83,17 @@ pub extern "C" fn tracering_raw_fleet_forget(
 ) -> i32
     ensures absent { SaysAbsent (fleet_of f.old.held.value) result f.old f.new }
     ensures at_stays { fleet_of f.old.held.value ≡ None → at.new ≡ at.old }
-    ensures forgets { OnFleet f.old f.new (λ old new. ForgetsSo old stream cpu bound at.old result at.new new) }
+    ensures forgets { cpu < MAX_CPUS
+        → OnFleet f.old f.new (λ old new. ForgetsSo old stream cpu bound at.old result at.new new) }
+    ensures bad_cpu { (x : EndValue) → fleet_of f.old.held.value ≡ Some x → MAX_CPUS ≤ cpu → result ≡ pos 14 }
+    ensures bad_cpu_stays { MAX_CPUS ≤ cpu → f.new ≡ f.old }
+    ensures bad_cpu_at { MAX_CPUS ≤ cpu → at.new ≡ at.old }
 {
     if !f.live {
         return ABSENT;
+    }
+    if cpu >= MAX_CPUS {
+        return BAD_CPU;
     }
     forget_in(&mut f.held.fleet().listed, stream, cpu, bound, at)
 }
@@ -99,11 +106,9 @@ fn forget_in(
     bound: u64,
     at: &mut StreamFault,
 ) -> i32
+    requires { cpu < MAX_CPUS }
     ensures { ForgetsSo listed.old stream cpu bound at.old result at.new listed.new }
 {
-    if cpu >= MAX_CPUS {
-        return BAD_CPU;
-    }
     let answer = listed
         .fleet
         .forget(StreamId(stream), CpuId(cpu), RecordNo(bound));
@@ -122,10 +127,17 @@ pub extern "C" fn tracering_raw_fleet_give_up(
 ) -> i32
     ensures absent { SaysAbsent (fleet_of f.old.held.value) result f.old f.new }
     ensures at_stays { fleet_of f.old.held.value ≡ None → at.new ≡ at.old }
-    ensures gives_up { OnFleet f.old f.new (λ old new. GivesUpSo old stream cpu bound at.old result at.new new) }
+    ensures gives_up { cpu < MAX_CPUS
+        → OnFleet f.old f.new (λ old new. GivesUpSo old stream cpu bound at.old result at.new new) }
+    ensures bad_cpu { (x : EndValue) → fleet_of f.old.held.value ≡ Some x → MAX_CPUS ≤ cpu → result ≡ pos 14 }
+    ensures bad_cpu_stays { MAX_CPUS ≤ cpu → f.new ≡ f.old }
+    ensures bad_cpu_at { MAX_CPUS ≤ cpu → at.new ≡ at.old }
 {
     if !f.live {
         return ABSENT;
+    }
+    if cpu >= MAX_CPUS {
+        return BAD_CPU;
     }
     give_up_in(&mut f.held.fleet().listed, stream, cpu, bound, at)
 }
@@ -138,11 +150,9 @@ fn give_up_in(
     bound: u64,
     at: &mut StreamFault,
 ) -> i32
+    requires { cpu < MAX_CPUS }
     ensures { GivesUpSo listed.old stream cpu bound at.old result at.new listed.new }
 {
-    if cpu >= MAX_CPUS {
-        return BAD_CPU;
-    }
     let answer = listed
         .fleet
         .give_up(StreamId(stream), CpuId(cpu), RecordNo(bound));

@@ -4,6 +4,7 @@ use crate::codes::{
 };
 use fleet_collector::PieceRefusal;
 use listed_fleet::{AddAnswer, Given, LineNumbers, Put, RefusedPiece};
+use page_numbers::ParcelFault;
 use parcel_streams::PieceFault;
 use stream_collector::{AddFault, Added, MarkFault, Marked};
 
@@ -61,7 +62,7 @@ pub struct FleetLine {
 }
 
 ghost use Rattle.std.specs.Prelude.{◌≡◌};
-ghost use Rattle.tracering_c.specs.FleetCodes.{piece_code, parcel_refusal_code, mark_code, refusal_code, added_code, answer_code, answer_used, answer_at, marked_code, marked_at, put_code, put_len, given_code, next_line, line_at, parcel_number, mark_number, refusal_number, place_at};
+ghost use Rattle.tracering_c.specs.FleetCodes.{piece_code, parcel_refusal_code, mark_code, refusal_code, added_code, answer_code, answer_used, answer_at, marked_code, marked_at, packed_code, packed_len, found_code, given_code, next_line, line_at, parcel_number, mark_number, refusal_number, place_at};
 
 /// The number of why bytes have no piece at their front.
 fn code_of_piece(fault: PieceFault) -> i32
@@ -76,7 +77,7 @@ fn code_of_piece(fault: PieceFault) -> i32
         PieceFault::BadKind => BAD_KIND,
         PieceFault::Parcel(fault) => code_of_parcel(fault),
         PieceFault::Loose => LOOSE,
-        PieceFault::BadEnd => BAD_MARK,
+        PieceFault::BadMark => BAD_MARK,
         PieceFault::NoMemory => NO_MEMORY,
     }
 }
@@ -242,23 +243,45 @@ pub fn code_of_marked(answer: Result<Marked, MarkFault>) -> i32
     }
 }
 
-/// The number of what became of bytes that were to go to a buffer.
-pub fn code_of_put(put: Put) -> i32
-    ensures { result ≡ put_code put }
+/// The number of what became of a piece that was to go to a buffer.
+pub fn code_of_packed(answer: Result<Put, ParcelFault>) -> i32
+    ensures { result ≡ packed_code answer }
 {
-    match put {
-        Put::Done(_) => DONE,
-        Put::NoRoom(_) => NO_ROOM,
+    match answer {
+        Ok(Put::Done(_)) => DONE,
+        Ok(Put::NoRoom(_)) => NO_ROOM,
+        Err(fault) => code_of_parcel(fault),
     }
 }
 
-/// How many they are.
-pub fn len_of_put(put: Put) -> usize
-    ensures { result ≡ put_len put }
+/// How many bytes it has, if it could be packed; else as it was.
+pub fn len_of_packed(answer: Result<Put, ParcelFault>, was: usize) -> usize
+    ensures { result ≡ packed_len was answer }
 {
-    match put {
-        Put::Done(len) => len,
-        Put::NoRoom(len) => len,
+    match answer {
+        Ok(Put::Done(len)) => len,
+        Ok(Put::NoRoom(len)) => len,
+        Err(_) => was,
+    }
+}
+
+/// The number of what is found.
+pub fn code_of_found(found: Option<u64>) -> i32
+    ensures { result ≡ found_code found }
+{
+    match found {
+        Some(_) => DONE,
+        None => END,
+    }
+}
+
+/// The same of a CPU.
+pub fn code_of_found_cpu(found: Option<u32>) -> i32
+    ensures { result ≡ found_code found }
+{
+    match found {
+        Some(_) => DONE,
+        None => END,
     }
 }
 

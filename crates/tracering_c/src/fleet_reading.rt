@@ -9,8 +9,10 @@ ghost use Rattle.tracering_c.specs.Held.{fleet_of};
 ghost use Rattle.tracering_c.specs.Handles.{SaysAbsent, OnFleet};
 ghost use Rattle.tracering_c.specs.FleetCalls.{GivesLeast, RunsSo, IsListed, NextSo};
 
-use crate::codes::{ABSENT, DONE, END, NO_MEMORY, NO_ROOM};
-use crate::fleet_codes::{FleetLine, code_of_given, next_line_of};
+use crate::codes::{ABSENT, DONE, NO_MEMORY, NO_ROOM};
+use crate::fleet_codes::{
+    FleetLine, code_of_found, code_of_found_cpu, code_of_given, next_line_of,
+};
 use crate::handle::FleetHandle;
 use listed_collector::Run;
 use listed_fleet::{CpuState, ListedFleet};
@@ -41,13 +43,9 @@ pub extern "C" fn tracering_raw_fleet_next_stream(
 fn next_stream_of(listed: &ListedFleet, from: u64, stream: &mut u64) -> i32
     ensures { GivesLeast (λ id. IsSome (known_of listed.now.fleet id)) from stream.old result stream.new }
 {
-    match listed.fleet.next_stream(StreamId(from)) {
-        Some((next, _)) => {
-            *stream = next.0;
-            DONE
-        }
-        None => END,
-    }
+    let found = listed.next_stream(from);
+    *stream = found.unwrap_or(*stream);
+    code_of_found(found)
 }
 
 /// The least CPU of a stream of which something is there, from this one on.
@@ -75,13 +73,9 @@ pub extern "C" fn tracering_raw_fleet_next_cpu(
 fn next_cpu_of(alloc: Global, listed: &ListedFleet, stream: u64, from: u32, cpu: &mut u32) -> i32
     ensures { GivesLeast (IsToldOf (stream_at listed.now.fleet stream)) from cpu.old result cpu.new }
 {
-    match listed.next_cpu(alloc, StreamId(stream), CpuId(from)) {
-        Some(next) => {
-            *cpu = next.0;
-            DONE
-        }
-        None => END,
-    }
+    let found = listed.next_cpu(alloc, StreamId(stream), from);
+    *cpu = found.unwrap_or(*cpu);
+    code_of_found_cpu(found)
 }
 
 /// How far a CPU of a stream is known.

@@ -1,12 +1,11 @@
 //! Pieces of a stream, packed into a buffer. No handle is needed.
 ghost use Rattle.tracering_c.specs.Packing.{PacksSo, PacksEnd};
 
-use crate::codes::{BAD_CPU, NO_MEMORY, code_of_parcel};
-use crate::fleet_codes::{code_of_put, len_of_put};
-use listed_fleet::{pack_bytes, pack_end_mark};
+use crate::fleet_codes::{code_of_packed, len_of_packed};
+use listed_fleet::{pack_bytes, pack_end};
 use parcel_streams::StreamId;
 use std::alloc::Global;
-use trace_model::{CpuId, MAX_CPUS};
+use trace_model::CpuId;
 
 /// Puts a parcel, which these bytes are, as a piece of this stream to the front of `out`.
 #[unsafe(no_mangle)]
@@ -19,13 +18,9 @@ pub extern "C" fn tracering_raw_pack(
 ) -> i32
     ensures { PacksSo stream bytes.now out.old len.old result out.new len.new }
 {
-    match pack_bytes(alloc, StreamId(stream), bytes, out) {
-        Ok(put) => {
-            *len = len_of_put(put);
-            code_of_put(put)
-        }
-        Err(fault) => code_of_parcel(fault),
-    }
+    let answer = pack_bytes(alloc, StreamId(stream), bytes, out);
+    *len = len_of_packed(answer, *len);
+    code_of_packed(answer)
 }
 
 /// Puts the mark that a CPU of this stream has `count` records to the front of `out`.
@@ -40,14 +35,7 @@ pub extern "C" fn tracering_raw_pack_end(
 ) -> i32
     ensures { PacksEnd stream cpu count out.old len.old result out.new len.new }
 {
-    if cpu >= MAX_CPUS {
-        return BAD_CPU;
-    }
-    match pack_end_mark(alloc, StreamId(stream), CpuId(cpu), count, out) {
-        Ok(put) => {
-            *len = len_of_put(put);
-            code_of_put(put)
-        }
-        Err(_) => NO_MEMORY,
-    }
+    let answer = pack_end(alloc, StreamId(stream), CpuId(cpu), count, out);
+    *len = len_of_packed(answer, *len);
+    code_of_packed(answer)
 }
