@@ -9,6 +9,7 @@ mod listing;
 mod marks;
 mod merge;
 mod merge_fault;
+mod next;
 mod piece;
 mod refusal;
 mod streams;
