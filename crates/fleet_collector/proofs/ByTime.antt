@@ -19,10 +19,10 @@ use Rattle.time_merge.specs.Lines.{IsBeforeAll, AreOrdered}
 use Rattle.time_merge.proofs.Pairs.{sorted_pairs, sorted_map}
 use Rattle.stream_collector.specs.Stream.{Stream, HasRecord}
 use Rattle.fleet_collector.specs.declared.listing.FleetLine.{FleetLine}
-use Rattle.fleet_collector.specs.Fleet.{stream_in, stream_at, or_empty}
+use Rattle.fleet_collector.specs.Fleet.{known_of, stream_at, or_empty}
 use Rattle.fleet_collector.specs.Listing.{Line, line_for, IsBeforeAtOnce, IsBefore, IsListing}
 use Rattle.fleet_collector.specs.Lines.{line_seen, comes_before, IsAmong, AreLinesOf, HasIn}
-use Rattle.fleet_collector.proofs.InTurn.{stream_in_place}
+use Rattle.fleet_collector.proofs.InTurn.{known_of_place}
 
 -- ---- no two lines have the same stream, CPU and number
 
@@ -133,9 +133,9 @@ is_equal Greater e = cc
 -- a stream that has a record is one of those that are there
 has_in : (fleet : List (ℕ × Stream)) (stream cpu number : ℕ) (r : Record)
     → HasRecord (stream_at fleet stream) cpu number r → HasIn fleet stream cpu number r
-has_in fleet stream cpu number r h = at (stream_in fleet stream) refl h
+has_in fleet stream cpu number r h = at (known_of fleet stream) refl h
   where
-    at : (o : Option Stream) → stream_in fleet stream ≡ o → HasRecord (or_empty o) cpu number r → HasIn fleet stream
+    at : (o : Option Stream) → known_of fleet stream ≡ o → HasRecord (or_empty o) cpu number r → HasIn fleet stream
         cpu number r
     at None e h = let has = h.has in absurd (none-some has.parcel has.at)
     at (Some known) e h =
@@ -153,7 +153,7 @@ in_has : (fleet : List (ℕ × Stream)) → IsStrictlySortedBy nat_cmp (map (λ 
     → (stream cpu number : ℕ) (r : Record) → HasIn fleet stream cpu number r → HasRecord (stream_at fleet stream) cpu
     number r
 in_has fleet rising stream cpu number r h =
-    let found = stream_in_place fleet rising h.index stream h.known h.at in
+    let found = known_of_place fleet rising h.index stream h.known h.at in
     subst (λ (o : Option Stream). HasRecord (or_empty o) cpu number r) (sym found) h.has
 
 -- ---- the listing

@@ -14,7 +14,7 @@ use Rattle.trace_model.proofs.collections.Elements.{get_in_front}
 use Rattle.time_merge.proofs.Ordered.{at_mapped}
 use Rattle.stream_collector.specs.Stream.{Stream}
 use Rattle.parcel_streams.specs.declared.piece.StreamId.{StreamId}
-use Rattle.fleet_collector.specs.Fleet.{stream_in, entry_seen}
+use Rattle.fleet_collector.specs.Fleet.{known_of, entry_seen}
 use Rattle.fleet_collector.specs.Listing.{Line}
 use Rattle.fleet_collector.specs.Lines.{AreLinesOf, HasOf, HasIn}
 use Rattle.fleet_collector.proofs.ByNumber.{AreBelow, fleet_more}
@@ -23,10 +23,10 @@ abbrev ids : List (ℕ × Stream) → List ℕ
 ids fleet = map (λ (e : ℕ × Stream). e.0) fleet
 
 -- the stream at a place is the one of its id
-pub stream_in_place : (fleet : List (ℕ × Stream)) → IsStrictlySortedBy nat_cmp (ids fleet) → (k stream : ℕ)
+pub known_of_place : (fleet : List (ℕ × Stream)) → IsStrictlySortedBy nat_cmp (ids fleet) → (k stream : ℕ)
     (known : Stream)
-    → slice_get fleet k ≡ Some (stream, known) → stream_in fleet stream ≡ Some known
-stream_in_place fleet rising k stream known at =
+    → slice_get fleet k ≡ Some (stream, known) → known_of fleet stream ≡ Some known
+known_of_place fleet rising k stream known at =
     lookup_from_place (eq_by_cmp_equiv nat_cmp_total) fleet k stream known
     (IsDistinct-from_sorted nat_cmp (ids fleet) rising) at
 

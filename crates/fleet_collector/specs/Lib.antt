@@ -1,4 +1,7 @@
 pub mod Fleet
-pub mod Pieces
+pub mod Changes
+pub mod Merging
 pub mod Listing
 pub mod Lines
+pub mod Told
+pub mod Pieces

@@ -2,14 +2,20 @@
 #![tactic(auto)]
 
 mod add;
-mod fault;
+mod change;
 mod fleet;
+pub mod laws;
 mod listing;
 mod marks;
+mod merge;
+mod merge_fault;
+mod next;
 mod piece;
+mod refusal;
 mod streams;
 
-pub use fault::PieceFault;
 pub use fleet::Fleet;
 pub use listing::FleetLine;
+pub use merge_fault::FleetMergeFault;
+pub use refusal::PieceRefusal;
 pub use streams::Streams;

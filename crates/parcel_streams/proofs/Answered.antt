@@ -11,9 +11,9 @@ use Rattle.page_numbers.specs.declared.fault.ParcelFault.TheVariants.{Image, Num
 use Rattle.page_numbers.specs.Faults.{parcel_fault}
 use Rattle.parcel_streams.specs.declared.piece.Piece.{Piece}
 use Rattle.parcel_streams.specs.declared.fault.PieceFault.{PieceFault}
-use Rattle.parcel_streams.specs.declared.fault.PieceFault.TheVariants.{NotPacked, Cut, BadVersion, BadLength, BadSum, BadKind, Parcel, Loose, BadEnd, NoMemory}
+use Rattle.parcel_streams.specs.declared.fault.PieceFault.TheVariants.{NotPacked, Cut, BadVersion, BadLength, BadSum, BadKind, Parcel, Loose, BadMark, NoMemory}
 use Rattle.parcel_streams.specs.Pieces.{Packed, BeginsWith}
-use Rattle.parcel_streams.specs.Faults.{PieceCause, not_packed, cut, bad_version, bad_length, bad_sum, bad_kind, bad_parcel, loose, bad_end, FirstPieceFault}
+use Rattle.parcel_streams.specs.Faults.{PieceCause, not_packed, cut, bad_version, bad_length, bad_sum, bad_kind, bad_parcel, loose, bad_mark, FirstPieceFault}
 use Rattle.parcel_streams.specs.Answers.{piece_seen, piece_fault, HasPiece, IsPieceFault}
 use Rattle.parcel_streams.proofs.Readings.{one_piece}
 use Rattle.parcel_streams.proofs.OneFault.{one_fault, piece_no_fault}
@@ -67,7 +67,7 @@ cause_is bytes bad_kind is = is
 cause_is bytes (bad_parcel cause) is = subst (λ (c : ParcelCause). FirstPieceFault bytes (bad_parcel c))
     (same_cause cause is.0 is.1) is.2
 cause_is bytes loose is = is
-cause_is bytes bad_end is = is
+cause_is bytes bad_mark is = is
 
 -- each fault that is reported has a cause, but for refused memory
 pub fault_named : (bytes : List ℕ) (fault : PieceFault) → IsPieceFault bytes fault
@@ -80,7 +80,7 @@ fault_named bytes BadSum f = inr (bad_sum, refl, f)
 fault_named bytes BadKind f = inr (bad_kind, refl, f)
 fault_named bytes (Parcel fault) f = inr (bad_parcel f.0, ap Parcel f.1, f.2)
 fault_named bytes Loose f = inr (loose, refl, f)
-fault_named bytes BadEnd f = inr (bad_end, refl, f)
+fault_named bytes BadMark f = inr (bad_mark, refl, f)
 fault_named bytes NoMemory f = inl refl
 
 -- if there is a cause, it is the one that is reported

@@ -1,13 +1,11 @@
 -- What is read of a piece's body, as its reading or its first fault.
-use Rattle.std.proofs.Common.{◌≡◌, ◌≢◌, ◌⊎◌, inl, inr, ⊎_elim, ◌↔◌, ℕ, ◌^◌, ◌<◌, ◌≤◌, List, [], ◌++◌, length, take, drop, Result, Err, MatchResult, refl, sym, ap, ◌∙◌, subst, arith, append-nil, length-drop}
-use Rattle.std.proofs.lemmas.List.{drop-drop, nil_from_length, take_all}
+use Rattle.std.proofs.Common.{◌≡◌, ◌≢◌, ◌⊎◌, inl, inr, ⊎_elim, ◌↔◌, ℕ, ◌^◌, ◌<◌, ◌≤◌, List, length, take, drop, Result, Err, MatchResult, refl, sym, ap, ◌∙◌, subst, arith}
+use Rattle.std.proofs.lemmas.List.{drop-drop, take_all}
 use Rattle.trace_model.specs.FirstFault.{AreBytes}
 use Rattle.trace_model.specs.Words.{Decodes}
-use Rattle.trace_model.specs.Image.{le64, from_le64, DecodesImage}
+use Rattle.trace_model.specs.Image.{DecodesImage}
 use Rattle.trace_model.specs.Parcel.{Parcel as ParcelSeen}
 use Rattle.trace_model.specs.ParcelBytes.{bytes_of_parcel, DecodesParcel, ParcelCause, bad_cpu, bad_image, number_overflow, missed_too_many, missed_differs, FirstParcelFault}
-use Rattle.trace_model.proofs.words.OneWord.{AreBytes-drop}
-use Rattle.trace_model.proofs.images.ImageParts.{le64-front}
 use Rattle.trace_model.proofs.images.Images.{DecodesImage-unique}
 use Rattle.trace_model.proofs.images.ParcelParts.{HasNumbers-are}
 use Rattle.trace_model.proofs.images.Parcels.{parcel_read_or_faulty}
@@ -22,20 +20,6 @@ use Rattle.parcel_streams.specs.declared.fault.PieceFault.TheVariants.{Parcel, L
 use Rattle.parcel_streams.specs.Faults.{IsFitted}
 use Rattle.parcel_streams.specs.Answers.{fault_of_parcel, IsParcelBody, IsBodyFault}
 use Rattle.parcel_streams.proofs.Fitted.{IsTight, fitted_from}
-
--- ---- the end of a CPU's records
-
--- sixteen bytes are two numbers
-pub two_numbers : (bytes : List ℕ) → AreBytes bytes → length bytes ≡ 16
-    → bytes ≡ le64 (from_le64 bytes) ++ le64 (from_le64 (drop 8 bytes))
-two_numbers bytes small len =
-    let behind : List ℕ = drop 8 bytes in
-    let none : drop 8 behind ≡ [] = nil_from_length (drop 8 behind)
-    (omega (arith, length-drop 8 behind, length-drop 8 bytes)) in
-    le64-front bytes (omega arith) small
-    ∙ ap (λ (b : List ℕ). le64 (from_le64 bytes) ++ b)
-    (le64-front behind (omega (arith, length-drop 8 bytes)) (AreBytes-drop 8 bytes small)
-    ∙ ap (λ (b : List ℕ). le64 (from_le64 behind) ++ b) none ∙ append-nil (le64 (from_le64 behind)))
 
 -- ---- a parcel's faults
 

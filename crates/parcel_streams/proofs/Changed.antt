@@ -10,10 +10,10 @@ use Rattle.crc32c.proofs.Sums.{crc32c-lt}
 use Rattle.trace_model.specs.Image.{le64, from_le64}
 use Rattle.trace_model.proofs.words.OneWord.{AreBytes-take}
 use Rattle.trace_model.proofs.images.ImageParts.{from_le64-take, from_le64-le64}
-use Rattle.parcel_streams.specs.Pieces.{Packed, parcel_piece, end_piece, unsealed, sealed, bytes_of_piece, BeginsWith}
+use Rattle.parcel_streams.specs.Pieces.{Packed, parcel_piece, mark_piece, kind_of_mark, unsealed, sealed, bytes_of_piece, BeginsWith}
 use Rattle.parcel_streams.specs.Faults.{length_in}
 use Rattle.parcel_streams.proofs.Frames.{length-unsealed, length-sealed}
-use Rattle.parcel_streams.proofs.Readings.{parcel_frame, end_frame}
+use Rattle.parcel_streams.proofs.Readings.{parcel_frame, mark_frame}
 use Rattle.parcel_streams.proofs.Streams.{piece_len}
 
 -- ---- lists that differ at one index
@@ -117,12 +117,12 @@ sealed_differ kind stream other_kind other body left at d =
 pub pieces_differ : (piece other : Packed) (at : ℕ) → DifferAt (bytes_of_piece piece) (bytes_of_piece other) at → ⊥
 pieces_differ (parcel_piece stream parcel time contents) (parcel_piece other parcel' time' contents')
     at d = sealed_differ 0 stream 0 other _ _ at d
-pieces_differ (parcel_piece stream parcel time contents) (end_piece other cpu count)
-    at d = sealed_differ 0 stream 1 other _ _ at d
-pieces_differ (end_piece stream cpu count) (parcel_piece other parcel time contents)
-    at d = sealed_differ 1 stream 0 other _ _ at d
-pieces_differ (end_piece stream cpu count) (end_piece other cpu' count')
-    at d = sealed_differ 1 stream 1 other _ _ at d
+pieces_differ (parcel_piece stream parcel time contents) (mark_piece other cpu mark)
+    at d = sealed_differ 0 stream (kind_of_mark mark) other _ _ at d
+pieces_differ (mark_piece stream cpu mark) (parcel_piece other parcel time contents)
+    at d = sealed_differ (kind_of_mark mark) stream 0 other _ _ at d
+pieces_differ (mark_piece stream cpu mark) (mark_piece other cpu' mark')
+    at d = sealed_differ (kind_of_mark mark) stream (kind_of_mark mark') other _ _ at d
 
 -- ---- and what is read
 
@@ -146,8 +146,8 @@ stated_len : (bytes : List ℕ) (piece : Packed) → BeginsWith bytes piece
     → length_in bytes ≡ length (bytes_of_piece piece)
 stated_len bytes (parcel_piece stream parcel time contents)
     b = (parcel_frame bytes stream parcel time contents b).length_is ∙ sym (length-sealed 0 stream _)
-stated_len bytes (end_piece stream cpu count) b = (end_frame bytes stream cpu count b).length_is
-    ∙ sym (length-sealed 1 stream _)
+stated_len bytes (mark_piece stream cpu mark) b = (mark_frame bytes stream cpu mark b).length_is
+    ∙ sym (length-sealed (kind_of_mark mark) stream _)
 
 pub changed_refused : (bytes changed : List ℕ) (piece other : Packed) (at : ℕ) → BeginsWith bytes piece
     → DifferAt bytes changed at → at < length (bytes_of_piece piece) → (at < 16) ⊎ (24 ≤ at)

@@ -1,4 +1,5 @@
 mod Sums
+pub mod Marks
 pub mod Frames
 pub mod Fitted
 mod Bodies
@@ -8,4 +9,5 @@ mod Answered
 mod Sealing
 pub mod Streams
 mod Steps
+pub mod Decided
 mod Changed

@@ -1,5 +1,5 @@
 -- Bytes begin with one piece or have one first fault, and never both.
-use Rattle.std.proofs.Common.{◌≡◌, ◌≢◌, ◌⊎◌, inl, inr, ⊎_elim, ℕ, ◌+◌, ◌<◌, ◌≤◌, List, [], ◌∷◌, length, take, drop, refl, sym, ap, ◌∙◌, subst, arith}
+use Rattle.std.proofs.Common.{◌≡◌, ◌≢◌, ◌⊎◌, inl, inr, ⊎_elim, ℕ, ◌<◌, ◌≤◌, List, [], ◌∷◌, length, take, drop, refl, sym, ap, subst, arith}
 use Rattle.std.proofs.lemmas.Bool.{cases_lt}
 use Rattle.std.proofs.lemmas.Bool.Decides.{eqb_tells}
 use Rattle.crc32c.specs.Castagnoli.{crc32c}
@@ -8,13 +8,13 @@ use Rattle.trace_model.specs.Image.{le64, from_le64, commit_word, commit_of}
 use Rattle.trace_model.specs.Parcel.{Parcel as ParcelSeen}
 use Rattle.trace_model.specs.ParcelBytes.{DecodesParcel, ParcelCause}
 use Rattle.trace_model.specs.declared.limits.TheConstants.{MAX_CPUS}
-use Rattle.trace_model.proofs.images.ImageParts.{from_le64-le64}
 use Rattle.trace_model.proofs.images.Parcels.{parcel_read_or_faulty, DecodesParcel-FirstParcelFault, DecodesParcel-unique, FirstParcelFault-unique}
-use Rattle.parcel_streams.specs.Pieces.{Packed, parcel_piece, end_piece, magic, BeginsWith}
-use Rattle.parcel_streams.specs.Faults.{version_in, kind_in, length_in, body_in, summed_in, sum_in, HasMagic, HasVersion, HasLength, IsWhole, IsSealed, HoldsParcel, HoldsEnd, IsFitted, IsLoose, IsCut, PieceCause, not_packed, cut, bad_version, bad_length, bad_sum, bad_kind, bad_parcel, loose, bad_end, FirstPieceFault}
-use Rattle.parcel_streams.specs.Answers.{HasPiece}
+use Rattle.parcel_streams.specs.Pieces.{Packed, parcel_piece, mark_piece, kind_of_mark, magic, BeginsWith}
+use Rattle.parcel_streams.specs.Faults.{version_in, kind_in, length_in, body_in, summed_in, sum_in, HasMagic, HasVersion, HasLength, IsWhole, IsSealed, HoldsParcel, HoldsMark, IsFitted, IsLoose, mark_body, IsBadMark, IsCut, PieceCause, not_packed, cut, bad_version, bad_length, bad_sum, bad_kind, bad_parcel, loose, bad_mark, FirstPieceFault}
+use Rattle.parcel_streams.specs.Answers.{HasPiece, mark_stated}
 use Rattle.parcel_streams.proofs.Fitted.{IsFitted-from, IsTight-from}
-use Rattle.parcel_streams.proofs.Readings.{AreBytes-body, has_parcel, has_end, length-end, parcel_frame, end_frame, decodes}
+use Rattle.parcel_streams.proofs.Marks.{kind_least, kind_most, mark_there, sound_or_empty, sound_not_bad}
+use Rattle.parcel_streams.proofs.Readings.{AreBytes-body, has_parcel, has_mark, parcel_frame, mark_frame, decodes}
 
 -- ---- a fault excludes what is looked at before it
 
@@ -37,14 +37,14 @@ out_of bytes h f =
     let most = h.most in
     ⊎_elim (λ (low : length_in bytes < 56). omega arith) (λ (high : 65608 < length_in bytes). omega arith) f
 
-no_parcel : (bytes : List ℕ) → 1 < kind_in bytes → HoldsParcel bytes → ⊥
+no_parcel : (bytes : List ℕ) → 3 < kind_in bytes → HoldsParcel bytes → ⊥
 no_parcel bytes more h = let is = h.kind_is in omega arith
 
-no_end : (bytes : List ℕ) → 1 < kind_in bytes → HoldsEnd bytes → ⊥
-no_end bytes more h = let is = h.kind_is in omega arith
+no_mark : (bytes : List ℕ) → 3 < kind_in bytes → HoldsMark bytes → ⊥
+no_mark bytes more h = let most = h.kind_most in omega arith
 
-not_both : (bytes : List ℕ) → HoldsParcel bytes → HoldsEnd bytes → ⊥
-not_both bytes h g = let one = h.kind_is in let two = g.kind_is in omega arith
+not_both : (bytes : List ℕ) → HoldsParcel bytes → HoldsMark bytes → ⊥
+not_both bytes h g = let is = h.kind_is in let least = g.kind_least in omega arith
 
 -- ---- one fault
 
@@ -58,7 +58,7 @@ one_fault bytes not_packed bad_sum f g = absurd (f g.0.stated.version.head.packe
 one_fault bytes not_packed bad_kind f g = absurd (f g.0.whole.stated.version.head.packed)
 one_fault bytes not_packed (bad_parcel other) f g = absurd (f g.0.seal.whole.stated.version.head.packed)
 one_fault bytes not_packed loose f g = absurd (f g.0.seal.whole.stated.version.head.packed)
-one_fault bytes not_packed bad_end f g = absurd (f g.0.seal.whole.stated.version.head.packed)
+one_fault bytes not_packed bad_mark f g = absurd (f g.0.seal.whole.stated.version.head.packed)
 one_fault bytes cut not_packed f g = absurd (g (magic_cut bytes f))
 one_fault bytes cut cut f g = refl
 one_fault bytes cut bad_version f g = absurd (g.1 (cut_in bytes f g.0.long).0.version.version_is)
@@ -67,7 +67,7 @@ one_fault bytes cut bad_sum f g = absurd (cut_whole bytes f g.0)
 one_fault bytes cut bad_kind f g = absurd (cut_whole bytes f g.0.whole)
 one_fault bytes cut (bad_parcel other) f g = absurd (cut_whole bytes f g.0.seal.whole)
 one_fault bytes cut loose f g = absurd (cut_whole bytes f g.0.seal.whole)
-one_fault bytes cut bad_end f g = absurd (cut_whole bytes f g.0.seal.whole)
+one_fault bytes cut bad_mark f g = absurd (cut_whole bytes f g.0.seal.whole)
 one_fault bytes bad_version not_packed f g = absurd (g f.0.packed)
 one_fault bytes bad_version cut f g = absurd (f.1 (cut_in bytes g f.0.long).0.version.version_is)
 one_fault bytes bad_version bad_version f g = refl
@@ -76,7 +76,7 @@ one_fault bytes bad_version bad_sum f g = absurd (f.1 g.0.stated.version.version
 one_fault bytes bad_version bad_kind f g = absurd (f.1 g.0.whole.stated.version.version_is)
 one_fault bytes bad_version (bad_parcel other) f g = absurd (f.1 g.0.seal.whole.stated.version.version_is)
 one_fault bytes bad_version loose f g = absurd (f.1 g.0.seal.whole.stated.version.version_is)
-one_fault bytes bad_version bad_end f g = absurd (f.1 g.0.seal.whole.stated.version.version_is)
+one_fault bytes bad_version bad_mark f g = absurd (f.1 g.0.seal.whole.stated.version.version_is)
 one_fault bytes bad_length not_packed f g = absurd (g f.0.head.packed)
 one_fault bytes bad_length cut f g = absurd (out_of bytes (cut_in bytes g f.0.head.long).0 f.1)
 one_fault bytes bad_length bad_version f g = absurd (g.1 f.0.version_is)
@@ -85,7 +85,7 @@ one_fault bytes bad_length bad_sum f g = absurd (out_of bytes g.0.stated f.1)
 one_fault bytes bad_length bad_kind f g = absurd (out_of bytes g.0.whole.stated f.1)
 one_fault bytes bad_length (bad_parcel other) f g = absurd (out_of bytes g.0.seal.whole.stated f.1)
 one_fault bytes bad_length loose f g = absurd (out_of bytes g.0.seal.whole.stated f.1)
-one_fault bytes bad_length bad_end f g = absurd (out_of bytes g.0.seal.whole.stated f.1)
+one_fault bytes bad_length bad_mark f g = absurd (out_of bytes g.0.seal.whole.stated f.1)
 one_fault bytes bad_sum not_packed f g = absurd (g f.0.stated.version.head.packed)
 one_fault bytes bad_sum cut f g = absurd (cut_whole bytes g f.0)
 one_fault bytes bad_sum bad_version f g = absurd (g.1 f.0.stated.version.version_is)
@@ -94,7 +94,7 @@ one_fault bytes bad_sum bad_sum f g = refl
 one_fault bytes bad_sum bad_kind f g = absurd (f.1 g.0.sum_is)
 one_fault bytes bad_sum (bad_parcel other) f g = absurd (f.1 g.0.seal.sum_is)
 one_fault bytes bad_sum loose f g = absurd (f.1 g.0.seal.sum_is)
-one_fault bytes bad_sum bad_end f g = absurd (f.1 g.0.seal.sum_is)
+one_fault bytes bad_sum bad_mark f g = absurd (f.1 g.0.seal.sum_is)
 one_fault bytes bad_kind not_packed f g = absurd (g f.0.whole.stated.version.head.packed)
 one_fault bytes bad_kind cut f g = absurd (cut_whole bytes g f.0.whole)
 one_fault bytes bad_kind bad_version f g = absurd (g.1 f.0.whole.stated.version.version_is)
@@ -103,7 +103,7 @@ one_fault bytes bad_kind bad_sum f g = absurd (g.1 f.0.sum_is)
 one_fault bytes bad_kind bad_kind f g = refl
 one_fault bytes bad_kind (bad_parcel other) f g = absurd (no_parcel bytes f.1 g.0)
 one_fault bytes bad_kind loose f g = absurd (no_parcel bytes f.1 g.0)
-one_fault bytes bad_kind bad_end f g = absurd (no_end bytes f.1 g.0)
+one_fault bytes bad_kind bad_mark f g = absurd (no_mark bytes f.1 g.0)
 one_fault bytes (bad_parcel cause) not_packed f g = absurd (g f.0.seal.whole.stated.version.head.packed)
 one_fault bytes (bad_parcel cause) cut f g = absurd (cut_whole bytes g f.0.seal.whole)
 one_fault bytes (bad_parcel cause) bad_version f g = absurd (g.1 f.0.seal.whole.stated.version.version_is)
@@ -114,7 +114,7 @@ one_fault bytes (bad_parcel cause) (bad_parcel other) f g = ap bad_parcel
     (FirstParcelFault-unique (body_in bytes) cause other f.1 g.1)
 one_fault bytes (bad_parcel cause) loose f g = absurd
     (DecodesParcel-FirstParcelFault (body_in bytes) g.1.parcel cause g.1.reads f.1)
-one_fault bytes (bad_parcel cause) bad_end f g = absurd (not_both bytes f.0 g.0)
+one_fault bytes (bad_parcel cause) bad_mark f g = absurd (not_both bytes f.0 g.0)
 one_fault bytes loose not_packed f g = absurd (g f.0.seal.whole.stated.version.head.packed)
 one_fault bytes loose cut f g = absurd (cut_whole bytes g f.0.seal.whole)
 one_fault bytes loose bad_version f g = absurd (g.1 f.0.seal.whole.stated.version.version_is)
@@ -124,23 +124,28 @@ one_fault bytes loose bad_kind f g = absurd (no_parcel bytes g.1 f.0)
 one_fault bytes loose (bad_parcel other) f g = absurd
     (DecodesParcel-FirstParcelFault (body_in bytes) f.1.parcel other f.1.reads g.1)
 one_fault bytes loose loose f g = refl
-one_fault bytes loose bad_end f g = absurd (not_both bytes f.0 g.0)
-one_fault bytes bad_end not_packed f g = absurd (g f.0.seal.whole.stated.version.head.packed)
-one_fault bytes bad_end cut f g = absurd (cut_whole bytes g f.0.seal.whole)
-one_fault bytes bad_end bad_version f g = absurd (g.1 f.0.seal.whole.stated.version.version_is)
-one_fault bytes bad_end bad_length f g = absurd (out_of bytes f.0.seal.whole.stated g.1)
-one_fault bytes bad_end bad_sum f g = absurd (g.1 f.0.seal.sum_is)
-one_fault bytes bad_end bad_kind f g = absurd (no_end bytes g.1 f.0)
-one_fault bytes bad_end (bad_parcel other) f g = absurd (not_both bytes g.0 f.0)
-one_fault bytes bad_end loose f g = absurd (not_both bytes g.0 f.0)
-one_fault bytes bad_end bad_end f g = refl
+one_fault bytes loose bad_mark f g = absurd (not_both bytes f.0 g.0)
+one_fault bytes bad_mark not_packed f g = absurd (g f.0.seal.whole.stated.version.head.packed)
+one_fault bytes bad_mark cut f g = absurd (cut_whole bytes g f.0.seal.whole)
+one_fault bytes bad_mark bad_version f g = absurd (g.1 f.0.seal.whole.stated.version.version_is)
+one_fault bytes bad_mark bad_length f g = absurd (out_of bytes f.0.seal.whole.stated g.1)
+one_fault bytes bad_mark bad_sum f g = absurd (g.1 f.0.seal.sum_is)
+one_fault bytes bad_mark bad_kind f g = absurd (no_mark bytes g.1 f.0)
+one_fault bytes bad_mark (bad_parcel other) f g = absurd (not_both bytes g.0 f.0)
+one_fault bytes bad_mark loose f g = absurd (not_both bytes g.0 f.0)
+one_fault bytes bad_mark bad_mark f g = refl
 
 -- ---- a piece is no fault
 
--- what is stated where the bytes begin with a piece: a parcel that is read, or an end
+-- a mark is stated, and it isn't bad
+record HoldsGood (bytes : List ℕ) : Type 0 where
+  mark : HoldsMark bytes
+  good : IsBadMark (kind_in bytes) (body_in bytes) → ⊥
+
+-- what is stated where the bytes begin with a piece: a parcel that is read, or a mark
 HoldsPiece : List ℕ → Type 0
 HoldsPiece bytes = (HoldsParcel bytes × ((parcel : ParcelSeen) × DecodesParcel (body_in bytes) parcel × IsFitted
-    (body_in bytes) parcel)) ⊎ (HoldsEnd bytes × (length_in bytes ≡ 56) × (from_le64 (body_in bytes) < MAX_CPUS))
+    (body_in bytes) parcel)) ⊎ HoldsGood bytes
 
 holds : (bytes : List ℕ) (piece : Packed) → BeginsWith bytes piece → HoldsPiece bytes
 unfolding HoldsPiece
@@ -156,17 +161,17 @@ holds bytes (parcel_piece stream parcel time contents) b =
         (time, contents, frame.body_is),
       ),
     )
-holds bytes (end_piece stream cpu count) b =
-    let frame = end_frame bytes stream cpu count b in
-    let cpu_is : from_le64 (body_in bytes) ≡ cpu = ap from_le64 frame.body_is
-    ∙ from_le64-le64 cpu (le64 count) (let known = b.sound.cpu_known in omega arith) in
-    let known = b.sound.cpu_known in
-    inr (
-      record { seal = frame.seal; kind_is = frame.kind_is },
-      frame.length_is
-          ∙ ap (λ (n : ℕ). 40 + n) (length-end cpu count),
-      omega arith,
-    )
+holds bytes (mark_piece stream cpu mark) b =
+    let frame = mark_frame bytes stream cpu mark b in
+    let kind_is = frame.kind_is in
+    let low = kind_least mark in
+    let high = kind_most mark in
+    inr (record {
+      mark = record { seal = frame.seal; kind_least = omega arith; kind_most = omega arith };
+      good = λ bad. sound_not_bad cpu mark b.sound.cpu_known b.sound.sound
+          (subst (IsBadMark (kind_of_mark mark)) frame.body_is
+          (subst (λ (k : ℕ). IsBadMark k (body_in bytes)) kind_is bad));
+    })
 
 loose_not_fitted : (body : List ℕ) (parcel : ParcelSeen) → DecodesParcel body parcel → IsFitted body parcel
     → IsLoose body → ⊥
@@ -175,10 +180,10 @@ loose_not_fitted body parcel d fitted l = l.otherwise
 
 sealed_no_fault : (bytes : List ℕ) (fault : PieceCause) → HoldsPiece bytes → FirstPieceFault bytes fault → ⊥
 unfolding HoldsPiece
-sealed_no_fault bytes fault h f = ⊎_elim (λ p. parcel_no_fault fault p f) (λ e. end_no_fault fault e f) h
+sealed_no_fault bytes fault h f = ⊎_elim (λ p. parcel_no_fault fault p f) (λ e. mark_no_fault fault e f) h
   where
-    seal_no_fault : (fault : PieceCause) → IsSealed bytes → FirstPieceFault bytes fault → (kind_in bytes ≤ 1)
-        → ((cause : ParcelCause) → fault ≡ bad_parcel cause → ⊥) → (fault ≡ loose → ⊥) → (fault ≡ bad_end → ⊥) → ⊥
+    seal_no_fault : (fault : PieceCause) → IsSealed bytes → FirstPieceFault bytes fault → (kind_in bytes ≤ 3)
+        → ((cause : ParcelCause) → fault ≡ bad_parcel cause → ⊥) → (fault ≡ loose → ⊥) → (fault ≡ bad_mark → ⊥) → ⊥
     seal_no_fault not_packed s f low p l e = f s.whole.stated.version.head.packed
     seal_no_fault cut s f low p l e = cut_whole bytes f s.whole
     seal_no_fault bad_version s f low p l e = f.1 s.whole.stated.version.version_is
@@ -187,7 +192,7 @@ sealed_no_fault bytes fault h f = ⊎_elim (λ p. parcel_no_fault fault p f) (λ
     seal_no_fault bad_kind s f low p l e = let more = f.1 in omega arith
     seal_no_fault (bad_parcel cause) s f low p l e = p cause refl
     seal_no_fault loose s f low p l e = l refl
-    seal_no_fault bad_end s f low p l e = e refl
+    seal_no_fault bad_mark s f low p l e = e refl
 
     parcel_no_fault : (fault : PieceCause)
         → (HoldsParcel bytes × ((parcel : ParcelSeen) × DecodesParcel (body_in bytes) parcel × IsFitted
@@ -200,16 +205,12 @@ sealed_no_fault bytes fault h f = ⊎_elim (λ p. parcel_no_fault fault p f) (λ
         (λ e. let g = subst (FirstPieceFault bytes) e f in loose_not_fitted (body_in bytes) p.1.0 p.1.1 p.1.2 g.1)
         (λ e. let g = subst (FirstPieceFault bytes) e f in not_both bytes p.0 g.0)
 
-    end_no_fault : (fault : PieceCause) → (HoldsEnd bytes × (length_in bytes ≡ 56)
-        × (from_le64 (body_in bytes) < MAX_CPUS)) → FirstPieceFault bytes fault → ⊥
-    end_no_fault fault p f =
-        let is = p.0.kind_is in
-        let known = p.2 in
-        seal_no_fault fault p.0.seal f (omega arith)
-        (λ cause e. let g = subst (FirstPieceFault bytes) e f in not_both bytes g.0 p.0)
-        (λ e. let g = subst (FirstPieceFault bytes) e f in not_both bytes g.0 p.0)
-        (λ e. let g = subst (FirstPieceFault bytes) e f in ⊎_elim (λ other. other p.1)
-        (λ (past : MAX_CPUS ≤ from_le64 (body_in bytes)). omega arith) g.1)
+    mark_no_fault : (fault : PieceCause) → HoldsGood bytes → FirstPieceFault bytes fault → ⊥
+    mark_no_fault fault p f =
+        seal_no_fault fault p.mark.seal f p.mark.kind_most
+        (λ cause e. let g = subst (FirstPieceFault bytes) e f in not_both bytes g.0 p.mark)
+        (λ e. let g = subst (FirstPieceFault bytes) e f in not_both bytes g.0 p.mark)
+        (λ e. let g = subst (FirstPieceFault bytes) e f in p.good g.1)
 
 pub piece_no_fault : (bytes : List ℕ) (piece : Packed) (fault : PieceCause) → BeginsWith bytes piece
     → FirstPieceFault bytes fault → ⊥
@@ -259,23 +260,36 @@ from_parcel bytes small h = ⊎_elim
     body : List ℕ
     body = body_in bytes
 
-from_end : (bytes : List ℕ) → AreBytes bytes → HoldsEnd bytes → HasPiece bytes ⊎ HasFault bytes
-from_end bytes small h = ⊎_elim
+from_mark : (bytes : List ℕ) → AreBytes bytes → HoldsMark bytes → HasPiece bytes ⊎ HasFault bytes
+from_mark bytes small h = ⊎_elim
     (λ len. ⊎_elim
-    (λ known. inl (has_end bytes small h len.1 known))
-    (λ past. inr (bad_end, (h, inr past)))
-    (cases_lt (from_le64 (body_in bytes)) MAX_CPUS))
-    (λ other. inr (bad_end, (h, inl other.1)))
-    (eqb_tells (length_in bytes) 56)
+    (λ known. ⊎_elim
+    (λ sound. inl (has_mark bytes (from_le64 body) (mark_stated kind body) small h.seal
+    (mark_there kind body h.kind_least h.kind_most own (sym len.1) known sound)))
+    (λ empty. inr (bad_mark, (h, inr (inr empty))))
+    (sound_or_empty kind body h.kind_least h.kind_most own))
+    (λ past. inr (bad_mark, (h, inr (inl past))))
+    (cases_lt (from_le64 body) MAX_CPUS))
+    (λ other. inr (bad_mark, (h, inl (λ e. other.1 (sym e)))))
+    (eqb_tells (mark_body kind) (length body))
+  where
+    kind : ℕ
+    kind = kind_in bytes
+
+    body : List ℕ
+    body = body_in bytes
+
+    own : AreBytes body
+    own = AreBytes-body bytes small
 
 from_seal : (bytes : List ℕ) → AreBytes bytes → IsSealed bytes → HasPiece bytes ⊎ HasFault bytes
 from_seal bytes small s = ⊎_elim
     (λ more. inr (bad_kind, (s, more)))
-    (λ few. ⊎_elim
+    (λ (few : kind_in bytes ≤ 3). ⊎_elim
     (λ (low : kind_in bytes < 1). from_parcel bytes small (record { seal = s; kind_is = omega arith }))
-    (λ (high : 1 ≤ kind_in bytes). from_end bytes small (record { seal = s; kind_is = omega arith }))
+    (λ (high : 1 ≤ kind_in bytes). from_mark bytes small (record { seal = s; kind_least = high; kind_most = few }))
     (cases_lt (kind_in bytes) 1))
-    (cases_lt 1 (kind_in bytes))
+    (cases_lt 3 (kind_in bytes))
 
 from_length : (bytes : List ℕ) → AreBytes bytes → HasLength bytes → HasPiece bytes ⊎ HasFault bytes
 from_length bytes small h = ⊎_elim

@@ -1,26 +1,26 @@
 -- A piece at the front of some bytes: what the bytes state decides it.
-use Rattle.std.proofs.Common.{◌≡◌, ◌≢◌, ◌⊎◌, inl, inr, ⊎_elim, ℕ, ◌+◌, ◌-◌, ◌^◌, ◌<◌, ◌≤◌, List, [], ◌++◌, length, drop, refl, sym, ap, ◌∙◌, subst, arith, append-nil, length-append, length-drop, length-take-le}
+use Rattle.std.proofs.Common.{◌≡◌, ℕ, ◌+◌, ◌-◌, ◌<◌, ◌≤◌, List, ◌++◌, length, drop, refl, sym, ap, ◌∙◌, subst, arith, length-drop, length-take-le}
 use Rattle.std.proofs.lemmas.List.{drop-drop}
 use Rattle.trace_model.specs.FirstFault.{AreBytes}
 use Rattle.trace_model.specs.Image.{le64, from_le64, commit_word, commit_of, stored_count, filled, image_of}
 use Rattle.trace_model.specs.Parcel.{Parcel as ParcelSeen}
 use Rattle.trace_model.specs.ParcelBytes.{bytes_of_parcel, DecodesParcel, FirstParcelFault}
-use Rattle.trace_model.specs.declared.limits.TheConstants.{MAX_CPUS}
 use Rattle.trace_model.proofs.words.OneWord.{AreBytes-drop, AreBytes-take}
-use Rattle.trace_model.proofs.images.ImageParts.{length-le64, from_le64-le64, from_le64_lt, drop-le64}
+use Rattle.trace_model.proofs.images.ImageParts.{from_le64-le64, from_le64_lt, drop-le64}
 use Rattle.trace_model.proofs.images.Images.{length-image_of}
 use Rattle.trace_model.proofs.images.ParcelParts.{HasNumbers-are}
 use Rattle.trace_model.proofs.images.Parcels.{length-bytes_of_parcel, DecodesParcel-bytes_of_parcel, DecodesParcel-unique}
+use Rattle.parcel_streams.specs.declared.piece.Mark.{Mark}
 use Rattle.parcel_streams.specs.declared.piece.Piece.{Piece}
 use Rattle.parcel_streams.specs.declared.frame.Frame.{Frame}
 use Rattle.parcel_streams.specs.declared.fault.PieceFault.{PieceFault}
-use Rattle.parcel_streams.specs.declared.fault.PieceFault.TheVariants.{NotPacked, Cut, BadVersion, BadLength, BadSum, BadKind, Parcel, Loose, BadEnd, NoMemory}
-use Rattle.parcel_streams.specs.Pieces.{Packed, parcel_piece, end_piece, sealed, bytes_of_piece, IsParcelPiece, IsPiece, BeginsWith}
-use Rattle.parcel_streams.specs.Faults.{length_in, kind_in, stream_in, body_in, IsSealed, HoldsParcel, HoldsEnd, IsFitted, IsLoose, IsBadEnd}
-use Rattle.parcel_streams.specs.Answers.{piece_seen, HasPiece, IsPieceFault, HasFrame, HasBody, IsBodyFault}
+use Rattle.parcel_streams.specs.declared.fault.PieceFault.TheVariants.{NotPacked, Cut, BadVersion, BadLength, BadSum, BadKind, Parcel, Loose, BadMark, NoMemory}
+use Rattle.parcel_streams.specs.Pieces.{Packed, parcel_piece, mark_piece, kind_of_mark, numbers_of_mark, sealed, bytes_of_piece, IsParcelPiece, IsPiece, BeginsWith}
+use Rattle.parcel_streams.specs.Faults.{length_in, kind_in, stream_in, body_in, IsSealed, HoldsParcel, IsFitted, IsLoose, IsBadMark}
+use Rattle.parcel_streams.specs.Answers.{piece_seen, HasPiece, IsPieceFault, HasFrame, HasBody, IsBodyFault, mark_stated, IsMarkBody}
 use Rattle.parcel_streams.proofs.Frames.{length-sealed, FrameIs, frame_is, sealed_there}
 use Rattle.parcel_streams.proofs.Fitted.{filled_is, fitted_from, IsTight-from}
-use Rattle.parcel_streams.proofs.Bodies.{two_numbers}
+use Rattle.parcel_streams.proofs.Marks.{kind_least, kind_most, length-mark, mark_least, mark_most, stated_is}
 
 -- ---- from a frame
 
@@ -60,7 +60,7 @@ len_framed bytes frame piece h b =
     let body = ap length h.body_is in
     omega (arith, body_len bytes h.seal, length-sealed frame.kind frame.stream.0 frame.body.now)
 
--- ---- a parcel or an end that is stated
+-- ---- a parcel or a mark that is stated
 
 pub has_parcel : (bytes : List ℕ) (parcel : ParcelSeen) → AreBytes bytes → HoldsParcel bytes
     → DecodesParcel (body_in bytes) parcel → IsFitted (body_in bytes) parcel → HasPiece bytes
@@ -80,29 +80,19 @@ has_parcel bytes parcel small h d fitted =
       }) (λ i. sealed (sym h.kind_is i) (stream_in bytes) (sym fit.body_is i)),
     )
 
-pub has_end : (bytes : List ℕ) → AreBytes bytes → HoldsEnd bytes → length_in bytes ≡ 56
-    → from_le64 (body_in bytes) < MAX_CPUS → HasPiece bytes
-has_end bytes small h len known =
-    let body : List ℕ = body_in bytes in
-    let size = body_len bytes h.seal in
-    let piece : Packed = end_piece (stream_in bytes) (from_le64 body) (from_le64 (drop 8 body)) in (
+pub has_mark : (bytes : List ℕ) (cpu : ℕ) (mark : Mark) → AreBytes bytes → IsSealed bytes
+    → IsMarkBody (kind_in bytes) (body_in bytes) cpu mark → HasPiece bytes
+has_mark bytes cpu mark small seal is =
+    let piece : Packed = mark_piece (stream_in bytes) cpu mark in (
       piece,
-      begins bytes piece small h.seal (record {
+      begins bytes piece small seal (record {
         stream_fits = from_le64_lt (drop 24 bytes) (AreBytes-drop 24 bytes small);
-        cpu_known = known;
-        count_fits = from_le64_lt (drop 8 body) (AreBytes-drop 8 body (AreBytes-body bytes small));
-      }) (λ i. sealed (sym h.kind_is i) (stream_in bytes)
-          (sym (two_numbers body (AreBytes-body bytes small) (omega arith)) i)),
+        cpu_known = is.cpu_known;
+        sound = is.sound;
+      }) (λ i. sealed (is.kind_is i) (stream_in bytes) (sym is.body_is i)),
     )
 
 -- ---- faults of what a kind has of its own
-
-bad_end : (bytes : List ℕ) (frame : Frame) → HasFrame bytes frame
-    → (length frame.body.now ≢ 16) ⊎ (MAX_CPUS ≤ from_le64 frame.body.now) → IsBadEnd bytes
-bad_end bytes frame h bad = ⊎_elim
-    (λ other. inl (λ len. other (ap length h.body_is ∙ body_len bytes h.seal ∙ ap (λ (n : ℕ). n - 40) len)))
-    (λ unknown. inr (subst (λ (b : List ℕ). MAX_CPUS ≤ from_le64 b) h.body_is unknown))
-    bad
 
 holds_parcel : (bytes : List ℕ) (frame : Frame) → HasFrame bytes frame → frame.kind ≡ 0 → HoldsParcel bytes
 holds_parcel bytes frame h is = record { seal = h.seal; kind_is = sym h.kind_is ∙ is }
@@ -114,14 +104,17 @@ fault_framed bytes frame Cut small h b = absurd b
 fault_framed bytes frame BadVersion small h b = absurd b
 fault_framed bytes frame BadLength small h b = absurd b
 fault_framed bytes frame BadSum small h b = absurd b
-fault_framed bytes frame BadKind small h b = (h.seal, subst (λ (k : ℕ). 1 < k) h.kind_is b)
+fault_framed bytes frame BadKind small h b = (h.seal, subst (λ (k : ℕ). 3 < k) h.kind_is b)
 fault_framed bytes frame (Parcel fault) small h b =
     (b.1.0, b.1.1, (holds_parcel bytes frame h b.0, subst (λ (x : List ℕ). FirstParcelFault x b.1.0) h.body_is b.1.2))
 fault_framed bytes frame Loose small h b = (holds_parcel bytes frame h b.0, subst IsLoose h.body_is b.1)
-fault_framed bytes frame BadEnd small h b = (
-  record
-      { seal = h.seal; kind_is = sym h.kind_is ∙ b.0 },
-  bad_end bytes frame h b.1,
+fault_framed bytes frame BadMark small h b = (
+  record {
+    seal = h.seal;
+    kind_least = subst (λ (k : ℕ). 1 ≤ k) h.kind_is b.0;
+    kind_most = subst (λ (k : ℕ). k ≤ 3) h.kind_is b.1;
+  },
+  subst (IsBadMark (kind_in bytes)) h.body_is (subst (λ (k : ℕ). IsBadMark k frame.body.now) h.kind_is b.2),
 )
 fault_framed bytes frame NoMemory small h b =
     has_parcel bytes b.1.0 small (holds_parcel bytes frame h b.0)
@@ -134,9 +127,6 @@ pub length-body : (parcel : ParcelSeen) (time : ℕ) (contents : List ℕ)
     → length (bytes_of_parcel parcel time contents (length contents)) ≡ 48 + length contents
 length-body parcel time contents = length-bytes_of_parcel parcel time contents (length contents) (omega arith)
 
-pub length-end : (cpu count : ℕ) → length (le64 cpu ++ le64 count) ≡ 16
-length-end cpu count = omega (arith, length-append (le64 cpu) (le64 count), length-le64 cpu, length-le64 count)
-
 pub parcel_frame : (bytes : List ℕ) (stream : ℕ) (parcel : ParcelSeen) (time : ℕ) (contents : List ℕ)
     (b : BeginsWith bytes (parcel_piece stream parcel time contents))
     → FrameIs bytes 0 stream (bytes_of_parcel parcel time contents (length contents)) b.rest
@@ -146,12 +136,17 @@ parcel_frame bytes stream parcel time contents b =
     frame_is bytes 0 stream (bytes_of_parcel parcel time contents (length contents)) b.rest b.whole (omega arith)
     b.sound.stream_fits (omega arith) (omega arith)
 
-pub end_frame : (bytes : List ℕ) (stream cpu count : ℕ) (b : BeginsWith bytes (end_piece stream cpu count))
-    → FrameIs bytes 1 stream (le64 cpu ++ le64 count) b.rest
-end_frame bytes stream cpu count b =
-    let len = length-end cpu count in
-    frame_is bytes 1 stream (le64 cpu ++ le64 count) b.rest b.whole (omega arith) b.sound.stream_fits (omega arith)
-    (omega arith)
+pub mark_frame : (bytes : List ℕ) (stream cpu : ℕ) (mark : Mark) (b : BeginsWith bytes (mark_piece stream cpu mark))
+    → FrameIs bytes (kind_of_mark mark) stream (le64 cpu ++ numbers_of_mark mark) b.rest
+mark_frame bytes stream cpu mark b =
+    let kind : ℕ = kind_of_mark mark in
+    let low = kind_least mark in
+    let high = kind_most mark in
+    let len = length-mark cpu mark in
+    let least = mark_least kind low high in
+    let most = mark_most kind low high in
+    frame_is bytes kind stream (le64 cpu ++ numbers_of_mark mark) b.rest b.whole (omega arith) b.sound.stream_fits
+    (omega arith) (omega arith)
 
 pub decodes : (stream : ℕ) (parcel : ParcelSeen) (time : ℕ) (contents : List ℕ)
     → IsParcelPiece stream parcel time contents
@@ -216,45 +211,44 @@ same_parcels bytes stream other parcel parcel' time time' contents contents' b c
     let streams : stream ≡ other = sym one.stream_is ∙ two.stream_is in
     (λ i. parcel_piece (streams i) (parcels i) (times i) (datas i))
 
-same_ends : (bytes : List ℕ) (stream other cpu cpu' count count' : ℕ) → BeginsWith bytes (end_piece stream cpu count)
-    → BeginsWith bytes (end_piece other cpu' count') → end_piece stream cpu count ≡ end_piece other cpu' count'
-same_ends bytes stream other cpu cpu' count count' b c =
-    let one = end_frame bytes stream cpu count b in
-    let two = end_frame bytes other cpu' count' c in
+same_marks : (bytes : List ℕ) (stream other cpu cpu' : ℕ) (mark mark' : Mark)
+    → BeginsWith bytes (mark_piece stream cpu mark) → BeginsWith bytes (mark_piece other cpu' mark')
+    → mark_piece stream cpu mark ≡ mark_piece other cpu' mark'
+same_marks bytes stream other cpu cpu' mark mark' b c =
+    let one = mark_frame bytes stream cpu mark b in
+    let two = mark_frame bytes other cpu' mark' c in
     let own = b.sound.cpu_known in
     let that = c.sound.cpu_known in
-    let bodies : le64 cpu ++ le64 count ≡ le64 cpu' ++ le64 count' = sym one.body_is ∙ two.body_is in
-    let cpus : cpu ≡ cpu' = sym (from_le64-le64 cpu (le64 count) (omega arith)) ∙ ap from_le64 bodies
-    ∙ from_le64-le64 cpu' (le64 count') (omega arith) in
-    let number : (n : ℕ) → n < 2 ^ 64 → from_le64 (le64 n) ≡ n = λ n fits. ap from_le64 (sym (append-nil (le64 n)))
-    ∙ from_le64-le64 n [] fits in
-    let counts : count ≡ count' =
-    sym (ap from_le64 (drop-le64 cpu (le64 count)) ∙ number count b.sound.count_fits)
-    ∙ ap (λ (x : List ℕ). from_le64 (drop 8 x)) bodies ∙ ap from_le64 (drop-le64 cpu' (le64 count'))
-    ∙ number count' c.sound.count_fits in
+    let kinds : kind_of_mark mark ≡ kind_of_mark mark' = sym one.kind_is ∙ two.kind_is in
+    let bodies : le64 cpu ++ numbers_of_mark mark ≡ le64 cpu' ++ numbers_of_mark mark' = sym one.body_is ∙ two.body_is in
+    let cpus : cpu ≡ cpu' = sym (from_le64-le64 cpu (numbers_of_mark mark) (omega arith)) ∙ ap from_le64 bodies
+    ∙ from_le64-le64 cpu' (numbers_of_mark mark') (omega arith) in
+    let marks : mark ≡ mark' = sym (stated_is cpu mark b.sound.sound) ∙ (λ i. mark_stated (kinds i) (bodies i))
+    ∙ stated_is cpu' mark' c.sound.sound in
     let streams : stream ≡ other = sym one.stream_is ∙ two.stream_is in
-    (λ i. end_piece (streams i) (cpus i) (counts i))
+    (λ i. mark_piece (streams i) (cpus i) (marks i))
 
-parcel_or_end : (bytes : List ℕ) (stream other : ℕ) (parcel : ParcelSeen) (time : ℕ) (contents : List ℕ)
-    (cpu count : ℕ) → BeginsWith bytes (parcel_piece stream parcel time contents)
-    → BeginsWith bytes (end_piece other cpu count) → ⊥
-parcel_or_end bytes stream other parcel time contents cpu count b c =
+parcel_or_mark : (bytes : List ℕ) (stream other : ℕ) (parcel : ParcelSeen) (time : ℕ) (contents : List ℕ)
+    (cpu : ℕ) (mark : Mark) → BeginsWith bytes (parcel_piece stream parcel time contents)
+    → BeginsWith bytes (mark_piece other cpu mark) → ⊥
+parcel_or_mark bytes stream other parcel time contents cpu mark b c =
     let one = (parcel_frame bytes stream parcel time contents b).kind_is in
-    let two = (end_frame bytes other cpu count c).kind_is in
+    let two = (mark_frame bytes other cpu mark c).kind_is in
+    let least = kind_least mark in
     omega arith
 
 pub one_piece : (bytes : List ℕ) (piece other : Packed) → BeginsWith bytes piece → BeginsWith bytes other
     → piece ≡ other
 one_piece bytes (parcel_piece stream parcel time contents) (parcel_piece other parcel' time' contents')
     b c = same_parcels bytes stream other parcel parcel' time time' contents contents' b c
-one_piece bytes (parcel_piece stream parcel time contents) (end_piece other cpu count) b c = absurd
-    (parcel_or_end bytes stream other parcel time contents cpu count b c)
-one_piece bytes (end_piece stream cpu count) (parcel_piece other parcel time contents) b c = absurd
-    (parcel_or_end bytes other stream parcel time contents cpu count c b)
-one_piece bytes (end_piece stream cpu count) (end_piece other cpu' count')
-    b c = same_ends bytes stream other cpu cpu' count count' b c
+one_piece bytes (parcel_piece stream parcel time contents) (mark_piece other cpu mark) b c = absurd
+    (parcel_or_mark bytes stream other parcel time contents cpu mark b c)
+one_piece bytes (mark_piece stream cpu mark) (parcel_piece other parcel time contents) b c = absurd
+    (parcel_or_mark bytes other stream parcel time contents cpu mark c b)
+one_piece bytes (mark_piece stream cpu mark) (mark_piece other cpu' mark')
+    b c = same_marks bytes stream other cpu cpu' mark mark' b c
 
 pub rest_is : (bytes : List ℕ) (piece : Packed) (b : BeginsWith bytes piece) → b.rest ≡ drop (length_in bytes) bytes
 rest_is bytes (parcel_piece stream parcel time contents) b = sym
     (parcel_frame bytes stream parcel time contents b).rest_is
-rest_is bytes (end_piece stream cpu count) b = sym (end_frame bytes stream cpu count b).rest_is
+rest_is bytes (mark_piece stream cpu mark) b = sym (mark_frame bytes stream cpu mark b).rest_is

@@ -4,10 +4,11 @@ use Rattle.trace_model.specs.FirstFault.{AreBytes}
 use Rattle.trace_model.proofs.words.OneWord.{AreBytes-drop}
 use Rattle.trace_model.specs.Image.{le64}
 use Rattle.trace_model.specs.ParcelBytes.{bytes_of_parcel}
-use Rattle.parcel_streams.specs.Pieces.{Packed, parcel_piece, end_piece, bytes_of_piece, IsPiece, BeginsWith, AreAllPieces, bytes_of_pieces, IsStream}
+use Rattle.parcel_streams.specs.Pieces.{Packed, parcel_piece, mark_piece, kind_of_mark, numbers_of_mark, bytes_of_piece, IsPiece, BeginsWith, AreAllPieces, bytes_of_pieces, IsStream}
 use Rattle.parcel_streams.specs.Faults.{PieceCause, FirstPieceFault, FirstStreamFault, length_in}
 use Rattle.parcel_streams.proofs.Frames.{length-sealed}
-use Rattle.parcel_streams.proofs.Readings.{length-body, length-end, one_piece, rest_is}
+use Rattle.parcel_streams.proofs.Marks.{kind_least, kind_most, length-mark, mark_least}
+use Rattle.parcel_streams.proofs.Readings.{length-body, one_piece, rest_is}
 use Rattle.parcel_streams.proofs.OneFault.{one_fault, piece_no_fault, piece_or_fault}
 
 -- ---- more pieces
@@ -36,8 +37,10 @@ piece_len (parcel_piece stream parcel time contents) =
       length-body parcel
           time contents,
     )
-piece_len (end_piece stream cpu count) = omega
-    (arith, length-sealed 1 stream (le64 cpu ++ le64 count), length-end cpu count)
+piece_len (mark_piece stream cpu mark) =
+    let kind : ℕ = kind_of_mark mark in
+    let least = mark_least kind (kind_least mark) (kind_most mark) in
+    omega (arith, length-sealed kind stream (le64 cpu ++ numbers_of_mark mark), length-mark cpu mark)
 
 pub joined_streams : (bytes behind : List ℕ) (pieces others : List Packed) → IsStream bytes pieces
     → IsStream behind others → IsStream (bytes ++ behind) (pieces ++ others)

@@ -1,6 +1,6 @@
 -- What the calls answer, in the words of the definitions.
-use Rattle.std.specs.Prelude.{◌≡◌, ◌≢◌, ℕ, ◌^◌, ◌<◌, ◌≤◌, ◌⊎◌, List, [], ◌∷◌, ◌++◌, length, map}
-use Rattle.trace_model.specs.Image.{from_le64}
+use Rattle.std.specs.Prelude.{◌≡◌, ℕ, ◌^◌, ◌<◌, ◌≤◌, ◌==◌, if◌then◌else◌, List, [], ◌∷◌, ◌++◌, length, drop, map}
+use Rattle.trace_model.specs.Image.{le64, from_le64}
 use Rattle.trace_model.specs.ParcelBytes.{bytes_of_parcel, DecodesParcel, ParcelCause, FirstParcelFault}
 use Rattle.trace_model.specs.Parcel.{Parcel as ParcelSeen}
 use Rattle.page_numbers.specs.declared.fault.ParcelFault.{ParcelFault}
@@ -8,15 +8,16 @@ use Rattle.page_numbers.specs.declared.fault.ParcelFault.TheVariants.{Image, Num
 use Rattle.page_numbers.specs.Parcels.{ParcelValue, as_parcel}
 use Rattle.page_numbers.specs.Faults.{parcel_fault}
 use Rattle.trace_model.specs.declared.limits.TheConstants.{MAX_CPUS}
+use Rattle.parcel_streams.specs.declared.piece.Mark.{Mark}
+use Rattle.parcel_streams.specs.declared.piece.Mark.TheVariants.{End, Forgotten, Undelivered}
 use Rattle.parcel_streams.specs.declared.piece.Piece.{Piece}
-use Rattle.parcel_streams.specs.declared.piece.Piece.TheVariants.{Parcel as ParcelIs, End as EndIs}
+use Rattle.parcel_streams.specs.declared.piece.Piece.TheVariants.{Parcel as ParcelIs, Mark as MarkIs}
 use Rattle.parcel_streams.specs.declared.frame.Frame.{Frame}
-use Rattle.parcel_streams.specs.declared.limits.TheConstants.{END_BODY}
 use Rattle.parcel_streams.specs.declared.fault.StreamFault.{StreamFault}
 use Rattle.parcel_streams.specs.declared.fault.PieceFault.{PieceFault}
-use Rattle.parcel_streams.specs.declared.fault.PieceFault.TheVariants.{NotPacked, Cut, BadVersion, BadLength, BadSum, BadKind, Parcel, Loose, BadEnd, NoMemory}
-use Rattle.parcel_streams.specs.Pieces.{Packed, parcel_piece, end_piece, sealed, bytes_of_piece, IsPiece, BeginsWith}
-use Rattle.parcel_streams.specs.Faults.{IsSealed, kind_in, stream_in, body_in, length_in, IsFitted, IsLoose, PieceCause, not_packed, cut, bad_version, bad_length, bad_sum, bad_kind, bad_parcel, loose, bad_end, FirstPieceFault, ReadsTo}
+use Rattle.parcel_streams.specs.declared.fault.PieceFault.TheVariants.{NotPacked, Cut, BadVersion, BadLength, BadSum, BadKind, Parcel, Loose, BadMark, NoMemory}
+use Rattle.parcel_streams.specs.Pieces.{Packed, parcel_piece, mark_piece, kind_of_mark, numbers_of_mark, IsMark, sealed, bytes_of_piece, IsPiece, BeginsWith}
+use Rattle.parcel_streams.specs.Faults.{IsSealed, kind_in, stream_in, body_in, length_in, IsFitted, IsLoose, IsBadMark, PieceCause, not_packed, cut, bad_version, bad_length, bad_sum, bad_kind, bad_parcel, loose, bad_mark, FirstPieceFault, ReadsTo}
 
 -- the model's piece of a parcel, which has the page's time and data and not its room
 abbrev pub piece_of_parcel : ℕ → ParcelValue → Packed
@@ -25,7 +26,7 @@ piece_of_parcel stream parcel = parcel_piece stream (as_parcel parcel) parcel.pa
 -- the model's piece
 abbrev pub piece_seen : Piece → Packed
 piece_seen (ParcelIs stream parcel) = piece_of_parcel stream.0 parcel
-piece_seen (EndIs stream cpu count) = end_piece stream.0 cpu.0 count
+piece_seen (MarkIs stream cpu mark) = mark_piece stream.0 cpu.0 mark
 
 abbrev pub pieces_seen : List Piece → List Packed
 pieces_seen pieces = map piece_seen pieces
@@ -51,7 +52,7 @@ piece_fault bad_sum = BadSum
 piece_fault bad_kind = BadKind
 piece_fault (bad_parcel cause) = Parcel (parcel_fault cause)
 piece_fault loose = Loose
-piece_fault bad_end = BadEnd
+piece_fault bad_mark = BadMark
 
 -- the bytes begin with some piece
 abbrev pub HasPiece : List ℕ → Type 0
@@ -69,7 +70,7 @@ IsPieceFault bytes BadKind = FirstPieceFault bytes bad_kind
 IsPieceFault bytes (Parcel fault) =
     (cause : ParcelCause) × (fault ≡ parcel_fault cause) × FirstPieceFault bytes (bad_parcel cause)
 IsPieceFault bytes Loose = FirstPieceFault bytes loose
-IsPieceFault bytes BadEnd = FirstPieceFault bytes bad_end
+IsPieceFault bytes BadMark = FirstPieceFault bytes bad_mark
 IsPieceFault bytes NoMemory = HasPiece bytes
 
 -- ---- parts of a piece
@@ -90,6 +91,19 @@ pub record IsParcelBody (body : List ℕ) (parcel : ParcelValue) : Type 0 where
       ≡ bytes_of_parcel (as_parcel parcel) parcel.page.time parcel.page.bytes (length parcel.page.bytes)
   pub sound : (stream : ℕ) → stream < 2 ^ 64 → IsPiece (piece_of_parcel stream parcel)
 
+-- the mark of this kind that a body states: its numbers are behind the CPU's
+abbrev pub mark_stated : (kind : ℕ) → List ℕ → Mark
+mark_stated kind body =
+    let first = from_le64 (drop 8 body) in
+    if kind == 1 then End first else (if kind == 2 then Forgotten first else Undelivered first (from_le64 (drop 16 body)))
+
+-- the body is that of this mark, whose kind this is, of this CPU
+pub record IsMarkBody (kind : ℕ) (body : List ℕ) (cpu : ℕ) (mark : Mark) : Type 0 where
+  pub kind_is : kind_of_mark mark ≡ kind
+  pub body_is : body ≡ le64 cpu ++ numbers_of_mark mark
+  pub cpu_known : cpu < MAX_CPUS
+  pub sound : IsMark mark
+
 -- the frame is that of this piece
 pub record HasBody (frame : Frame) (piece : Piece) : Type 0 where
   pub sound : IsPiece (piece_seen piece)
@@ -102,11 +116,11 @@ IsBodyFault kind body Cut = ⊥
 IsBodyFault kind body BadVersion = ⊥
 IsBodyFault kind body BadLength = ⊥
 IsBodyFault kind body BadSum = ⊥
-IsBodyFault kind body BadKind = 1 < kind
+IsBodyFault kind body BadKind = 3 < kind
 IsBodyFault kind body (Parcel fault) =
     (kind ≡ 0) × ((cause : ParcelCause) × (fault ≡ parcel_fault cause) × FirstParcelFault body cause)
 IsBodyFault kind body Loose = (kind ≡ 0) × IsLoose body
-IsBodyFault kind body BadEnd = (kind ≡ 1) × ((length body ≢ END_BODY) ⊎ (MAX_CPUS ≤ from_le64 body))
+IsBodyFault kind body BadMark = (1 ≤ kind) × (kind ≤ 3) × IsBadMark kind body
 IsBodyFault kind body NoMemory =
     (kind ≡ 0) × ((parcel : ParcelSeen) × DecodesParcel body parcel × IsFitted body parcel)
 

@@ -1,11 +1,11 @@
 -- What is wrong with a stream: the first fault of its first piece that can't be read. A fault excludes those before it.
-use Rattle.std.specs.Prelude.{◌≡◌, ◌≢◌, ℕ, ◌-◌, ◌/◌, ◌%◌, ◌^◌, ◌<◌, ◌≤◌, ◌⊎◌, List, ◌++◌, length, take, drop}
+use Rattle.std.specs.Prelude.{◌≡◌, ◌≢◌, ℕ, ◌-◌, ◌/◌, ◌%◌, ◌^◌, ◌<◌, ◌≤◌, ◌⊎◌, ◌==◌, if◌then◌else◌, List, ◌++◌, length, take, drop}
 use Rattle.crc32c.specs.Castagnoli.{crc32c}
 use Rattle.trace_model.specs.Image.{le64, from_le64}
 use Rattle.trace_model.specs.Parcel.{Parcel}
 use Rattle.trace_model.specs.ParcelBytes.{bytes_of_parcel, DecodesParcel, ParcelCause, FirstParcelFault}
 use Rattle.trace_model.specs.declared.limits.TheConstants.{MAX_CPUS}
-use Rattle.parcel_streams.specs.declared.limits.TheConstants.{HEAD, END_PIECE, MAX_PIECE, SUM}
+use Rattle.parcel_streams.specs.declared.limits.TheConstants.{HEAD, MIN_PIECE, MAX_PIECE, SUM, NUMBER_BODY, RUN_BODY}
 use Rattle.parcel_streams.specs.Pieces.{Packed, magic, AreAllPieces, bytes_of_pieces}
 
 -- ---- what the first bytes state
@@ -50,16 +50,28 @@ pub record HasVersion (bytes : List ℕ) : Type 0 where
   pub head : HasHead bytes
   pub version_is : version_in bytes ≡ 1
 
--- and they state a length that a piece may have: that of an end, that of a parcel with the most data, or one between
+-- and they state a length that a piece may have: that of the least mark, of a parcel with the most data, or one between
 pub record HasLength (bytes : List ℕ) : Type 0 where
   pub version : HasVersion bytes
-  pub least : END_PIECE ≤ length_in bytes
+  pub least : MIN_PIECE ≤ length_in bytes
   pub most : length_in bytes ≤ MAX_PIECE
 
 -- and as many bytes are there
 pub record IsWhole (bytes : List ℕ) : Type 0 where
   pub stated : HasLength bytes
   pub there : length_in bytes ≤ length bytes
+
+-- The bytes decide what the piece at the front is: its head is there, and all that it states if it states a length that a
+-- piece may have. More bytes change nothing.
+pub record IsDecided (bytes : List ℕ) : Type 0 where
+  pub long : HEAD ≤ length bytes
+  pub there : HasLength bytes → length_in bytes ≤ length bytes
+
+-- So many bytes decide it: a head, then what it states; and where it states nothing that may be, those that are there.
+pub record IsWanted (bytes : List ℕ) (wanted : ℕ) : Type 0 where
+  pub short : length bytes < HEAD → wanted ≡ HEAD
+  pub stated : HasLength bytes → wanted ≡ length_in bytes
+  pub faulty : HEAD ≤ length bytes → ¬ HasLength bytes → wanted ≡ length bytes
 
 -- and the last eight of them are the checksum of the others
 pub record IsSealed (bytes : List ℕ) : Type 0 where
@@ -71,10 +83,11 @@ pub record HoldsParcel (bytes : List ℕ) : Type 0 where
   pub seal : IsSealed bytes
   pub kind_is : kind_in bytes ≡ 0
 
--- or an end
-pub record HoldsEnd (bytes : List ℕ) : Type 0 where
+-- or a mark
+pub record HoldsMark (bytes : List ℕ) : Type 0 where
   pub seal : IsSealed bytes
-  pub kind_is : kind_in bytes ≡ 1
+  pub kind_least : 1 ≤ kind_in bytes
+  pub kind_most : kind_in bytes ≤ 3
 
 -- The bytes are those that are written for this parcel and a page whose size is the length of its data.
 abbrev pub IsFitted : List ℕ → Parcel → Type 0
@@ -85,8 +98,9 @@ IsFitted body parcel =
 
 -- not_packed: it doesn't begin with the magic. cut: it ends before its head does, or before its stated length.
 -- bad_version: another version. bad_length: no piece has the stated length. bad_sum: another checksum. bad_kind:
--- neither a parcel nor an end. bad_parcel: a parcel's bytes have this first fault. loose: they are a parcel, in another
--- spelling than the one that is written. bad_end: an end of another length, or of a CPU that there isn't.
+-- neither a parcel nor a mark. bad_parcel: a parcel's bytes have this first fault. loose: they are a parcel, in another
+-- spelling than the one that is written. bad_mark: a mark of another length, of a CPU that there isn't, or that says
+-- nothing.
 pub data PieceCause : Type 0 where
   not_packed : PieceCause
   cut : PieceCause
@@ -96,7 +110,7 @@ pub data PieceCause : Type 0 where
   bad_kind : PieceCause
   bad_parcel : (cause : ParcelCause) → PieceCause
   loose : PieceCause
-  bad_end : PieceCause
+  bad_mark : PieceCause
 
 -- the first bytes of the piece are there, and not its head; or its head, and not all that it states
 abbrev pub IsCut : List ℕ → Type 0
@@ -108,9 +122,19 @@ pub record IsLoose (body : List ℕ) : Type 0 where
   pub reads : DecodesParcel body parcel
   pub otherwise : ¬ IsFitted body parcel
 
--- an end has another length, or its CPU isn't one
-abbrev pub IsBadEnd : List ℕ → Type 0
-IsBadEnd bytes = (length_in bytes ≢ END_PIECE) ⊎ (MAX_CPUS ≤ from_le64 (body_in bytes))
+-- how many bytes a mark of this kind has of its own: its CPU, and one number, or the two of a run
+abbrev pub mark_body : (kind : ℕ) → ℕ
+mark_body kind = if kind == 3 then RUN_BODY else NUMBER_BODY
+
+-- a mark of this kind says nothing: nothing is below its bound, or no number is in its run
+abbrev pub IsEmptyMark : (kind first end : ℕ) → Type 0
+IsEmptyMark kind first end = ((kind ≡ 2) × (first ≡ 0)) ⊎ ((kind ≡ 3) × (end ≤ first))
+
+-- a mark has another length than its kind, or its CPU isn't one, or it says nothing
+abbrev pub IsBadMark : (kind : ℕ) → List ℕ → Type 0
+IsBadMark kind body =
+    (length body ≢ mark_body kind) ⊎ ((MAX_CPUS ≤ from_le64 body)
+    ⊎ IsEmptyMark kind (from_le64 (drop 8 body)) (from_le64 (drop 16 body)))
 
 -- The first fault of the first piece, the causes being looked at in this order.
 abbrev pub FirstPieceFault : List ℕ → PieceCause → Type 0
@@ -118,12 +142,12 @@ FirstPieceFault bytes not_packed = ¬ HasMagic bytes
 FirstPieceFault bytes cut = IsCut bytes
 FirstPieceFault bytes bad_version = HasHead bytes × (version_in bytes ≢ 1)
 FirstPieceFault bytes bad_length =
-    HasVersion bytes × ((length_in bytes < END_PIECE) ⊎ (MAX_PIECE < length_in bytes))
+    HasVersion bytes × ((length_in bytes < MIN_PIECE) ⊎ (MAX_PIECE < length_in bytes))
 FirstPieceFault bytes bad_sum = IsWhole bytes × (sum_in bytes ≢ le64 (crc32c (summed_in bytes)))
-FirstPieceFault bytes bad_kind = IsSealed bytes × (1 < kind_in bytes)
+FirstPieceFault bytes bad_kind = IsSealed bytes × (3 < kind_in bytes)
 FirstPieceFault bytes (bad_parcel cause) = HoldsParcel bytes × FirstParcelFault (body_in bytes) cause
 FirstPieceFault bytes loose = HoldsParcel bytes × IsLoose (body_in bytes)
-FirstPieceFault bytes bad_end = HoldsEnd bytes × IsBadEnd bytes
+FirstPieceFault bytes bad_mark = HoldsMark bytes × IsBadMark (kind_in bytes) (body_in bytes)
 
 -- So many whole pieces are at the front, which take so many bytes, and this follows them.
 pub record ReadsTo (bytes : List ℕ) (index at : ℕ) (rest : List ℕ) : Type 0 where

@@ -1,16 +1,15 @@
-//! What a piece has of its own kind: a parcel, or the end of a CPU's records.
-ghost use Rattle.std.specs.Prelude.{◌≡◌, ◌≢◌, ◌+◌, ◌≤◌, ◌<◌, ◌^◌, ◌⊎◌, ◌++◌, ◌↔◌, IsTrue, IfOk, IfErr, OnErr, length};
-ghost use Rattle.trace_model.specs.Image.{le64, from_le64};
+//! What a piece has of its own kind: a parcel, or a mark.
+ghost use Rattle.std.specs.Prelude.{◌≡◌, ◌+◌, ◌≤◌, ◌↔◌, IsTrue, IfOk, IfErr, OnErr, length};
 ghost use Rattle.trace_model.specs.Parcel.{Parcel as ParcelSeen};
 ghost use Rattle.trace_model.specs.ParcelBytes.{DecodesParcel};
-ghost use Rattle.trace_model.specs.declared.limits.TheConstants.{MAX_CPUS, MAX_SIZE};
-ghost use Rattle.parcel_streams.specs.Faults.{IsFitted};
-ghost use Rattle.parcel_streams.specs.Answers.{IsParcelBody, IsBodyFault, HasBody};
+ghost use Rattle.trace_model.specs.declared.limits.TheConstants.{MAX_SIZE};
+ghost use Rattle.parcel_streams.specs.Faults.{mark_body, IsBadMark, IsFitted};
+ghost use Rattle.parcel_streams.specs.Answers.{IsParcelBody, IsBodyFault, HasBody, mark_stated, IsMarkBody};
 
 use crate::fault::PieceFault;
 use crate::frame::Frame;
-use crate::limits::{END_BODY, PARCEL_HEAD};
-use crate::piece::Piece;
+use crate::limits::{NUMBER_BODY, PARCEL_HEAD, RUN_BODY};
+use crate::piece::{END, FORGOTTEN, Mark, Piece, UNDELIVERED};
 use page_image::{commit_number, number_at};
 use page_numbers::Parcel;
 use std::alloc::Global;
@@ -18,9 +17,6 @@ use trace_model::{CpuId, MAX_CPUS};
 
 /// The kind of a parcel.
 pub(crate) const PARCEL: u64 = 0;
-
-/// The kind of the end of a CPU's records.
-pub(crate) const END: u64 = 1;
 
 /// Whether these bytes, if they are a parcel's, are those that are written for it where its page is as long as its
 /// data.
@@ -61,21 +57,52 @@ fn read_parcel(alloc: Global, body: &[u8]) -> Result<Parcel, PieceFault>
     Ok(Parcel::from_bytes(alloc, body)?)
 }
 
-/// Which CPU has no more records, and how many it has.
-fn read_end(body: &[u8]) -> Result<(CpuId, u64), PieceFault>
-    ensures bytes { IfOk result (λ end. body.now ≡ le64 end.0.0 ++ le64 end.1) }
-    ensures known { IfOk result (λ end. end.0.0 < MAX_CPUS) }
-    ensures fault { IfErr result (λ fault. fault ≡ PieceFault.BadEnd) }
-    ensures bad { OnErr result ((length body.now ≢ END_BODY) ⊎ (MAX_CPUS ≤ from_le64 body.now)) }
+/// How many bytes a mark of this kind has of its own.
+fn mark_body(kind: u64) -> usize
+    ensures { result ≡ mark_body kind }
 {
-    if body.len() != END_BODY {
-        return Err(PieceFault::BadEnd);
+    if kind == UNDELIVERED {
+        RUN_BODY
+    } else {
+        NUMBER_BODY
+    }
+}
+
+/// The mark of this kind that these bytes state.
+fn mark_in(kind: u64, body: &[u8]) -> Mark
+    requires least { END ≤ kind }
+    requires most { kind ≤ UNDELIVERED }
+    requires len { length body.now ≡ mark_body kind }
+    ensures { result ≡ mark_stated kind body.now }
+{
+    let first = number_at(body, 8);
+    match kind {
+        END => Mark::End(first),
+        FORGOTTEN => Mark::Forgotten(first),
+        _ => Mark::Undelivered(first, number_at(body, 16)),
+    }
+}
+
+/// What is said of which CPU.
+fn read_mark(kind: u64, body: &[u8]) -> Result<(CpuId, Mark), PieceFault>
+    requires least { END ≤ kind }
+    requires most { kind ≤ UNDELIVERED }
+    ensures mark { IfOk result (λ read. IsMarkBody kind body.now read.0.0 read.1) }
+    ensures fault { IfErr result (λ fault. fault ≡ PieceFault.BadMark) }
+    ensures bad { OnErr result (IsBadMark kind body.now) }
+{
+    if body.len() != mark_body(kind) {
+        return Err(PieceFault::BadMark);
     }
     let cpu = number_at(body, 0);
     if cpu >= u64::from(MAX_CPUS) {
-        return Err(PieceFault::BadEnd);
+        return Err(PieceFault::BadMark);
     }
-    Ok((CpuId(cpu as u32), number_at(body, 8)))
+    let mark = mark_in(kind, body);
+    if !mark.is_sound() {
+        return Err(PieceFault::BadMark);
+    }
+    Ok((CpuId(cpu as u32), mark))
 }
 
 /// The piece of this frame.
@@ -86,9 +113,9 @@ pub(crate) fn read_body(alloc: Global, frame: Frame<'_>) -> Result<Piece, PieceF
 {
     match frame.kind {
         PARCEL => Ok(Piece::Parcel(frame.stream, read_parcel(alloc, frame.body)?)),
-        END => {
-            let (cpu, count) = read_end(frame.body)?;
-            Ok(Piece::End(frame.stream, cpu, count))
+        END..=UNDELIVERED => {
+            let (cpu, mark) = read_mark(frame.kind, frame.body)?;
+            Ok(Piece::Mark(frame.stream, cpu, mark))
         }
         _ => Err(PieceFault::BadKind),
     }

@@ -17,15 +17,16 @@ pub enum PieceFault {
     BadLength,
     /// The checksum isn't that of the bytes before it.
     BadSum,
-    /// It is neither a parcel nor the end of a CPU's records.
+    /// It is neither a parcel nor a mark.
     BadKind,
     /// The parcel has this fault, which isn't `ParcelFault::NoMemory`.
     Parcel(ParcelFault),
     /// The bytes read as a parcel, and aren't those that are written for it: more follow its page's data, or its image
     /// stores a count of missed records, or has bits set that mean nothing.
     Loose,
-    /// The piece that says that a CPU has no more records isn't 56 bytes long, or there is no such CPU.
-    BadEnd,
+    /// The mark is of another length than its kind, or there is no such CPU; or it says nothing: its bound is 0, or the
+    /// second number of its run isn't above the first one.
+    BadMark,
     /// Memory was refused. The bytes have a piece at their front.
     NoMemory,
 }

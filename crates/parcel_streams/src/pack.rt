@@ -2,13 +2,13 @@
 ghost use Rattle.std.specs.Prelude.{◌≡◌, ◌+◌, ◌≤◌, ◌<◌, ◌++◌, IfOk, OnOk, length};
 ghost use Rattle.trace_model.specs.Image.{le64};
 ghost use Rattle.trace_model.specs.declared.limits.TheConstants.{MAX_CPUS, MAX_SIZE};
-ghost use Rattle.parcel_streams.specs.Pieces.{sealed, bytes_of_piece, end_piece, IsPiece};
+ghost use Rattle.parcel_streams.specs.Pieces.{sealed, bytes_of_piece, mark_piece, numbers_of_mark, IsMark, IsPiece};
 ghost use Rattle.parcel_streams.specs.Answers.{piece_of_parcel};
 
-use crate::body::{END, PARCEL};
+use crate::body::PARCEL;
 use crate::frame::{KIND, MAGIC, VERSION};
-use crate::limits::{END_BODY, HEAD, PARCEL_HEAD, SUM};
-use crate::piece::StreamId;
+use crate::limits::{HEAD, PARCEL_HEAD, RUN_BODY, SUM};
+use crate::piece::{Mark, StreamId, UNDELIVERED};
 use crc32c::crc32c;
 use page_numbers::Parcel;
 use std::alloc::{AllocError, Global};
@@ -24,7 +24,7 @@ fn put_number(bytes: &mut Vec<u8>, number: u64) -> Result<(), AllocError>
 
 /// A piece of this kind, with what the kind has of its own.
 fn seal(alloc: Global, kind: u64, stream: StreamId, body: &[u8]) -> Result<Vec<u8>, NoMemory>
-    requires kind { kind ≤ END }
+    requires kind { kind ≤ UNDELIVERED }
     requires limit { length body.now ≤ PARCEL_HEAD + MAX_SIZE }
     ensures { IfOk result (λ bytes. bytes.items ≡ sealed kind stream.0 body.now) }
 {
@@ -49,19 +49,34 @@ pub fn pack_parcel(alloc: Global, stream: StreamId, parcel: &Parcel) -> Result<V
     seal(alloc, PARCEL, stream, &body)
 }
 
-/// The bytes of the piece which says that this CPU of the stream has `count` records, and none of this number or above.
-pub fn pack_end(
+/// Puts the numbers of a mark after the bytes.
+fn put_mark(bytes: &mut Vec<u8>, mark: &Mark) -> Result<(), AllocError>
+    ensures { OnOk result (bytes.new.items ≡ bytes.old.items ++ numbers_of_mark mark.now) }
+{
+    match *mark {
+        Mark::End(count) => put_number(bytes, count),
+        Mark::Forgotten(bound) => put_number(bytes, bound),
+        Mark::Undelivered(first, end) => {
+            put_number(bytes, first)?;
+            put_number(bytes, end)
+        }
+    }
+}
+
+/// The bytes of the piece which says this of a CPU of the stream.
+pub fn pack_mark(
     alloc: Global,
     stream: StreamId,
     cpu: CpuId,
-    count: u64,
+    mark: Mark,
 ) -> Result<Vec<u8>, NoMemory>
-    requires { cpu.0 < MAX_CPUS }
-    ensures bytes { IfOk result (λ bytes. bytes.items ≡ bytes_of_piece (end_piece stream.0 cpu.0 count)) }
-    ensures sound { IsPiece (end_piece stream.0 cpu.0 count) }
+    requires known { cpu.0 < MAX_CPUS }
+    requires sound { IsMark mark }
+    ensures bytes { IfOk result (λ bytes. bytes.items ≡ bytes_of_piece (mark_piece stream.0 cpu.0 mark)) }
+    ensures sound { IsPiece (mark_piece stream.0 cpu.0 mark) }
 {
-    let mut body = Vec::with_capacity(alloc, END_BODY)?;
+    let mut body = Vec::with_capacity(alloc, RUN_BODY)?;
     put_number(&mut body, u64::from(cpu.0))?;
-    put_number(&mut body, count)?;
-    seal(alloc, END, stream, &body)
+    put_mark(&mut body, &mark)?;
+    seal(alloc, mark.kind(), stream, &body)
 }

@@ -1,7 +1,7 @@
 -- The runs of the numbers of a kind.
-use Rattle.std.proofs.Common.{◌≡◌, ◌↔◌, ℕ, ◌+◌, ◌-◌, ◌<◌, ◌≤◌, Bool, true, false, ◌&&◌, [], ◌∷◌, Some, None, ⊎_elim}
-use Rattle.std.proofs.Common.{inl, inr, refl, sym, subst, max, arith}
-use Rattle.std.proofs.lemmas.Bool.{false≢true, cases_lt, cases_eq}
+use Rattle.std.proofs.Common.{◌≡◌, ◌↔◌, ◌⊎◌, ℕ, ◌+◌, ◌-◌, ◌<◌, ◌≤◌, Bool, true, false, ltb, ◌&&◌, ◌||◌, [], ◌∷◌, Some}
+use Rattle.std.proofs.Common.{None, ⊎_elim, inl, inr, refl, sym, subst, max, arith}
+use Rattle.std.proofs.lemmas.Bool.{false≢true, cases_lt, cases_eq, lt-ltb, ltb-true}
 use Rattle.trace_model.specs.Runs.{AreRuns}
 use Rattle.collector.specs.declared.kinds.Kind.TheVariants.{Missing as MissingThere, Unknown as UnknownThere}
 use Rattle.collector.specs.Shown.{IsUnknown}
@@ -29,19 +29,42 @@ right_true : (a b : Bool) → (a && b) ≡ true → b ≡ true
 right_true true b e = e
 right_true false b e = absurd (false≢true e)
 
+first_true : (a b : Bool) → a ≡ true → (a || b) ≡ true
+first_true true b e = refl
+first_true false b e = absurd (false≢true e)
+
+other_true : (a b : Bool) → b ≡ true → (a || b) ≡ true
+other_true true b e = refl
+other_true false b e = e
+
+one_true : (a b : Bool) → (a || b) ≡ true → (a ≡ true) ⊎ (b ≡ true)
+one_true true b e = inl refl
+one_true false b e = inr e
+
 true_of : (kind : Kind) (s : Stream) (cpu n : ℕ) → IsOfKind kind s cpu n → is_of_kind kind s cpu n ≡ true
 true_of Missing s cpu n m = is_of_true MissingThere s.parcels cpu n m
-true_of Undelivered s cpu n both = both_true (is_missed s.given_up cpu n) (is_unknown s.parcels cpu n)
-    (is_of_true MissingThere s.given_up cpu n both.0) (is_of_true UnknownThere s.parcels cpu n both.1)
+true_of Undelivered s cpu n both = both_true (is_missed s.given_up cpu n)
+    (ltb n (bound_of s cpu) || is_unknown s.parcels cpu n) (is_of_true MissingThere s.given_up cpu n both.0)
+    (⊎_elim
+    (λ (below : n < bound_of s cpu). first_true (ltb n (bound_of s cpu)) (is_unknown s.parcels cpu n)
+    (lt-ltb n (bound_of s cpu) below))
+    (λ (unknown : IsUnknown s.parcels cpu n). other_true (ltb n (bound_of s cpu)) (is_unknown s.parcels cpu n)
+    (is_of_true UnknownThere s.parcels cpu n unknown))
+    both.1)
 true_of Open s cpu n both = both_true (is_unknown s.given_up cpu n) (is_unknown s.parcels cpu n)
     (is_of_true UnknownThere s.given_up cpu n both.0) (is_of_true UnknownThere s.parcels cpu n both.1)
 
 of_true : (kind : Kind) (s : Stream) (cpu n : ℕ) → is_of_kind kind s cpu n ≡ true → IsOfKind kind s cpu n
 of_true Missing s cpu n e = of_is_true MissingThere s.parcels cpu n e
-of_true Undelivered s cpu n e = (
-  of_is_true MissingThere s.given_up cpu n (left_true (is_missed s.given_up cpu n) (is_unknown s.parcels cpu n) e),
-  of_is_true UnknownThere s.parcels cpu n (right_true (is_missed s.given_up cpu n) (is_unknown s.parcels cpu n) e),
-)
+of_true Undelivered s cpu n e =
+    let not_known : Bool = ltb n (bound_of s cpu) || is_unknown s.parcels cpu n in (
+      of_is_true MissingThere s.given_up cpu n (left_true (is_missed s.given_up cpu n) not_known e),
+      ⊎_elim
+          (λ below. inl (ltb-true n (bound_of s cpu) below))
+          (λ unknown. inr (of_is_true UnknownThere s.parcels cpu n unknown))
+          (one_true (ltb n (bound_of s cpu)) (is_unknown s.parcels cpu n)
+          (right_true (is_missed s.given_up cpu n) not_known e)),
+    )
 of_true Open s cpu n e = (
   of_is_true UnknownThere s.given_up cpu n (left_true (is_unknown s.given_up cpu n) (is_unknown s.parcels cpu n) e),
   of_is_true UnknownThere s.parcels cpu n (right_true (is_unknown s.given_up cpu n) (is_unknown s.parcels cpu n) e),
@@ -64,10 +87,10 @@ first_run_left kind s cpu n end first stop run =
     (λ m from below. true_of kind s cpu m (run.run m from below))
     (λ below. false_of kind s cpu stop (run.stops below))
 
--- from the bound on they are all of them
-pub all_runs : (kind : Kind) (s : Stream) (cpu end from : ℕ) → from ≡ bound_of s cpu
-    → AreRuns (IsOfKindWithin kind s cpu end) (runs_from kind s cpu from end)
-all_runs kind s cpu end from is =
+-- they are all of them
+pub all_runs : (kind : Kind) (s : Stream) (cpu from end : ℕ)
+    → AreRuns (IsOfKindWithin kind s cpu from end) (runs_from kind s cpu from end)
+all_runs kind s cpu from end =
     same_runs {P = Passes (is_of_kind kind s cpu) from (from + (end - from))} (runs_from kind s cpu from end)
     (λ m p. let a = p.from in let b = p.below in record {
       from = omega arith;

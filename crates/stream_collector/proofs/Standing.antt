@@ -13,7 +13,7 @@ use Rattle.collector.proofs.OfKind.{known_unless, is_of_true, of_is_true}
 use Rattle.collector.proofs.Stretches.{is_missed_true, misses_of_true}
 use Rattle.stream_collector.specs.Marking.{IsReached, by_bound, by_parcels, by_given_up}
 use Rattle.stream_collector.specs.Stream.{Stream, bound_of, IsAccounted, has_record, is_missing, is_undelivered}
-use Rattle.stream_collector.specs.Stream.{HaveNoRecord}
+use Rattle.stream_collector.specs.Stream.{HaveNoRecord, IsNotKnown}
 
 -- a number is known, or nothing is known of it
 pub known_or_not : (ps : List Parcel) (cpu n : ℕ) → IsUnknown ps cpu n ⊎ IsKnown ps cpu n
@@ -29,10 +29,17 @@ known_accounted s cpu n from known = ⊎_elim
     (λ (m : Misses s.parcels cpu n). is_missing record { from = from; misses = m })
     known
 
+-- from the bound on, what isn't known the parcels don't know
+pub unknown_from : (s : Stream) (cpu n : ℕ) → bound_of s cpu ≤ n → IsNotKnown s cpu n → IsUnknown s.parcels cpu n
+unknown_from s cpu n from not_known = ⊎_elim
+    (λ (below : n < bound_of s cpu). absurd (omega arith))
+    (λ (unknown : IsUnknown s.parcels cpu n). unknown)
+    not_known
+
 pub given_up_accounted : (s : Stream) (cpu n : ℕ) → bound_of s cpu ≤ n → Misses s.given_up cpu n → IsAccounted s cpu n
 given_up_accounted s cpu n from given_up = ⊎_elim
     (λ (unknown : IsUnknown s.parcels cpu n).
-    is_undelivered record { from = from; given_up = given_up; unknown = unknown })
+    is_undelivered from record { given_up = given_up; not_known = inr unknown })
     (λ known. known_accounted s cpu n from known)
     (known_or_not s.parcels cpu n)
 

@@ -11,9 +11,10 @@ use Rattle.collector.proofs.Known.{filtered_from}
 use Rattle.stream_collector.specs.declared.marks.Marks.{Marks}
 use Rattle.stream_collector.specs.Marks.{bounds_of}
 use Rattle.stream_collector.specs.Stream.{Stream, bound_of, end_of, HasRecord, IsMissing, IsUndelivered, IsOpen}
-use Rattle.stream_collector.specs.Stream.{IsAccounted, has_record, is_missing, is_undelivered, IsExpected, IsAwaited}
-use Rattle.stream_collector.specs.Forgetting.{HasBound, IsLost, GivesUpBelow}
+use Rattle.stream_collector.specs.Stream.{IsAccounted, has_record, is_missing, is_undelivered, IsExpected, IsUnknownYet}
+use Rattle.stream_collector.specs.Forgetting.{HasBound, AreRaised, IsLost, GivesUpBelow}
 use Rattle.stream_collector.proofs.Standing.{known_or_not, known_accounted, given_up_accounted, missed_or_not}
+use Rattle.stream_collector.proofs.Standing.{unknown_from}
 
 pub one : (s : Stream) (cpu n : ℕ) → bound_of s cpu ≤ n → (IsOpen s cpu n ⊎ IsAccounted s cpu n)
 one s cpu n from = ⊎_elim
@@ -27,12 +28,12 @@ one s cpu n from = ⊎_elim
 pub not_open : (s : Stream) (cpu n : ℕ) → IsAccounted s cpu n → IsOpen s cpu n → ⊥
 not_open s cpu n (has_record r h) o = o.unknown.no_record r h.has
 not_open s cpu n (is_missing m) o = o.unknown.not_missing m.misses
-not_open s cpu n (is_undelivered u) o = o.not_given_up u.given_up
+not_open s cpu n (is_undelivered from u) o = o.not_given_up u.given_up
 
-pub awaited_first : (s : Stream) (cpu w n : ℕ) → IsOpen s cpu w
+pub unknown_first : (s : Stream) (cpu w n : ℕ) → IsOpen s cpu w
     → ((m : ℕ) → bound_of s cpu ≤ m → m < w → IsAccounted s cpu m)
-    → IsAwaited s cpu n → IsAwaited s cpu w × (w ≤ n)
-awaited_first s cpu w n o accounted a = ⊎_elim
+    → IsUnknownYet s cpu n → IsUnknownYet s cpu w × (w ≤ n)
+unknown_first s cpu w n o accounted a = ⊎_elim
     (λ (lt : n < w). absurd (not_open s cpu n (accounted n a.is_open.from lt) a.is_open))
     (λ (le : w ≤ n).
     let expected : IsExpected s cpu w = ⊎_elim
@@ -50,15 +51,51 @@ awaited_first s cpu w n o accounted a = ⊎_elim
 abbrev pub IsGivenUpSame : (old new : Stream) → Type 0
 IsGivenUpSame old new = (c n : ℕ) → bound_of new c ≤ n → (Misses old.given_up c n ↔ Misses new.given_up c n)
 
-module _ (old new : Stream) (cpu bound : ℕ) (up : bound_of old cpu ≤ bound) (raised : HasBound old new cpu bound) where
+-- one bound is raised
+pub one_raised : (old new : Stream) (cpu bound : ℕ) → bound_of old cpu ≤ bound → HasBound old new cpu bound
+    → AreRaised old new
+one_raised old new cpu bound up raised = record { rise = rise; ends = ends; kept = raised.kept }
+  where
+    rise : (c : ℕ) → bound_of old c ≤ bound_of new c
+    rise c = ⊎_elim
+        (λ (e : c ≡ cpu). let is : bound_of new c ≡ bound = ap (λ (k : ℕ). bound_of new k) e ∙ ap
+        (λ (m : Marks). m.bound) raised.marks in
+        let same : bound_of old c ≡ bound_of old cpu = ap (λ (k : ℕ). bound_of old k) e in omega arith)
+        (λ (apart : c ≡ cpu → ⊥). let is : bound_of new c ≡ bound_of old c = ap (λ (m : Marks). m.bound)
+        (raised.others c apart) in omega arith)
+        (cases_eq c cpu)
+
+    ends : (c : ℕ) → end_of new c ≡ end_of old c
+    ends c = ⊎_elim
+        (λ (e : c ≡ cpu). ap (λ (k : ℕ). end_of new k) e ∙ ap (λ (m : Marks). m.end) raised.marks
+        ∙ ap (λ (k : ℕ). end_of old k) (sym e))
+        (λ (apart : c ≡ cpu → ⊥). ap (λ (m : Marks). m.end) (raised.others c apart))
+        (cases_eq c cpu)
+
+-- the same was given up
+pub given_same : (old new : Stream) → new.given_up ≡ old.given_up → IsGivenUpSame old new
+given_same old new same c n from = (
+  λ m. subst (λ (ps : List Parcel). Misses ps c n) (sym same) m,
+  λ m. subst (λ (ps : List Parcel). Misses ps c n) same m,
+)
+
+-- what is lost is below the bound
+pub given_lost : (old new : Stream) (cpu bound : ℕ) → HasBound old new cpu bound
+    → GivesUpBelow old new.given_up cpu bound → IsGivenUpSame old new
+given_lost old new cpu bound raised gives c n from = (
+  λ m. (gives c n).1 (inl m),
+  λ m. ⊎_elim
+      (λ own. own)
+      (λ (lost : IsLost old cpu bound c n).
+      let is : bound_of new c ≡ bound = ap (λ (k : ℕ). bound_of new k) lost.cpu_is
+      ∙ ap (λ (m : Marks). m.bound) raised.marks in
+      let less = lost.below in absurd (omega arith))
+      ((gives c n).0 m),
+)
+
+module _ (old new : Stream) (raised : AreRaised old new) where
   rises : (c : ℕ) → bound_of old c ≤ bound_of new c
-  rises c = ⊎_elim
-      (λ (e : c ≡ cpu). let is : bound_of new c ≡ bound = ap (λ (k : ℕ). bound_of new k) e ∙ ap
-      (λ (m : Marks). m.bound) raised.marks in
-      let same : bound_of old c ≡ bound_of old cpu = ap (λ (k : ℕ). bound_of old k) e in omega arith)
-      (λ (apart : c ≡ cpu → ⊥). let is : bound_of new c ≡ bound_of old c = ap (λ (m : Marks). m.bound)
-      (raised.others c apart) in omega arith)
-      (cases_eq c cpu)
+  rises c = raised.rise c
 
   filtered : IsSameFrom (bounds_of new.marks) old.parcels (without_ended (bounds_of new.marks) old.parcels)
   filtered = filtered_from old.parcels (bounds_of new.marks)
@@ -99,46 +136,32 @@ module _ (old new : Stream) (cpu bound : ℕ) (up : bound_of old cpu ≤ bound) 
     not_missing = λ there. u.not_missing (misses_to c n from there);
   }
 
-  pub given_same : new.given_up ≡ old.given_up → IsGivenUpSame old new
-  given_same same c n from = (
-    λ m. subst (λ (ps : List Parcel). Misses ps c n) (sym same) m,
-    λ m. subst (λ (ps : List Parcel). Misses ps c n) same m,
-  )
-
-  -- what is lost is below the bound
-  pub given_lost : GivesUpBelow old new.given_up cpu bound → IsGivenUpSame old new
-  given_lost gives c n from = (
-    λ m. (gives c n).1 (inl m),
-    λ m. ⊎_elim
-        (λ own. own)
-        (λ (lost : IsLost old cpu bound c n).
-        let is : bound_of new c ≡ bound = ap (λ (k : ℕ). bound_of new k) lost.cpu_is
-        ∙ ap (λ (m : Marks). m.bound) raised.marks in
-        let less = lost.below in absurd (omega arith))
-        ((gives c n).0 m),
-  )
-
   pub undelivered_stay : IsGivenUpSame old new → (c n : ℕ) → bound_of new c ≤ n
       → (IsUndelivered old c n ↔ IsUndelivered new c n)
   undelivered_stay same c n from = (
     λ h. record {
-      from = from;
       given_up = (same c n from).0 h.given_up;
-      unknown = unknown_to c n from h.unknown;
+      not_known = inr (unknown_to c n from (unknown_from old c n (let a = rises c in omega arith) h.not_known));
     },
     λ h. record {
-      from = (let a = rises c in omega arith);
       given_up = (same c n from).1 h.given_up;
-      unknown = unknown_back c n from h.unknown;
+      not_known = inr (unknown_back c n from (unknown_from new c n from h.not_known));
     },
   )
 
+  pub stays_undelivered : ((c n : ℕ) → Misses old.given_up c n → Misses new.given_up c n) → (c n : ℕ)
+      → IsUndelivered old c n → IsUndelivered new c n
+  stays_undelivered more c n h = record {
+    given_up = more c n h.given_up;
+    not_known = ⊎_elim
+        (λ (below : n < bound_of new c). inl below)
+        (λ (from : bound_of new c ≤ n).
+        inr (unknown_to c n from (unknown_from old c n (let a = rises c in omega arith) h.not_known)))
+        (cases_lt n (bound_of new c));
+  }
+
   ends_stay : (c : ℕ) → end_of new c ≡ end_of old c
-  ends_stay c = ⊎_elim
-      (λ (e : c ≡ cpu). ap (λ (k : ℕ). end_of new k) e ∙ ap (λ (m : Marks). m.end) raised.marks
-      ∙ ap (λ (k : ℕ). end_of old k) (sym e))
-      (λ (apart : c ≡ cpu → ⊥). ap (λ (m : Marks). m.end) (raised.others c apart))
-      (cases_eq c cpu)
+  ends_stay c = raised.ends c
 
   expected_to : (c n : ℕ) → bound_of new c ≤ n → IsExpected old c n → IsExpected new c n
   expected_to c n from expected = ⊎_elim
@@ -174,9 +197,9 @@ module _ (old new : Stream) (cpu bound : ℕ) (up : bound_of old cpu ≤ bound) 
       inr (there.0, sym (ends_stay c) ∙ there.1, there.2))
       expected
 
-  pub awaited_stay : IsGivenUpSame old new → (c n : ℕ) → bound_of new c ≤ n
-      → (IsAwaited old c n ↔ IsAwaited new c n)
-  awaited_stay same c n from = (
+  pub unknown_stay : IsGivenUpSame old new → (c n : ℕ) → bound_of new c ≤ n
+      → (IsUnknownYet old c n ↔ IsUnknownYet new c n)
+  unknown_stay same c n from = (
     λ h. record {
       is_open = record {
         from = from;
@@ -195,12 +218,14 @@ module _ (old new : Stream) (cpu bound : ℕ) (up : bound_of old cpu ≤ bound) 
     },
   )
 
-pub awaited_given_up : (old new : Stream) (cpu bound n : ℕ) → GivesUpBelow old new.given_up cpu bound
-    → IsAwaited old cpu n
-    → n < bound → Misses new.given_up cpu n
-awaited_given_up old new cpu bound n gives a below = (gives cpu n).1 (inr record {
-  cpu_is = refl;
-  from = a.is_open.from;
-  below = below;
-  unknown = a.is_open.unknown;
-})
+pub unknown_given_up : (old new : Stream) (cpu bound n : ℕ) → HasBound old new cpu bound
+    → GivesUpBelow old new.given_up cpu bound → IsUnknownYet old cpu n → n < bound → IsUndelivered new cpu n
+unknown_given_up old new cpu bound n raised gives a below = record {
+  given_up = (gives cpu n).1 (inr record {
+    cpu_is = refl;
+    from = a.is_open.from;
+    below = below;
+    unknown = a.is_open.unknown;
+  });
+  not_known = inl (let is = ap (λ (m : Marks). m.bound) raised.marks in omega arith);
+}

@@ -18,7 +18,7 @@ use Rattle.stream_collector.specs.Faults.{IsWithinEnd}
 use Rattle.stream_collector.specs.Forgetting.{HasBound, GivesUpBelow, IsLost}
 use Rattle.stream_collector.specs.GivenUp.{IsInRun, GivesUp}
 
-known_either : (ps qs : List Parcel) (cpu n : ℕ) → IsKnown (ps ++ qs) cpu n → IsKnown ps cpu n ⊎ IsKnown qs cpu n
+pub known_either : (ps qs : List Parcel) (cpu n : ℕ) → IsKnown (ps ++ qs) cpu n → IsKnown ps cpu n ⊎ IsKnown qs cpu n
 known_either ps qs cpu n known = ⊎_elim
     (λ (there : (r : Record) × Has (ps ++ qs) cpu n r). ⊎_elim
     (λ (one : Has ps cpu n there.0). inl (inl (there.0, one)))
@@ -149,7 +149,7 @@ bound_within s cpu was end is = ⊎_elim
 reached : (s : Stream) (cpu n : ℕ) → IsAccounted s cpu n → IsReached s cpu n
 reached s cpu n (has_record r h) = by_parcels (inl (r, h.has))
 reached s cpu n (is_missing m) = by_parcels (inr m.misses)
-reached s cpu n (is_undelivered u) = by_given_up u.given_up
+reached s cpu n (is_undelivered from u) = by_given_up u.given_up
 
 -- a number up to which all is accounted for
 pub accounted_within : (s : Stream) (cpu w : ℕ) → AreWithinEnds s → bound_of s cpu ≤ w

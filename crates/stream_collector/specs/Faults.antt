@@ -25,8 +25,8 @@ IsWithinEnd stream parcel = (cpu number : ℕ) → IsBeyondEnd stream parcel cpu
 
 -- What a fault says of a parcel that was to be added: this is the least number beyond the end, or there is none, and
 -- the collector has this fault.
-abbrev pub IsStreamFault : Stream → Parcel → AddFault → Type 0
-IsStreamFault stream parcel (BeyondEnd cpu number) = IsBeyondEnd stream parcel cpu.0 number.0
+abbrev pub IsNotAdded : Stream → Parcel → AddFault → Type 0
+IsNotAdded stream parcel (BeyondEnd cpu number) = IsBeyondEnd stream parcel cpu.0 number.0
     × ((least : ℕ) → IsBeyondEnd stream parcel cpu.0 least → number.0 ≤ least)
-IsStreamFault stream parcel (Refused fault) =
+IsNotAdded stream parcel (Refused fault) =
     IsWithinEnd stream parcel × IsAddFault (stream.parcels ++ parcel ∷ []) fault

@@ -27,35 +27,38 @@ end_of stream cpu = (marks_at stream.marks cpu).end
 abbrev pub IsUpToEnd : Stream → (cpu bound : ℕ) → Type 0
 IsUpToEnd stream cpu bound = (end : ℕ) → end_of stream cpu ≡ Some end → bound ≤ end
 
--- ---- how a number stands, from the bound of its CPU on
+-- ---- how a number stands
 
--- it has this record
+-- it isn't below the bound of its CPU, and has this record
 pub record HasRecord (stream : Stream) (cpu number : ℕ) (r : Record) : Type 0 where
   pub from : bound_of stream cpu ≤ number
   pub has : Has stream.parcels cpu number r
 
--- it is missing
+-- it isn't below the bound of its CPU, and is missing
 pub record IsMissing (stream : Stream) (cpu number : ℕ) : Type 0 where
   pub from : bound_of stream cpu ≤ number
   pub misses : Misses stream.parcels cpu number
 
--- it was given up, and since then neither a record of it has come nor that it is missing
-pub record IsUndelivered (stream : Stream) (cpu number : ℕ) : Type 0 where
-  pub from : bound_of stream cpu ≤ number
-  pub given_up : Misses stream.given_up cpu number
-  pub unknown : IsUnknown stream.parcels cpu number
+-- below the bound of its CPU nothing is known, and from there on this is what the parcels know
+abbrev pub IsNotKnown : Stream → (cpu number : ℕ) → Type 0
+IsNotKnown stream cpu number = (number < bound_of stream cpu) ⊎ IsUnknown stream.parcels cpu number
 
--- none of these
+-- It was given up, and it is below the bound of its CPU, or neither a record of it has come nor that it is missing.
+pub record IsUndelivered (stream : Stream) (cpu number : ℕ) : Type 0 where
+  pub given_up : Misses stream.given_up cpu number
+  pub not_known : IsNotKnown stream cpu number
+
+-- it isn't below the bound of its CPU, and none of these holds
 pub record IsOpen (stream : Stream) (cpu number : ℕ) : Type 0 where
   pub from : bound_of stream cpu ≤ number
   pub not_given_up : Misses stream.given_up cpu number → ⊥
   pub unknown : IsUnknown stream.parcels cpu number
 
--- one of these
+-- it isn't below the bound of its CPU, and one of these holds
 pub data IsAccounted (stream : Stream) (cpu number : ℕ) : Type 0 where
   has_record : (r : Record) → HasRecord stream cpu number r → IsAccounted stream cpu number
   is_missing : IsMissing stream cpu number → IsAccounted stream cpu number
-  is_undelivered : IsUndelivered stream cpu number → IsAccounted stream cpu number
+  is_undelivered : bound_of stream cpu ≤ number → IsUndelivered stream cpu number → IsAccounted stream cpu number
 
 -- a later number is known, or the CPU has more records than the numbers before this one
 abbrev pub IsExpected : Stream → (cpu number : ℕ) → Type 0
@@ -63,7 +66,7 @@ IsExpected stream cpu number = ((later : ℕ) × IsKnown stream.parcels cpu late
     ⊎ ((end : ℕ) × (end_of stream cpu ≡ Some end) × (number < end))
 
 -- there is such a number, and none of these holds of it: it may still come
-pub record IsAwaited (stream : Stream) (cpu number : ℕ) : Type 0 where
+pub record IsUnknownYet (stream : Stream) (cpu number : ℕ) : Type 0 where
   pub is_open : IsOpen stream cpu number
   pub expected : IsExpected stream cpu number
 

@@ -10,7 +10,7 @@ impl StreamCollector {
     ghost use Rattle.trace_model.specs.Collection.{Agree, IsBelow, IsSame};
     ghost use Rattle.page_numbers.specs.Parcels.{as_parcel};
     ghost use Rattle.collector.specs.declared.fault.AddFault.TheVariants.{NoMemory};
-    ghost use Rattle.stream_collector.specs.Faults.{IsForgotten, IsBeyondEnd, IsWithinEnd, IsStreamFault};
+    ghost use Rattle.stream_collector.specs.Faults.{IsForgotten, IsBeyondEnd, IsWithinEnd, IsNotAdded};
     ghost use Rattle.stream_collector.specs.declared.added.Added.TheVariants.{New, Known, Forgotten};
     ghost use Rattle.stream_collector.specs.declared.fault.AddFault.TheVariants.{Refused};
 
@@ -27,7 +27,7 @@ impl StreamCollector {
         ensures forgotten_nothing { result ≡ Ok Forgotten → self.new ≡ self.old }
         ensures agree { result ≡ Ok New → Agree self.new.parcels }
         ensures within { IfOk result (λ added. (added ≡ Forgotten → ⊥) → IsWithinEnd self.old (as_parcel parcel)) }
-        ensures fault { IfErr result (λ fault. IsStreamFault self.old (as_parcel parcel) fault) }
+        ensures fault { IfErr result (λ fault. IsNotAdded self.old (as_parcel parcel) fault) }
         ensures no_memory { result ≡ Err (Refused NoMemory) → IsBelow (as_parcel parcel ∷ []) self.old.parcels → ⊥ }
         ensures refused { OnErr result (self.new ≡ self.old) }
     {

@@ -2,12 +2,16 @@
 use crate::stream::StreamCollector;
 use collector::{CpuRecords, MissingRuns};
 use page_borrow::Entry;
+use page_numbers::Parcel;
 use trace_model::{CpuId, RecordNo};
 
 impl StreamCollector {
     ghost use Rattle.std.specs.Prelude.{◌≡◌, ℕ, ◌<◌, ◌≤◌, IfSome, IfNone};
     ghost use Rattle.trace_model.specs.Record.{Record};
+    ghost use Rattle.trace_model.specs.Collection.{Agree};
     ghost use Rattle.page_borrow.specs.Entries.{numbered_record};
+    ghost use Rattle.page_numbers.specs.Parcels.{as_parcels};
+    ghost use Rattle.collector.specs.Sound.{AreSound};
     ghost use Rattle.collector.specs.Listed.{AreRecordsFrom};
     ghost use Rattle.collector.specs.Runs.{AreMissingRuns};
     ghost use Rattle.stream_collector.specs.Stream.{bound_of, end_of, HasRecord, IsUpToEnd, IsOpen, IsAccounted};
@@ -50,6 +54,16 @@ impl StreamCollector {
         self.known.records_from(cpu, self.bound(cpu))
     }
 
+    /// The kept parcels, in the order in which they were added. They agree. With the marks and what was given up they
+    /// are all that is known of the stream.
+    pub fn parcels(&self) -> &[Parcel]
+        ensures parcels { as_parcels result.now ≡ self.now.parcels }
+        ensures agree { Agree self.now.parcels }
+        ensures sound { AreSound self.now.parcels }
+    {
+        self.known.parcels()
+    }
+
     /// The runs of the numbers of a CPU that were given up as undelivered, those below its bound too, whether they came
     /// later or not.
     pub fn given_up(&self, cpu: CpuId) -> MissingRuns<'_>
@@ -59,7 +73,8 @@ impl StreamCollector {
     }
 
     /// The least number of a CPU, from its bound on, that neither has a record, nor is missing, nor was given up. If
-    /// any number is awaited, it is the least of those. The bound may be raised up to it. It is at most the CPU's end.
+    /// any number is unknown yet, it is the least of those. The bound may be raised up to it. It is at most the CPU's
+    /// end.
     pub fn watermark(&self, cpu: CpuId) -> RecordNo
         ensures open { IsOpen self.now cpu.0 result.0 }
         ensures accounted { (n : ℕ) → bound_of self.now cpu.0 ≤ n → n < result.0 → IsAccounted self.now cpu.0 n }

@@ -1,4 +1,4 @@
-//! The numbers of a CPU that are missing, undelivered or awaited, run by run.
+//! The numbers of a CPU that are missing, undelivered or unknown yet, run by run.
 use crate::kinds::{Kind, next_run};
 use crate::stream::StreamCollector;
 use std::fmt;
@@ -66,7 +66,7 @@ impl StreamCollector {
     ghost use Rattle.std.specs.Prelude.{ℕ, ◌<◌, ◌≤◌, ◌↔◌};
     ghost use Rattle.trace_model.specs.Runs.{AreRuns};
     ghost use Rattle.stream_collector.specs.Kinds.{IsOfKindWithin};
-    ghost use Rattle.stream_collector.specs.Stream.{IsMissing, IsUndelivered, IsAwaited, IsExpected};
+    ghost use Rattle.stream_collector.specs.Stream.{IsMissing, IsUndelivered, IsUnknownYet, IsExpected};
     ghost use Rattle.collector.specs.Shown.{IsUnknown};
 
     /// The runs of the numbers of a CPU, from its bound on, that are missing.
@@ -74,35 +74,41 @@ impl StreamCollector {
         ensures { AreRuns (IsMissing self.now cpu.0) result }
     {
         let _kept = self.known.parcels();
-        self.runs(Kind::Missing, cpu, u64::MAX)
+        self.runs(Kind::Missing, cpu, self.marks(cpu).bound, u64::MAX)
     }
 
-    /// The runs of the numbers of a CPU, from its bound on, that were given up and of which nothing came since.
+    /// The runs of the numbers of a CPU that were given up: all of those below its bound, and from there on those that
+    /// neither have a record nor are missing.
     pub fn undelivered(&self, cpu: CpuId) -> StreamRuns<'_>
         ensures { AreRuns (IsUndelivered self.now cpu.0) result }
     {
         let _given_up = self.given_up.parcels();
-        self.runs(Kind::Undelivered, cpu, u64::MAX)
+        self.runs(Kind::Undelivered, cpu, 0, u64::MAX)
     }
 
     /// The runs of the numbers of a CPU, from its bound on and below its greatest known number or its end, that neither
     /// have a record, nor are missing, nor were given up: what is to be asked for again.
     pub fn unknown(&self, cpu: CpuId) -> StreamRuns<'_>
-        ensures { AreRuns (IsAwaited self.now cpu.0) result }
+        ensures { AreRuns (IsUnknownYet self.now cpu.0) result }
     {
         let _given_up = &self.given_up;
-        self.runs(Kind::Open, cpu, self.expected_end(cpu))
+        self.runs(
+            Kind::Open,
+            cpu,
+            self.marks(cpu).bound,
+            self.expected_end(cpu),
+        )
     }
 
-    /// The runs of the numbers of a CPU of this kind, from its bound on and below an end.
-    fn runs(&self, kind: Kind, cpu: CpuId, end: u64) -> StreamRuns<'_>
-        ensures { AreRuns (IsOfKindWithin kind self.now cpu.0 end) result }
+    /// The runs of the numbers of a CPU of this kind, from a number on and below an end.
+    fn runs(&self, kind: Kind, cpu: CpuId, number: u64, end: u64) -> StreamRuns<'_>
+        ensures { AreRuns (IsOfKindWithin kind self.now cpu.0 number end) result }
     {
         StreamRuns {
             stream: self,
             kind,
             cpu,
-            number: self.marks(cpu).bound,
+            number,
             end,
         }
     }

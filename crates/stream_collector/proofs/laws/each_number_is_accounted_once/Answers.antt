@@ -1,3 +1,4 @@
+use Rattle.stream_collector.proofs.Standing.{unknown_from}
 use Rattle.stream_collector.proofs.StreamLaws.{one, not_open}
 use Rattle.stream_collector.proofs.laws.each_number_is_accounted_once.Goals as goal
 
@@ -14,7 +15,9 @@ pub returns-clause-record_not_missing : goal.returns-clause-record_not_missing
 returns-clause-record_not_missing c s cpu n r agree a b = agree.not_missing cpu n r a.has b.misses
 
 pub returns-clause-record_not_undelivered : goal.returns-clause-record_not_undelivered
-returns-clause-record_not_undelivered c s cpu n r a b = b.unknown.no_record r a.has
+returns-clause-record_not_undelivered c s cpu n r a b =
+    (unknown_from s cpu n a.from b.not_known).no_record r a.has
 
 pub returns-clause-missing_not_undelivered : goal.returns-clause-missing_not_undelivered
-returns-clause-missing_not_undelivered c s cpu n a b = b.unknown.not_missing a.misses
+returns-clause-missing_not_undelivered c s cpu n a b =
+    (unknown_from s cpu n a.from b.not_known).not_missing a.misses

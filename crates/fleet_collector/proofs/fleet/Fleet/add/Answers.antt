@@ -4,7 +4,7 @@ use Rattle.std.proofs.lemmas.Result.{on_err_weaker}
 use Rattle.trace_model.specs.declared.limits.TheConstants.{MAX_CPUS}
 use Rattle.page_numbers.specs.Parcels.{as_parcel}
 use Rattle.stream_collector.specs.Stream.{Stream}
-use Rattle.stream_collector.specs.Faults.{IsWithinEnd, IsStreamFault}
+use Rattle.stream_collector.specs.Faults.{IsWithinEnd, IsNotAdded}
 use Rattle.stream_collector.specs.declared.stream.StreamCollector.{StreamCollector}
 use Rattle.stream_collector.specs.declared.added.Added.{Added}
 use Rattle.stream_collector.specs.declared.added.Added.TheVariants.{New, Forgotten}
@@ -66,7 +66,7 @@ returns-in-Some-clause-fault c =
     (sym c.in-Some.ensures.value) in
     let was : stream_at c.args.self.now c.args.stream.0 ≡ c.in-Some.known.now = ap
     (λ (fleet : List (ℕ × Stream)). stream_at fleet c.args.stream.0) (sym c.self.view_is) ∙ is in
-    subst (λ (s : Stream). IfErr c.add.result (λ fault. IsStreamFault s (as_parcel c.args.parcel) fault)) (sym was)
+    subst (λ (s : Stream). IfErr c.add.result (λ fault. IsNotAdded s (as_parcel c.args.parcel) fault)) (sym was)
     c.add.ensures.fault
 
 -- ---- it isn't there
@@ -86,9 +86,9 @@ returns-in_err-added-clause-fault c =
     ap (λ (fleet : List (ℕ × Stream)). stream_at fleet c.args.stream.0) (sym c.self.view_is)
     ∙ was_nothing c.self.inside.streams.entries c.args.stream.0 c.new-first.result (sym c.in_default.ensures.value)
     first.parcels first.marks first.given_up in
-    let fault : IsStreamFault (stream_at c.args.self.now c.args.stream.0) (as_parcel c.args.parcel)
+    let fault : IsNotAdded (stream_at c.args.self.now c.args.stream.0) (as_parcel c.args.parcel)
     c.in_err-added.field-0.0 =
-    subst (λ (s : Stream). IsStreamFault s (as_parcel c.args.parcel) c.in_err-added.field-0.0) (sym was)
+    subst (λ (s : Stream). IsNotAdded s (as_parcel c.args.parcel) c.in_err-added.field-0.0) (sym was)
     c.in_err-added.ensures.fault in
     search rules
 
@@ -101,7 +101,8 @@ invariant_of-self-then-eq c =
     let a = c.add-2.ensures in
     let few = cpus_added c.new-first.result after (as_parcel c.args.parcel)
     (subst (λ (n : ℕ). n < MAX_CPUS) c.cpu-cpu.ensures.cpu c.cpu-cpu.ensures.known)
-    (cpus_of_none c.new-first.result c.new-first.ensures.parcels) c.add-2.result a.new a.known a.forgotten_nothing
+    (cpus_of_none c.new-first.result c.new-first.ensures.parcels
+    c.new-first.ensures.marks c.new-first.ensures.given_up) c.add-2.result a.new a.known a.forgotten_nothing
     a.refused in
     cpus_inserted c.insert.result old.entries c.insert.new.self.entries c.args.stream.0 after
     c.insert.ensures.updates (λ u. u.0) c.insert.ensures.err (λ e. e) known few

@@ -1,8 +1,5 @@
-use Rattle.std.proofs.Common.{ap}
-use Rattle.stream_collector.specs.declared.marks.Marks.{Marks}
 use Rattle.stream_collector.proofs.KindRuns.{all_runs}
 use Rattle.stream_collector.proofs.stream.StreamCollector.runs.Goals as goal
 
 pub returns : goal.returns
-returns c = all_runs c.args.kind c.args.self.now c.args.cpu.0 c.args.end c.marks.result.bound
-    (ap (λ (m : Marks). m.bound) c.marks.ensures)
+returns c = all_runs c.args.kind c.args.self.now c.args.cpu.0 c.args.number c.args.end

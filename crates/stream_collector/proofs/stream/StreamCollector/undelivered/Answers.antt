@@ -1,4 +1,4 @@
-use Rattle.std.proofs.Common.{◌-◌, ◌^◌, subst}
+use Rattle.std.proofs.Common.{◌-◌, ◌^◌, subst, arith}
 use Rattle.collector.specs.Sound.{AreSound}
 use Rattle.collector.proofs.RunLists.{same_runs}
 use Rattle.collector.proofs.Stretches.{missing_fits}
@@ -11,13 +11,13 @@ pub returns : goal.returns
 returns c =
     let s = c.args.self.now in
     let cpu = c.args.cpu.0 in
-    same_runs {P = IsOfKindWithin Undelivered s cpu (2 ^ 64 - 1)} {Q = IsUndelivered s cpu} c.runs.result
-    (λ n h. record { from = h.from; given_up = h.of_kind.0; unknown = h.of_kind.1 })
+    same_runs {P = IsOfKindWithin Undelivered s cpu 0 (2 ^ 64 - 1)} {Q = IsUndelivered s cpu} c.runs.result
+    (λ n h. record { given_up = h.of_kind.0; not_known = h.of_kind.1 })
     (λ n h. record {
-      from = h.from;
+      from = omega arith;
       below = missing_fits s.given_up
           (subst (λ (s : Stream). AreSound s.given_up) c.self.view_is c.parcels-given_up.ensures.sound)
           cpu n h.given_up;
-      of_kind = (h.given_up, h.unknown);
+      of_kind = (h.given_up, h.not_known);
     })
     c.runs.ensures
