@@ -180,6 +180,9 @@ class Node:
 class Nats:
     """So many nodes, each with a copy of the bus's stream."""
 
+    # How long a new reader may have to wait for its first message, in seconds.
+    idle = 8
+
     def __init__(self, folder, count):
         ports = free_ports(4 * count + 1)
         self.nodes = [Node(number, folder, ports[4 * number : 4 * number + 4]) for number in range(count)]
@@ -301,6 +304,9 @@ class Nats:
 
 class Kafka:
     """Three brokers of librdkafka's mock cluster."""
+
+    # A new group is given its partitions after some seconds.
+    idle = 15
 
     def __init__(self, folder, program):
         self.child, self.program, self.folder = Child("mock_kafka", folder), program, folder

@@ -70,14 +70,14 @@ static size_t collect(rd_kafka_t *kafka)
 int main(int argc, char **argv)
 {
     const char *path = word_after(argv, "--log", NULL);
-    double idle = (double)number_after(argv, "--idle", 0), last = seconds_now();
+    double idle = (double)number_after(argv, "--idle", 0);
     (void)argc;
     if (!path)
         die("kafka_collector", "there is no --log FILE");
     stop_at_signals();
     open_log(&collected, path);
     rd_kafka_t *kafka = subscribe(argv);
-    while (!is_stopped && !(idle > 0 && seconds_now() > last + idle))
+    for (double last = seconds_now(); !is_stopped && !(idle > 0 && seconds_now() > last + idle);)
         if (collect(kafka))
             last = seconds_now();
     (void)rd_kafka_consumer_close(kafka);
