@@ -1,6 +1,6 @@
 -- Fleets that are put together, and fleets that are the same.
-use Rattle.std.proofs.Common.{◌≡◌, ◌↔◌, ◌⊎◌, inl, inr, ⊎_elim, ℕ, ◌<◌, ◌≤◌, max, Bool, true, false, cond, List, [], ◌∷◌}
-use Rattle.std.proofs.Common.{◌++◌, length, map, get_or, Option, Some, None, IsSome, Result, Ok, Err, OnOk, OnErr, Ordering, Less, Equal, Greater, refl, sym}
+use Rattle.std.proofs.Common.{◌≡◌, ◌↔◌, ◌⊎◌, inl, inr, ⊎_elim, ℕ, ◌<◌, ◌≤◌, Bool, true, false, cond, List, [], ◌∷◌}
+use Rattle.std.proofs.Common.{◌++◌, map, Option, Some, None, IsSome, Result, Ok, Err, OnOk, OnErr, Ordering, Less, Equal, Greater, refl, sym}
 use Rattle.std.proofs.Common.{ap, ◌∙◌, subst, arith}
 use Rattle.std.specs.Borrow.{Bor}
 use Rattle.std.specs.List.{slice_get}
@@ -13,26 +13,25 @@ use Rattle.std.proofs.lemmas.Map.Lookups.{exact_unsigned}
 use Rattle.std.proofs.lemmas.Option.{none-some}
 use Rattle.trace_model.specs.Parcel.{Parcel, IsPairOf, IsMissingOf}
 use Rattle.trace_model.specs.Record.{Record}
-use Rattle.trace_model.specs.Collection.{Has, Misses, IsBelow}
-use Rattle.trace_model.specs.declared.limits.TheConstants.{MAX_CPUS}
+use Rattle.trace_model.specs.Collection.{Has, Misses}
 use Rattle.trace_model.proofs.collections.Collections.{below_itself}
-use Rattle.trace_model.proofs.collections.Elements.{some_is, get_in_front, get_in_either}
+use Rattle.trace_model.proofs.collections.Elements.{some_is, get_in_either}
 use Rattle.trace_model.proofs.collections.Joined.{joined_left, joined_right}
-use Rattle.collector.specs.Known.{IsKnown, IsTaken, IsSameFrom}
+use Rattle.collector.specs.Known.{IsTaken}
 use Rattle.collector.proofs.Known.{from_itself}
 use Rattle.parcel_streams.specs.declared.piece.StreamId.{StreamId}
 use Rattle.parcel_streams.specs.declared.piece.Mark.TheVariants.{End, Forgotten, Undelivered}
 use Rattle.parcel_streams.specs.Pieces.{Packed, parcel_piece, mark_piece}
-use Rattle.stream_collector.specs.Marks.{marks_at, bounds_of, SaySomething}
+use Rattle.stream_collector.specs.Marks.{bounds_of}
 use Rattle.stream_collector.specs.Marking.{IsReached, by_bound, by_parcels, by_given_up}
-use Rattle.stream_collector.specs.Merging.{IsMerge, FitTogether, HaveOneEnd}
+use Rattle.stream_collector.specs.Merging.{IsMerge, FitTogether}
 use Rattle.stream_collector.specs.Same.{IsSameStream}
-use Rattle.stream_collector.specs.Stream.{Stream, bound_of, end_of, HasRecord, IsMissing, IsUndelivered, IsNotKnown}
+use Rattle.stream_collector.specs.Stream.{Stream, bound_of, end_of, HasRecord, IsMissing, IsNotKnown}
 use Rattle.collector.specs.Shown.{IsUnknown}
 use Rattle.fleet_collector.specs.Fleet.{known_of, stream_at, empty_stream, or_empty, entry_seen, HasKnownCpus}
 use Rattle.fleet_collector.specs.Merging.{IsMergeAt, AreMerges, OfEachThere, IsSameFleet}
-use Rattle.fleet_collector.specs.Told.{IsPieceOf, TellEnd, TellForgotten, TellGivenUp, TellParcel, TellOfNumber, TellRecord}
-use Rattle.fleet_collector.specs.Told.{TellMissing, IsBoundTold, IsStreamOf, IsFleetOf}
+use Rattle.fleet_collector.specs.Told.{IsPieceOf, TellEnd, TellForgotten, TellParcel, TellOfNumber, TellRecord}
+use Rattle.fleet_collector.specs.Told.{TellMissing, IsBoundTold, IsStreamOf}
 use Rattle.fleet_collector.proofs.Changed.{IsPut}
 use Rattle.fleet_collector.proofs.Telling.{only, told_in_either, from_bound, none_forgets}
 
@@ -124,10 +123,16 @@ merged_cpus s o new merge own others = record {
       (λ (taken : IsTaken new.parcels cpu n).
       let h = merge.nothing_else.has cpu n taken.0 taken.1 in
       ⊎_elim
-      (λ (front : (k : ℕ) × (slice_get s.parcels k ≡ Some h.parcel)). own.known cpu n (inl (taken.0, record
-      { index = front.0; parcel = h.parcel; at = front.1; pair = h.pair })))
-      (λ (back : (k : ℕ) × (slice_get o.parcels k ≡ Some h.parcel)). others.known cpu n (inl (taken.0, record
-      { index = back.0; parcel = h.parcel; at = back.1; pair = h.pair })))
+      (λ (front : (k : ℕ) × (slice_get s.parcels k ≡ Some h.parcel)). own.known cpu n (inl (
+        taken.0,
+        record
+            { index = front.0; parcel = h.parcel; at = front.1; pair = h.pair },
+      )))
+      (λ (back : (k : ℕ) × (slice_get o.parcels k ≡ Some h.parcel)). others.known cpu n (inl (
+        taken.0,
+        record
+            { index = back.0; parcel = h.parcel; at = back.1; pair = h.pair },
+      )))
       (get_in_either s.parcels o.parcels h.index h.parcel h.at))
       (λ (m : Misses new.parcels cpu n).
       let h = merge.nothing_else.misses cpu n m in
@@ -171,14 +176,20 @@ not_reached cpu n (by_given_up m) = absurd (none-some m.parcel m.at)
 pub nothing_merged : IsMerge empty_stream empty_stream empty_stream
 nothing_merged = record {
   bounds = λ cpu. refl;
-  ends = λ cpu end. (λ e. inl e, λ either. ⊎_elim
-      (λ (e : end_of empty_stream cpu ≡ Some end). e)
-      (λ (e : end_of empty_stream cpu ≡ Some end). e)
-      either);
-  given_up = λ cpu n. (λ m. inl m, λ either. ⊎_elim
-      (λ (m : Misses [] cpu n). m)
-      (λ (m : Misses [] cpu n). m)
-      either);
+  ends = λ cpu end. (
+    λ e. inl e,
+    λ either. ⊎_elim
+        (λ (e : end_of empty_stream cpu ≡ Some end). e)
+        (λ (e : end_of empty_stream cpu ≡ Some end). e)
+        either,
+  );
+  given_up = λ cpu n. (
+    λ m. inl m,
+    λ either. ⊎_elim
+        (λ (m : Misses [] cpu n). m)
+        (λ (m : Misses [] cpu n). m)
+        either,
+  );
   kept = from_itself (bounds_of []) [];
   nothing_else = below_itself [];
 }
