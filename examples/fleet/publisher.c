@@ -56,11 +56,19 @@ static bool publish(natsMsg *message)
     return false;
 }
 
+// Publishes one of those that are to be published again: each tenth of a second all that are there then.
 static bool publish_again(void)
 {
+    static size_t due;
+    static double next;
     pthread_mutex_lock(&lock);
-    natsMsg *message = refused_count ? refused[--refused_count] : NULL;
+    if (!due && seconds_now() > next) {
+        due = refused_count;
+        next = seconds_now() + 0.1;
+    }
+    natsMsg *message = due ? refused[--refused_count] : NULL;
     pthread_mutex_unlock(&lock);
+    due -= message != NULL;
     resent += message != NULL;
     return message && publish(message);
 }
