@@ -83,7 +83,8 @@ module _ {R : Type 0} (remaining : R → Option (List ℕ)) (has_failed : R → 
             → IsNext old now at before after this so_far
         by [] now_is same =
             let long = ap length now_is in
-            let joined = length-append so_far.front_now ([] {A = Reader}) in
+            let none : List Reader = [] in
+            let joined = length-append so_far.front_now none in
             let here = so_far.at_now_is in
             absurd (omega arith)
         by (x ∷ rest) now_is same =
