@@ -10,6 +10,7 @@ mod listing;
 mod marks;
 mod merge;
 mod merge_fault;
+mod next;
 mod pack;
 mod piece;
 mod refusal;

@@ -1,0 +1,3 @@
+pub mod LinePlaces
+pub mod LeastFrom
+pub mod NoParcels
