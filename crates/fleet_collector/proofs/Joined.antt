@@ -24,7 +24,6 @@ use Rattle.parcel_streams.specs.declared.piece.StreamId.{StreamId}
 use Rattle.parcel_streams.specs.declared.piece.Mark.TheVariants.{End, Forgotten, Undelivered}
 use Rattle.parcel_streams.specs.Pieces.{Packed, parcel_piece, mark_piece}
 use Rattle.stream_collector.specs.Marks.{bounds_of}
-use Rattle.stream_collector.specs.Marking.{IsReached, by_bound, by_parcels, by_given_up}
 use Rattle.stream_collector.specs.Merging.{IsMerge, FitTogether}
 use Rattle.stream_collector.specs.Same.{IsSameStream}
 use Rattle.stream_collector.specs.Stream.{Stream, bound_of, end_of, HasRecord, IsMissing, IsNotKnown}
@@ -165,14 +164,6 @@ merged_cpus s o new merge own others = record {
 }
 
 -- ---- nothing and nothing
-
-not_reached : (cpu n : ℕ) → IsReached empty_stream cpu n → ⊥
-not_reached cpu n (by_bound lt) = absurd (omega arith)
-not_reached cpu n (by_parcels known) = ⊎_elim
-    (λ (taken : IsTaken [] cpu n). let h = taken.1 in absurd (none-some h.parcel h.at))
-    (λ (m : Misses [] cpu n). absurd (none-some m.parcel m.at))
-    known
-not_reached cpu n (by_given_up m) = absurd (none-some m.parcel m.at)
 
 pub nothing_merged : IsMerge empty_stream empty_stream empty_stream
 nothing_merged = record {
