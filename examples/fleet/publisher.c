@@ -93,6 +93,7 @@ static bool reach_bus(char **words)
     const char *subjects[] = {"trace.>"};
     jsOptions options;
     jsStreamConfig config;
+    jsErrCode fault = 0;
     if (!connection) {
         if (!(connection = connect_to_bus(words)))
             return false;
@@ -107,7 +108,8 @@ static bool reach_bus(char **words)
     config.SubjectsLen = 1;
     config.Replicas = (int64_t)number_after(words, "--copies", 1);
     config.MaxAge = INT64_C(3600) * 1000000000; // an hour
-    return js_AddStream(NULL, js, &config, NULL, NULL) == NATS_OK;
+    // (Whoever made it may have wanted other copies.)
+    return js_AddStream(NULL, js, &config, NULL, &fault) == NATS_OK || fault == JSStreamNameExistErr;
 }
 
 int main(int argc, char **argv)
