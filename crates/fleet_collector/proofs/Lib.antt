@@ -4,4 +4,5 @@ pub mod ByTime
 pub mod Changed
 pub mod Telling
 pub mod Adding
+pub mod Joined
 pub mod Marked

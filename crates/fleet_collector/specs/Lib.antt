@@ -1,5 +1,6 @@
 pub mod Fleet
 pub mod Changes
+pub mod Merging
 pub mod Listing
 pub mod Lines
 pub mod Told

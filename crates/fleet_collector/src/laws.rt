@@ -4,6 +4,7 @@ ghost use Rattle.parcel_streams.specs.Pieces.{Packed, BeginsWith};
 ghost use Rattle.parcel_streams.specs.Answers.{piece_seen};
 ghost use Rattle.parcel_streams.specs.declared.piece.Piece.{Piece};
 ghost use Rattle.stream_collector.specs.Stream.{Stream};
+ghost use Rattle.fleet_collector.specs.Merging.{IsSameFleet};
 ghost use Rattle.fleet_collector.specs.Pieces.{HasKnownCpu};
 ghost use Rattle.fleet_collector.specs.Told.{IsFleetOf, HaveSamePieces, IsListingOf};
 ghost use Rattle.fleet_collector.specs.Listing.{Line, IsListing};
@@ -20,6 +21,12 @@ pub fn a_fleet_depends_on_its_pieces_alone()
         → IsFleetOf (pieces ++ others) fleet → IsFleetOf (others ++ pieces) fleet }
     ensures repeated { (pieces : List Packed) (fleet : List (ℕ × Stream))
         → (IsFleetOf (pieces ++ pieces) fleet ↔ IsFleetOf pieces fleet) }
+{}
+
+/// All fleets of the same pieces are the same.
+pub fn pieces_have_one_fleet()
+    ensures { (pieces : List Packed) (fleet other : List (ℕ × Stream))
+        → IsFleetOf pieces fleet → IsFleetOf pieces other → IsSameFleet fleet other }
 {}
 
 /// What is read is of CPUs that there are, so that it may be added.

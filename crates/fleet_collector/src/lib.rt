@@ -7,6 +7,8 @@ mod fleet;
 pub mod laws;
 mod listing;
 mod marks;
+mod merge;
+mod merge_fault;
 mod next;
 mod piece;
 mod refusal;
@@ -14,5 +16,6 @@ mod streams;
 
 pub use fleet::Fleet;
 pub use listing::FleetLine;
+pub use merge_fault::FleetMergeFault;
 pub use refusal::PieceRefusal;
 pub use streams::Streams;

@@ -9,4 +9,5 @@ mod Answered
 mod Sealing
 pub mod Streams
 mod Steps
+pub mod Decided
 mod Changed

@@ -61,6 +61,18 @@ pub record IsWhole (bytes : List ℕ) : Type 0 where
   pub stated : HasLength bytes
   pub there : length_in bytes ≤ length bytes
 
+-- The bytes decide what the piece at the front is: its head is there, and all that it states if it states a length that a
+-- piece may have. More bytes change nothing.
+pub record IsDecided (bytes : List ℕ) : Type 0 where
+  pub long : HEAD ≤ length bytes
+  pub there : HasLength bytes → length_in bytes ≤ length bytes
+
+-- So many bytes decide it: a head, then what it states; and where it states nothing that may be, those that are there.
+pub record IsWanted (bytes : List ℕ) (wanted : ℕ) : Type 0 where
+  pub short : length bytes < HEAD → wanted ≡ HEAD
+  pub stated : HasLength bytes → wanted ≡ length_in bytes
+  pub faulty : HEAD ≤ length bytes → ¬ HasLength bytes → wanted ≡ length bytes
+
 -- and the last eight of them are the checksum of the others
 pub record IsSealed (bytes : List ℕ) : Type 0 where
   pub whole : IsWhole bytes

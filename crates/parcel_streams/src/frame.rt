@@ -1,9 +1,9 @@
 //! What all pieces have: a head, and a checksum of all bytes before it.
-ghost use Rattle.std.specs.Prelude.{◌≡◌, ◌≤◌, ◌↔◌, IsTrue, IfOk, IfErr, OnOk, length};
+ghost use Rattle.std.specs.Prelude.{◌≡◌, ◌<◌, ◌≤◌, ◌↔◌, IsTrue, IfOk, IfErr, OnOk, OnErr, length};
 ghost use Rattle.trace_model.specs.Image.{le64};
 ghost use Rattle.crc32c.specs.Castagnoli.{crc32c as sum_of};
 ghost use Rattle.parcel_streams.specs.Pieces.{magic};
-ghost use Rattle.parcel_streams.specs.Faults.{HasMagic, HasLength, length_in, IsWhole, sum_in, summed_in};
+ghost use Rattle.parcel_streams.specs.Faults.{HasMagic, HasLength, length_in, IsWhole, IsDecided, IsWanted, sum_in, summed_in};
 ghost use Rattle.parcel_streams.specs.Answers.{IsPieceFault, HasFrame};
 
 use crate::fault::PieceFault;
@@ -48,6 +48,7 @@ fn has_magic(bytes: &[u8]) -> bool
 fn read_len(bytes: &[u8]) -> Result<usize, PieceFault>
     ensures len { IfOk result (λ len. len ≡ length_in bytes.now) }
     ensures stated { OnOk result (HasLength bytes.now) }
+    ensures none { OnErr result (¬ HasLength bytes.now) }
     ensures fault { IfErr result (λ fault. IsPieceFault bytes.now fault) }
 {
     if !has_magic(bytes) {
@@ -93,6 +94,23 @@ pub(crate) fn read_frame(bytes: &[u8]) -> Result<Frame<'_>, PieceFault>
         body: &bytes[HEAD..len - SUM],
         len,
     })
+}
+
+/// How many bytes decide what the piece at the front is: its head; then the length that the head states, if it may be
+/// one; else the bytes that are there, which have a fault. Of fewer bytes more have to be read. Those behind them
+/// change nothing.
+pub fn wanted(bytes: &[u8]) -> usize
+    ensures wanted { IsWanted bytes.now result }
+    ensures enough { (result ≤ length bytes.now) ↔ IsDecided bytes.now }
+    ensures limit { length bytes.now < result → result ≤ MAX_PIECE }
+{
+    if bytes.len() < HEAD {
+        return HEAD;
+    }
+    match read_len(bytes) {
+        Ok(len) => len,
+        Err(_) => bytes.len(),
+    }
 }
 
 /// Whether the bytes begin as a stream of parcels does. All of the first eight bytes are needed for that.

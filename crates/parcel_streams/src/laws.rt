@@ -1,12 +1,12 @@
 //! Laws over streams of parcels.
-ghost use Rattle.std.specs.Prelude.{◌≡◌, ℕ, ◌+◌, ◌<◌, ◌≤◌, ◌⊎◌, ◌++◌, List, length, take};
+ghost use Rattle.std.specs.Prelude.{◌≡◌, ℕ, ◌+◌, ◌<◌, ◌≤◌, ◌⊎◌, ◌↔◌, ◌++◌, List, length, take};
 ghost use Rattle.crc32c.specs.Changes.{DifferAt};
 ghost use Rattle.trace_model.specs.FirstFault.{AreBytes};
 ghost use Rattle.trace_model.specs.Parcel.{Parcel as ParcelSeen};
 ghost use Rattle.trace_model.specs.ParcelBytes.{DecodesParcel};
 ghost use Rattle.trace_model.specs.declared.limits.TheConstants.{MAX_SIZE};
 ghost use Rattle.parcel_streams.specs.Pieces.{Packed, parcel_piece, bytes_of_piece, IsPiece, BeginsWith, bytes_of_pieces, IsStream};
-ghost use Rattle.parcel_streams.specs.Faults.{stream_in, body_in, HoldsParcel, PieceCause, FirstPieceFault, FirstStreamFault};
+ghost use Rattle.parcel_streams.specs.Faults.{stream_in, body_in, HoldsParcel, IsDecided, PieceCause, FirstPieceFault, FirstStreamFault};
 ghost use Rattle.parcel_streams.specs.declared.limits.TheConstants.{HEAD, SUM, MIN_PIECE, MAX_PIECE, PARCEL_HEAD, NUMBER_BODY, RUN_BODY};
 
 /// What is written is read back: a piece, whatever follows it, is the one piece at the front. A parcel's states its
@@ -38,6 +38,15 @@ pub fn bytes_have_a_piece_or_a_fault()
         → BeginsWith bytes piece → BeginsWith bytes other → piece ≡ other }
     ensures one_fault { (bytes : List ℕ) (cause other : PieceCause)
         → FirstPieceFault bytes cause → FirstPieceFault bytes other → cause ≡ other }
+{}
+
+/// Where the bytes decide what the piece at the front is, whatever follows them changes neither the piece nor the first
+/// fault.
+pub fn more_bytes_change_nothing()
+    ensures piece { (bytes more : List ℕ) (piece : Packed) → AreBytes bytes → IsDecided bytes
+        → BeginsWith bytes piece ↔ BeginsWith (bytes ++ more) piece }
+    ensures fault { (bytes more : List ℕ) (cause : PieceCause) → AreBytes bytes → IsDecided bytes
+        → FirstPieceFault bytes cause ↔ FirstPieceFault (bytes ++ more) cause }
 {}
 
 /// Bytes are a stream or have a first fault: one of the two and never both. The fault is one, at one place.

@@ -15,7 +15,7 @@ mod piece;
 mod read;
 
 pub use fault::{PieceFault, StreamFault};
-pub use frame::is_stream;
+pub use frame::{is_stream, wanted};
 pub use limits::{MAX_PIECE, MIN_PIECE};
 pub use pack::{pack_mark, pack_parcel};
 pub use piece::{Mark, Piece, StreamId};
