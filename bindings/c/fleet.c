@@ -1,5 +1,5 @@
 // A fleet's life: rings of two incarnations of a machine are packed as pieces, which come in any order, again and
-// again; bytes that are changed or cut are refused; fleets are merged, compared, forgotten, and listed while they grow;
+// again; bytes that are changed or cut are refused; fleets are merged, compared, forgotten and listed;
 // and each growth of memory is refused in turn. It is linked with -Wl,--wrap=malloc -Wl,--wrap=realloc -Wl,--wrap=free.
 //
 //     fleet
@@ -337,13 +337,7 @@ static void refused_handles(void)
     IS(tracering_fleet_give_up(&none, 0, 0, 0, &at) == TRACERING_ABSENT);
     IS(tracering_fleet_list(&none, &len) == TRACERING_ABSENT);
     IS(tracering_fleet_next(&none, NULL, 0, &line) == TRACERING_ABSENT);
-    IS(tracering_fleet_frontier(&none, &id) == TRACERING_ABSENT);
-    IS(tracering_fleet_list_before(&none, 0, &len) == TRACERING_ABSENT);
-    IS(tracering_fleet_forget_before(&none, 0) == TRACERING_ABSENT);
-    IS(tracering_fleet_pack(&none, 0, NULL, 0, &len) == TRACERING_ABSENT);
     IS(tracering_fleet_next(&f, NULL, 0, &line) == TRACERING_END);
-    IS(tracering_fleet_frontier(&f, &id) == TRACERING_END);
-    IS(tracering_fleet_pack(&f, 0, NULL, 0, &len) == TRACERING_DONE && len == 0);
     free_fleet(&f);
 }
 
@@ -379,62 +373,9 @@ static void merged(void)
     free_fleet(&whole), free_fleet(&other);
 }
 
-// A stream's snapshot makes the same of a new fleet.
-static void snapshots(void)
-{
-    struct tracering_fleet whole = fleet_of(0, 0, PIECES), copy = TRACERING_FLEET_INIT;
-    struct tracering_stream_fault at;
-    IS(tracering_fleet_forget(&whole, id_of(1), 1, 2 * RECORDS + 1, &at) == TRACERING_DONE);
-    IS(tracering_fleet_new(&copy) == TRACERING_DONE);
-    for (uint64_t k = 0; k < STREAMS; k++) {
-        size_t len = 0, used = 0, again = 0;
-        IS(tracering_fleet_pack(&whole, id_of(k), NULL, 0, &len) == TRACERING_NO_ROOM);
-        uint8_t *bytes = malloc(len);
-        IS(tracering_fleet_pack(&whole, id_of(k), bytes, len - 1, &again) == TRACERING_NO_ROOM && again == len);
-        IS(tracering_fleet_pack(&whole, id_of(k), bytes, len, &again) == TRACERING_DONE && again == len);
-        for (size_t from = 0; from < len; from += used)
-            IS(tracering_fleet_add(&copy, bytes + from, len - from, &used, &at) <= 0);
-        free(bytes);
-    }
-    is_same(&whole, &copy, true);
-    free_fleet(&whole), free_fleet(&copy);
-}
+enum { ADDS, MERGES, LISTS, FORGETS, GIVES_UP, CALLS };
 
-// A listing that goes out while it grows has the lines of the whole, in their order, each once.
-static void growing(void)
-{
-    for (unsigned order = 0; order < 9; order++) {
-        struct tracering_fleet f = TRACERING_FLEET_INIT, whole = fleet_of(0, 0, PIECES);
-        struct tracering_fleet_line line, wanted;
-        uint8_t bytes[4], other[4];
-        size_t count = 0, all = 0, given = 0;
-        uint64_t moment = 0;
-        IS(tracering_fleet_new(&f) == TRACERING_DONE && tracering_fleet_list(&whole, &all) == TRACERING_DONE);
-        for (unsigned k = 0; k < PIECES; k++) {
-            // (Within a few pages the order is another one; all streams come at once.)
-            unsigned page = k / (STREAMS * CPUS), ring = (k + order) % (STREAMS * CPUS);
-            IS(add(&f, &pieces[ring * (PAGES + 1) + page]) == TRACERING_DONE);
-            if (page == 0)
-                continue;
-            bool done = tracering_fleet_frontier(&f, &moment) == TRACERING_END;
-            IS(done == (k == PIECES - 1));
-            IS((done ? tracering_fleet_list(&f, &count) : tracering_fleet_list_before(&f, moment, &count)) == 0);
-            for (; count; count--, given++) {
-                IS(tracering_fleet_next(&f, bytes, sizeof bytes, &line) == TRACERING_DONE);
-                IS(tracering_fleet_next(&whole, other, sizeof other, &wanted) == TRACERING_DONE);
-                IS(line.moment == wanted.moment && line.stream == wanted.stream && line.number == wanted.number);
-                IS(line.cpu == wanted.cpu && line.len == wanted.len && !memcmp(bytes, other, 4));
-            }
-            IS(done || tracering_fleet_forget_before(&f, moment) == TRACERING_DONE);
-        }
-        IS(given == all);
-        free_fleet(&f), free_fleet(&whole);
-    }
-}
-
-enum { ADDS, MERGES, LISTS, FORGETS, GIVES_UP, PACKS, LISTS_BEFORE, FORGETS_BEFORE, CALLS };
-
-static int32_t call(int which, struct tracering_fleet *f, struct tracering_fleet *other, uint8_t *out, size_t room)
+static int32_t call(int which, struct tracering_fleet *f, struct tracering_fleet *other)
 {
     struct tracering_stream_fault at;
     size_t len;
@@ -443,23 +384,19 @@ static int32_t call(int which, struct tracering_fleet *f, struct tracering_fleet
     case MERGES: return tracering_fleet_merge(f, other, &at);
     case LISTS: return tracering_fleet_list(f, &len);
     case FORGETS: return tracering_fleet_forget(f, id_of(0), 0, 3, &at);
-    case GIVES_UP: return tracering_fleet_give_up(f, id_of(0), 0, ALL, &at);
-    case PACKS: return tracering_fleet_pack(f, id_of(0), out, room, &len);
-    case LISTS_BEFORE: return tracering_fleet_list_before(f, 40, &len);
-    default: return tracering_fleet_forget_before(f, 40);
+    default: return tracering_fleet_give_up(f, id_of(0), 0, ALL, &at);
     }
 }
 
 // Refuses the growths of each call in turn: nothing has changed, and the call made once more does what it does.
 static long refuse(void)
 {
-    static uint8_t out[PIECES * sizeof pieces[0].bytes];
     long growths = 0;
     for (int which = 0; which < CALLS; which++) {
         struct tracering_fleet other = fleet_of(0, 5, PIECES), twin = fleet_of(0, 0, 5), f = fleet_of(0, 0, 5);
         for (long refused = 0;; refused++) {
             granted = refused;
-            int32_t code = call(which, &f, &other, out, sizeof out);
+            int32_t code = call(which, &f, &other);
             long left = granted;
             granted = -1;
             if (left >= 0) {
@@ -514,8 +451,6 @@ int main(void)
     changed();
     odds();
     merged();
-    snapshots();
-    growing();
     new_is_refused();
     IS(refuse() > 20 && refuse_packing() > 3);
     IS(blocks == 0);

@@ -10,7 +10,8 @@
 mod fleet;
 pub mod flight;
 
-pub use fleet::{pack, pack_end, Added, Cpus, CpuState, Fleet, FleetLine, Lines, Refusal, StreamFault, Streams, MARK};
+pub use fleet::{pack, pack_end, Added, CpuState, Cpus, Fleet, FleetLine, Lines, Refusal, StreamFault, Streams};
+pub use fleet::MARK;
 
 use std::error::Error;
 use std::fmt;

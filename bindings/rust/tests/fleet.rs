@@ -110,37 +110,3 @@ fn shares_are_merged() {
     assert_eq!(left.merge(&other), Err(Refusal { fault: Fault::Clash, at, used: 0 }));
     assert!(left.same(&whole));
 }
-
-#[test]
-fn a_snapshot_makes_the_same() {
-    let mut whole = fleet_of(&pieces(5));
-    whole.forget(5, 3, 1).unwrap();
-    let (bytes, mut copy) = (whole.pack(5).unwrap(), Fleet::new().unwrap());
-    let mut at = 0;
-    while at < bytes.len() {
-        at += copy.add(&bytes[at..]).unwrap().1;
-    }
-    assert!(copy.same(&whole));
-    assert_eq!(whole.pack(6), Ok(Vec::new()));
-}
-
-#[test]
-fn a_listing_goes_out_while_it_grows() {
-    let (left, right) = (pieces(5), pieces(9));
-    let mut fleet = fleet_of(&[left[0].clone(), right[0].clone()]);
-    assert_eq!(fleet.frontier(), Some(4));
-    let moments = |fleet: &mut Fleet, at| -> Vec<u64> {
-        fleet.lines_before(at).unwrap().map(|(line, _)| line.moment).collect()
-    };
-    assert_eq!(moments(&mut fleet, 4), [1, 1]);
-    assert_eq!(fleet.forget_before(4), Ok(()));
-    fleet.add(&left[1]).unwrap();
-    fleet.add(&right[1]).unwrap();
-    assert_eq!(moments(&mut fleet, 6), [4, 4]);
-    assert_eq!(fleet.forget_before(6), Ok(()));
-    fleet.add(&pack_end(5, 3, 3).unwrap()).unwrap();
-    assert_eq!(fleet.frontier(), Some(6));
-    fleet.add(&pack_end(9, 3, 3).unwrap()).unwrap();
-    assert_eq!(fleet.frontier(), None);
-    assert_eq!(fleet.lines().unwrap().map(|(line, _)| line.moment).collect::<Vec<_>>(), [6, 6]);
-}

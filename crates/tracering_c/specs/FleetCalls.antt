@@ -8,16 +8,18 @@ use Rattle.stream_collector.specs.Stream.{Stream}
 use Rattle.fleet_collector.specs.Fleet.{stream_at, KeepsOthers}
 use Rattle.fleet_collector.specs.Listing.{IsListing}
 use Rattle.fleet_collector.specs.Changes.{ForgetsBelow, LosesBelow}
+use Rattle.fleet_collector.specs.declared.merge_fault.FleetMergeFault.{FleetMergeFault}
 use Rattle.listed_fleet.specs.declared.adding.AddAnswer.{AddAnswer}
 use Rattle.listed_fleet.specs.declared.listed.Given.{Given}
 use Rattle.listed_fleet.specs.declared.listed.ListedFleet.{ListedFleet}
 use Rattle.listed_fleet.specs.Adding.{AddsSo}
 use Rattle.listed_fleet.specs.Cpus.{IsLeastFrom, HasNoneFrom}
 use Rattle.listed_fleet.specs.Giving.{GivesSo}
+use Rattle.listed_fleet.specs.Merging as merging
 use Rattle.listed_fleet.specs.Runs.{PutsRuns}
 use Rattle.tracering_c.specs.declared.fleet_codes.StreamFault.{StreamFault}
 use Rattle.tracering_c.specs.declared.fleet_codes.FleetLine.{FleetLine}
-use Rattle.tracering_c.specs.FleetCodes.{answer_code, answer_used, answer_at, marked_code, marked_at, found_code, given_code, next_line}
+use Rattle.tracering_c.specs.FleetCodes.{answer_code, answer_used, answer_at, marked_code, marked_at, merged_code, merged_at, found_code, given_code, next_line}
 
 -- No stream is there, and no line is to be given.
 pub record IsEmpty (listed : ListedFleet) : Type 0 where
@@ -87,3 +89,11 @@ pub record NextSo (old : ListedFleet) (out : List ℕ) (was : FleetLine) (code :
   pub gives : GivesSo old out answer left new
   pub code_is : code ≡ given_code answer
   pub line_is : line ≡ next_line was answer
+
+-- A fleet is merged with another one as Rattle's call answers, and the number and the place are those of its answer.
+pub record MergesSo (old other : ListedFleet) (was : StreamFault) (code : ℤ) (at : StreamFault) (new : ListedFleet)
+    : Type 0 where
+  pub fault : Option FleetMergeFault
+  pub merges : merging.MergesSo old other.fleet fault new
+  pub code_is : code ≡ merged_code fault
+  pub at_is : at ≡ merged_at was fault
