@@ -14,7 +14,7 @@ use Rattle.trace_model.proofs.collections.Elements.{get_in_front}
 use Rattle.time_merge.proofs.Ordered.{at_mapped}
 use Rattle.stream_collector.specs.Stream.{Stream}
 use Rattle.parcel_streams.specs.declared.piece.StreamId.{StreamId}
-use Rattle.fleet_collector.specs.Fleet.{known_of, entry_seen}
+use Rattle.fleet_collector.specs.Fleet.{known_of, stream_at, or_empty, entry_seen}
 use Rattle.fleet_collector.specs.Listing.{Line}
 use Rattle.fleet_collector.specs.Lines.{AreLinesOf, HasOf, HasIn}
 use Rattle.fleet_collector.proofs.ByNumber.{AreBelow, fleet_more}
@@ -66,3 +66,10 @@ lines_more fleet before item lines more new rising so_far within is old put e =
     subst (AreLinesOf (HasIn (map entry_seen (before ++ item ∷ [])))) (sym e)
     (subst (λ (es : List (ℕ × Stream)). AreLinesOf (HasIn es) (lines ++ more))
     (sym (map-append entry_seen before (item ∷ []))) all)
+
+-- what is known of a stream that stands at a place
+pub stream_at_place : (fleet : List (ℕ × Stream)) → IsStrictlyIncreasing (ids fleet) → (n : ℕ) (entry : ℕ × Stream)
+    → n < length fleet → entry ≡ get_or fleet n entry → stream_at fleet entry.0 ≡ entry.1
+stream_at_place fleet rising n entry within is =
+    ap or_empty (known_of_place fleet (sorted_from_strictly_increasing (ids fleet) rising) n entry.0 entry.1
+    (slice_get-get_or fleet n entry within ∙ ap (λ (x : ℕ × Stream). Some x) (sym is)))

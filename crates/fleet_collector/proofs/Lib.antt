@@ -5,4 +5,5 @@ pub mod Changed
 pub mod Telling
 pub mod Adding
 pub mod Joined
+pub mod Forgotten
 pub mod Marked
