@@ -6,4 +6,5 @@ pub mod Telling
 pub mod Adding
 pub mod Joined
 pub mod Forgotten
+pub mod BeforeCut
 pub mod Marked
