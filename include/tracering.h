@@ -235,7 +235,8 @@ enum {
     TRACERING_MISSED_DIFFERS = 28, // the page states other missed records than the number before it
     TRACERING_CLASH = 29,        // there are two different records of one CPU's number
     TRACERING_TAKEN_AND_MISSING = 30, // a CPU's number has a record and is missing
-    TRACERING_END = 31,          // next: all lines of the listing were given; next_stream, next_cpu: there is none
+    TRACERING_END = 31,          // next: all lines of the listing were given; next_stream, next_cpu: there is none;
+                                 // frontier: all that is there is complete
     TRACERING_OTHER_RING = 32,   // settle: these are ends of two rings
     TRACERING_NOT_PACKED = 33,   // the bytes don't begin as a piece of a stream does
     TRACERING_PIECE_CUT = 34,    // the bytes end within the piece
@@ -362,6 +363,9 @@ int32_t tracering_raw_fleet_give_up(struct tracering_held *, uint64_t, uint32_t,
     struct tracering_stream_fault *);
 int32_t tracering_raw_fleet_list(struct tracering_held *, size_t *);
 int32_t tracering_raw_fleet_next(struct tracering_held *, uint8_t *, size_t, struct tracering_fleet_line *);
+int32_t tracering_raw_fleet_frontier(struct tracering_held *, uint64_t *);
+int32_t tracering_raw_fleet_list_before(struct tracering_held *, uint64_t, size_t *);
+int32_t tracering_raw_fleet_forget_before(struct tracering_held *, uint64_t);
 int32_t tracering_raw_fleet_free(struct tracering_held *);
 
 // Bytes that may be null if there are none.
@@ -1145,6 +1149,45 @@ static inline int32_t tracering_fleet_next(struct tracering_fleet *f, void *out,
         return TRACERING_BUSY;
     uint8_t *to = out ? (uint8_t *)out : &none;
     return tracering_leave(&f->in_call, tracering_raw_fleet_next(&f->held, to, room, line));
+}
+
+// The moment before which no line comes any more, if the moments of each CPU's records never fall from one number to
+// the next: of each CPU that isn't complete that of the last record below its watermark (0 if there is none from the
+// bound on), and of these the least. A CPU is complete if its end is known and is its watermark. A stream of which
+// nothing came yet isn't there, and holds nothing up. END: all that is there is complete, so no line comes any more at
+// all; `moment` is not changed.
+static inline int32_t tracering_fleet_frontier(struct tracering_fleet *f, uint64_t *moment)
+{
+    if (!(f && moment))
+        return TRACERING_NULL;
+    if (!tracering_enter(&f->in_call))
+        return TRACERING_BUSY;
+    return tracering_leave(&f->in_call, tracering_raw_fleet_frontier(&f->held, moment));
+}
+
+// fleet_list_before: lists, as `fleet_list` does, the records of each CPU below its cut at a moment. The cut is the
+// greatest number from the bound up to the watermark such that all records from the bound up to it are before the
+// moment. NO_MEMORY: the last listing is as it was.
+// fleet_forget_before: raises the bound of each CPU to its cut at this moment, in one pass. NO_MEMORY: each stream has
+// forgotten what is before the moment, or is as it was; make the call once more.
+// So a listing goes out while it grows: at the frontier list what is before, write it, and forget it. At END list all
+// that is left. Then each line was written once, and all in their order.
+static inline int32_t tracering_fleet_list_before(struct tracering_fleet *f, uint64_t moment, size_t *count)
+{
+    if (!(f && count))
+        return TRACERING_NULL;
+    if (!tracering_enter(&f->in_call))
+        return TRACERING_BUSY;
+    return tracering_leave(&f->in_call, tracering_raw_fleet_list_before(&f->held, moment, count));
+}
+
+static inline int32_t tracering_fleet_forget_before(struct tracering_fleet *f, uint64_t moment)
+{
+    if (!f)
+        return TRACERING_NULL;
+    if (!tracering_enter(&f->in_call))
+        return TRACERING_BUSY;
+    return tracering_leave(&f->in_call, tracering_raw_fleet_forget_before(&f->held, moment));
 }
 
 // Frees the fleet and its listing. The handle is all zeros afterwards.

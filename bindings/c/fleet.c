@@ -1,5 +1,5 @@
 // A fleet's life: rings of two incarnations of a machine are packed as pieces, which come in any order, again and
-// again; bytes that are changed or cut are refused; fleets are merged, compared, forgotten and listed;
+// again; bytes that are changed or cut are refused; fleets are merged, compared, forgotten, and listed while they grow;
 // and each growth of memory is refused in turn. It is linked with -Wl,--wrap=malloc -Wl,--wrap=realloc -Wl,--wrap=free.
 //
 //     fleet
@@ -337,7 +337,11 @@ static void refused_handles(void)
     IS(tracering_fleet_give_up(&none, 0, 0, 0, &at) == TRACERING_ABSENT);
     IS(tracering_fleet_list(&none, &len) == TRACERING_ABSENT);
     IS(tracering_fleet_next(&none, NULL, 0, &line) == TRACERING_ABSENT);
+    IS(tracering_fleet_frontier(&none, &id) == TRACERING_ABSENT);
+    IS(tracering_fleet_list_before(&none, 0, &len) == TRACERING_ABSENT);
+    IS(tracering_fleet_forget_before(&none, 0) == TRACERING_ABSENT);
     IS(tracering_fleet_next(&f, NULL, 0, &line) == TRACERING_END);
+    IS(tracering_fleet_frontier(&f, &id) == TRACERING_END);
     free_fleet(&f);
 }
 
@@ -373,7 +377,39 @@ static void merged(void)
     free_fleet(&whole), free_fleet(&other);
 }
 
-enum { ADDS, MERGES, LISTS, FORGETS, GIVES_UP, CALLS };
+// A listing that goes out while it grows has the lines of the whole, in their order, each once.
+static void growing(void)
+{
+    for (unsigned order = 0; order < 9; order++) {
+        struct tracering_fleet f = TRACERING_FLEET_INIT, whole = fleet_of(0, 0, PIECES);
+        struct tracering_fleet_line line, wanted;
+        uint8_t bytes[4], other[4];
+        size_t count = 0, all = 0, given = 0;
+        uint64_t moment = 0;
+        IS(tracering_fleet_new(&f) == TRACERING_DONE && tracering_fleet_list(&whole, &all) == TRACERING_DONE);
+        for (unsigned k = 0; k < PIECES; k++) {
+            // (Within a few pages the order is another one; all streams come at once.)
+            unsigned page = k / (STREAMS * CPUS), ring = (k + order) % (STREAMS * CPUS);
+            IS(add(&f, &pieces[ring * (PAGES + 1) + page]) == TRACERING_DONE);
+            if (page == 0)
+                continue;
+            bool done = tracering_fleet_frontier(&f, &moment) == TRACERING_END;
+            IS(done == (k == PIECES - 1));
+            IS((done ? tracering_fleet_list(&f, &count) : tracering_fleet_list_before(&f, moment, &count)) == 0);
+            for (; count; count--, given++) {
+                IS(tracering_fleet_next(&f, bytes, sizeof bytes, &line) == TRACERING_DONE);
+                IS(tracering_fleet_next(&whole, other, sizeof other, &wanted) == TRACERING_DONE);
+                IS(line.moment == wanted.moment && line.stream == wanted.stream && line.number == wanted.number);
+                IS(line.cpu == wanted.cpu && line.len == wanted.len && !memcmp(bytes, other, 4));
+            }
+            IS(done || tracering_fleet_forget_before(&f, moment) == TRACERING_DONE);
+        }
+        IS(given == all);
+        free_fleet(&f), free_fleet(&whole);
+    }
+}
+
+enum { ADDS, MERGES, LISTS, FORGETS, GIVES_UP, LISTS_BEFORE, FORGETS_BEFORE, CALLS };
 
 static int32_t call(int which, struct tracering_fleet *f, struct tracering_fleet *other)
 {
@@ -384,7 +420,9 @@ static int32_t call(int which, struct tracering_fleet *f, struct tracering_fleet
     case MERGES: return tracering_fleet_merge(f, other, &at);
     case LISTS: return tracering_fleet_list(f, &len);
     case FORGETS: return tracering_fleet_forget(f, id_of(0), 0, 3, &at);
-    default: return tracering_fleet_give_up(f, id_of(0), 0, ALL, &at);
+    case GIVES_UP: return tracering_fleet_give_up(f, id_of(0), 0, ALL, &at);
+    case LISTS_BEFORE: return tracering_fleet_list_before(f, 40, &len);
+    default: return tracering_fleet_forget_before(f, 40);
     }
 }
 
@@ -451,6 +489,7 @@ int main(void)
     changed();
     odds();
     merged();
+    growing();
     new_is_refused();
     IS(refuse() > 20 && refuse_packing() > 3);
     IS(blocks == 0);

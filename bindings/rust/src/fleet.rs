@@ -33,6 +33,9 @@ extern "C" {
     fn tracering_raw_fleet_give_up(f: *mut Handle, stream: u64, cpu: u32, bound: u64, at: *mut StreamFault) -> i32;
     fn tracering_raw_fleet_list(f: *mut Handle, count: *mut usize) -> i32;
     fn tracering_raw_fleet_next(f: *mut Handle, out: *mut u8, room: usize, line: *mut FleetLine) -> i32;
+    fn tracering_raw_fleet_frontier(f: *mut Handle, moment: *mut u64) -> i32;
+    fn tracering_raw_fleet_list_before(f: *mut Handle, moment: u64, count: *mut usize) -> i32;
+    fn tracering_raw_fleet_forget_before(f: *mut Handle, moment: u64) -> i32;
     fn tracering_raw_fleet_free(f: *mut Handle) -> i32;
 }
 
@@ -282,6 +285,25 @@ impl Fleet {
         let mut left = 0;
         done(unsafe { tracering_raw_fleet_list(self.0.get_mut(), &mut left) })?;
         Ok(Lines { fleet: self, left })
+    }
+
+    /// The same of the records of each CPU below its cut at a moment; then `forget_before` drops them.
+    pub fn lines_before(&mut self, moment: u64) -> Result<Lines<'_>, Fault> {
+        let mut left = 0;
+        done(unsafe { tracering_raw_fleet_list_before(self.0.get_mut(), moment, &mut left) })?;
+        Ok(Lines { fleet: self, left })
+    }
+
+    /// The moment before which no line comes any more; none, if all that is there is complete.
+    pub fn frontier(&self) -> Option<u64> {
+        let mut moment = 0;
+        done(unsafe { tracering_raw_fleet_frontier(self.0.get(), &mut moment) }).ok().map(|()| moment)
+    }
+
+    /// Raises the bound of each CPU to its cut at this moment. If memory is refused, some streams may have been done: it
+    /// may be called again.
+    pub fn forget_before(&mut self, moment: u64) -> Result<(), Fault> {
+        done(unsafe { tracering_raw_fleet_forget_before(self.0.get_mut(), moment) })
     }
 
     /// The next line of the listing that was made last, whose bytes go to the front of `out`. If there are more of them

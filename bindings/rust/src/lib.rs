@@ -10,8 +10,7 @@
 mod fleet;
 pub mod flight;
 
-pub use fleet::{pack, pack_end, Added, CpuState, Cpus, Fleet, FleetLine, Lines, Refusal, StreamFault, Streams};
-pub use fleet::MARK;
+pub use fleet::{pack, pack_end, Added, Cpus, CpuState, Fleet, FleetLine, Lines, Refusal, StreamFault, Streams, MARK};
 
 use std::error::Error;
 use std::fmt;

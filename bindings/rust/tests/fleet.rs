@@ -110,3 +110,24 @@ fn shares_are_merged() {
     assert_eq!(left.merge(&other), Err(Refusal { fault: Fault::Clash, at, used: 0 }));
     assert!(left.same(&whole));
 }
+
+#[test]
+fn a_listing_goes_out_while_it_grows() {
+    let (left, right) = (pieces(5), pieces(9));
+    let mut fleet = fleet_of(&[left[0].clone(), right[0].clone()]);
+    assert_eq!(fleet.frontier(), Some(4));
+    let moments = |fleet: &mut Fleet, at| -> Vec<u64> {
+        fleet.lines_before(at).unwrap().map(|(line, _)| line.moment).collect()
+    };
+    assert_eq!(moments(&mut fleet, 4), [1, 1]);
+    assert_eq!(fleet.forget_before(4), Ok(()));
+    fleet.add(&left[1]).unwrap();
+    fleet.add(&right[1]).unwrap();
+    assert_eq!(moments(&mut fleet, 6), [4, 4]);
+    assert_eq!(fleet.forget_before(6), Ok(()));
+    fleet.add(&pack_end(5, 3, 3).unwrap()).unwrap();
+    assert_eq!(fleet.frontier(), Some(6));
+    fleet.add(&pack_end(9, 3, 3).unwrap()).unwrap();
+    assert_eq!(fleet.frontier(), None);
+    assert_eq!(fleet.lines().unwrap().map(|(line, _)| line.moment).collect::<Vec<_>>(), [6, 6]);
+}

@@ -1,5 +1,6 @@
 -- The numbers by which C is answered of fleets, and what is told beside them.
 use Rattle.std.specs.Prelude.{ℕ, ℤ, pos, negsuc, Option, Some, None, Result, Ok, Err}
+use Rattle.trace_model.specs.declared.numbers.Moment.{Moment}
 use Rattle.collector.specs.declared.fault.AddFault.TheVariants.{Clash, TakenAndMissing, NoMemory as NoMemoryToAdd}
 use Rattle.page_numbers.specs.declared.fault.ParcelFault.{ParcelFault}
 use Rattle.parcel_streams.specs.declared.fault.PieceFault.{PieceFault}
@@ -156,6 +157,15 @@ packed_len was (Err fault) = was
 abbrev pub found_code : Option ℕ → ℤ
 found_code (Some number) = pos 0
 found_code None = pos 31
+
+-- the number of a frontier, if there is one, and its moment
+abbrev pub frontier_code : Option Moment → ℤ
+frontier_code (Some moment) = pos 0
+frontier_code None = pos 31
+
+abbrev pub frontier_moment : ℕ → Option Moment → ℕ
+frontier_moment was (Some moment) = moment.0
+frontier_moment was None = was
 
 -- the number of what is given of a listing, and the numbers of the line that is next
 abbrev pub given_code : Given → ℤ

@@ -7,6 +7,7 @@ use listed_fleet::{AddAnswer, Given, LineNumbers, Put, RefusedPiece};
 use page_numbers::ParcelFault;
 use parcel_streams::PieceFault;
 use stream_collector::{AddFault, Added, MarkFault, Marked, MergeFault};
+use trace_model::Moment;
 
 /// The parcel ends below the bound of its CPU.
 pub const FORGOTTEN: i32 = -5;
@@ -62,7 +63,7 @@ pub struct FleetLine {
 }
 
 ghost use Rattle.std.specs.Prelude.{◌≡◌};
-ghost use Rattle.tracering_c.specs.FleetCodes.{piece_code, parcel_refusal_code, mark_code, refusal_code, added_code, answer_code, answer_used, answer_at, marked_code, marked_at, merge_code, merged_code, packed_code, packed_len, found_code, given_code, next_line, line_at, parcel_number, mark_number, refusal_number, place_at};
+ghost use Rattle.tracering_c.specs.FleetCodes.{piece_code, parcel_refusal_code, mark_code, refusal_code, added_code, answer_code, answer_used, answer_at, marked_code, marked_at, merge_code, merged_code, packed_code, packed_len, found_code, frontier_code, frontier_moment, given_code, next_line, line_at, parcel_number, mark_number, refusal_number, place_at};
 
 /// The number of why bytes have no piece at their front.
 fn code_of_piece(fault: PieceFault) -> i32
@@ -323,6 +324,26 @@ pub fn code_of_found_cpu(found: Option<u32>) -> i32
     match found {
         Some(_) => DONE,
         None => END,
+    }
+}
+
+/// The number of a frontier, if there is one.
+pub fn code_of_frontier(found: Option<Moment>) -> i32
+    ensures { result ≡ frontier_code found }
+{
+    match found {
+        Some(_) => DONE,
+        None => END,
+    }
+}
+
+/// Its moment; else as it was.
+pub fn moment_of_frontier(found: Option<Moment>, was: u64) -> u64
+    ensures { result ≡ frontier_moment was found }
+{
+    match found {
+        Some(moment) => moment.0,
+        None => was,
     }
 }
 

@@ -12,6 +12,7 @@ mod collecting;
 pub mod ends;
 mod fleet;
 pub mod fleet_codes;
+mod fleet_growing;
 mod fleet_joining;
 mod fleet_reading;
 pub mod handle;
