@@ -8,7 +8,7 @@ use Rattle.stream_collector.specs.declared.fault.MarkFault.{MarkFault}
 use Rattle.stream_collector.specs.Stream.{Stream}
 use Rattle.fleet_collector.specs.Fleet.{stream_at, KeepsOthers}
 use Rattle.fleet_collector.specs.Listing.{IsListing, IsListingBefore}
-use Rattle.fleet_collector.specs.Frontier.{IsFleetFrontier}
+use Rattle.fleet_collector.specs.Frontier.{IsFleetFrontier, AllForgottenBefore, SomeForgottenBefore}
 use Rattle.fleet_collector.specs.Changes.{ForgetsBelow, LosesBelow}
 use Rattle.fleet_collector.specs.declared.merge_fault.FleetMergeFault.{FleetMergeFault}
 use Rattle.listed_fleet.specs.declared.adding.AddAnswer.{AddAnswer}
@@ -90,6 +90,16 @@ pub record IsListedBefore (old : ListedFleet) (moment count : ℕ) (new : Listed
   pub count_is : count ≡ length new.lines
   pub first : new.given ≡ 0
   pub fleet : new.fleet ≡ old.fleet
+
+-- Each stream has forgotten what is before the cuts of its CPUs at a moment. The listing stays.
+pub record HasForgotten (old : ListedFleet) (moment : ℕ) (new : ListedFleet) : Type 0 where
+  pub streams : AllForgottenBefore old.fleet new.fleet moment
+  pub listing : new ≡ record old { fleet = new.fleet }
+
+-- Each stream has, or is as it was. The listing stays.
+pub record HasForgottenSome (old : ListedFleet) (moment : ℕ) (new : ListedFleet) : Type 0 where
+  pub streams : SomeForgottenBefore old.fleet new.fleet moment
+  pub listing : new ≡ record old { fleet = new.fleet }
 
 -- The fleet's frontier is told, or that there is none: all is complete.
 pub record FrontierSo (listed : ListedFleet) (was : ℕ) (code : ℤ) (moment : ℕ) : Type 0 where

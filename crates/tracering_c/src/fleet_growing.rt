@@ -1,10 +1,9 @@
 //! A fleet's listing that goes out while it grows.
 ghost use Rattle.std.specs.Prelude.{◌≡◌, ◌≢◌, Some, None, pos};
-ghost use Rattle.fleet_collector.specs.Frontier.{AllForgottenBefore, SomeForgottenBefore};
 ghost use Rattle.tracering_c.specs.declared.ends.HeldFleet.{HeldFleet as EndValue};
 ghost use Rattle.tracering_c.specs.Held.{fleet_of};
 ghost use Rattle.tracering_c.specs.Handles.{SaysAbsent, OnFleet};
-ghost use Rattle.tracering_c.specs.FleetCalls.{FrontierSo, IsListedBefore};
+ghost use Rattle.tracering_c.specs.FleetCalls.{FrontierSo, IsListedBefore, HasForgotten, HasForgottenSome};
 
 use crate::codes::{ABSENT, DONE, NO_MEMORY};
 use crate::fleet_codes::{code_of_frontier, moment_of_frontier};
@@ -75,10 +74,8 @@ fn list_before(alloc: Global, listed: &mut ListedFleet, moment: u64, count: &mut
 #[unsafe(no_mangle)]
 pub extern "C" fn tracering_raw_fleet_forget_before(f: &mut FleetHandle, moment: u64) -> i32
     ensures absent { SaysAbsent (fleet_of f.old.held.value) result f.old f.new }
-    ensures forgotten { OnFleet f.old f.new
-        (λ old new. result ≡ pos 0 → AllForgottenBefore old.fleet new.fleet moment) }
-    ensures some { OnFleet f.old f.new (λ old new. SomeForgottenBefore old.fleet new.fleet moment) }
-    ensures listing { OnFleet f.old f.new (λ old new. new ≡ record old { fleet = new.fleet }) }
+    ensures forgotten { OnFleet f.old f.new (λ old new. result ≡ pos 0 → HasForgotten old moment new) }
+    ensures some { OnFleet f.old f.new (λ old new. HasForgottenSome old moment new) }
     ensures no_memory { (old : EndValue) → fleet_of f.old.held.value ≡ Some old → result ≢ pos 0 → result ≡ pos 12 }
 {
     if !f.live {
@@ -89,9 +86,8 @@ pub extern "C" fn tracering_raw_fleet_forget_before(f: &mut FleetHandle, moment:
 
 /// `tracering_raw_fleet_forget_before`, of the fleet itself.
 fn forget_before(listed: &mut ListedFleet, moment: u64) -> i32
-    ensures forgotten { result ≡ pos 0 → AllForgottenBefore listed.old.fleet listed.new.fleet moment }
-    ensures some { SomeForgottenBefore listed.old.fleet listed.new.fleet moment }
-    ensures listing { listed.new ≡ record listed.old { fleet = listed.new.fleet } }
+    ensures forgotten { result ≡ pos 0 → HasForgotten listed.old moment listed.new }
+    ensures some { HasForgottenSome listed.old moment listed.new }
     ensures no_memory { result ≢ pos 0 → result ≡ pos 12 }
 {
     match listed.fleet.forget_before(Moment(moment)) {
