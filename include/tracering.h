@@ -292,7 +292,7 @@ static inline const char *tracering_text(int32_t code)
     case TRACERING_MISSED_DIFFERS: return "the page states other missed records than the number before it";
     case TRACERING_CLASH: return "there are two different records of one number";
     case TRACERING_TAKEN_AND_MISSING: return "a number has a record and is missing";
-    case TRACERING_END: return "there are no more";
+    case TRACERING_END: return "there is nothing more";
     case TRACERING_OTHER_RING: return "these are ends of two rings";
     case TRACERING_NOT_PACKED: return "the bytes don't begin as a piece of a stream does";
     case TRACERING_PIECE_CUT: return "the bytes end within the piece";

@@ -133,13 +133,12 @@ static const struct piece *shuffled(unsigned order, unsigned k)
     return &pieces[(order + k * steps[order % (sizeof steps / sizeof *steps)]) % PIECES];
 }
 
-static struct tracering_fleet fleet_of(unsigned order, unsigned from, unsigned end)
+// Makes a handle that has nothing a fleet of some of the pieces.
+static void fill(struct tracering_fleet *f, unsigned order, unsigned from, unsigned end)
 {
-    struct tracering_fleet f = TRACERING_FLEET_INIT;
-    IS(tracering_fleet_new(&f) == TRACERING_DONE);
+    IS(tracering_fleet_new(f) == TRACERING_DONE);
     for (unsigned k = from; k < end; k++)
-        IS(add(&f, shuffled(order, k)) == TRACERING_DONE);
-    return f;
+        IS(add(f, shuffled(order, k)) == TRACERING_DONE);
 }
 
 static void is_same(struct tracering_fleet *f, struct tracering_fleet *other, bool same)
@@ -150,8 +149,7 @@ static void is_same(struct tracering_fleet *f, struct tracering_fleet *other, bo
 
 static void free_fleet(struct tracering_fleet *f)
 {
-    static const struct tracering_fleet none = TRACERING_FLEET_INIT;
-    IS(tracering_fleet_free(f) == TRACERING_DONE && !memcmp(f, &none, sizeof none));
+    IS(tracering_fleet_free(f) == TRACERING_DONE && !f->held.at && !f->held.live && !f->in_call);
     IS(tracering_fleet_free(f) == TRACERING_ABSENT);
 }
 
@@ -193,10 +191,12 @@ static void is_whole(struct tracering_fleet *f)
 // In any order, and each piece twice.
 static void orders(void)
 {
-    struct tracering_fleet first = fleet_of(0, 0, PIECES);
+    struct tracering_fleet first = TRACERING_FLEET_INIT;
+    fill(&first, 0, 0, PIECES);
     is_whole(&first);
     for (unsigned order = 1; order < 30; order++) {
-        struct tracering_fleet f = fleet_of(order, 0, PIECES - 1);
+        struct tracering_fleet f = TRACERING_FLEET_INIT;
+        fill(&f, order, 0, PIECES - 1);
         is_same(&f, &first, false);
         for (unsigned k = 0; k < PIECES - 1; k++)
             IS(add(&f, shuffled(order + 1, k)) != TRACERING_CLASH);
@@ -348,12 +348,14 @@ static void refused_handles(void)
 // Shares that are merged, in either order, are the whole.
 static void merged(void)
 {
-    struct tracering_fleet whole = fleet_of(0, 0, PIECES);
+    struct tracering_fleet whole = TRACERING_FLEET_INIT;
+    fill(&whole, 0, 0, PIECES);
     for (unsigned order = 0; order < 9; order++) {
         unsigned cut = 5 * order + 3;
-        struct tracering_fleet left = fleet_of(order, 0, cut + 2), right = fleet_of(order, cut, PIECES);
-        struct tracering_fleet twin = fleet_of(order, cut, PIECES);
+        struct tracering_fleet left = TRACERING_FLEET_INIT, right = TRACERING_FLEET_INIT;
+        struct tracering_fleet twin = TRACERING_FLEET_INIT;
         struct tracering_stream_fault at = {1, 2, 3};
+        fill(&left, order, 0, cut + 2), fill(&right, order, cut, PIECES), fill(&twin, order, cut, PIECES);
         is_same(&right, &twin, true);
         IS(tracering_fleet_merge(&left, &right, &at) == TRACERING_DONE);
         is_same(&left, &whole, true);
@@ -381,11 +383,12 @@ static void merged(void)
 static void growing(void)
 {
     for (unsigned order = 0; order < 9; order++) {
-        struct tracering_fleet f = TRACERING_FLEET_INIT, whole = fleet_of(0, 0, PIECES);
+        struct tracering_fleet f = TRACERING_FLEET_INIT, whole = TRACERING_FLEET_INIT;
         struct tracering_fleet_line line, wanted;
         uint8_t bytes[4], other[4];
         size_t count = 0, all = 0, given = 0;
         uint64_t moment = 0;
+        fill(&whole, 0, 0, PIECES);
         IS(tracering_fleet_new(&f) == TRACERING_DONE && tracering_fleet_list(&whole, &all) == TRACERING_DONE);
         for (unsigned k = 0; k < PIECES; k++) {
             // (Within a few pages the order is another one; all streams come at once.)
@@ -431,7 +434,8 @@ static long refuse(void)
 {
     long growths = 0;
     for (int which = 0; which < CALLS; which++) {
-        struct tracering_fleet other = fleet_of(0, 5, PIECES), twin = fleet_of(0, 0, 5), f = fleet_of(0, 0, 5);
+        struct tracering_fleet other = TRACERING_FLEET_INIT, twin = TRACERING_FLEET_INIT, f = TRACERING_FLEET_INIT;
+        fill(&other, 0, 5, PIECES), fill(&twin, 0, 0, 5), fill(&f, 0, 0, 5);
         for (long refused = 0;; refused++) {
             granted = refused;
             int32_t code = call(which, &f, &other);
