@@ -15,21 +15,28 @@ use Rattle.command_line.specs.declared.words.TheConstants.{MIN_PAGE, MAX_PAGE}
 abbrev pub file_seen : CpuFile → ℕ × List ℕ
 file_seen file = (file.cpu.0, file.path.now)
 
--- what `collect` is asked for: the bytes of a page, whether names and whether objects are printed, the folder of
--- formats, and the CPU and the path of each file
+-- what `collect` is asked for: the bytes of a page, and whether they were said; whether names and whether objects are
+-- printed; the folder of formats; the file for new pieces of streams; whether pieces are printed; and the CPU and the
+-- path of each file
 pub record Asked : Type 0 where
   pub page : ℕ
+  pub has_page : Bool
   pub names : Bool
   pub json : Bool
   pub formats : Option Text
+  pub keep : Option Text
+  pub parcels : Bool
   pub files : List (ℕ × Text)
 
 abbrev pub asked_of : CollectCall → Asked
 asked_of call = record {
   page = call.page;
+  has_page = call.has_page;
   names = call.names;
   json = call.json;
   formats = option_map (λ folder. folder.now) call.formats;
+  keep = option_map (λ file. file.now) call.keep;
+  parcels = call.parcels;
   files = map file_seen call.files.items;
 }
 
@@ -43,6 +50,7 @@ files_matched rows = option_and_then file_list (all_of (codes "file") rows)
 -- The matches ask for this. Names are printed if `--names` or `--formats` is given.
 pub record AsksFor (rows : List Row) (asked : Asked) : Type 0 where
   pub page : page_matched rows ≡ Some asked.page
+  pub has_page : asked.has_page ≡ is_some (first_of (codes "page") rows)
   pub files : files_matched rows ≡ Some asked.files
   pub formats : first_of (codes "formats") rows ≡ asked.formats
   pub json : one_of (codes "json") rows ≡ Some (codes "true") → asked.json ≡ true
@@ -51,6 +59,9 @@ pub record AsksFor (rows : List Row) (asked : Asked) : Type 0 where
   pub named_formats : is_some asked.formats ≡ true → asked.names ≡ true
   pub no_names : one_of (codes "names") rows ≡ Some (codes "false") → asked.formats ≡ None
       → asked.names ≡ false
+  pub keep : first_of (codes "keep") rows ≡ asked.keep
+  pub parcels : one_of (codes "parcels") rows ≡ Some (codes "true") → asked.parcels ≡ true
+  pub no_parcels : one_of (codes "parcels") rows ≡ Some (codes "false") → asked.parcels ≡ false
 
 -- What is asked for is in range: the bytes of a page, and the CPU of each file, of which there is one at least.
 pub record IsInRange (call : CollectCall) : Type 0 where

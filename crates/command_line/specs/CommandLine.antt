@@ -43,7 +43,8 @@ collect_options =
     let paged = with_rule (new_app (codes "collect")) (option_rule (codes "page")) in
     let named = with_rule paged (flag_rule (codes "names")) in
     let formed = with_rule named (option_rule (codes "formats")) in
-    with_rule formed (flag_rule (codes "json"))
+    let kept = with_rule (with_rule formed (flag_rule (codes "json"))) (option_rule (codes "keep")) in
+    with_rule kept (flag_rule (codes "parcels"))
 
 -- and with its files
 abbrev pub collect_command : App

@@ -23,12 +23,18 @@ pub struct CpuFile<'a> {
 pub struct CollectCall<'a> {
     /// How many bytes a page of a raw file has.
     pub page: usize,
+    /// Whether the command line says so.
+    pub has_page: bool,
     /// Whether the process and the event of a record are printed.
     pub names: bool,
     /// Whether each line is an object.
     pub json: bool,
     /// The folder below which formats of events are.
     pub formats: Option<&'a str>,
+    /// The file that new pieces of streams are written to.
+    pub keep: Option<&'a str>,
+    /// Whether the pieces of streams are printed in place of what they say.
+    pub parcels: bool,
     /// The files, one at least.
     pub files: Vec<CpuFile<'a>>,
 }

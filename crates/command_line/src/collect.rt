@@ -1,5 +1,5 @@
 //! What the matches of `collect` ask for.
-ghost use Rattle.std.specs.Prelude.{◌≡◌, Some, None, Err, IfOk, codes, false, map, option_map, true};
+ghost use Rattle.std.specs.Prelude.{◌≡◌, Some, None, Err, IfOk, codes, false, is_some, map, option_map, true};
 ghost use Rattle.clap.specs.Words.{first_of, found_of, one_of, rows_of};
 ghost use Rattle.command_line.specs.Calls.{AreUnread, AsksFor, asked_of, file_seen, files_matched, page_matched};
 ghost use Rattle.command_line.specs.FileWords.{count_inputs, file_list};
@@ -66,11 +66,18 @@ fn matched_files<'a>(alloc: Global, found: &ArgMatches<'a>) -> Result<Vec<CpuFil
     }
 }
 
-// The folder of formats that they name.
-fn matched_formats<'a>(found: &ArgMatches<'a>) -> Option<&'a str>
-    ensures { option_map (λ folder. folder.now) result ≡ first_of (codes "formats") (rows_of (found_of found.now)) }
+// The text of the option of this name.
+fn matched_text<'a>(found: &ArgMatches<'a>, name: &str) -> Option<&'a str>
+    ensures { option_map (λ text. text.now) result ≡ first_of name.now (rows_of (found_of found.now)) }
 {
-    found.get_str("formats")
+    found.get_str(name)
+}
+
+// Whether the option of this name is given.
+fn is_matched(found: &ArgMatches<'_>, name: &str) -> bool
+    ensures { result ≡ is_some (first_of name.now (rows_of (found_of found.now))) }
+{
+    matched_text(found, name).is_some()
 }
 
 // Whether the flag of this name is given.
@@ -93,12 +100,15 @@ pub(crate) fn collect_call<'a>(
         return Err(CallFault::Usage);
     };
     let files = matched_files(alloc, found)?;
-    let formats = matched_formats(found);
+    let formats = matched_text(found, "formats");
     Ok(CollectCall {
         page: page as usize,
+        has_page: is_matched(found, "page"),
         names: matched_flag(found, "names") || formats.is_some(),
         json: matched_flag(found, "json"),
         formats,
+        keep: matched_text(found, "keep"),
+        parcels: matched_flag(found, "parcels"),
         files,
     })
 }

@@ -86,7 +86,8 @@ fn collect_program<'a>(alloc: Global) -> Result<Command<'a>, AllocError>
     let paged = with_option(alloc, Command::new(alloc, "collect"), "page")?;
     let named = with_flag(alloc, paged, "names")?;
     let formed = with_option(alloc, named, "formats")?;
-    with_flag(alloc, formed, "json")
+    let kept = with_option(alloc, with_flag(alloc, formed, "json")?, "keep")?;
+    with_flag(alloc, kept, "parcels")
 }
 
 /// The program with its five commands.
@@ -162,23 +163,30 @@ pub fn call_of<'a, S: AsStr>(alloc: Global, words: &'a [S]) -> Result<Call<'a>, 
         → map S.text words.now ≡ first ∷ codes "dump" ∷ codes "--log" ∷ []
         → (result ≡ Err CallFault.Usage) ⊎ (result ≡ Err CallFault.NoMemory) }
 
-    // Or of `collect`, with files alone, a CPU and standard input, flags, and a size of a page.
+    // Or of `collect`, with files alone, a CPU and standard input, flags, a size of a page, formats, and a file for what
+    // is new.
     ensures collect { (first : List ℕ)
         → map S.text words.now ≡ first ∷ codes "collect" ∷ codes "a" ∷ codes "b" ∷ []
         → IsAsked result (record {
           page = 4096;
+          has_page = false;
           names = false;
           json = false;
           formats = None;
+          keep = None;
+          parcels = false;
           files = (0, codes "a") ∷ (1, codes "b") ∷ [];
         }) }
     ensures collect_cpu { (first : List ℕ)
         → map S.text words.now ≡ first ∷ codes "collect" ∷ codes "3=a" ∷ codes "-" ∷ []
         → IsAsked result (record {
           page = 4096;
+          has_page = false;
           names = false;
           json = false;
           formats = None;
+          keep = None;
+          parcels = false;
           files = (3, codes "a") ∷ (1, codes "-") ∷ [];
         }) }
     ensures collect_flags { (first : List ℕ)
@@ -186,18 +194,24 @@ pub fn call_of<'a, S: AsStr>(alloc: Global, words: &'a [S]) -> Result<Call<'a>, 
         ≡ first ∷ codes "collect" ∷ codes "--json" ∷ codes "--names" ∷ codes "a" ∷ []
         → IsAsked result (record {
           page = 4096;
+          has_page = false;
           names = true;
           json = true;
           formats = None;
+          keep = None;
+          parcels = false;
           files = (0, codes "a") ∷ [];
         }) }
     ensures collect_page { (first : List ℕ)
         → map S.text words.now ≡ first ∷ codes "collect" ∷ codes "--page" ∷ codes "8192" ∷ codes "a" ∷ []
         → IsAsked result (record {
           page = 8192;
+          has_page = true;
           names = false;
           json = false;
           formats = None;
+          keep = None;
+          parcels = false;
           files = (0, codes "a") ∷ [];
         }) }
     ensures collect_formats { (first : List ℕ)
@@ -205,10 +219,38 @@ pub fn call_of<'a, S: AsStr>(alloc: Global, words: &'a [S]) -> Result<Call<'a>, 
         ≡ first ∷ codes "collect" ∷ codes "a" ∷ codes "--formats" ∷ codes "d" ∷ codes "b" ∷ []
         → IsAsked result (record {
           page = 4096;
+          has_page = false;
           names = true;
           json = false;
           formats = Some (codes "d");
+          keep = None;
+          parcels = false;
           files = (0, codes "a") ∷ (1, codes "b") ∷ [];
+        }) }
+    ensures collect_keep { (first : List ℕ)
+        → map S.text words.now
+        ≡ first ∷ codes "collect" ∷ codes "--keep" ∷ codes "k" ∷ codes "--json" ∷ codes "a" ∷ []
+        → IsAsked result (record {
+          page = 4096;
+          has_page = false;
+          names = false;
+          json = true;
+          formats = None;
+          keep = Some (codes "k");
+          parcels = false;
+          files = (0, codes "a") ∷ [];
+        }) }
+    ensures collect_parcels { (first : List ℕ)
+        → map S.text words.now ≡ first ∷ codes "collect" ∷ codes "--parcels" ∷ codes "a" ∷ []
+        → IsAsked result (record {
+          page = 4096;
+          has_page = false;
+          names = false;
+          json = false;
+          formats = None;
+          keep = None;
+          parcels = true;
+          files = (0, codes "a") ∷ [];
         }) }
     ensures collect_none { (first : List ℕ) → map S.text words.now ≡ first ∷ codes "collect" ∷ []
         → (result ≡ Err CallFault.Usage) ⊎ (result ≡ Err CallFault.NoMemory) }

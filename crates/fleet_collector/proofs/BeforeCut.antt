@@ -1,6 +1,6 @@
 -- The records of a CPU before its cut.
-use Rattle.std.proofs.Common.{◌≡◌, ◌⊎◌, inl, inr, ⊎_elim, ℕ, zero, suc, ◌+◌, ◌<◌, ◌≤◌, List, [], ◌∷◌, ◌++◌, length, map, take}
-use Rattle.std.proofs.Common.{◌-◌, drop, Some, None, refl, sym, ap, ◌∙◌, subst, arith}
+use Rattle.std.proofs.Common.{◌≡◌, ◌⊎◌, ⊎_elim, ℕ, zero, suc, ◌+◌, ◌<◌, ◌≤◌, List, [], ◌∷◌, ◌++◌, length, map, take}
+use Rattle.std.proofs.Common.{◌-◌, drop, Some, None, sym, ap, ◌∙◌, subst, arith}
 use Rattle.std.specs.List.{slice_get}
 use Rattle.std.proofs.lemmas.Bool.{cases_lt}
 use Rattle.std.proofs.lemmas.List.{take-append-drop, map-append}
@@ -11,7 +11,7 @@ use Rattle.fleet_collector.proofs.Telling.{only}
 use Rattle.trace_model.specs.Record.{Record}
 use Rattle.trace_model.proofs.collections.Elements.{some_is, get_in_front, get_in_either}
 use Rattle.collector.specs.Listed.{AreListed, AreRecordsFrom}
-use Rattle.stream_collector.specs.Stream.{Stream, bound_of, HasRecord}
+use Rattle.stream_collector.specs.Stream.{Stream, bound_of}
 use Rattle.stream_collector.specs.Frontier.{IsCut}
 use Rattle.stream_collector.proofs.Frontiers.{same_watermark}
 use Rattle.fleet_collector.specs.Listing.{IsListing, IsListingBefore, HasBefore}
@@ -151,7 +151,8 @@ first_below done list cut index is low j a lt at =
 
 -- ---- by what is shown
 
-pub all_shown : (fleet : List (ℕ × Stream)) (lines : List Line) → IsListingShown None fleet lines → IsListing fleet lines
+pub all_shown : (fleet : List (ℕ × Stream)) (lines : List Line) → IsListingShown None fleet lines
+    → IsListing fleet lines
 all_shown fleet lines p = record { ordered = p.ordered; of_them = p.of_them; whole = p.whole }
 
 pub before_shown : (fleet : List (ℕ × Stream)) (moment : Moment) (lines : List Line)

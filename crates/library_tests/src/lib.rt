@@ -13,6 +13,8 @@ mod images;
 #[cfg(test)]
 mod pages;
 #[cfg(test)]
+mod pieces;
+#[cfg(test)]
 mod streams;
 #[cfg(test)]
 mod words;

@@ -19,7 +19,7 @@ const WITH_ROOM: &[u8] = b"\0\0\0\0\0\0\0\0\x05\0\0\0\0\0\0\0\
     \0\0\0\0\0\0\0\0\0\0\0\0\0\0\0\0";
 
 /// The pieces of that parcel and of the end of its CPU, which has 8 records.
-const STREAM: &[u8] = b"TRPARCEL\x01\0\0\0\0\0\0\0\
+pub(crate) const STREAM: &[u8] = b"TRPARCEL\x01\0\0\0\0\0\0\0\
     \x60\0\0\0\0\0\0\0\x88\x77\x66\x55\x44\x33\x22\x11\
     \0\0\0\0\0\0\0\0\x05\0\0\0\0\0\0\0\
     \x07\0\0\0\0\0\0\0\x01\0\0\0\0\0\0\0\

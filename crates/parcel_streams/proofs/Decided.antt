@@ -95,7 +95,8 @@ same_parts bytes more s h =
       sum_is = ap (λ (n : ℕ). take 8 (drop (n - 8) whole)) is ∙ sum;
     }
 
-sums_same : (bytes whole : List ℕ) → SameParts bytes whole → le64 (crc32c (summed_in whole)) ≡ le64 (crc32c (summed_in bytes))
+sums_same : (bytes whole : List ℕ) → SameParts bytes whole
+    → le64 (crc32c (summed_in whole)) ≡ le64 (crc32c (summed_in bytes))
 sums_same bytes whole p = ap (λ (b : List ℕ). le64 (crc32c b)) p.summed_is
 
 seal_same : (bytes whole : List ℕ) → SameParts bytes whole → IsSealed bytes → IsSealed whole
@@ -125,7 +126,7 @@ no_cut bytes d f = ⊎_elim
 length_out : (len other : ℕ) → other ≡ len → (len < 56) ⊎ (65608 < len) → (other < 56) ⊎ (65608 < other)
 length_out len other is f = subst (λ (n : ℕ). (n < 56) ⊎ (65608 < n)) (sym is) f
 
-fault_stays : (bytes more : List ℕ) (cause : PieceCause) → IsDecided bytes → FirstPieceFault bytes cause
+pub fault_stays : (bytes more : List ℕ) (cause : PieceCause) → IsDecided bytes → FirstPieceFault bytes cause
     → FirstPieceFault (bytes ++ more) cause
 fault_stays bytes more cause d f = stays cause f
   where

@@ -1,5 +1,5 @@
 use Rattle.command_line.proofs.CommandLineExamples.{call_of_replay, call_of_replay_log, call_of_run, call_of_run_log, call_of_steps, call_of_dump, call_of_dump_log}
-use Rattle.command_line.proofs.CollectExamples.{asked_collect, asked_cpu, asked_flags, asked_page, asked_formats, refused_none, refused_high, refused_inputs, refused_small}
+use Rattle.command_line.proofs.CollectExamples.{asked_collect, asked_cpu, asked_flags, asked_page, asked_formats, asked_keep, asked_parcels, refused_none, refused_high, refused_inputs, refused_small}
 use Rattle.command_line.proofs.Ranges.{asked_in_range}
 use Rattle.command_line.proofs.parse.call_of.Goals as goal
 
@@ -53,6 +53,14 @@ returns-clause-collect_page g c = λ first words.
 pub returns-clause-collect_formats : goal.returns-clause-collect_formats
 returns-clause-collect_formats g c = λ first words.
     asked_formats first c.parse_words.result (rw words at c.parse_words.ensures)
+
+pub returns-clause-collect_keep : goal.returns-clause-collect_keep
+returns-clause-collect_keep g c = λ first words.
+    asked_keep first c.parse_words.result (rw words at c.parse_words.ensures)
+
+pub returns-clause-collect_parcels : goal.returns-clause-collect_parcels
+returns-clause-collect_parcels g c = λ first words.
+    asked_parcels first c.parse_words.result (rw words at c.parse_words.ensures)
 
 pub returns-clause-collect_none : goal.returns-clause-collect_none
 returns-clause-collect_none g c = λ first words.

@@ -1,0 +1,4 @@
+pub mod CpuSets
+pub mod CpusInOrder
+pub mod RunsInOrder
+pub mod Pieces

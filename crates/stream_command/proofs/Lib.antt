@@ -1,0 +1,4 @@
+pub mod Readings
+pub mod Inputs
+pub mod Gathered
+pub mod Endings

@@ -1,0 +1,4 @@
+pub mod Reading
+pub mod Gathering
+pub mod Statuses
+pub mod Runs
