@@ -4,10 +4,13 @@
 // full, the oldest closed page is overwritten, and the reader knows how many records were lost. What is taken is a
 // parcel: a page with its CPU, its fill, its first record's number and the count of lost records, in bytes that can be
 // stored and sent (docs/FORMATS.md, "Parcel bytes"). A collector puts parcels together again, of one CPU or of many,
-// whatever their order and repeats: it lists their records by time, and knows which numbers are missing.
+// whatever their order and repeats: it lists their records by time, and knows which numbers are missing. A fleet does
+// so for many streams, each of which is one incarnation of a machine: its pieces, which are packed parcels and marks,
+// come in any order and any number of times (docs/FORMATS.md, "Streams of parcels").
 //
 // Handles. A handle is all zeros before its first call: {0} in C, and in C and C++ TRACERING_WRITER_INIT,
-// TRACERING_READER_INIT and TRACERING_COLLECTOR_INIT. Only the calls below change it, and it must not be copied.
+// TRACERING_READER_INIT, TRACERING_COLLECTOR_INIT and TRACERING_FLEET_INIT. Only the calls below change it, and it must
+// not be copied.
 //
 // Answers. A call answers TRACERING_DONE or another number that isn't positive if it did what it says, and else a
 // positive one: why it didn't (but `depth` also answers 1 to 4, which are none of these). What is changed all the same,
@@ -22,15 +25,16 @@
 // Conditions that no call can check: a pointer is valid, with as many bytes as are stated; no two arguments of one call
 // overlap; a handle is in one call at a time, other than by a signal's handler.
 //
-// Threads. A writer's handle belongs to one thread at a time, and so does a reader's, and a collector's. A handle is
-// handed to another thread by pthread_create, pthread_join, a lock, or a sequentially consistent atomic. Both ends of a
-// ring make sequentially consistent accesses of the words that they share; the proofs assume a memory that is so.
+// Threads. A writer's handle belongs to one thread at a time, and so does a reader's, a collector's, and a fleet's. A
+// handle is handed to another thread by pthread_create, pthread_join, a lock, or a sequentially consistent atomic. Both
+// ends of a ring make sequentially consistent accesses of the words that they share; the proofs assume a memory that is
+// so.
 //
 // Signals. A handler may call write, begin, put, finish, end, begin_close, depth and peek on the handle of the thread
 // that it interrupts: its records are nested. Amid a call on that handle they answer BUSY: the handler's record isn't
 // written, and the handle counts it. It may call take and wish on a reader's handle in the same way, and refused
-// always. It must not call new, settle, those that free, or any call on a collector: most of these take or release
-// memory. It completes what it begins.
+// always. It must not call new, settle, those that free, pack, or any call on a collector or a fleet: most of these
+// take or release memory. It completes what it begins.
 // No record of a handler is refused so if it has a ring that nothing which it interrupts writes: one ring for the
 // thread's own code, and one for each level of handlers. Handlers are of one level if each blocks the signals of all of
 // them (sa_mask). examples/c_recorder/levels.c is a program to copy; a collector puts the records of all in order.
@@ -68,7 +72,8 @@
 extern "C" {
 #endif
 
-// What the exports know of a handle: `WriterHandle`, `ReaderHandle` or `CollectorHandle` of `crates/tracering_c`.
+// What the exports know of a handle: `WriterHandle`, `ReaderHandle`, `CollectorHandle` or `FleetHandle` of
+// `crates/tracering_c`.
 struct tracering_held {
     void *at;
     bool live;
@@ -108,15 +113,22 @@ struct tracering_collector {
     volatile sig_atomic_t in_call;
 };
 
+struct tracering_fleet {
+    struct tracering_held held;
+    volatile sig_atomic_t in_call;
+};
+
 // Handles that are all zeros, which no compiler warns of.
 #ifdef __cplusplus
 #define TRACERING_WRITER_INIT {}
 #define TRACERING_READER_INIT {}
 #define TRACERING_COLLECTOR_INIT {}
+#define TRACERING_FLEET_INIT {}
 #else
 #define TRACERING_WRITER_INIT {{0, 0}, 0, 0, 0, 0, 0, {0, 0, 0, 0, 0, 0}}
 #define TRACERING_READER_INIT {{0, 0}, 0, 0, 0}
 #define TRACERING_COLLECTOR_INIT {{0, 0}, 0}
+#define TRACERING_FLEET_INIT {{0, 0}, 0}
 #endif
 
 // What is reported of a page that is given.
@@ -150,14 +162,44 @@ struct tracering_line {
                      // least, by zeros or what its writer put into the rest of the slot)
 };
 
+// Where a piece, or what a call was to do, is at odds with a stream.
+struct tracering_stream_fault {
+    uint64_t stream; // the stream's id
+    uint64_t number; // the number at odds; each call says which one
+    uint32_t cpu;    // the CPU of the stream whose number it is
+};
+
+// A line of a fleet's listing, without its bytes.
+struct tracering_fleet_line {
+    uint64_t moment; // when the record was made, in its writer's units
+    uint64_t stream; // the id of the stream that has it
+    uint64_t number; // the record's number among those of its CPU
+    uint32_t cpu;    // the CPU of that stream that made it
+    size_t len;      // how many bytes it has, as those of `tracering_line`
+};
+
+// How far a CPU of a stream is known.
+struct tracering_cpu_state {
+    uint64_t bound;     // what is below is kept no longer; 0 if nothing was forgotten
+    uint64_t watermark; // the least number from the bound on that neither has a record, nor is missing, nor given up
+    uint64_t end;       // how many records the CPU has; 0 unless `has_end`
+    bool has_end;       // whether that is known
+};
+
 // The bytes of a parcel before its page's data.
 #define TRACERING_HEADER 48
 
+// The most bytes of a mark, and of the piece that a parcel of so many bytes is packed to.
+#define TRACERING_MARK 64
+#define TRACERING_PIECE(parcel) (40 + (parcel))
+
 // What calls answer.
 enum {
+    TRACERING_FORGOTTEN = -5,    // fleet_add: the parcel ends below the bound of its CPU, so nothing of it is kept
     TRACERING_NOTHING_CLOSED = -4, // finish: the close is completed, and closed nothing: the page has no record
-    TRACERING_DIFFERENT = -3,    // same: the collectors don't have and miss the same
-    TRACERING_KNOWN = -2,        // add, collector_take: all that the parcel has and misses was there already
+    TRACERING_DIFFERENT = -3,    // same: the collectors, or fleets, don't have and miss the same
+    TRACERING_KNOWN = -2,        // add, collector_take: all that the parcel has and misses was there already;
+                                 // fleet_add: all that the piece says was; forget, give_up: the bound is so high
     TRACERING_RESERVED = -1,     // finish: the record of the frame on top is reserved
     TRACERING_DONE = 0,          // the call did what it says
     TRACERING_TOO_DEEP = 1,      // four frames are begun and not completed
@@ -179,7 +221,7 @@ enum {
                                  // no record
     TRACERING_MOVING = 16,       // a move of the head isn't finished, or `take` made all its steps: try again
     TRACERING_NO_ROOM = 17,      // the buffer is too short; take, peek and settle change nothing, missing gives what
-                                 // has room and sets `count`, next sets `line`
+                                 // has room and sets `count`, next sets `line`, pack sets `len`
     TRACERING_NOT_AT_REST = 18,  // settle, peek: a frame is begun and not completed
     TRACERING_UNREAD = 19,       // settle: a closed page may be unread
     TRACERING_TOO_SHORT = 20,    // there are fewer bytes than TRACERING_HEADER
@@ -193,8 +235,20 @@ enum {
     TRACERING_MISSED_DIFFERS = 28, // the page states other missed records than the number before it
     TRACERING_CLASH = 29,        // there are two different records of one CPU's number
     TRACERING_TAKEN_AND_MISSING = 30, // a CPU's number has a record and is missing
-    TRACERING_END = 31,          // next: all lines of the listing were given
-    TRACERING_OTHER_RING = 32    // settle: these are ends of two rings
+    TRACERING_END = 31,          // next: all lines of the listing were given; next_stream, next_cpu: there is none;
+                                 // frontier: all that is there is complete
+    TRACERING_OTHER_RING = 32,   // settle: these are ends of two rings
+    TRACERING_NOT_PACKED = 33,   // the bytes don't begin as a piece of a stream does
+    TRACERING_PIECE_CUT = 34,    // the bytes end within the piece
+    TRACERING_BAD_VERSION = 35,  // the piece is of another version
+    TRACERING_BAD_PIECE_LENGTH = 36, // no piece has the length that is stated
+    TRACERING_BAD_SUM = 37,      // the piece's checksum is another one
+    TRACERING_BAD_KIND = 38,     // the piece is neither a parcel nor a mark that is known
+    TRACERING_LOOSE = 39,        // the piece's parcel is spelled otherwise than it is packed
+    TRACERING_BAD_MARK = 40,     // the mark has another length than its kind's, or says what none says
+    TRACERING_BEYOND_END = 41,   // a number is at or beyond the end of its CPU
+    TRACERING_OTHER_END = 42,    // the CPU has another end
+    TRACERING_NOT_FINAL = 43     // forget: a number below the bound neither has a record, nor is missing, nor given up
 };
 
 // A short text for what a call answered.
@@ -202,9 +256,10 @@ static inline const char *tracering_text(int32_t code)
 {
     // (bindings/rust/build.rs reads these lines.)
     switch (code) {
+    case TRACERING_FORGOTTEN: return "the parcel ends below the bound of its CPU";
     case TRACERING_NOTHING_CLOSED: return "the page that is written has no record, so nothing is closed";
-    case TRACERING_DIFFERENT: return "the collectors don't have and miss the same";
-    case TRACERING_KNOWN: return "all that the parcel has and misses was there already";
+    case TRACERING_DIFFERENT: return "they don't have and miss the same";
+    case TRACERING_KNOWN: return "all that it says was there already";
     case TRACERING_RESERVED: return "the record is reserved";
     case TRACERING_DONE: return "done";
     case TRACERING_TOO_DEEP: return "four frames are begun and not completed";
@@ -237,8 +292,19 @@ static inline const char *tracering_text(int32_t code)
     case TRACERING_MISSED_DIFFERS: return "the page states other missed records than the number before it";
     case TRACERING_CLASH: return "there are two different records of one number";
     case TRACERING_TAKEN_AND_MISSING: return "a number has a record and is missing";
-    case TRACERING_END: return "all lines of the listing were given";
+    case TRACERING_END: return "there is nothing more";
     case TRACERING_OTHER_RING: return "these are ends of two rings";
+    case TRACERING_NOT_PACKED: return "the bytes don't begin as a piece of a stream does";
+    case TRACERING_PIECE_CUT: return "the bytes end within the piece";
+    case TRACERING_BAD_VERSION: return "the piece is of another version";
+    case TRACERING_BAD_PIECE_LENGTH: return "no piece has the length that is stated";
+    case TRACERING_BAD_SUM: return "the piece's checksum is another one";
+    case TRACERING_BAD_KIND: return "the piece is neither a parcel nor a mark that is known";
+    case TRACERING_LOOSE: return "the piece's parcel is spelled otherwise than it is packed";
+    case TRACERING_BAD_MARK: return "the mark has another length than its kind's, or says what none says";
+    case TRACERING_BEYOND_END: return "a number is at or beyond the end of its CPU";
+    case TRACERING_OTHER_END: return "the CPU has another end";
+    case TRACERING_NOT_FINAL: return "a number below the bound neither has a record, nor is missing, nor given up";
     default: return "no call answers this";
     }
 }
@@ -275,6 +341,32 @@ int32_t tracering_raw_collector_list(struct tracering_held *, size_t *);
 int32_t tracering_raw_collector_next(struct tracering_held *, uint8_t *, size_t, struct tracering_line *);
 int32_t tracering_raw_collector_same(struct tracering_held *, struct tracering_held *);
 int32_t tracering_raw_collector_free(struct tracering_held *);
+int32_t tracering_raw_pack(uint64_t, const uint8_t *, size_t, uint8_t *, size_t, size_t *);
+int32_t tracering_raw_pack_end(uint64_t, uint32_t, uint64_t, uint8_t *, size_t, size_t *);
+int32_t tracering_raw_fleet_new(struct tracering_held *);
+int32_t tracering_raw_fleet_add(struct tracering_held *, const uint8_t *, size_t, size_t *,
+    struct tracering_stream_fault *);
+int32_t tracering_raw_fleet_merge(struct tracering_held *, struct tracering_held *, struct tracering_stream_fault *);
+int32_t tracering_raw_fleet_same(struct tracering_held *, struct tracering_held *);
+int32_t tracering_raw_fleet_next_stream(struct tracering_held *, uint64_t, uint64_t *);
+int32_t tracering_raw_fleet_next_cpu(struct tracering_held *, uint64_t, uint32_t, uint32_t *);
+int32_t tracering_raw_fleet_state(struct tracering_held *, uint64_t, uint32_t, struct tracering_cpu_state *);
+int32_t tracering_raw_fleet_missing(struct tracering_held *, uint64_t, uint32_t, struct tracering_run *, size_t,
+    size_t *);
+int32_t tracering_raw_fleet_unknown(struct tracering_held *, uint64_t, uint32_t, struct tracering_run *, size_t,
+    size_t *);
+int32_t tracering_raw_fleet_undelivered(struct tracering_held *, uint64_t, uint32_t, struct tracering_run *, size_t,
+    size_t *);
+int32_t tracering_raw_fleet_forget(struct tracering_held *, uint64_t, uint32_t, uint64_t,
+    struct tracering_stream_fault *);
+int32_t tracering_raw_fleet_give_up(struct tracering_held *, uint64_t, uint32_t, uint64_t,
+    struct tracering_stream_fault *);
+int32_t tracering_raw_fleet_list(struct tracering_held *, size_t *);
+int32_t tracering_raw_fleet_next(struct tracering_held *, uint8_t *, size_t, struct tracering_fleet_line *);
+int32_t tracering_raw_fleet_frontier(struct tracering_held *, uint64_t *);
+int32_t tracering_raw_fleet_list_before(struct tracering_held *, uint64_t, size_t *);
+int32_t tracering_raw_fleet_forget_before(struct tracering_held *, uint64_t);
+int32_t tracering_raw_fleet_free(struct tracering_held *);
 
 // Bytes that may be null if there are none.
 static inline const uint8_t *tracering_bytes(const void *bytes)
@@ -829,6 +921,283 @@ static inline int32_t tracering_collector_free(struct tracering_collector *c)
     if (!tracering_enter(&c->in_call))
         return TRACERING_BUSY;
     return tracering_leave(&c->in_call, tracering_raw_collector_free(&c->held));
+}
+
+// ---- Pieces of a stream, packed: no handle is needed, and any thread may call these. They take and release memory: no
+// handler may make them.
+
+// Packs a parcel, as `take` gives it, as a piece of the stream that has this id. The id is the owner's choice, one for
+// each incarnation of a machine's rings, which begin at record 0: two that have one id are at odds with each other.
+// The piece goes to the front of `out`, for which TRACERING_PIECE(parcel_len) bytes are always enough, and `len` is how
+// many bytes it has. TOO_SHORT, BAD_CPU, BAD_IMAGE_SIZE, BAD_COUNT, CUT, BAD_LENGTH, TIME_OVERFLOW, NUMBER_OVERFLOW,
+// MISSED_TOO_MANY, MISSED_DIFFERS: the bytes are no parcel, as with `collector_add`. NO_ROOM: `len` is set to how many
+// bytes are wanted. NO_MEMORY: the bytes are a parcel. Then nothing goes to `out`, and but for NO_ROOM `len` isn't
+// changed.
+static inline int32_t tracering_pack(uint64_t stream, const void *parcel, size_t parcel_len, void *out, size_t room,
+    size_t *len)
+{
+    uint8_t none;
+    if (!((parcel || !parcel_len) && (out || !room) && len))
+        return TRACERING_NULL;
+    uint8_t *to = out ? (uint8_t *)out : &none;
+    return tracering_raw_pack(stream, tracering_bytes(parcel), parcel_len, to, room, len);
+}
+
+// Packs the mark that a CPU of a stream has `count` records: none has this number or a greater one. Write it once the
+// ring is settled, so that a tail that is lost is seen. It goes to the front of `out`, for which TRACERING_MARK bytes
+// are enough, and `len` is how many bytes it has. BAD_CPU. NO_ROOM: `len` is set to how many bytes are wanted.
+// NO_MEMORY. Then nothing goes to `out`, and but for NO_ROOM `len` isn't changed.
+static inline int32_t tracering_pack_end(uint64_t stream, uint32_t cpu, uint64_t count, void *out, size_t room,
+    size_t *len)
+{
+    uint8_t none;
+    if (!((out || !room) && len))
+        return TRACERING_NULL;
+    return tracering_raw_pack_end(stream, cpu, count, out ? (uint8_t *)out : &none, room, len);
+}
+
+// ---- The calls on fleets, of any thread that has the handle. Some take or release memory: no handler may make them.
+
+// A new fleet, of which no stream is there. IN_USE, NO_MEMORY.
+static inline int32_t tracering_fleet_new(struct tracering_fleet *f)
+{
+    if (!f)
+        return TRACERING_NULL;
+    if (!tracering_enter(&f->in_call))
+        return TRACERING_BUSY;
+    return tracering_leave(&f->in_call, tracering_raw_fleet_new(&f->held));
+}
+
+// Adds the piece at the front of these bytes to its stream, and sets `used` to how many of them it has: more pieces may
+// follow it. A stream is there once something of it was added. The bytes are copied. KNOWN: all that the piece says was
+// there already. FORGOTTEN: the parcel ends below the bound of its CPU, and nothing of it is kept. So pieces may come
+// in any order and any number of times.
+// NOT_PACKED, PIECE_CUT, BAD_VERSION, BAD_PIECE_LENGTH, BAD_SUM, BAD_KIND, what `pack` answers to bytes that are no
+// parcel, LOOSE, BAD_MARK: there is no piece; the first of these that holds, in this order (a prefix of a
+// piece is PIECE_CUT, and so is no byte at all).
+// CLASH, TAKEN_AND_MISSING, BEYOND_END, OTHER_END: the piece is at odds with what is known of its stream, under the CPU
+// and number of `at`. CLASH: the stream has another record of this number. TAKEN_AND_MISSING: the number has a record,
+// and is missing. Of a parcel at odds it is the least number. BEYOND_END: of a parcel and of a mark of given up numbers
+// their least number at or beyond the end of the CPU; of an end mark the greatest number that is known and at or beyond
+// it; of a mark of forgotten numbers the end, which is below the bound. OTHER_END: the end that the CPU has.
+// NO_MEMORY: there is a piece; it may still be at odds with its stream.
+// `used` is also set if the piece is at odds; it isn't, if there is no piece; and if memory is refused, it may be. `at`
+// is changed by CLASH, TAKEN_AND_MISSING, BEYOND_END and OTHER_END. If it answers a positive number, the fleet is as it
+// was.
+static inline int32_t tracering_fleet_add(struct tracering_fleet *f, const void *bytes, size_t len, size_t *used,
+    struct tracering_stream_fault *at)
+{
+    if (!(f && (bytes || !len) && used && at))
+        return TRACERING_NULL;
+    if (!tracering_enter(&f->in_call))
+        return TRACERING_BUSY;
+    return tracering_leave(&f->in_call, tracering_raw_fleet_add(&f->held, tracering_bytes(bytes), len, used, at));
+}
+
+// Adds all that another fleet knows, which stays as it is: of each CPU of each stream the higher bound and the end, and
+// what either has, misses or gave up. The order doesn't matter for what the fleet knows then. CLASH, TAKEN_AND_MISSING,
+// BEYOND_END, OTHER_END: the two are at odds under the stream, CPU and number of `at`, as with `fleet_add` (BEYOND_END:
+// a number of the one at or beyond the end that the other has; OTHER_END: the end that the other has). NO_MEMORY. Then
+// the fleet is as it was; `at` is changed by the first four. BUSY also if both are one.
+static inline int32_t tracering_fleet_merge(struct tracering_fleet *f, struct tracering_fleet *other,
+    struct tracering_stream_fault *at)
+{
+    if (!(f && other && at))
+        return TRACERING_NULL;
+    if (!tracering_enter_both(&f->in_call, &other->in_call))
+        return TRACERING_BUSY;
+    int32_t code = tracering_raw_fleet_merge(&f->held, &other->held, at);
+    return tracering_leave_both(&f->in_call, &other->in_call, code);
+}
+
+// Whether two fleets know the same of each stream: bounds, ends, and from the bounds on records, missing numbers and
+// undelivered ones, and below them what was given up: DONE, or DIFFERENT. BUSY also if both are one.
+static inline int32_t tracering_fleet_same(struct tracering_fleet *f, struct tracering_fleet *other)
+{
+    if (!(f && other))
+        return TRACERING_NULL;
+    if (!tracering_enter_both(&f->in_call, &other->in_call))
+        return TRACERING_BUSY;
+    return tracering_leave_both(&f->in_call, &other->in_call, tracering_raw_fleet_same(&f->held, &other->held));
+}
+
+// The least id from `from` on of a stream that is there: so each is given by rising ids, the next one from `stream` + 1
+// on. END: there is none; `stream` is not changed.
+static inline int32_t tracering_fleet_next_stream(struct tracering_fleet *f, uint64_t from, uint64_t *stream)
+{
+    if (!(f && stream))
+        return TRACERING_NULL;
+    if (!tracering_enter(&f->in_call))
+        return TRACERING_BUSY;
+    return tracering_leave(&f->in_call, tracering_raw_fleet_next_stream(&f->held, from, stream));
+}
+
+// The least CPU from `from` on of which the stream knows something: a record, a missing number, a bound, an end, or a
+// number that was given up. END: there is none; `cpu` is not changed.
+static inline int32_t tracering_fleet_next_cpu(struct tracering_fleet *f, uint64_t stream, uint32_t from, uint32_t *cpu)
+{
+    if (!(f && cpu))
+        return TRACERING_NULL;
+    if (!tracering_enter(&f->in_call))
+        return TRACERING_BUSY;
+    return tracering_leave(&f->in_call, tracering_raw_fleet_next_cpu(&f->held, stream, from, cpu));
+}
+
+// How far a CPU of a stream is known. Of one of which nothing is known, all is 0.
+static inline int32_t tracering_fleet_state(struct tracering_fleet *f, uint64_t stream, uint32_t cpu,
+    struct tracering_cpu_state *state)
+{
+    if (!(f && state))
+        return TRACERING_NULL;
+    if (!tracering_enter(&f->in_call))
+        return TRACERING_BUSY;
+    return tracering_leave(&f->in_call, tracering_raw_fleet_state(&f->held, stream, cpu, state));
+}
+
+// The runs of a CPU's numbers of one kind, from its bound on; undelivered numbers also below it. They rise, and none
+// touches the next. As many as there is room for go to the front of `runs`, which has `room` of them, and `count` is
+// how many there are in all. NO_ROOM: if these are more; the first ones are given all the same, and `count` is set.
+// fleet_missing: the ring lost their records. fleet_unknown: they neither have a record, nor are missing, nor were
+// given up, and a greater number is known, or the end is above them: what is still to come. fleet_undelivered: they
+// were given up, and from the bound on no record of them came since.
+static inline int32_t tracering_fleet_missing(struct tracering_fleet *f, uint64_t stream, uint32_t cpu,
+    struct tracering_run *runs, size_t room, size_t *count)
+{
+    struct tracering_run none;
+    if (!(f && (runs || !room) && count))
+        return TRACERING_NULL;
+    if (!tracering_enter(&f->in_call))
+        return TRACERING_BUSY;
+    runs = runs ? runs : &none;
+    return tracering_leave(&f->in_call, tracering_raw_fleet_missing(&f->held, stream, cpu, runs, room, count));
+}
+
+static inline int32_t tracering_fleet_unknown(struct tracering_fleet *f, uint64_t stream, uint32_t cpu,
+    struct tracering_run *runs, size_t room, size_t *count)
+{
+    struct tracering_run none;
+    if (!(f && (runs || !room) && count))
+        return TRACERING_NULL;
+    if (!tracering_enter(&f->in_call))
+        return TRACERING_BUSY;
+    runs = runs ? runs : &none;
+    return tracering_leave(&f->in_call, tracering_raw_fleet_unknown(&f->held, stream, cpu, runs, room, count));
+}
+
+static inline int32_t tracering_fleet_undelivered(struct tracering_fleet *f, uint64_t stream, uint32_t cpu,
+    struct tracering_run *runs, size_t room, size_t *count)
+{
+    struct tracering_run none;
+    if (!(f && (runs || !room) && count))
+        return TRACERING_NULL;
+    if (!tracering_enter(&f->in_call))
+        return TRACERING_BUSY;
+    runs = runs ? runs : &none;
+    return tracering_leave(&f->in_call, tracering_raw_fleet_undelivered(&f->held, stream, cpu, runs, room, count));
+}
+
+// Raises the bound of a CPU of a stream: what is below it is kept no longer, and a parcel that ends below it is
+// answered FORGOTTEN from then on. It takes time in proportion to all that the stream keeps: raise it by many records
+// at a time. KNOWN: the bound is as high already. BAD_CPU.
+// fleet_forget: the bound is at most the CPU's watermark. NOT_FINAL: it is above, and `at` has the watermark.
+// fleet_give_up: of a stream that will bring nothing more: what is unknown below the bound is given up, and stays
+// reported as undelivered. BEYOND_END: the bound is above the end of the CPU, which `at` has.
+// NO_MEMORY. If it answers a positive number, the fleet is as it was; `at` is changed by NOT_FINAL and BEYOND_END.
+static inline int32_t tracering_fleet_forget(struct tracering_fleet *f, uint64_t stream, uint32_t cpu, uint64_t bound,
+    struct tracering_stream_fault *at)
+{
+    if (!(f && at))
+        return TRACERING_NULL;
+    if (!tracering_enter(&f->in_call))
+        return TRACERING_BUSY;
+    return tracering_leave(&f->in_call, tracering_raw_fleet_forget(&f->held, stream, cpu, bound, at));
+}
+
+static inline int32_t tracering_fleet_give_up(struct tracering_fleet *f, uint64_t stream, uint32_t cpu, uint64_t bound,
+    struct tracering_stream_fault *at)
+{
+    if (!(f && at))
+        return TRACERING_NULL;
+    if (!tracering_enter(&f->in_call))
+        return TRACERING_BUSY;
+    return tracering_leave(&f->in_call, tracering_raw_fleet_give_up(&f->held, stream, cpu, bound, at));
+}
+
+// Lists the records that the streams have from their bounds on, by moment, then by stream, CPU and number: `fleet_next`
+// gives the first line after it, and `count` is how many there are. The listing is a copy, which nothing that is added
+// or forgotten later changes; it stays until the next one is made. NO_MEMORY: the last listing, and where `fleet_next`
+// is in it, are as they were.
+static inline int32_t tracering_fleet_list(struct tracering_fleet *f, size_t *count)
+{
+    if (!(f && count))
+        return TRACERING_NULL;
+    if (!tracering_enter(&f->in_call))
+        return TRACERING_BUSY;
+    return tracering_leave(&f->in_call, tracering_raw_fleet_list(&f->held, count));
+}
+
+// The next line of the listing: its bytes go to the front of `out`, and its numbers to `line`. END: all were given, or
+// no listing was made; `line` is not changed. NO_ROOM: the line has `line->len` bytes, which is more than `room`; all
+// numbers of `line` are set, nothing goes to `out`, and it stays the next one.
+static inline int32_t tracering_fleet_next(struct tracering_fleet *f, void *out, size_t room,
+    struct tracering_fleet_line *line)
+{
+    uint8_t none;
+    if (!(f && (out || !room) && line))
+        return TRACERING_NULL;
+    if (!tracering_enter(&f->in_call))
+        return TRACERING_BUSY;
+    uint8_t *to = out ? (uint8_t *)out : &none;
+    return tracering_leave(&f->in_call, tracering_raw_fleet_next(&f->held, to, room, line));
+}
+
+// The moment before which no line comes any more, if the moments of each CPU's records never fall from one number to
+// the next: of each CPU that isn't complete that of the last record below its watermark (0 if there is none from the
+// bound on), and of these the least. A CPU is complete if its end is known and is its watermark. A stream of which
+// nothing came yet isn't there, and holds nothing up. END: all that is there is complete, so no line comes any more at
+// all; `moment` is not changed.
+static inline int32_t tracering_fleet_frontier(struct tracering_fleet *f, uint64_t *moment)
+{
+    if (!(f && moment))
+        return TRACERING_NULL;
+    if (!tracering_enter(&f->in_call))
+        return TRACERING_BUSY;
+    return tracering_leave(&f->in_call, tracering_raw_fleet_frontier(&f->held, moment));
+}
+
+// fleet_list_before: lists, as `fleet_list` does, the records of each CPU below its cut at a moment. The cut is the
+// greatest number from the bound up to the watermark such that all records from the bound up to it are before the
+// moment. NO_MEMORY: the last listing is as it was.
+// fleet_forget_before: raises the bound of each CPU to its cut at this moment, in one pass. NO_MEMORY: each stream has
+// forgotten what is before the moment, or is as it was; make the call once more.
+// So a listing goes out while it grows: at the frontier list what is before, write it, and forget it. At END list all
+// that is left. Then each line was written once, and all in their order.
+static inline int32_t tracering_fleet_list_before(struct tracering_fleet *f, uint64_t moment, size_t *count)
+{
+    if (!(f && count))
+        return TRACERING_NULL;
+    if (!tracering_enter(&f->in_call))
+        return TRACERING_BUSY;
+    return tracering_leave(&f->in_call, tracering_raw_fleet_list_before(&f->held, moment, count));
+}
+
+static inline int32_t tracering_fleet_forget_before(struct tracering_fleet *f, uint64_t moment)
+{
+    if (!f)
+        return TRACERING_NULL;
+    if (!tracering_enter(&f->in_call))
+        return TRACERING_BUSY;
+    return tracering_leave(&f->in_call, tracering_raw_fleet_forget_before(&f->held, moment));
+}
+
+// Frees the fleet and its listing. The handle is all zeros afterwards.
+static inline int32_t tracering_fleet_free(struct tracering_fleet *f)
+{
+    if (!f)
+        return TRACERING_NULL;
+    if (!tracering_enter(&f->in_call))
+        return TRACERING_BUSY;
+    return tracering_leave(&f->in_call, tracering_raw_fleet_free(&f->held));
 }
 
 #ifdef __cplusplus

@@ -14,22 +14,42 @@ CAPTURES = EXAMPLES / "captures"
 FOLDERS = ("exact", "filter", "gaps", "idle", "live", "overrun", "quiet", "stamps")
 
 
+KINDS = ("records", "missing", "unknown", "damaged", "awaited", "undelivered", "forgotten")
+
+
 class Section:
-    """What a text says of one collector, or of captures: its collector is None then."""
+    """What a text says of one collector, or of captures or a fleet: its collector is None then. The CPU of a fleet's
+    row is the id of its stream, as it is printed, and the CPU. What a fleet has as unknown are runs: awaited ones."""
 
     def __init__(self, collector=None):
-        self.collector, self.records, self.audit = collector, [], None
-        self.missing, self.unknown, self.damaged = [], [], []
+        self.collector, self.audit = collector, None
+        for kind in KINDS:
+            setattr(self, kind, [])
 
     def cpus(self):
-        return sorted({row[0] for rows in (self.records, self.missing, self.unknown, self.damaged) for row in rows})
+        return sorted({row[0] for kind in KINDS for row in getattr(self, kind)})
 
     def of(self, kind, cpu):
         return [row for row in getattr(self, kind) if row[0] == cpu]
 
+    def count(self, kind, cpus=None):
+        """How many numbers the runs of a kind have."""
+        return sum(last - first + 1 for cpu, first, last in getattr(self, kind) if cpus is None or cpu in cpus)
+
     def lost(self, cpu=None):
         """How many numbers are missing."""
-        return sum(last - first + 1 for of, first, last in self.missing if cpu in (None, of))
+        return self.count("missing", None if cpu is None else [cpu])
+
+    def is_fleet(self):
+        return any(isinstance(cpu, tuple) for cpu in self.cpus())
+
+    def streams(self):
+        """What a fleet's text says of each stream, by its id: the rows have CPUs alone."""
+        found = {}
+        for kind in KINDS:
+            for (stream, cpu), *row in getattr(self, kind):
+                getattr(found.setdefault(stream, Section()), kind).append((cpu, *row))
+        return found
 
 
 def sections(text):
@@ -55,14 +75,21 @@ def is_log(words):
 
 
 def add_line(section, words):
-    if words[0] == "missing":
-        section.missing.append((int(words[1]), *map(int, words[2].split("-"))))
-    elif words[0] == "unknown":
-        section.unknown.append((int(words[1]), int(words[2])))
-    elif words[0] == "damaged":
+    if words[0] == "damaged":
         section.damaged.append((int(words[1]), int(words[2]), " ".join(words[3:])))
+    elif words[0] in ("missing", "unknown", "undelivered", "forgotten"):
+        numbers, cpu = tuple(map(int, words[2].split("-"))), cpu_of(words[1])
+        is_awaited = words[0] == "unknown" and isinstance(cpu, tuple)
+        getattr(section, "awaited" if is_awaited else words[0]).append((cpu, *numbers))
     else:
-        section.records.append((*map(int, words[:3]), "" if words[-1] == "-" else words[-1]))
+        payload = "" if words[-1] == "-" else words[-1]
+        section.records.append((cpu_of(words[0]), int(words[1]), int(words[2]), payload))
+
+
+def cpu_of(word):
+    """A CPU's number; before it the id of its stream, if there is one."""
+    stream, _, cpu = word.rpartition(":")
+    return (stream, int(cpu)) if stream else int(cpu)
 
 
 # ---- texts

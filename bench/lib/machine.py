@@ -16,6 +16,7 @@ TOOLS = {
     "valgrind": ("the package valgrind", ["valgrind", "--version"]),
     "/usr/bin/time": ("the package time", None),
     "trace-cmd": ("the package trace-cmd", ["dpkg-query", "-W", "trace-cmd"]),
+    "nats-server": ("the packages nats-server and libnats-dev", ["nats-server", "--version"]),
     "apt-get": ("Debian's own", None),
     "dpkg-deb": ("Debian's own", None),
 }

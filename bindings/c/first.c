@@ -12,13 +12,16 @@ static int are_new(void)
     struct tracering_writer w = TRACERING_WRITER_INIT;
     struct tracering_reader r = TRACERING_READER_INIT;
     struct tracering_collector c = TRACERING_COLLECTOR_INIT;
+    struct tracering_fleet f = TRACERING_FLEET_INIT;
     struct tracering_refused refused;
     int bad = tracering_depth(&writers[1]) != TRACERING_ABSENT || w.closes || w.in_call || r.in_call || c.in_call;
+    bad += f.in_call != 0;
     bad += tracering_refused(&w, &refused) != TRACERING_DONE;
     bad += refused.busy || refused.too_deep || refused.too_long || refused.late_moment;
     bad += refused.crowded || refused.worn;
     bad += tracering_new(&w, &r, 0, 2, 64) != TRACERING_DONE || tracering_collector_new(&c) != TRACERING_DONE;
     bad += tracering_writer_free(&w, NULL) != TRACERING_DONE || tracering_reader_free(&r) != TRACERING_DONE;
+    bad += tracering_fleet_new(&f) != TRACERING_DONE || tracering_fleet_free(&f) != TRACERING_DONE;
     return bad + (tracering_collector_free(&c) != TRACERING_DONE);
 }
 
@@ -33,7 +36,7 @@ static int have_texts(void)
         for (int before = 0; before < k; before++)
             bad += answers[k] == answers[before] || strcmp(text, tracering_text(answers[before])) == 0;
     }
-    return bad + (COUNT < 36);
+    return bad + (COUNT < 48);
 }
 
 int main(void)

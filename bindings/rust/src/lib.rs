@@ -1,5 +1,5 @@
-//! A trace ring with a writer's end and a reader's end, each of which may go to a thread of its own; and collectors of
-//! the parcels that are taken.
+//! A trace ring with a writer's end and a reader's end, each of which may go to a thread of its own; collectors of the
+//! parcels that are taken; and fleets, which collect the packed parcels of many streams.
 //!
 //! `./tracering-lib`, in the folder above `bindings`, builds the static library that this crate links; `tests/` shows
 //! the calls in use.
@@ -7,7 +7,10 @@
 //! `include/tracering.h` says what each call does. What is a condition there is kept here by types: an end is in one
 //! call at a time, since calls borrow it, and it is freed when it is dropped. That two ends are of one ring is looked at
 //! when they are settled: both carry its number. What a writer refuses, it answers to its caller, so nothing counts it.
+mod fleet;
 pub mod flight;
+
+pub use fleet::{pack, pack_end, Added, Cpus, CpuState, Fleet, FleetLine, Lines, Refusal, StreamFault, Streams, MARK};
 
 use std::error::Error;
 use std::fmt;
@@ -84,18 +87,30 @@ pub enum Fault {
     MissedDiffers,
     Clash,
     TakenAndMissing,
-    /// All lines of the listing were given.
+    /// All lines of the listing were given, or what was asked for isn't there.
     End,
     /// These are ends of two rings.
     OtherRing,
+    NotPacked,
+    PieceCut,
+    BadVersion,
+    BadPieceLength,
+    BadSum,
+    BadKind,
+    Loose,
+    BadMark,
+    BeyondEnd,
+    OtherEnd,
+    NotFinal,
 }
 
-const FAULTS: [Fault; 32] = {
+const FAULTS: [Fault; 43] = {
     use Fault::*;
     [
         TooDeep, TooLong, LateMoment, Crowded, Worn, NoFrame, NotReserved, Absent, InUse, Busy, Null, NoMemory, BadSize,
         BadCpu, Empty, Moving, NoRoom, NotAtRest, Unread, TooShort, BadImageSize, BadCount, Cut, BadLength,
-        TimeOverflow, NumberOverflow, MissedTooMany, MissedDiffers, Clash, TakenAndMissing, End, OtherRing,
+        TimeOverflow, NumberOverflow, MissedTooMany, MissedDiffers, Clash, TakenAndMissing, End, OtherRing, NotPacked,
+        PieceCut, BadVersion, BadPieceLength, BadSum, BadKind, Loose, BadMark, BeyondEnd, OtherEnd, NotFinal,
     ]
 };
 

@@ -1,5 +1,6 @@
 -- A stream of a fleet that was changed or put there.
-use Rattle.std.proofs.Common.{◌≡◌, ⊎_elim, inl, inr, IsSome, ℕ, zero, suc, ◌<◌, Bool, true, false, cond, List, [], ◌∷◌, ◌++◌, Some}
+use Rattle.std.proofs.Common.{◌≡◌, ⊎_elim, inl, inr, IsSome, ℕ, zero, suc, ◌<◌, Bool, true, false, cond, List, []}
+use Rattle.std.proofs.Common.{◌∷◌, ◌++◌, Some}
 use Rattle.std.proofs.Common.{None, Result, Ok, Err, OnOk, OnErr, refl, sym, ap, ◌∙◌, subst, arith}
 use Rattle.std.specs.List.{slice_get}
 use Rattle.std.specs.Ordering.{nat_cmp}
@@ -82,14 +83,15 @@ module _ (before after : Stream) (p : Parcel) (few : p.cpu < MAX_CPUS) (old : Ha
   cpus_added (Err e) new known forgotten refused = stays refused
 
 -- of nothing no CPU is known
-cpus_of_empty : HasKnownCpus empty_stream
+pub cpus_of_empty : HasKnownCpus empty_stream
 cpus_of_empty = record {
   known = λ cpu number known. ⊎_elim
       (λ (taken : IsTaken [] cpu number). let h = taken.1 in absurd (none-some h.parcel h.at))
       (λ (m : Misses [] cpu number). absurd (none-some m.parcel m.at))
       known;
   given_up = λ cpu number m. absurd (none-some m.parcel m.at);
-  marked = λ cpu says. ⊎_elim (λ (lt : 0 < 0). absurd (omega arith)) (λ (some : IsSome (marks_at [] cpu).end). let no : ⊥ = cc in absurd no)
+  marked = λ cpu says. ⊎_elim (λ (lt : 0 < 0). absurd (omega arith)) (λ (some : IsSome
+      (marks_at [] cpu).end). let no : ⊥ = cc in absurd no)
       says;
 }
 

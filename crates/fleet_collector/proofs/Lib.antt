@@ -4,4 +4,9 @@ pub mod ByTime
 pub mod Changed
 pub mod Telling
 pub mod Adding
+pub mod Joined
+pub mod Forgotten
+pub mod BeforeCut
+pub mod GoesOut
+pub mod Snapshots
 pub mod Marked

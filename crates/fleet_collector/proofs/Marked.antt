@@ -1,5 +1,6 @@
 -- The CPUs of a stream that was changed.
-use Rattle.std.proofs.Common.{◌≡◌, ◌⊎◌, inl, inr, ⊎_elim, ℕ, zero, suc, ◌<◌, Bool, true, false, cond, not, List, [], ◌∷◌}
+use Rattle.std.proofs.Common.{◌≡◌, ◌⊎◌, inl, inr, ⊎_elim, ℕ, zero, suc, ◌<◌, Bool, true, false, cond, not, List, []}
+use Rattle.std.proofs.Common.{◌∷◌}
 use Rattle.std.proofs.Common.{filter, Some, Result, Ok, Err, OnErr, refl, sym, subst}
 use Rattle.std.specs.List.{slice_get}
 use Rattle.std.proofs.lemmas.Bool.{cases_eq}
@@ -66,7 +67,7 @@ run_new before after cpu first end parcels marks gives = record {
 }
 
 -- a bound
-get_filtered : {X : Type 0} (test : X → Bool) (xs : List X) (k : ℕ) (x : X) → slice_get (filter test xs) k ≡ Some x
+pub get_filtered : {X : Type 0} (test : X → Bool) (xs : List X) (k : ℕ) (x : X) → slice_get (filter test xs) k ≡ Some x
     → (j : ℕ) × (slice_get xs j ≡ Some x)
 get_filtered test [] k x at = absurd (none-some x at)
 get_filtered {X} test (y ∷ xs) k x at = one (test y) k (λ j there. get_filtered test xs j x there) at

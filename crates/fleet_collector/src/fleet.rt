@@ -36,7 +36,7 @@ impl Model for Fleet {
 impl Fleet {
     ghost use Rattle.std.specs.Prelude.{◌≡◌, [], IfSome, IfNone, Some, None, map};
     ghost use Rattle.std.specs.List.Sorted.{IsStrictlyIncreasing};
-    ghost use Rattle.fleet_collector.specs.Fleet.{known_of, AllHaveKnownCpus};
+    ghost use Rattle.fleet_collector.specs.Fleet.{known_of, HasKnownCpus, AllHaveKnownCpus};
     ghost use Rattle.fleet_collector.specs.Told.{IsFleetOf};
 
     /// No stream is there.
@@ -53,6 +53,7 @@ impl Fleet {
     /// What is known of a stream, if it is there.
     pub fn stream(&self, stream: StreamId) -> Option<&StreamCollector>
         ensures there { IfSome result (λ known. known_of self.now stream.0 ≡ Some known.now) }
+        ensures known_cpus { IfSome result (λ known. HasKnownCpus known.now) }
         ensures none { IfNone result (known_of self.now stream.0 ≡ None) }
     {
         self.streams.get(&stream.0)

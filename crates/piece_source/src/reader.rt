@@ -20,8 +20,8 @@ impl<R> PieceReader<R> {
     ghost use Rattle.std.specs.Prelude.{◌≡◌, [], IfOk};
     ghost use Rattle.piece_source.specs.Readers.{source_of, given_of, index_of, at_of};
 
-    /// The bytes of the piece that the last call of [`PieceReader::next`] gave, as they are in the stream; none if it gave
-    /// none.
+    /// The bytes of the piece that the last call of [`PieceReader::next`] gave, as they are in the stream; none if it
+    /// gave none.
     pub fn bytes(&self) -> &[u8]
         ensures { result.now ≡ given_of self.now }
     {

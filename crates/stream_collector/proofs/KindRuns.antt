@@ -46,7 +46,8 @@ true_of Missing s cpu n m = is_of_true MissingThere s.parcels cpu n m
 true_of Undelivered s cpu n both = both_true (is_missed s.given_up cpu n)
     (ltb n (bound_of s cpu) || is_unknown s.parcels cpu n) (is_of_true MissingThere s.given_up cpu n both.0)
     (⊎_elim
-    (λ (below : n < bound_of s cpu). first_true (ltb n (bound_of s cpu)) (is_unknown s.parcels cpu n) (lt-ltb n (bound_of s cpu) below))
+    (λ (below : n < bound_of s cpu). first_true (ltb n (bound_of s cpu)) (is_unknown s.parcels cpu n)
+    (lt-ltb n (bound_of s cpu) below))
     (λ (unknown : IsUnknown s.parcels cpu n). other_true (ltb n (bound_of s cpu)) (is_unknown s.parcels cpu n)
     (is_of_true UnknownThere s.parcels cpu n unknown))
     both.1)

@@ -8,3 +8,9 @@ pub mod Lost
 pub mod KeptParcels
 pub mod WithinEnds
 pub mod CpusMarked
+pub mod Merging
+pub mod MarkWalks
+pub mod OneList
+pub mod SameStreams
+pub mod Frontiers
+pub mod MergeLaws

@@ -12,7 +12,7 @@ use Rattle.stream_collector.specs.declared.marks.Marks.{Marks}
 use Rattle.stream_collector.specs.Marks.{bounds_of}
 use Rattle.stream_collector.specs.Stream.{Stream, bound_of, end_of, HasRecord, IsMissing, IsUndelivered, IsOpen}
 use Rattle.stream_collector.specs.Stream.{IsAccounted, has_record, is_missing, is_undelivered, IsExpected, IsUnknownYet}
-use Rattle.stream_collector.specs.Forgetting.{HasBound, IsLost, GivesUpBelow}
+use Rattle.stream_collector.specs.Forgetting.{HasBound, AreRaised, IsLost, GivesUpBelow}
 use Rattle.stream_collector.proofs.Standing.{known_or_not, known_accounted, given_up_accounted, missed_or_not}
 use Rattle.stream_collector.proofs.Standing.{unknown_from}
 
@@ -51,15 +51,51 @@ unknown_first s cpu w n o accounted a = ⊎_elim
 abbrev pub IsGivenUpSame : (old new : Stream) → Type 0
 IsGivenUpSame old new = (c n : ℕ) → bound_of new c ≤ n → (Misses old.given_up c n ↔ Misses new.given_up c n)
 
-module _ (old new : Stream) (cpu bound : ℕ) (up : bound_of old cpu ≤ bound) (raised : HasBound old new cpu bound) where
+-- one bound is raised
+pub one_raised : (old new : Stream) (cpu bound : ℕ) → bound_of old cpu ≤ bound → HasBound old new cpu bound
+    → AreRaised old new
+one_raised old new cpu bound up raised = record { rise = rise; ends = ends; kept = raised.kept }
+  where
+    rise : (c : ℕ) → bound_of old c ≤ bound_of new c
+    rise c = ⊎_elim
+        (λ (e : c ≡ cpu). let is : bound_of new c ≡ bound = ap (λ (k : ℕ). bound_of new k) e ∙ ap
+        (λ (m : Marks). m.bound) raised.marks in
+        let same : bound_of old c ≡ bound_of old cpu = ap (λ (k : ℕ). bound_of old k) e in omega arith)
+        (λ (apart : c ≡ cpu → ⊥). let is : bound_of new c ≡ bound_of old c = ap (λ (m : Marks). m.bound)
+        (raised.others c apart) in omega arith)
+        (cases_eq c cpu)
+
+    ends : (c : ℕ) → end_of new c ≡ end_of old c
+    ends c = ⊎_elim
+        (λ (e : c ≡ cpu). ap (λ (k : ℕ). end_of new k) e ∙ ap (λ (m : Marks). m.end) raised.marks
+        ∙ ap (λ (k : ℕ). end_of old k) (sym e))
+        (λ (apart : c ≡ cpu → ⊥). ap (λ (m : Marks). m.end) (raised.others c apart))
+        (cases_eq c cpu)
+
+-- the same was given up
+pub given_same : (old new : Stream) → new.given_up ≡ old.given_up → IsGivenUpSame old new
+given_same old new same c n from = (
+  λ m. subst (λ (ps : List Parcel). Misses ps c n) (sym same) m,
+  λ m. subst (λ (ps : List Parcel). Misses ps c n) same m,
+)
+
+-- what is lost is below the bound
+pub given_lost : (old new : Stream) (cpu bound : ℕ) → HasBound old new cpu bound
+    → GivesUpBelow old new.given_up cpu bound → IsGivenUpSame old new
+given_lost old new cpu bound raised gives c n from = (
+  λ m. (gives c n).1 (inl m),
+  λ m. ⊎_elim
+      (λ own. own)
+      (λ (lost : IsLost old cpu bound c n).
+      let is : bound_of new c ≡ bound = ap (λ (k : ℕ). bound_of new k) lost.cpu_is
+      ∙ ap (λ (m : Marks). m.bound) raised.marks in
+      let less = lost.below in absurd (omega arith))
+      ((gives c n).0 m),
+)
+
+module _ (old new : Stream) (raised : AreRaised old new) where
   rises : (c : ℕ) → bound_of old c ≤ bound_of new c
-  rises c = ⊎_elim
-      (λ (e : c ≡ cpu). let is : bound_of new c ≡ bound = ap (λ (k : ℕ). bound_of new k) e ∙ ap
-      (λ (m : Marks). m.bound) raised.marks in
-      let same : bound_of old c ≡ bound_of old cpu = ap (λ (k : ℕ). bound_of old k) e in omega arith)
-      (λ (apart : c ≡ cpu → ⊥). let is : bound_of new c ≡ bound_of old c = ap (λ (m : Marks). m.bound)
-      (raised.others c apart) in omega arith)
-      (cases_eq c cpu)
+  rises c = raised.rise c
 
   filtered : IsSameFrom (bounds_of new.marks) old.parcels (without_ended (bounds_of new.marks) old.parcels)
   filtered = filtered_from old.parcels (bounds_of new.marks)
@@ -100,25 +136,6 @@ module _ (old new : Stream) (cpu bound : ℕ) (up : bound_of old cpu ≤ bound) 
     not_missing = λ there. u.not_missing (misses_to c n from there);
   }
 
-  pub given_same : new.given_up ≡ old.given_up → IsGivenUpSame old new
-  given_same same c n from = (
-    λ m. subst (λ (ps : List Parcel). Misses ps c n) (sym same) m,
-    λ m. subst (λ (ps : List Parcel). Misses ps c n) same m,
-  )
-
-  -- what is lost is below the bound
-  pub given_lost : GivesUpBelow old new.given_up cpu bound → IsGivenUpSame old new
-  given_lost gives c n from = (
-    λ m. (gives c n).1 (inl m),
-    λ m. ⊎_elim
-        (λ own. own)
-        (λ (lost : IsLost old cpu bound c n).
-        let is : bound_of new c ≡ bound = ap (λ (k : ℕ). bound_of new k) lost.cpu_is
-        ∙ ap (λ (m : Marks). m.bound) raised.marks in
-        let less = lost.below in absurd (omega arith))
-        ((gives c n).0 m),
-  )
-
   pub undelivered_stay : IsGivenUpSame old new → (c n : ℕ) → bound_of new c ≤ n
       → (IsUndelivered old c n ↔ IsUndelivered new c n)
   undelivered_stay same c n from = (
@@ -144,11 +161,7 @@ module _ (old new : Stream) (cpu bound : ℕ) (up : bound_of old cpu ≤ bound) 
   }
 
   ends_stay : (c : ℕ) → end_of new c ≡ end_of old c
-  ends_stay c = ⊎_elim
-      (λ (e : c ≡ cpu). ap (λ (k : ℕ). end_of new k) e ∙ ap (λ (m : Marks). m.end) raised.marks
-      ∙ ap (λ (k : ℕ). end_of old k) (sym e))
-      (λ (apart : c ≡ cpu → ⊥). ap (λ (m : Marks). m.end) (raised.others c apart))
-      (cases_eq c cpu)
+  ends_stay c = raised.ends c
 
   expected_to : (c n : ℕ) → bound_of new c ≤ n → IsExpected old c n → IsExpected new c n
   expected_to c n from expected = ⊎_elim

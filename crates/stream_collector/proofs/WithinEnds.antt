@@ -18,7 +18,7 @@ use Rattle.stream_collector.specs.Faults.{IsWithinEnd}
 use Rattle.stream_collector.specs.Forgetting.{HasBound, GivesUpBelow, IsLost}
 use Rattle.stream_collector.specs.GivenUp.{IsInRun, GivesUp}
 
-known_either : (ps qs : List Parcel) (cpu n : ℕ) → IsKnown (ps ++ qs) cpu n → IsKnown ps cpu n ⊎ IsKnown qs cpu n
+pub known_either : (ps qs : List Parcel) (cpu n : ℕ) → IsKnown (ps ++ qs) cpu n → IsKnown ps cpu n ⊎ IsKnown qs cpu n
 known_either ps qs cpu n known = ⊎_elim
     (λ (there : (r : Record) × Has (ps ++ qs) cpu n r). ⊎_elim
     (λ (one : Has ps cpu n there.0). inl (inl (there.0, one)))

@@ -16,6 +16,12 @@ pub record HasBound (old new : Stream) (cpu bound : ℕ) : Type 0 where
   pub others : (other : ℕ) → (other ≡ cpu → ⊥) → marks_at new.marks other ≡ marks_at old.marks other
   pub kept : IsSame new.parcels (without_ended (bounds_of new.marks) old.parcels)
 
+-- No bound falls, all ends stay, and what is known is what the parcels have and miss that don't end below the bounds.
+pub record AreRaised (old new : Stream) : Type 0 where
+  pub rise : (cpu : ℕ) → bound_of old cpu ≤ bound_of new cpu
+  pub ends : (cpu : ℕ) → end_of new cpu ≡ end_of old cpu
+  pub kept : IsSame new.parcels (without_ended (bounds_of new.marks) old.parcels)
+
 -- the number is one of the CPU from its bound up to this one, and nothing is known of it
 pub record IsLost (stream : Stream) (cpu bound other number : ℕ) : Type 0 where
   pub cpu_is : other ≡ cpu

@@ -5,3 +5,6 @@ pub mod Marking
 pub mod Forgetting
 pub mod Kinds
 pub mod Faults
+pub mod Merging
+pub mod Same
+pub mod Frontier

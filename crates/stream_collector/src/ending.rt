@@ -40,7 +40,7 @@ impl StreamCollector {
     }
 
     /// The number after the last one of a CPU that is known, was given up or is below the bound, or 0.
-    fn reach(&self, cpu: CpuId) -> u64
+    pub(crate) fn reach(&self, cpu: CpuId) -> u64
         ensures last { 0 < result → IsReached self.now cpu.0 (result - 1) }
         ensures behind { (n : ℕ) → IsReached self.now cpu.0 n → n < result }
     {

@@ -50,3 +50,32 @@ impl From<NoMemory> for MarkFault {
         MarkFault::NoMemory
     }
 }
+
+/// Why two streams aren't merged. Nothing has changed.
+#[derive(Clone, Copy, Debug, PartialEq, Eq)]
+pub enum MergeFault {
+    /// This CPU has the first end here, and the second one there.
+    OtherEnd(CpuId, RecordNo, RecordNo),
+    /// Of this CPU the number is known, was given up or is below the bound here or there, and the CPU has an end at or
+    /// below it in the other stream. It is the greatest such number there or here.
+    BeyondEnd(CpuId, RecordNo),
+    /// The ends fit, and the kept parcels have two records of this CPU under this number. Of all numbers at odds it is
+    /// the least, by CPU and then by number.
+    Clash(CpuId, RecordNo),
+    /// The ends fit, and in the kept parcels this number of the CPU has a record and is missing. Of all numbers at odds
+    /// it is the least, by CPU and then by number.
+    TakenAndMissing(CpuId, RecordNo),
+    /// Memory was refused. The ends fit; whether the kept parcels agree isn't said.
+    NoMemory,
+}
+
+impl From<NoMemory> for MergeFault {
+    ghost use Rattle.std.specs.Prelude.{◌≡◌};
+    ghost use Rattle.stream_collector.specs.declared.fault.MergeFault.TheVariants.{NoMemory as MergeMemoryIs};
+
+    ghost from_gives = { λ _ e. e ≡ MergeMemoryIs };
+
+    fn from(_refused: NoMemory) -> MergeFault {
+        MergeFault::NoMemory
+    }
+}

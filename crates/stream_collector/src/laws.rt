@@ -1,10 +1,16 @@
 //! Laws over what is known of a stream: each number is accounted for once, and forgetting changes nothing above.
-ghost use Rattle.std.specs.Prelude.{◌≡◌, ℕ, ◌<◌, ◌≤◌, ◌↔◌, ◌⊎◌};
+ghost use Rattle.std.specs.Prelude.{◌≡◌, ℕ, ◌<◌, ◌≤◌, ◌↔◌, ◌⊎◌, ◌++◌, List, Some};
+ghost use Rattle.trace_model.specs.Parcel.{Parcel};
+ghost use Rattle.trace_model.specs.declared.numbers.Moment.{Moment};
 ghost use Rattle.trace_model.specs.Record.{Record};
-ghost use Rattle.trace_model.specs.Collection.{Agree};
+ghost use Rattle.trace_model.specs.Collection.{Has, Agree};
 ghost use Rattle.stream_collector.specs.Stream.{Stream, bound_of, HasRecord, IsMissing, IsUndelivered};
 ghost use Rattle.stream_collector.specs.Stream.{IsOpen, IsAccounted, IsUnknownYet};
 ghost use Rattle.stream_collector.specs.Forgetting.{HasBound, GivesUpBelow};
+ghost use Rattle.stream_collector.specs.Frontier.{IsFrontier, IsCpuThere, IsCut, IsForgottenBefore, NeverFall};
+ghost use Rattle.stream_collector.specs.Marking.{AreWithinEnds};
+ghost use Rattle.stream_collector.specs.Merging.{IsMerge};
+ghost use Rattle.stream_collector.specs.Same.{IsSameStream};
 
 /// From its bound on, each number of a CPU has a record, or is missing, or is undelivered, or is open: one of these,
 /// and no two of them. Up to the watermark there is no open one, so the account has no hole and no overlap.
@@ -50,4 +56,44 @@ pub fn forgetting_changes_nothing_above()
         (c n : ℕ) → IsUndelivered old c n → IsUndelivered new c n }
     ensures given_up { (old new : Stream) (cpu bound n : ℕ) → HasBound old new cpu bound →
         GivesUpBelow old new.given_up cpu bound → IsUnknownYet old cpu n → n < bound → IsUndelivered new cpu n }
+{}
+
+/// Nor does it change anything from the bounds on if each CPU's bound is raised to its cut at a moment.
+pub fn forgetting_before_changes_nothing_above()
+    ensures records { (old new : Stream) (moment : ℕ) → IsForgottenBefore old new moment →
+        (c n : ℕ) (r : Record) → bound_of new c ≤ n → (HasRecord old c n r ↔ HasRecord new c n r) }
+    ensures missing { (old new : Stream) (moment : ℕ) → IsForgottenBefore old new moment →
+        (c n : ℕ) → bound_of new c ≤ n → (IsMissing old c n ↔ IsMissing new c n) }
+    ensures undelivered { (old new : Stream) (moment : ℕ) → IsForgottenBefore old new moment →
+        (c n : ℕ) → bound_of new c ≤ n → (IsUndelivered old c n ↔ IsUndelivered new c n) }
+    ensures stays_undelivered { (old new : Stream) (moment : ℕ) → IsForgottenBefore old new moment →
+        (c n : ℕ) → IsUndelivered old c n → IsUndelivered new c n }
+    ensures unknown { (old new : Stream) (moment : ℕ) → IsForgottenBefore old new moment →
+        (c n : ℕ) → bound_of new c ≤ n → (IsUnknownYet old c n ↔ IsUnknownYet new c n) }
+{}
+
+/// If a CPU's moments never fall, each record of it from its cut at the frontier on is at or after the frontier: those
+/// that are known, and those of parcels that come later, agree with the known ones and stay within the ends. It is said
+/// of CPUs of which something is there: another CPU's records may be of any time.
+pub fn what_comes_is_not_before_the_frontier()
+    ensures { (s : Stream) (later : List Parcel) (frontier : Moment) (cpu cut : ℕ) → IsFrontier s (Some frontier) →
+        IsCpuThere s cpu → IsCut s cpu frontier.0 cut → Agree (s.parcels ++ later) →
+        AreWithinEnds record s { parcels = s.parcels ++ later } → NeverFall (s.parcels ++ later) cpu →
+        (n : ℕ) (r : Record) → cut ≤ n → Has (s.parcels ++ later) cpu n r → frontier.0 ≤ r.moment }
+{}
+
+/// From the new bounds on, a merged stream has the records of both, and misses the numbers that either misses.
+pub fn merging_is_the_union()
+    ensures records { (a b ab : Stream) → IsMerge a b ab → (cpu n : ℕ) (r : Record) → bound_of ab cpu ≤ n →
+        (HasRecord ab cpu n r ↔ (HasRecord a cpu n r ⊎ HasRecord b cpu n r)) }
+    ensures missing { (a b ab : Stream) → IsMerge a b ab → (cpu n : ℕ) → bound_of ab cpu ≤ n →
+        (IsMissing ab cpu n ↔ (IsMissing a cpu n ⊎ IsMissing b cpu n)) }
+{}
+
+/// Merging in either direction, in any order and more than once gives the same stream.
+pub fn merging_in_any_order_is_the_same()
+    ensures either_way { (a b ab ba : Stream) → IsMerge a b ab → IsMerge b a ba → IsSameStream ab ba }
+    ensures regrouped { (a b c ab bc left right : Stream) → IsMerge a b ab → IsMerge ab c left →
+        IsMerge b c bc → IsMerge a bc right → IsSameStream left right }
+    ensures itself { (a new : Stream) → IsMerge a a new → IsSameStream new a }
 {}

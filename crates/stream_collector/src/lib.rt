@@ -7,21 +7,25 @@
 mod add;
 mod added;
 mod cpus;
+mod cuts;
 mod dropping;
 mod ending;
 mod fault;
 mod forgetting;
+mod frontier;
 mod given_up;
 mod kinds;
 pub mod laws;
 mod marks;
+mod merge;
 mod read;
 mod runs;
+mod same;
 mod stream;
 mod undelivered;
 
 pub use added::{Added, Marked};
 pub use cpus::MarkedCpus;
-pub use fault::{AddFault, MarkFault};
+pub use fault::{AddFault, MarkFault, MergeFault};
 pub use runs::StreamRuns;
 pub use stream::StreamCollector;

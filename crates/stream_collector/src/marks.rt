@@ -5,7 +5,7 @@ use std::collections::btree_map::Keys;
 use trace_model::{CpuId, NoMemory};
 
 /// The bound of a CPU, and its end if that is known.
-#[derive(Clone, Copy)]
+#[derive(Clone, Copy, PartialEq, Eq)]
 pub(crate) struct Marks {
     /// What is below is kept no longer; 0 if nothing was forgotten.
     pub(crate) bound: u64,

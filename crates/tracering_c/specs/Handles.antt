@@ -4,11 +4,13 @@ use Rattle.ring_shared.specs.Value.{WriterValue, SameWriter}
 use Rattle.ring_shared.specs.Calls.{IsWriter}
 use Rattle.ring_shared.specs.Takes.{SameRing}
 use Rattle.listed_collector.specs.declared.listed.ListedCollector.{ListedCollector}
+use Rattle.listed_fleet.specs.declared.listed.ListedFleet.{ListedFleet}
 use Rattle.tracering_c.specs.declared.ends.HeldReader.{HeldReader}
 use Rattle.tracering_c.specs.declared.handle.WriterHandle.{WriterHandle}
 use Rattle.tracering_c.specs.declared.handle.ReaderHandle.{ReaderHandle}
 use Rattle.tracering_c.specs.declared.handle.CollectorHandle.{CollectorHandle}
-use Rattle.tracering_c.specs.Held.{writer_of, reader_of, collector_of}
+use Rattle.tracering_c.specs.declared.handle.FleetHandle.{FleetHandle}
+use Rattle.tracering_c.specs.Held.{writer_of, reader_of, collector_of, fleet_of}
 use Rattle.tracering_c.specs.Ends.{IsHeldReader}
 
 -- If the handle has a writer, it is one of a ring.
@@ -56,3 +58,8 @@ pub record OnReader (old new : ReaderHandle) (so : HeldReader → HeldReader →
 pub record OnCollector (old new : CollectorHandle) (so : ListedCollector → ListedCollector → Type 0) : Type 0 where
   -- the handle has a collector afterwards, and this holds of the collector before and of the one afterwards
   pub is : Becomes (collector_of old.held.value) (collector_of new.held.value) (λ was is. so was.listed is.listed)
+
+-- What a call makes of the fleet that a handle has, if it has one.
+pub record OnFleet (old new : FleetHandle) (so : ListedFleet → ListedFleet → Type 0) : Type 0 where
+  -- the handle has a fleet afterwards, and this holds of the fleet before and of the one afterwards
+  pub is : Becomes (fleet_of old.held.value) (fleet_of new.held.value) (λ was is. so was.listed is.listed)

@@ -8,3 +8,6 @@ pub mod Peeks
 pub mod Frees
 pub mod CollectorCalls
 pub mod Lending
+pub mod FleetCodes
+pub mod FleetCalls
+pub mod Packing

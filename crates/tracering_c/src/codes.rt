@@ -119,7 +119,7 @@ fn code_of_image(fault: ImageFault) -> i32
 }
 
 /// The number of why bytes are no parcel: 20 to 28, or that there is no such CPU or no memory.
-fn code_of_parcel(fault: ParcelFault) -> i32
+pub(crate) fn code_of_parcel(fault: ParcelFault) -> i32
     ensures { result ≡ parcel_code fault }
 {
     match fault {

@@ -1,8 +1,9 @@
-//! A ring's two ends, each with what its calls need, and a collector.
+//! A ring's two ends, each with what its calls need, a collector and a fleet.
 ghost use Rattle.std.specs.Prelude.{◌<◌};
 ghost use Rattle.trace_model.specs.declared.limits.TheConstants.{MAX_CPUS};
 
 use listed_collector::ListedCollector;
+use listed_fleet::ListedFleet;
 use page_image::{Body, Page};
 use ring_shared::{Reader, Take, Writer};
 use trace_model::CpuId;
@@ -55,6 +56,13 @@ pub enum Next {
 pub struct HeldCollector {
     /// Both.
     pub listed: ListedCollector,
+}
+
+/// A fleet and its listing.
+#[derive(Drop)]
+pub struct HeldFleet {
+    /// Both.
+    pub listed: ListedFleet,
 }
 
 impl HeldReader {

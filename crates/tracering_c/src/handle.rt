@@ -3,10 +3,11 @@ ghost use Rattle.std.specs.Prelude.{◌≡◌, true, Some, None, is_some, IsSome
 ghost use Rattle.tracering_c.specs.declared.ends.HeldWriter.{HeldWriter as WriterValue};
 ghost use Rattle.tracering_c.specs.declared.ends.HeldReader.{HeldReader as ReaderValue};
 ghost use Rattle.tracering_c.specs.declared.ends.HeldCollector.{HeldCollector as CollectorValue};
-ghost use Rattle.tracering_c.specs.Held.{writer_of, reader_of, collector_of};
+ghost use Rattle.tracering_c.specs.declared.ends.HeldFleet.{HeldFleet as FleetValue};
+ghost use Rattle.tracering_c.specs.Held.{writer_of, reader_of, collector_of, fleet_of};
 ghost use Rattle.tracering_c.specs.Zeros.{AreZeros};
 
-use crate::ends::{HeldCollector, HeldReader, HeldWriter};
+use crate::ends::{HeldCollector, HeldFleet, HeldReader, HeldWriter};
 use crate::held::Held;
 use loose_box::Loose;
 use std::alloc::Global;
@@ -162,5 +163,56 @@ impl CollectorHandle {
         }
         let CollectorHandle { held, .. } = replace(self, CollectorHandle::none());
         Some(held.into_collector(alloc).into_box())
+    }
+}
+
+/// A fleet, or nothing, as C keeps it.
+#[repr(C)]
+#[derive(Drop)]
+pub struct FleetHandle {
+    pub(crate) held: Held,
+    /// Whether there is one.
+    pub(crate) live: bool,
+    pub ghost tied: { (live ≡ is_some (fleet_of held.value)) × (live ≡ is_some held.value) },
+}
+
+impl FleetHandle {
+    /// No fleet.
+    pub(crate) fn none() -> FleetHandle
+        ensures none { fleet_of result.held.value ≡ None }
+        ensures zeros { AreZeros result.held.at result.live }
+    {
+        FleetHandle {
+            held: Held::none(),
+            live: false,
+        }
+    }
+
+    /// This fleet.
+    pub(crate) fn of(end: Box<HeldFleet, Global>) -> FleetHandle
+        ensures { fleet_of result.held.value ≡ Some end.value }
+    {
+        FleetHandle {
+            held: Held::of_fleet(Loose::of(end)),
+            live: true,
+        }
+    }
+
+    /// The fleet, if there is one: the handle has none then.
+    pub(crate) fn take_out(&mut self, alloc: Global) -> Option<Box<HeldFleet, Global>>
+        ensures stays { fleet_of self.old.held.value ≡ None → self.new ≡ self.old }
+        ensures none { fleet_of self.old.held.value ≡ None → result ≡ None }
+        ensures left { (x : FleetValue) → fleet_of self.old.held.value ≡ Some x
+            → fleet_of self.new.held.value ≡ None }
+        ensures zeros { (x : FleetValue) → fleet_of self.old.held.value ≡ Some x
+            → AreZeros self.new.held.at self.new.live }
+        ensures some { (x : FleetValue) → fleet_of self.old.held.value ≡ Some x
+            → IsSomeAnd result (λ end. end.value ≡ x) }
+    {
+        if !self.live {
+            return None;
+        }
+        let FleetHandle { held, .. } = replace(self, FleetHandle::none());
+        Some(held.into_fleet(alloc).into_box())
     }
 }

@@ -1,10 +1,10 @@
-//! A ring's end, or a collector, as a pointer that owns it, or null.
+//! A ring's end, a collector or a fleet, as a pointer that owns it, or null.
 ghost use denote.RawPtr.{null_ptr};
 ghost use Rattle.std.specs.Borrow.{sem};
 ghost use Rattle.std.specs.Prelude.{◌≡◌, Some, None, Option, is_some, true};
-ghost use Rattle.tracering_c.specs.Held.{End, held, writer_of, reader_of, collector_of};
+ghost use Rattle.tracering_c.specs.Held.{End, held, writer_of, reader_of, collector_of, fleet_of};
 
-use crate::ends::{HeldCollector, HeldReader, HeldWriter};
+use crate::ends::{HeldCollector, HeldFleet, HeldReader, HeldWriter};
 use loose_box::Loose;
 use std::alloc::Global;
 use std::marker::Model;
@@ -15,7 +15,7 @@ pub struct Opaque {
     first: u8,
 }
 
-/// A writer, a reader or a collector, or nothing. Which of them it is only proofs see: C's types tell them apart.
+/// A writer, a reader, a collector or a fleet, or nothing. Which of them it is only proofs see: C's types tell them apart.
 #[repr(C)]
 #[derive(Drop)]
 pub struct Held {
@@ -30,7 +30,7 @@ impl Model for Held {
 unsafe impl Send for Held {}
 
 impl Held {
-    ghost use Rattle.tracering_c.specs.Lending.{LendsWriter, LendsReader, LendsCollector};
+    ghost use Rattle.tracering_c.specs.Lending.{LendsWriter, LendsReader, LendsCollector, LendsFleet};
 
     /// Nothing.
     #[inline(always)]
@@ -140,6 +140,40 @@ impl Held {
         let Held { at } = self;
         Loose {
             at: at as *mut HeldCollector,
+            alloc,
+        }
+    }
+
+    /// The fleet of this box.
+    #[inline(always)]
+    pub(crate) fn of_fleet(loose: Loose<HeldFleet, Global>) -> Held
+        ensures { fleet_of result.value ≡ Some loose.value }
+    {
+        let Loose { at, alloc: _alloc } = loose;
+        Held {
+            at: at as *mut Opaque,
+        }
+    }
+
+    /// The fleet, which must be there.
+    #[inline(always)]
+    pub(crate) fn fleet(&mut self) -> &mut HeldFleet
+        requires { is_some (fleet_of self.old.value) ≡ true }
+        ensures* writes_back { sem 𝓛 (LendsFleet self.entry result) }
+        ensures value { fleet_of self.old.value ≡ Some result.now }
+    {
+        unsafe { &mut *(self.at as *mut HeldFleet) }
+    }
+
+    /// The fleet's box.
+    #[inline(always)]
+    pub(crate) fn into_fleet(self, alloc: Global) -> Loose<HeldFleet, Global>
+        requires { is_some (fleet_of self.value) ≡ true }
+        ensures { fleet_of self.value ≡ Some result.value }
+    {
+        let Held { at } = self;
+        Loose {
+            at: at as *mut HeldFleet,
             alloc,
         }
     }

@@ -12,9 +12,14 @@ returns c =
     let own = ap (λ (m : Marks). m.bound) c.marks.ensures in
     let cpu = c.args.cpu.0 in
     let none = subst (λ (s : Stream). HaveNoRecord s.given_up) c.self.view_is c.self.invariant.no_record in
-    same_runs {P = IsOfKindWithin Open s cpu c.marks.result.bound c.expected_end.result} {Q = IsUnknownYet s cpu} c.runs.result
+    same_runs {P = IsOfKindWithin Open s cpu c.marks.result.bound c.expected_end.result} {Q = IsUnknownYet s cpu}
+    c.runs.result
     (λ n h. record {
-      is_open = record { from = (let a = h.from in omega arith); not_given_up = h.of_kind.0.not_missing; unknown = h.of_kind.1 };
+      is_open = record {
+        from = let a = h.from in omega arith;
+        not_given_up = h.of_kind.0.not_missing;
+        unknown = h.of_kind.1;
+      };
       expected = (c.expected_end.ensures n h.of_kind.1).0 h.below;
     })
     (λ n h. record {

@@ -16,6 +16,8 @@ use Rattle.tracering_c.specs.contracts.ends.HeldReader as reader
 use Rattle.tracering_c.proofs.ends.HeldReader.TheSendSync.{the_send as reader_sent}
 use Rattle.tracering_c.specs.contracts.ends.HeldCollector as collector
 use Rattle.tracering_c.proofs.ends.HeldCollector.TheSendSync.{the_send as collector_sent}
+use Rattle.tracering_c.specs.contracts.ends.HeldFleet as fleet
+use Rattle.tracering_c.proofs.ends.HeldFleet.TheSendSync.{the_send as fleet_sent}
 use Rattle.tracering_c.specs.Held.{End, held}
 use Rattle.tracering_c.specs.contracts.held.Held.{the_row, the_type}
 
@@ -23,7 +25,8 @@ held_keyless : (p : Ptr) (x : Option End) → Keyless (held p x)
 held_keyless p None = tt
 held_keyless p (Some (inl x)) = (lies writer.the_row writer_sent p x, heap.frees.frees handle (raw (lone writer.the_row.mir)) p)
 held_keyless p (Some (inr (inl x))) = (lies reader.the_row reader_sent p x, heap.frees.frees handle (raw (lone reader.the_row.mir)) p)
-held_keyless p (Some (inr (inr x))) = (lies collector.the_row collector_sent p x, heap.frees.frees handle (raw (lone collector.the_row.mir)) p)
+held_keyless p (Some (inr (inr (inl x)))) = (lies collector.the_row collector_sent p x, heap.frees.frees handle (raw (lone collector.the_row.mir)) p)
+held_keyless p (Some (inr (inr (inr x)))) = (lies fleet.the_row fleet_sent p x, heap.frees.frees handle (raw (lone fleet.the_row.mir)) p)
 
 pub send : IsSend the_row
 send =

@@ -1,0 +1,2 @@
+pub mod LinePlaces
+pub mod LeastFrom

@@ -1,0 +1,16 @@
+-- What packing makes of a parcel's bytes.
+use Rattle.std.specs.Prelude.{ℕ, List}
+use Rattle.trace_model.specs.Parcel.{Parcel}
+use Rattle.trace_model.specs.ParcelBytes.{DecodesParcel}
+use Rattle.parcel_streams.specs.Pieces.{parcel_piece, bytes_of_piece, IsPiece}
+use Rattle.listed_fleet.specs.declared.buffer.Put.{Put}
+use Rattle.listed_fleet.specs.Buffer.{PutsSo}
+
+-- The bytes read as a parcel, and a piece of this stream that has it is put into the buffer, or has no room there.
+pub record PacksSo (stream : ℕ) (bytes out : List ℕ) (put : Put) (left : List ℕ) : Type 0 where
+  pub parcel : Parcel
+  pub time : ℕ
+  pub contents : List ℕ
+  pub reads : DecodesParcel bytes parcel
+  pub sound : IsPiece (parcel_piece stream parcel time contents)
+  pub puts : PutsSo (bytes_of_piece (parcel_piece stream parcel time contents)) out put left

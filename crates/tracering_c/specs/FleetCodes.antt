@@ -1,0 +1,187 @@
+-- The numbers by which C is answered of fleets, and what is told beside them.
+use Rattle.std.specs.Prelude.{ℕ, ℤ, pos, negsuc, Option, Some, None, Result, Ok, Err}
+use Rattle.trace_model.specs.declared.numbers.Moment.{Moment}
+use Rattle.collector.specs.declared.fault.AddFault.TheVariants.{Clash, TakenAndMissing, NoMemory as NoMemoryToAdd}
+use Rattle.page_numbers.specs.declared.fault.ParcelFault.{ParcelFault}
+use Rattle.parcel_streams.specs.declared.fault.PieceFault.{PieceFault}
+use Rattle.parcel_streams.specs.declared.fault.PieceFault.TheVariants.{NotPacked, Cut, BadVersion, BadLength, BadSum, BadKind, Parcel as NoParcel, Loose, BadMark, NoMemory as NoPieceMemory}
+use Rattle.stream_collector.specs.declared.added.Added.{Added}
+use Rattle.stream_collector.specs.declared.added.Added.TheVariants.{New, Known, Forgotten}
+use Rattle.stream_collector.specs.declared.added.Marked.{Marked}
+use Rattle.stream_collector.specs.declared.added.Marked.TheVariants.{New as NewMark, Known as KnownMark}
+use Rattle.stream_collector.specs.declared.fault.AddFault.{AddFault}
+use Rattle.stream_collector.specs.declared.fault.AddFault.TheVariants.{BeyondEnd as ParcelBeyondEnd, Refused as ParcelRefused}
+use Rattle.stream_collector.specs.declared.fault.MarkFault.{MarkFault}
+use Rattle.stream_collector.specs.declared.fault.MarkFault.TheVariants.{OtherEnd, BeyondEnd, NotFinal, NoMemory}
+use Rattle.stream_collector.specs.declared.fault.MergeFault.{MergeFault}
+use Rattle.stream_collector.specs.declared.fault.MergeFault.TheVariants.{OtherEnd as EndsDiffer, BeyondEnd as MergeBeyondEnd, Clash as MergeClash, TakenAndMissing as MergeTakenAndMissing, NoMemory as NoMergeMemory}
+use Rattle.fleet_collector.specs.declared.merge_fault.FleetMergeFault.{FleetMergeFault}
+use Rattle.fleet_collector.specs.declared.refusal.PieceRefusal.{PieceRefusal}
+use Rattle.fleet_collector.specs.declared.refusal.PieceRefusal.TheVariants.{Parcel, Mark}
+use Rattle.listed_fleet.specs.declared.adding.AddAnswer.{AddAnswer}
+use Rattle.listed_fleet.specs.declared.adding.AddAnswer.TheVariants.{Added as IsAdded, Refused as IsRefused, NoPiece}
+use Rattle.listed_fleet.specs.declared.buffer.Put.{Put}
+use Rattle.listed_fleet.specs.declared.buffer.Put.TheVariants.{Done, NoRoom}
+use Rattle.listed_fleet.specs.declared.listed.LineNumbers.{LineNumbers}
+use Rattle.listed_fleet.specs.declared.listed.Given.{Given}
+use Rattle.listed_fleet.specs.declared.listed.Given.TheVariants.{Line as IsLine, NoRoom as LacksRoom, End as AtEnd}
+use Rattle.tracering_c.specs.declared.fleet_codes.StreamFault.{StreamFault}
+use Rattle.tracering_c.specs.declared.fleet_codes.FleetLine.{FleetLine}
+use Rattle.tracering_c.specs.Codes.{parcel_code}
+
+-- the number of why bytes have no piece at their front
+abbrev pub piece_code : PieceFault → ℤ
+piece_code NotPacked = pos 33
+piece_code Cut = pos 34
+piece_code BadVersion = pos 35
+piece_code BadLength = pos 36
+piece_code BadSum = pos 37
+piece_code BadKind = pos 38
+piece_code (NoParcel fault) = parcel_code fault
+piece_code Loose = pos 39
+piece_code BadMark = pos 40
+piece_code NoPieceMemory = pos 12
+
+-- the number of why a parcel isn't added, and under which number of its CPU
+abbrev pub parcel_refusal_code : AddFault → ℤ
+parcel_refusal_code (ParcelBeyondEnd cpu number) = pos 41
+parcel_refusal_code (ParcelRefused (Clash cpu number)) = pos 29
+parcel_refusal_code (ParcelRefused (TakenAndMissing cpu number)) = pos 30
+parcel_refusal_code (ParcelRefused NoMemoryToAdd) = pos 12
+
+abbrev pub parcel_number : AddFault → Option ℕ
+parcel_number (ParcelBeyondEnd cpu number) = Some number.0
+parcel_number (ParcelRefused (Clash cpu number)) = Some number.0
+parcel_number (ParcelRefused (TakenAndMissing cpu number)) = Some number.0
+parcel_number (ParcelRefused NoMemoryToAdd) = None
+
+-- the same of a mark, or of a bound that isn't raised
+abbrev pub mark_code : MarkFault → ℤ
+mark_code (OtherEnd number) = pos 42
+mark_code (BeyondEnd number) = pos 41
+mark_code (NotFinal number) = pos 43
+mark_code NoMemory = pos 12
+
+abbrev pub mark_number : MarkFault → Option ℕ
+mark_number (OtherEnd number) = Some number.0
+mark_number (BeyondEnd number) = Some number.0
+mark_number (NotFinal number) = Some number.0
+mark_number NoMemory = None
+
+-- the same of a piece
+abbrev pub refusal_code : PieceRefusal → ℤ
+refusal_code (Parcel fault) = parcel_refusal_code fault
+refusal_code (Mark fault) = mark_code fault
+
+abbrev pub refusal_number : PieceRefusal → Option ℕ
+refusal_number (Parcel fault) = parcel_number fault
+refusal_number (Mark fault) = mark_number fault
+
+-- the number of what became of a piece that was added
+abbrev pub added_code : Added → ℤ
+added_code New = pos 0
+added_code Known = negsuc 1
+added_code Forgotten = negsuc 4
+
+-- the number of what is answered to bytes whose first piece is to be added
+abbrev pub answer_code : AddAnswer → ℤ
+answer_code (IsAdded added len) = added_code added
+answer_code (IsRefused refused len) = refusal_code refused.refusal
+answer_code (NoPiece fault) = piece_code fault
+
+-- how many bytes the piece has, if it was read
+abbrev pub answer_used : ℕ → AddAnswer → ℕ
+answer_used was (IsAdded added len) = len
+answer_used was (IsRefused refused len) = len
+answer_used was (NoPiece fault) = was
+
+-- the place of a number of a stream's CPU, if there is one
+abbrev pub place_at : StreamFault → (stream cpu : ℕ) → Option ℕ → StreamFault
+place_at was stream cpu None = was
+place_at was stream cpu (Some number) = record { stream = stream; number = number; cpu = cpu }
+
+-- where a piece is refused
+abbrev pub answer_at : StreamFault → AddAnswer → StreamFault
+answer_at was (IsAdded added len) = was
+answer_at was (IsRefused refused len) =
+    place_at was refused.stream.0 refused.cpu.0 (refusal_number refused.refusal)
+answer_at was (NoPiece fault) = was
+
+-- the number of what is answered to a bound that is to be raised, and where it is refused
+abbrev pub marked_code : Result Marked MarkFault → ℤ
+marked_code (Ok NewMark) = pos 0
+marked_code (Ok KnownMark) = negsuc 1
+marked_code (Err fault) = mark_code fault
+
+abbrev pub marked_at : StreamFault → (stream cpu : ℕ) → Result Marked MarkFault → StreamFault
+marked_at was stream cpu (Ok marked) = was
+marked_at was stream cpu (Err fault) = place_at was stream cpu (mark_number fault)
+
+-- the number of why streams aren't merged
+abbrev pub merge_code : MergeFault → ℤ
+merge_code (EndsDiffer cpu end other) = pos 42
+merge_code (MergeBeyondEnd cpu number) = pos 41
+merge_code (MergeClash cpu number) = pos 29
+merge_code (MergeTakenAndMissing cpu number) = pos 30
+merge_code NoMergeMemory = pos 12
+
+-- the number of what is answered to fleets that are to be merged, and where they are at odds
+abbrev pub merged_code : Option FleetMergeFault → ℤ
+merged_code (Some fault) = merge_code fault.fault
+merged_code None = pos 0
+
+abbrev pub merge_at : StreamFault → (stream : ℕ) → MergeFault → StreamFault
+merge_at was stream (EndsDiffer cpu end other) = record { stream = stream; number = other.0; cpu = cpu.0 }
+merge_at was stream (MergeBeyondEnd cpu number) = record { stream = stream; number = number.0; cpu = cpu.0 }
+merge_at was stream (MergeClash cpu number) = record { stream = stream; number = number.0; cpu = cpu.0 }
+merge_at was stream (MergeTakenAndMissing cpu number) = record { stream = stream; number = number.0; cpu = cpu.0 }
+merge_at was stream NoMergeMemory = was
+
+abbrev pub merged_at : StreamFault → Option FleetMergeFault → StreamFault
+merged_at was (Some fault) = merge_at was fault.stream.0 fault.fault
+merged_at was None = was
+
+-- the number of what became of a piece that was to go to a buffer, and how many bytes it has, if it could be packed
+abbrev pub packed_code : Result Put ParcelFault → ℤ
+packed_code (Ok (Done len)) = pos 0
+packed_code (Ok (NoRoom len)) = pos 17
+packed_code (Err fault) = parcel_code fault
+
+abbrev pub packed_len : ℕ → Result Put ParcelFault → ℕ
+packed_len was (Ok (Done len)) = len
+packed_len was (Ok (NoRoom len)) = len
+packed_len was (Err fault) = was
+
+-- the number of what is found, or isn't
+abbrev pub found_code : Option ℕ → ℤ
+found_code (Some number) = pos 0
+found_code None = pos 31
+
+-- the number of a frontier, if there is one, and its moment
+abbrev pub frontier_code : Option Moment → ℤ
+frontier_code (Some moment) = pos 0
+frontier_code None = pos 31
+
+abbrev pub frontier_moment : ℕ → Option Moment → ℕ
+frontier_moment was (Some moment) = moment.0
+frontier_moment was None = was
+
+-- the number of what is given of a listing, and the numbers of the line that is next
+abbrev pub given_code : Given → ℤ
+given_code (IsLine numbers) = pos 0
+given_code (LacksRoom numbers) = pos 17
+given_code AtEnd = pos 31
+
+abbrev pub line_at : LineNumbers → FleetLine
+line_at numbers = record {
+  moment = numbers.moment.0;
+  stream = numbers.stream.0;
+  number = numbers.number.0;
+  cpu = numbers.cpu.0;
+  len = numbers.len;
+}
+
+abbrev pub next_line : FleetLine → Given → FleetLine
+next_line was (IsLine numbers) = line_at numbers
+next_line was (LacksRoom numbers) = line_at numbers
+next_line was AtEnd = was
