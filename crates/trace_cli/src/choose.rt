@@ -14,9 +14,13 @@ use trace_inputs::Input;
 
 /// What the command line asks for that can't be done.
 const BOTH: &str = "tracering: --keep and --parcels exclude each other";
+
 const MIXED: &str = "tracering: some files are streams of parcels and others are not";
+
 const NOT_FOR_CAPTURES: &str = "tracering: --keep and --parcels are for streams of parcels";
+
 const NOT_FOR_STREAMS: &str = "tracering: --page, --names and --formats are for captures";
+
 const KEEP_IS_READ: &str = "tracering: the file of --keep is read";
 
 /// Whether each input begins as a stream of parcels does.

@@ -75,14 +75,26 @@ fn list<'b>(
     let mut output = open_output(rt, is_watched);
     let Some(path) = asked.keep else {
         let mut keep = Unkept;
-        return Ok(collect_streams(rt.alloc(), form, readers.as_mut_slice(), &mut keep, &mut output));
+        return Ok(collect_streams(
+            rt.alloc(),
+            form,
+            readers.as_mut_slice(),
+            &mut keep,
+            &mut output,
+        ));
     };
     let file = match fs::create(rt, path) {
         Ok(file) => file,
         Err(error) => return Err(trial_of(error, Trouble::Unopened, path)),
     };
     let mut keep = Std::new(file);
-    Ok(collect_streams(rt.alloc(), form, readers.as_mut_slice(), &mut keep, &mut output))
+    Ok(collect_streams(
+        rt.alloc(),
+        form,
+        readers.as_mut_slice(),
+        &mut keep,
+        &mut output,
+    ))
 }
 
 /// Prints the pieces of streams, and gives how that ends.
@@ -97,7 +109,12 @@ fn print(
 {
     let mut readers = readers;
     let mut output = open_output(rt, is_watched);
-    print_pieces(rt.alloc(), form_of(asked), readers.as_mut_slice(), &mut output)
+    print_pieces(
+        rt.alloc(),
+        form_of(asked),
+        readers.as_mut_slice(),
+        &mut output,
+    )
 }
 
 /// Lists streams or their pieces, and gives the exit status.

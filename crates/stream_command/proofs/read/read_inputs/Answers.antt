@@ -55,7 +55,7 @@ loop-input-preserved g c =
     record {
       can = c.in_default.ensures.can;
       so_far = one_read g.R.Source.remaining g.R.Source.failed g.T.TakesPieces.takes g.T.TakesPieces.refuses c.args.inputs.now
-    c.loop-input.inputs c.loop-input.input (c.args.taker.now, c.args.writer.now) (c.loop-input.taker, c.loop-input.writer) (c.read_input.new.taker, c.read_input.new.writer) this
+          c.loop-input.inputs c.loop-input.input (c.args.taker.now, c.args.writer.now) (c.loop-input.taker, c.loop-input.writer) (c.read_input.new.taker, c.read_input.new.writer) this
           c.read_input.new.reader c.loop-input.invariant.so_far next
           (subst (λ reader. TakesInput g.R.Source.remaining g.R.Source.failed g.T.TakesPieces.takes g.T.TakesPieces.refuses
           c.loop-input.input reader c.read_input.new.reader (c.loop-input.taker, c.loop-input.writer)
