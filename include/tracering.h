@@ -292,7 +292,7 @@ static inline const char *tracering_text(int32_t code)
     case TRACERING_MISSED_DIFFERS: return "the page states other missed records than the number before it";
     case TRACERING_CLASH: return "there are two different records of one number";
     case TRACERING_TAKEN_AND_MISSING: return "a number has a record and is missing";
-    case TRACERING_END: return "there are no more";
+    case TRACERING_END: return "there is nothing more";
     case TRACERING_OTHER_RING: return "these are ends of two rings";
     case TRACERING_NOT_PACKED: return "the bytes don't begin as a piece of a stream does";
     case TRACERING_PIECE_CUT: return "the bytes end within the piece";
@@ -366,7 +366,6 @@ int32_t tracering_raw_fleet_next(struct tracering_held *, uint8_t *, size_t, str
 int32_t tracering_raw_fleet_frontier(struct tracering_held *, uint64_t *);
 int32_t tracering_raw_fleet_list_before(struct tracering_held *, uint64_t, size_t *);
 int32_t tracering_raw_fleet_forget_before(struct tracering_held *, uint64_t);
-int32_t tracering_raw_fleet_pack(struct tracering_held *, uint64_t, uint8_t *, size_t, size_t *);
 int32_t tracering_raw_fleet_free(struct tracering_held *);
 
 // Bytes that may be null if there are none.
@@ -1169,8 +1168,8 @@ static inline int32_t tracering_fleet_frontier(struct tracering_fleet *f, uint64
 // fleet_list_before: lists, as `fleet_list` does, the records of each CPU below its cut at a moment. The cut is the
 // greatest number from the bound up to the watermark such that all records from the bound up to it are before the
 // moment. NO_MEMORY: the last listing is as it was.
-// fleet_forget_before: raises the bound of each CPU to its cut at this moment, in one pass. NO_MEMORY: nothing was
-// forgotten.
+// fleet_forget_before: raises the bound of each CPU to its cut at this moment, in one pass. NO_MEMORY: each stream has
+// forgotten what is before the moment, or is as it was; make the call once more.
 // So a listing goes out while it grows: at the frontier list what is before, write it, and forget it. At END list all
 // that is left. Then each line was written once, and all in their order.
 static inline int32_t tracering_fleet_list_before(struct tracering_fleet *f, uint64_t moment, size_t *count)
@@ -1189,21 +1188,6 @@ static inline int32_t tracering_fleet_forget_before(struct tracering_fleet *f, u
     if (!tracering_enter(&f->in_call))
         return TRACERING_BUSY;
     return tracering_leave(&f->in_call, tracering_raw_fleet_forget_before(&f->held, moment));
-}
-
-// What is known of a stream as packed pieces, one after the other, which go to the front of `out`: a new fleet to which
-// they are added knows the same of it. `len` is how many bytes they have; 0, if the stream isn't there. NO_ROOM: `len`
-// is set to how many bytes are wanted. NO_MEMORY: `len` isn't changed. Then nothing goes to `out`.
-static inline int32_t tracering_fleet_pack(struct tracering_fleet *f, uint64_t stream, void *out, size_t room,
-    size_t *len)
-{
-    uint8_t none;
-    if (!(f && (out || !room) && len))
-        return TRACERING_NULL;
-    if (!tracering_enter(&f->in_call))
-        return TRACERING_BUSY;
-    uint8_t *to = out ? (uint8_t *)out : &none;
-    return tracering_leave(&f->in_call, tracering_raw_fleet_pack(&f->held, stream, to, room, len));
 }
 
 // Frees the fleet and its listing. The handle is all zeros afterwards.

@@ -133,13 +133,12 @@ static const struct piece *shuffled(unsigned order, unsigned k)
     return &pieces[(order + k * steps[order % (sizeof steps / sizeof *steps)]) % PIECES];
 }
 
-static struct tracering_fleet fleet_of(unsigned order, unsigned from, unsigned end)
+// Makes a handle that has nothing a fleet of some of the pieces.
+static void fill(struct tracering_fleet *f, unsigned order, unsigned from, unsigned end)
 {
-    struct tracering_fleet f = TRACERING_FLEET_INIT;
-    IS(tracering_fleet_new(&f) == TRACERING_DONE);
+    IS(tracering_fleet_new(f) == TRACERING_DONE);
     for (unsigned k = from; k < end; k++)
-        IS(add(&f, shuffled(order, k)) == TRACERING_DONE);
-    return f;
+        IS(add(f, shuffled(order, k)) == TRACERING_DONE);
 }
 
 static void is_same(struct tracering_fleet *f, struct tracering_fleet *other, bool same)
@@ -150,8 +149,7 @@ static void is_same(struct tracering_fleet *f, struct tracering_fleet *other, bo
 
 static void free_fleet(struct tracering_fleet *f)
 {
-    static const struct tracering_fleet none = TRACERING_FLEET_INIT;
-    IS(tracering_fleet_free(f) == TRACERING_DONE && !memcmp(f, &none, sizeof none));
+    IS(tracering_fleet_free(f) == TRACERING_DONE && !f->held.at && !f->held.live && !f->in_call);
     IS(tracering_fleet_free(f) == TRACERING_ABSENT);
 }
 
@@ -193,10 +191,12 @@ static void is_whole(struct tracering_fleet *f)
 // In any order, and each piece twice.
 static void orders(void)
 {
-    struct tracering_fleet first = fleet_of(0, 0, PIECES);
+    struct tracering_fleet first = TRACERING_FLEET_INIT;
+    fill(&first, 0, 0, PIECES);
     is_whole(&first);
     for (unsigned order = 1; order < 30; order++) {
-        struct tracering_fleet f = fleet_of(order, 0, PIECES - 1);
+        struct tracering_fleet f = TRACERING_FLEET_INIT;
+        fill(&f, order, 0, PIECES - 1);
         is_same(&f, &first, false);
         for (unsigned k = 0; k < PIECES - 1; k++)
             IS(add(&f, shuffled(order + 1, k)) != TRACERING_CLASH);
@@ -340,22 +340,22 @@ static void refused_handles(void)
     IS(tracering_fleet_frontier(&none, &id) == TRACERING_ABSENT);
     IS(tracering_fleet_list_before(&none, 0, &len) == TRACERING_ABSENT);
     IS(tracering_fleet_forget_before(&none, 0) == TRACERING_ABSENT);
-    IS(tracering_fleet_pack(&none, 0, NULL, 0, &len) == TRACERING_ABSENT);
     IS(tracering_fleet_next(&f, NULL, 0, &line) == TRACERING_END);
     IS(tracering_fleet_frontier(&f, &id) == TRACERING_END);
-    IS(tracering_fleet_pack(&f, 0, NULL, 0, &len) == TRACERING_DONE && len == 0);
     free_fleet(&f);
 }
 
 // Shares that are merged, in either order, are the whole.
 static void merged(void)
 {
-    struct tracering_fleet whole = fleet_of(0, 0, PIECES);
+    struct tracering_fleet whole = TRACERING_FLEET_INIT;
+    fill(&whole, 0, 0, PIECES);
     for (unsigned order = 0; order < 9; order++) {
         unsigned cut = 5 * order + 3;
-        struct tracering_fleet left = fleet_of(order, 0, cut + 2), right = fleet_of(order, cut, PIECES);
-        struct tracering_fleet twin = fleet_of(order, cut, PIECES);
+        struct tracering_fleet left = TRACERING_FLEET_INIT, right = TRACERING_FLEET_INIT;
+        struct tracering_fleet twin = TRACERING_FLEET_INIT;
         struct tracering_stream_fault at = {1, 2, 3};
+        fill(&left, order, 0, cut + 2), fill(&right, order, cut, PIECES), fill(&twin, order, cut, PIECES);
         is_same(&right, &twin, true);
         IS(tracering_fleet_merge(&left, &right, &at) == TRACERING_DONE);
         is_same(&left, &whole, true);
@@ -379,36 +379,16 @@ static void merged(void)
     free_fleet(&whole), free_fleet(&other);
 }
 
-// A stream's snapshot makes the same of a new fleet.
-static void snapshots(void)
-{
-    struct tracering_fleet whole = fleet_of(0, 0, PIECES), copy = TRACERING_FLEET_INIT;
-    struct tracering_stream_fault at;
-    IS(tracering_fleet_forget(&whole, id_of(1), 1, 2 * RECORDS + 1, &at) == TRACERING_DONE);
-    IS(tracering_fleet_new(&copy) == TRACERING_DONE);
-    for (uint64_t k = 0; k < STREAMS; k++) {
-        size_t len = 0, used = 0, again = 0;
-        IS(tracering_fleet_pack(&whole, id_of(k), NULL, 0, &len) == TRACERING_NO_ROOM);
-        uint8_t *bytes = malloc(len);
-        IS(tracering_fleet_pack(&whole, id_of(k), bytes, len - 1, &again) == TRACERING_NO_ROOM && again == len);
-        IS(tracering_fleet_pack(&whole, id_of(k), bytes, len, &again) == TRACERING_DONE && again == len);
-        for (size_t from = 0; from < len; from += used)
-            IS(tracering_fleet_add(&copy, bytes + from, len - from, &used, &at) <= 0);
-        free(bytes);
-    }
-    is_same(&whole, &copy, true);
-    free_fleet(&whole), free_fleet(&copy);
-}
-
 // A listing that goes out while it grows has the lines of the whole, in their order, each once.
 static void growing(void)
 {
     for (unsigned order = 0; order < 9; order++) {
-        struct tracering_fleet f = TRACERING_FLEET_INIT, whole = fleet_of(0, 0, PIECES);
+        struct tracering_fleet f = TRACERING_FLEET_INIT, whole = TRACERING_FLEET_INIT;
         struct tracering_fleet_line line, wanted;
         uint8_t bytes[4], other[4];
         size_t count = 0, all = 0, given = 0;
         uint64_t moment = 0;
+        fill(&whole, 0, 0, PIECES);
         IS(tracering_fleet_new(&f) == TRACERING_DONE && tracering_fleet_list(&whole, &all) == TRACERING_DONE);
         for (unsigned k = 0; k < PIECES; k++) {
             // (Within a few pages the order is another one; all streams come at once.)
@@ -432,9 +412,9 @@ static void growing(void)
     }
 }
 
-enum { ADDS, MERGES, LISTS, FORGETS, GIVES_UP, PACKS, LISTS_BEFORE, FORGETS_BEFORE, CALLS };
+enum { ADDS, MERGES, LISTS, FORGETS, GIVES_UP, LISTS_BEFORE, FORGETS_BEFORE, CALLS };
 
-static int32_t call(int which, struct tracering_fleet *f, struct tracering_fleet *other, uint8_t *out, size_t room)
+static int32_t call(int which, struct tracering_fleet *f, struct tracering_fleet *other)
 {
     struct tracering_stream_fault at;
     size_t len;
@@ -444,7 +424,6 @@ static int32_t call(int which, struct tracering_fleet *f, struct tracering_fleet
     case LISTS: return tracering_fleet_list(f, &len);
     case FORGETS: return tracering_fleet_forget(f, id_of(0), 0, 3, &at);
     case GIVES_UP: return tracering_fleet_give_up(f, id_of(0), 0, ALL, &at);
-    case PACKS: return tracering_fleet_pack(f, id_of(0), out, room, &len);
     case LISTS_BEFORE: return tracering_fleet_list_before(f, 40, &len);
     default: return tracering_fleet_forget_before(f, 40);
     }
@@ -453,13 +432,13 @@ static int32_t call(int which, struct tracering_fleet *f, struct tracering_fleet
 // Refuses the growths of each call in turn: nothing has changed, and the call made once more does what it does.
 static long refuse(void)
 {
-    static uint8_t out[PIECES * sizeof pieces[0].bytes];
     long growths = 0;
     for (int which = 0; which < CALLS; which++) {
-        struct tracering_fleet other = fleet_of(0, 5, PIECES), twin = fleet_of(0, 0, 5), f = fleet_of(0, 0, 5);
+        struct tracering_fleet other = TRACERING_FLEET_INIT, twin = TRACERING_FLEET_INIT, f = TRACERING_FLEET_INIT;
+        fill(&other, 0, 5, PIECES), fill(&twin, 0, 0, 5), fill(&f, 0, 0, 5);
         for (long refused = 0;; refused++) {
             granted = refused;
-            int32_t code = call(which, &f, &other, out, sizeof out);
+            int32_t code = call(which, &f, &other);
             long left = granted;
             granted = -1;
             if (left >= 0) {
@@ -514,7 +493,6 @@ int main(void)
     changed();
     odds();
     merged();
-    snapshots();
     growing();
     new_is_refused();
     IS(refuse() > 20 && refuse_packing() > 3);

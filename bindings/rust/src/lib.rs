@@ -87,7 +87,7 @@ pub enum Fault {
     MissedDiffers,
     Clash,
     TakenAndMissing,
-    /// All lines of the listing were given.
+    /// All lines of the listing were given, or what was asked for isn't there.
     End,
     /// These are ends of two rings.
     OtherRing,

@@ -179,7 +179,7 @@ fn faults_are_errors_and_ends_can_be_printed() {
     let fault: Box<dyn Error> = ring(0, 1, 64).unwrap_err().into();
     assert_eq!(fault.to_string(), "a ring can't have this number of pages or this size");
     assert_eq!(Fault::TooDeep.to_string(), "four frames are begun and not completed");
-    assert_eq!(Fault::End.to_string(), "all lines of the listing were given");
+    assert_eq!(Fault::End.to_string(), "there is nothing more");
     assert_eq!(Fault::OtherRing.to_string(), "these are ends of two rings");
     let (mut writer, reader) = ring(0, 2, 64).unwrap();
     let number = format!("{reader:?}").replace("Reader { ring: ", "").replace(" }", "");

@@ -15,13 +15,15 @@ use Rattle.std.proofs.lemmas.Map.Lookups.{exact_unsigned}
 use Rattle.std.proofs.lemmas.Option.{none-some, slice_get_within, get_or_from_slice_get, slice_get-get_or}
 use Rattle.std.proofs.lemmas.List.Sorted.{IsPermutation-sym, Contains-permutation}
 use Rattle.trace_model.specs.Record.{Record}
+use Rattle.trace_model.specs.declared.numbers.Moment.{Moment}
 use Rattle.time_merge.specs.Lines.{IsBeforeAll, AreOrdered}
 use Rattle.time_merge.proofs.Pairs.{sorted_pairs, sorted_map}
-use Rattle.stream_collector.specs.Stream.{Stream, HasRecord}
+use Rattle.stream_collector.specs.Stream.{Stream}
 use Rattle.fleet_collector.specs.declared.listing.FleetLine.{FleetLine}
-use Rattle.fleet_collector.specs.Fleet.{known_of, stream_at, or_empty}
-use Rattle.fleet_collector.specs.Listing.{Line, line_for, IsBeforeAtOnce, IsBefore, IsListing}
-use Rattle.fleet_collector.specs.Lines.{line_seen, comes_before, IsAmong, AreLinesOf, HasIn}
+use Rattle.fleet_collector.specs.Fleet.{known_of, stream_at, empty_stream, or_empty}
+use Rattle.fleet_collector.specs.Listing.{Line, line_for, IsBeforeAtOnce, IsBefore}
+use Rattle.fleet_collector.specs.Lines.{line_seen, comes_before, IsAmong, AreLinesOf, IsShown, IsListingShown, HasIn}
+use Rattle.fleet_collector.proofs.ByNumber.{shown_has}
 use Rattle.fleet_collector.proofs.InTurn.{known_of_place}
 
 -- ---- no two lines have the same stream, CPU and number
@@ -131,13 +133,14 @@ is_equal Equal e = refl
 is_equal Greater e = cc
 
 -- a stream that has a record is one of those that are there
-has_in : (fleet : List (ℕ × Stream)) (stream cpu number : ℕ) (r : Record)
-    → HasRecord (stream_at fleet stream) cpu number r → HasIn fleet stream cpu number r
-has_in fleet stream cpu number r h = at (known_of fleet stream) refl h
+has_in : (before : Option Moment) (fleet : List (ℕ × Stream)) (stream cpu number : ℕ) (r : Record)
+    → IsShown before (stream_at fleet stream) cpu number r → HasIn before fleet stream cpu number r
+has_in before fleet stream cpu number r h = at (known_of fleet stream) refl h
   where
-    at : (o : Option Stream) → known_of fleet stream ≡ o → HasRecord (or_empty o) cpu number r → HasIn fleet stream
+    at : (o : Option Stream) → known_of fleet stream ≡ o → IsShown before (or_empty o) cpu number r → HasIn before fleet stream
         cpu number r
-    at None e h = let has = h.has in absurd (none-some has.parcel has.at)
+    at None e h =
+        let has = (shown_has before empty_stream cpu number r h).has in absurd (none-some has.parcel has.at)
     at (Some known) e h =
         let place = place_from_lookup (is_at (nat_cmp stream)) fleet known e in
         let same : stream ≡ place.1 = exact_unsigned stream place.1 (is_equal (nat_cmp stream place.1) place.3) in
@@ -149,12 +152,12 @@ has_in fleet stream cpu number r h = at (known_of fleet stream) refl h
         }
 
 -- and the other way round, if their ids rise
-in_has : (fleet : List (ℕ × Stream)) → IsStrictlySortedBy nat_cmp (map (λ (e : ℕ × Stream). e.0) fleet)
-    → (stream cpu number : ℕ) (r : Record) → HasIn fleet stream cpu number r → HasRecord (stream_at fleet stream) cpu
+in_has : (before : Option Moment) (fleet : List (ℕ × Stream)) → IsStrictlySortedBy nat_cmp (map (λ (e : ℕ × Stream). e.0) fleet)
+    → (stream cpu number : ℕ) (r : Record) → HasIn before fleet stream cpu number r → IsShown before (stream_at fleet stream) cpu
     number r
-in_has fleet rising stream cpu number r h =
+in_has before fleet rising stream cpu number r h =
     let found = known_of_place fleet rising h.index stream h.known h.at in
-    subst (λ (o : Option Stream). HasRecord (or_empty o) cpu number r) (sym found) h.has
+    subst (λ (o : Option Stream). IsShown before (or_empty o) cpu number r) (sym found) h.has
 
 -- ---- the listing
 
@@ -168,22 +171,22 @@ stands_still : (xs ys : List Line) (x : Line) → IsPermutation xs ys → IsAmon
 stands_still xs ys x moved s = stands_at ys x (Contains-permutation xs ys x moved (contains_at xs x s))
 
 -- lines by stream, CPU and number, moved about and sorted by time
-sorted_lines : (fleet : List (ℕ × Stream)) (xs ys : List Line) → IsStrictlySortedBy nat_cmp
+sorted_lines : (before : Option Moment) (fleet : List (ℕ × Stream)) (xs ys : List Line) → IsStrictlySortedBy nat_cmp
     (map (λ (e : ℕ × Stream). e.0) fleet)
-    → AreLinesOf (HasIn fleet) xs → IsPermutation xs ys → IsSortedBy comes_before ys → IsListing fleet ys
-sorted_lines fleet xs ys rising lines moved sorted = record {
+    → AreLinesOf (HasIn before fleet) xs → IsPermutation xs ys → IsSortedBy comes_before ys → IsListingShown before fleet ys
+sorted_lines before fleet xs ys rising lines moved sorted = record {
   ordered = λ k a b at next. before_next a b (sorted_pairs comes_before ys sorted k a b at next)
       (neighbours_differ xs ys lines.ordered moved k a b at next);
-  of_them = λ k line at. in_has fleet rising line.stream line.cpu line.number record
+  of_them = λ k line at. in_has before fleet rising line.stream line.cpu line.number record
       { moment = line.moment; bytes = line.bytes }
       (lines.of_them line (stands_still ys xs line (IsPermutation-sym xs ys moved) (k, at)));
   whole = λ stream cpu number r h. stands_still xs ys (line_for stream cpu number r) moved
-      (lines.whole stream cpu number r (has_in fleet stream cpu number r h));
+      (lines.whole stream cpu number r (has_in before fleet stream cpu number r h));
 }
 
-pub sorted_listing : (fleet : List (ℕ × Stream)) (xs : List Line) (ys : List FleetLine)
+pub sorted_listing : (before : Option Moment) (fleet : List (ℕ × Stream)) (xs : List Line) (ys : List FleetLine)
     → IsStrictlySortedBy nat_cmp (map (λ (e : ℕ × Stream). e.0) fleet)
-    → AreLinesOf (HasIn fleet) xs → IsPermutation xs (map line_seen ys)
-    → IsSortedBy (λ a b. comes_before (line_seen a) (line_seen b)) ys → IsListing fleet (map line_seen ys)
-sorted_listing fleet xs ys rising lines moved sorted =
-    sorted_lines fleet xs (map line_seen ys) rising lines moved (sorted_map comes_before line_seen ys sorted)
+    → AreLinesOf (HasIn before fleet) xs → IsPermutation xs (map line_seen ys)
+    → IsSortedBy (λ a b. comes_before (line_seen a) (line_seen b)) ys → IsListingShown before fleet (map line_seen ys)
+sorted_listing before fleet xs ys rising lines moved sorted =
+    sorted_lines before fleet xs (map line_seen ys) rising lines moved (sorted_map comes_before line_seen ys sorted)

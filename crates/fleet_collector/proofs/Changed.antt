@@ -82,7 +82,7 @@ module _ (before after : Stream) (p : Parcel) (few : p.cpu < MAX_CPUS) (old : Ha
   cpus_added (Err e) new known forgotten refused = stays refused
 
 -- of nothing no CPU is known
-cpus_of_empty : HasKnownCpus empty_stream
+pub cpus_of_empty : HasKnownCpus empty_stream
 cpus_of_empty = record {
   known = λ cpu number known. ⊎_elim
       (λ (taken : IsTaken [] cpu number). let h = taken.1 in absurd (none-some h.parcel h.at))

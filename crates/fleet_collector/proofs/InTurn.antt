@@ -1,5 +1,5 @@
 -- The streams of a fleet, one after the other.
-use Rattle.std.proofs.Common.{◌≡◌, ℕ, ◌<◌, List, [], ◌∷◌, ◌++◌, length, map, take, drop, get_or, Some, sym, ap, ◌∙◌}
+use Rattle.std.proofs.Common.{◌≡◌, ℕ, ◌<◌, List, [], ◌∷◌, ◌++◌, length, map, take, drop, get_or, Option, Some, sym, ap, ◌∙◌}
 use Rattle.std.proofs.Common.{subst, arith}
 use Rattle.std.specs.Borrow.{Bor}
 use Rattle.std.specs.List.{slice_get}
@@ -12,9 +12,10 @@ use Rattle.std.proofs.lemmas.Map.Keys.{below_from_sorted, sorted_from_strictly_i
 use Rattle.std.proofs.lemmas.Option.{slice_get_within, get_or_from_slice_get, slice_get-get_or}
 use Rattle.trace_model.proofs.collections.Elements.{get_in_front}
 use Rattle.time_merge.proofs.Ordered.{at_mapped}
+use Rattle.trace_model.specs.declared.numbers.Moment.{Moment}
 use Rattle.stream_collector.specs.Stream.{Stream}
 use Rattle.parcel_streams.specs.declared.piece.StreamId.{StreamId}
-use Rattle.fleet_collector.specs.Fleet.{known_of, entry_seen}
+use Rattle.fleet_collector.specs.Fleet.{known_of, stream_at, or_empty, entry_seen}
 use Rattle.fleet_collector.specs.Listing.{Line}
 use Rattle.fleet_collector.specs.Lines.{AreLinesOf, HasOf, HasIn}
 use Rattle.fleet_collector.proofs.ByNumber.{AreBelow, fleet_more}
@@ -49,20 +50,27 @@ below_next fleet rising n entry within is k e at =
     omega arith
 
 -- the lines of one stream more
-pub lines_more : (fleet : List (ℕ × Stream)) (before : List (StreamId × Bor Stream)) (item : StreamId × Bor Stream)
+pub lines_more : (before : Option Moment) (fleet : List (ℕ × Stream)) (done : List (StreamId × Bor Stream)) (item : StreamId × Bor Stream)
     (lines more new : List Line)
     → IsStrictlyIncreasing (ids fleet)
-    → map entry_seen before ≡ take (length before) fleet
-    → length before < length fleet → entry_seen item ≡ get_or fleet (length before) (entry_seen item)
-    → AreLinesOf (HasIn (map entry_seen before)) lines
-    → AreLinesOf (HasOf item.0.0 item.1.now) more
+    → map entry_seen done ≡ take (length done) fleet
+    → length done < length fleet → entry_seen item ≡ get_or fleet (length done) (entry_seen item)
+    → AreLinesOf (HasIn before (map entry_seen done)) lines
+    → AreLinesOf (HasOf before item.0.0 item.1.now) more
     → new ≡ lines ++ more
-    → AreLinesOf (HasIn (map entry_seen (before ++ item ∷ []))) new
-lines_more fleet before item lines more new rising so_far within is old put e =
+    → AreLinesOf (HasIn before (map entry_seen (done ++ item ∷ []))) new
+lines_more before fleet done item lines more new rising so_far within is old put e =
     let below = subst (λ (es : List (ℕ × Stream)). AreBelow es item.0.0) (sym so_far)
-    (below_next fleet rising (length before) (entry_seen item) within is) in
-    let all = fleet_more (map entry_seen before) item.0.0 item.1.now lines more below
+    (below_next fleet rising (length done) (entry_seen item) within is) in
+    let all = fleet_more before (map entry_seen done) item.0.0 item.1.now lines more below
     old put in
-    subst (AreLinesOf (HasIn (map entry_seen (before ++ item ∷ [])))) (sym e)
-    (subst (λ (es : List (ℕ × Stream)). AreLinesOf (HasIn es) (lines ++ more))
-    (sym (map-append entry_seen before (item ∷ []))) all)
+    subst (AreLinesOf (HasIn before (map entry_seen (done ++ item ∷ [])))) (sym e)
+    (subst (λ (es : List (ℕ × Stream)). AreLinesOf (HasIn before es) (lines ++ more))
+    (sym (map-append entry_seen done (item ∷ []))) all)
+
+-- what is known of a stream that stands at a place
+pub stream_at_place : (fleet : List (ℕ × Stream)) → IsStrictlyIncreasing (ids fleet) → (n : ℕ) (entry : ℕ × Stream)
+    → n < length fleet → entry ≡ get_or fleet n entry → stream_at fleet entry.0 ≡ entry.1
+stream_at_place fleet rising n entry within is =
+    ap or_empty (known_of_place fleet (sorted_from_strictly_increasing (ids fleet) rising) n entry.0 entry.1
+    (slice_get-get_or fleet n entry within ∙ ap (λ (x : ℕ × Stream). Some x) (sym is)))

@@ -124,10 +124,16 @@ merged_cpus s o new merge own others = record {
       (λ (taken : IsTaken new.parcels cpu n).
       let h = merge.nothing_else.has cpu n taken.0 taken.1 in
       ⊎_elim
-      (λ (front : (k : ℕ) × (slice_get s.parcels k ≡ Some h.parcel)). own.known cpu n (inl (taken.0, record
-      { index = front.0; parcel = h.parcel; at = front.1; pair = h.pair })))
-      (λ (back : (k : ℕ) × (slice_get o.parcels k ≡ Some h.parcel)). others.known cpu n (inl (taken.0, record
-      { index = back.0; parcel = h.parcel; at = back.1; pair = h.pair })))
+      (λ (front : (k : ℕ) × (slice_get s.parcels k ≡ Some h.parcel)). own.known cpu n (inl (
+        taken.0,
+        record
+            { index = front.0; parcel = h.parcel; at = front.1; pair = h.pair },
+      )))
+      (λ (back : (k : ℕ) × (slice_get o.parcels k ≡ Some h.parcel)). others.known cpu n (inl (
+        taken.0,
+        record
+            { index = back.0; parcel = h.parcel; at = back.1; pair = h.pair },
+      )))
       (get_in_either s.parcels o.parcels h.index h.parcel h.at))
       (λ (m : Misses new.parcels cpu n).
       let h = merge.nothing_else.misses cpu n m in
@@ -171,14 +177,20 @@ not_reached cpu n (by_given_up m) = absurd (none-some m.parcel m.at)
 pub nothing_merged : IsMerge empty_stream empty_stream empty_stream
 nothing_merged = record {
   bounds = λ cpu. refl;
-  ends = λ cpu end. (λ e. inl e, λ either. ⊎_elim
-      (λ (e : end_of empty_stream cpu ≡ Some end). e)
-      (λ (e : end_of empty_stream cpu ≡ Some end). e)
-      either);
-  given_up = λ cpu n. (λ m. inl m, λ either. ⊎_elim
-      (λ (m : Misses [] cpu n). m)
-      (λ (m : Misses [] cpu n). m)
-      either);
+  ends = λ cpu end. (
+    λ e. inl e,
+    λ either. ⊎_elim
+        (λ (e : end_of empty_stream cpu ≡ Some end). e)
+        (λ (e : end_of empty_stream cpu ≡ Some end). e)
+        either,
+  );
+  given_up = λ cpu n. (
+    λ m. inl m,
+    λ either. ⊎_elim
+        (λ (m : Misses [] cpu n). m)
+        (λ (m : Misses [] cpu n). m)
+        either,
+  );
   kept = from_itself (bounds_of []) [];
   nothing_else = below_itself [];
 }

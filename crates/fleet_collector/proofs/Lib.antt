@@ -5,4 +5,6 @@ pub mod Changed
 pub mod Telling
 pub mod Adding
 pub mod Joined
+pub mod Forgotten
+pub mod BeforeCut
 pub mod Marked

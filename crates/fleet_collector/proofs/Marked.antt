@@ -66,7 +66,7 @@ run_new before after cpu first end parcels marks gives = record {
 }
 
 -- a bound
-get_filtered : {X : Type 0} (test : X → Bool) (xs : List X) (k : ℕ) (x : X) → slice_get (filter test xs) k ≡ Some x
+pub get_filtered : {X : Type 0} (test : X → Bool) (xs : List X) (k : ℕ) (x : X) → slice_get (filter test xs) k ≡ Some x
     → (j : ℕ) × (slice_get xs j ≡ Some x)
 get_filtered test [] k x at = absurd (none-some x at)
 get_filtered {X} test (y ∷ xs) k x at = one (test y) k (λ j there. get_filtered test xs j x there) at

@@ -18,7 +18,7 @@ use Rattle.stream_collector.specs.Stream.{Stream, bound_of, end_of, HasRecord, I
 use Rattle.stream_collector.specs.Marking.{HasEnd}
 use Rattle.stream_collector.specs.GivenUp.{GivesUp, AllGivenUp, IsInRun}
 use Rattle.stream_collector.specs.Forgetting.{HasBound}
-use Rattle.stream_collector.proofs.StreamLaws.{records_stay, missing_stay}
+use Rattle.stream_collector.proofs.StreamLaws.{records_stay, missing_stay, one_raised}
 use Rattle.fleet_collector.specs.Told.{IsPieceOf, TellEnd, TellForgotten, TellGivenUp, TellParcel, TellOfNumber, TellRecord}
 use Rattle.fleet_collector.specs.Told.{TellMissing, IsBoundTold, IsStreamOf, IsFleetOf, HaveSamePieces, IsListingOf}
 use Rattle.fleet_collector.specs.Fleet.{stream_at}
@@ -486,8 +486,8 @@ pub bound_told : (pieces : List Packed) (id c bound : ℕ) (old new : Stream) �
 bound_told pieces id c bound old new was higher raised given =
     marked_told pieces id c (Forgotten bound) old new was bounds
     (ends_stay pieces id c (Forgotten bound) old new was (λ count e. cc) end_same)
-    (λ cpu n r from. records_stay old new c bound up raised cpu n r from)
-    (λ cpu n from. missing_stay old new c bound up raised cpu n from)
+    (λ cpu n r from. records_stay old new (one_raised old new c bound up raised) cpu n r from)
+    (λ cpu n from. missing_stay old new (one_raised old new c bound up raised) cpu n from)
     (given_stay pieces id c (Forgotten bound) old new was (λ first end e. cc) given)
   where
     up : bound_of old c ≤ bound

@@ -1,11 +1,13 @@
 -- Lines by stream, CPU and number, before they are sorted by time.
-use Rattle.std.specs.Prelude.{◌≡◌, ℕ, Bool, List, Some}
+use Rattle.std.specs.Prelude.{◌≡◌, ℕ, Bool, List, Option, Some, None}
 use Rattle.std.specs.List.{slice_get}
 use Rattle.std.specs.Ordering.{nat_cmp, is_lt, ordering_then}
 use Rattle.trace_model.specs.Record.{Record}
 use Rattle.stream_collector.specs.Stream.{Stream, HasRecord}
 use Rattle.time_merge.specs.Lines.{AreOrdered}
-use Rattle.fleet_collector.specs.Listing.{Line, line_for, IsBeforeAtOnce}
+use Rattle.trace_model.specs.declared.numbers.Moment.{Moment}
+use Rattle.fleet_collector.specs.Fleet.{stream_at}
+use Rattle.fleet_collector.specs.Listing.{Line, line_for, IsBeforeAtOnce, IsTimeOrdered, HasBefore}
 use Rattle.fleet_collector.specs.declared.listing.FleetLine.{FleetLine}
 
 -- the values of a line
@@ -41,21 +43,37 @@ pub record AreLinesOf (holds : (stream cpu number : ℕ) → Record → Type 0) 
       → holds stream cpu number r
       → IsAmong lines (line_for stream cpu number r)
 
+-- the stream has the record, before the cut of its CPU at the moment, if there is one
+abbrev pub IsShown : Option Moment → Stream → (cpu number : ℕ) → Record → Type 0
+IsShown None stream cpu number r = HasRecord stream cpu number r
+IsShown (Some moment) stream cpu number r = HasBefore stream moment.0 cpu number r
+
+-- the listing of a fleet, or the one before a moment
+pub record IsListingShown (before : Option Moment) (fleet : List (ℕ × Stream)) (lines : List Line) : Type 0 where
+  pub ordered : IsTimeOrdered lines
+  pub of_them : (k : ℕ) (line : Line)
+      → slice_get lines k ≡ Some line
+      → IsShown before (stream_at fleet line.stream) line.cpu line.number record
+      { moment = line.moment; bytes = line.bytes }
+  pub whole : (stream cpu number : ℕ) (r : Record)
+      → IsShown before (stream_at fleet stream) cpu number r
+      → (k : ℕ) × (slice_get lines k ≡ Some (line_for stream cpu number r))
+
 -- this stream has the record
-pub record HasOf (stream : ℕ) (known : Stream) (other cpu number : ℕ) (r : Record) : Type 0 where
+pub record HasOf (before : Option Moment) (stream : ℕ) (known : Stream) (other cpu number : ℕ) (r : Record) : Type 0 where
   pub stream_is : other ≡ stream
-  pub has : HasRecord known cpu number r
+  pub has : IsShown before known cpu number r
 
 -- so it has, of one of these CPUs
-pub record HasAmong (stream : ℕ) (known : Stream) (cpus : List ℕ) (other cpu number : ℕ) (r : Record) : Type 0 where
+pub record HasAmong (before : Option Moment) (stream : ℕ) (known : Stream) (cpus : List ℕ) (other cpu number : ℕ) (r : Record) : Type 0 where
   pub stream_is : other ≡ stream
   pub index : ℕ
   pub at : slice_get cpus index ≡ Some cpu
-  pub has : HasRecord known cpu number r
+  pub has : IsShown before known cpu number r
 
 -- one of these streams has the record
-pub record HasIn (fleet : List (ℕ × Stream)) (stream cpu number : ℕ) (r : Record) : Type 0 where
+pub record HasIn (before : Option Moment) (fleet : List (ℕ × Stream)) (stream cpu number : ℕ) (r : Record) : Type 0 where
   pub index : ℕ
   pub known : Stream
   pub at : slice_get fleet index ≡ Some (stream, known)
-  pub has : HasRecord known cpu number r
+  pub has : IsShown before known cpu number r

@@ -3,6 +3,7 @@ use Rattle.std.specs.Prelude.{◌≡◌, ℕ, suc, ◌<◌, ◌⊎◌, List, Som
 use Rattle.std.specs.List.{slice_get}
 use Rattle.trace_model.specs.Record.{Record}
 use Rattle.stream_collector.specs.Stream.{Stream, HasRecord}
+use Rattle.stream_collector.specs.Frontier.{IsCut}
 use Rattle.fleet_collector.specs.Fleet.{stream_at}
 
 pub record Line : Type 0 where
@@ -42,4 +43,25 @@ pub record IsListing (fleet : List (ℕ × Stream)) (lines : List Line) : Type 0
       → HasRecord (stream_at fleet line.stream) line.cpu line.number record { moment = line.moment; bytes = line.bytes }
   pub whole : (stream cpu number : ℕ) (r : Record)
       → HasRecord (stream_at fleet stream) cpu number r
+      → (k : ℕ) × (slice_get lines k ≡ Some (line_for stream cpu number r))
+
+-- ---- a listing that goes out while it grows
+
+-- the CPU has this record from its bound on, before its cut at this moment
+pub record HasBefore (stream : Stream) (moment cpu number : ℕ) (r : Record) : Type 0 where
+  pub has : HasRecord stream cpu number r
+  pub cut : ℕ
+  pub is_cut : IsCut stream cpu moment cut
+  pub below : number < cut
+
+-- The listing of a fleet before a moment: a line for each record before the cut of its CPU, and no other, in strict
+-- order.
+pub record IsListingBefore (fleet : List (ℕ × Stream)) (moment : ℕ) (lines : List Line) : Type 0 where
+  pub ordered : IsTimeOrdered lines
+  pub of_them : (k : ℕ) (line : Line)
+      → slice_get lines k ≡ Some line
+      → HasBefore (stream_at fleet line.stream) moment line.cpu line.number record
+      { moment = line.moment; bytes = line.bytes }
+  pub whole : (stream cpu number : ℕ) (r : Record)
+      → HasBefore (stream_at fleet stream) moment cpu number r
       → (k : ℕ) × (slice_get lines k ≡ Some (line_for stream cpu number r))

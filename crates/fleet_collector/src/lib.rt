@@ -4,6 +4,7 @@
 mod add;
 mod change;
 mod fleet;
+mod frontier;
 pub mod laws;
 mod listing;
 mod marks;

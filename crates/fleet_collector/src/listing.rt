@@ -4,8 +4,8 @@ ghost use Rattle.trace_model.specs.Record.{Record};
 ghost use Rattle.page_borrow.specs.Entries.{numbered_record};
 ghost use Rattle.collector.specs.Listed.{AreListed};
 ghost use Rattle.stream_collector.specs.Stream.{HasRecord};
-ghost use Rattle.fleet_collector.specs.Listing.{Line, IsListing};
-ghost use Rattle.fleet_collector.specs.Lines.{line_seen, line_of, AreLinesOf, HasOf, HasIn};
+ghost use Rattle.fleet_collector.specs.Listing.{Line, HasBefore};
+ghost use Rattle.fleet_collector.specs.Lines.{line_seen, line_of, AreLinesOf, IsShown, IsListingShown, HasOf, HasIn};
 
 use crate::fleet::Fleet;
 use page_borrow::Entry;
@@ -43,7 +43,7 @@ fn line_of(stream: StreamId, cpu: CpuId, entry: Entry<'_>) -> FleetLine<'_>
 }
 
 /// Puts a line for each record of a CPU of a stream, by rising number.
-fn put_cpu<'a>(
+fn put_all_of_cpu<'a>(
     lines: &mut Vec<FleetLine<'a>>,
     stream: StreamId,
     known: &'a StreamCollector,
@@ -58,33 +58,92 @@ fn put_cpu<'a>(
     Ok(())
 }
 
-/// Puts a line for each record of a stream, by rising CPU and number.
-fn put_stream<'a>(
+/// Puts a line for each record of a CPU of a stream before its cut at a moment, by rising number.
+fn put_before_cut<'a>(
     lines: &mut Vec<FleetLine<'a>>,
     stream: StreamId,
     known: &'a StreamCollector,
+    cpu: CpuId,
+    moment: Moment,
 ) -> Result<(), NoMemory>
-    ensures { OnOk result ((more : List Line) × AreLinesOf (HasOf stream.0 known.now) more
-        × (map line_seen lines.new.items ≡ map line_seen lines.old.items ++ more)) }
+    ensures { OnOk result ((list : List (ℕ × Record)) × AreListed (HasBefore known.now moment.0 cpu.0) list
+        × (map line_seen lines.new.items ≡ map line_seen lines.old.items ++ map (line_of stream.0 cpu.0) list)) }
 {
-    for cpu in known.known_cpus() {
-        put_cpu(lines, stream, known, cpu)?;
+    let cut = known.cut(cpu, moment);
+    for entry in known.records(cpu) {
+        if entry.number.0 >= cut.0 {
+            return Ok(());
+        }
+        lines.push(line_of(stream, cpu, entry))?;
     }
     Ok(())
 }
 
-/// A line for each record of the fleet, by rising stream, CPU and number.
-fn all_lines(alloc: Global, fleet: &Fleet) -> Result<Vec<FleetLine<'_>>, NoMemory>
-    ensures { IfOk result (λ lines. AreLinesOf (HasIn fleet.now) (map line_seen lines.items)) }
+/// Puts a line for each record of a CPU of a stream that is shown, by rising number.
+fn put_cpu<'a>(
+    lines: &mut Vec<FleetLine<'a>>,
+    stream: StreamId,
+    known: &'a StreamCollector,
+    cpu: CpuId,
+    before: Option<Moment>,
+) -> Result<(), NoMemory>
+    ensures { OnOk result ((list : List (ℕ × Record)) × AreListed (IsShown before known.now cpu.0) list
+        × (map line_seen lines.new.items ≡ map line_seen lines.old.items ++ map (line_of stream.0 cpu.0) list)) }
+{
+    match before {
+        Some(moment) => put_before_cut(lines, stream, known, cpu, moment),
+        None => put_all_of_cpu(lines, stream, known, cpu),
+    }
+}
+
+/// Puts a line for each record of a stream that is shown, by rising CPU and number.
+fn put_stream<'a>(
+    lines: &mut Vec<FleetLine<'a>>,
+    stream: StreamId,
+    known: &'a StreamCollector,
+    before: Option<Moment>,
+) -> Result<(), NoMemory>
+    ensures { OnOk result ((more : List Line) × AreLinesOf (HasOf before stream.0 known.now) more
+        × (map line_seen lines.new.items ≡ map line_seen lines.old.items ++ more)) }
+{
+    for cpu in known.known_cpus() {
+        put_cpu(lines, stream, known, cpu, before)?;
+    }
+    Ok(())
+}
+
+/// A line for each record of the fleet that is shown, by rising stream, CPU and number.
+fn all_lines(
+    alloc: Global,
+    fleet: &Fleet,
+    before: Option<Moment>,
+) -> Result<Vec<FleetLine<'_>>, NoMemory>
+    ensures { IfOk result (λ lines. AreLinesOf (HasIn before fleet.now) (map line_seen lines.items)) }
 {
     let mut lines = Vec::new(alloc);
     for (stream, known) in fleet.streams() {
-        put_stream(&mut lines, stream, known)?;
+        put_stream(&mut lines, stream, known, before)?;
     }
     Ok(lines)
 }
 
+/// These lines in the order of time.
+fn listed(
+    alloc: Global,
+    fleet: &Fleet,
+    before: Option<Moment>,
+) -> Result<Vec<FleetLine<'_>>, NoMemory>
+    ensures { IfOk result (λ lines. IsListingShown before fleet.now (map line_seen lines.items)) }
+{
+    let _streams = fleet.streams();
+    let mut lines = all_lines(alloc, fleet, before)?;
+    lines.sort_unstable_by_key(|line| (line.moment.0, line.stream.0, line.cpu.0, line.number.0));
+    Ok(lines)
+}
+
 impl Fleet {
+    ghost use Rattle.fleet_collector.specs.Listing.{IsListing, IsListingBefore};
+
     /// A line for each record that the streams have from their bounds on, and no other, strictly rising by moment, then
     /// by stream, then by CPU, then by number.
     ///
@@ -98,11 +157,19 @@ impl Fleet {
     pub fn listing(&self, alloc: Global) -> Result<Vec<FleetLine<'_>>, NoMemory>
         ensures { IfOk result (λ lines. IsListing self.now (map line_seen lines.items)) }
     {
-        let _streams = self.streams();
-        let mut lines = all_lines(alloc, self)?;
-        lines.sort_unstable_by_key(|line| {
-            (line.moment.0, line.stream.0, line.cpu.0, line.number.0)
-        });
-        Ok(lines)
+        listed(alloc, self, None)
+    }
+
+    /// The lines of those records that are before the cuts of their CPUs at a moment, which `forget_before` then
+    /// forgets. At the frontier they never change any more, and none that comes later is before them, if each CPU's
+    /// moments never fall.
+    pub fn lines_before(
+        &self,
+        alloc: Global,
+        moment: Moment,
+    ) -> Result<Vec<FleetLine<'_>>, NoMemory>
+        ensures { IfOk result (λ lines. IsListingBefore self.now moment.0 (map line_seen lines.items)) }
+    {
+        listed(alloc, self, Some(moment))
     }
 }

@@ -1,3 +1,2 @@
 pub mod LinePlaces
 pub mod LeastFrom
-pub mod NoParcels

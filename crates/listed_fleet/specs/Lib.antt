@@ -2,6 +2,7 @@ pub mod Adding
 pub mod Buffer
 pub mod Cpus
 pub mod Giving
+pub mod Merging
 pub mod OwnLines
 pub mod Packing
 pub mod Runs

@@ -8,6 +8,7 @@ mod adding;
 mod buffer;
 mod cpus;
 mod listed;
+mod merging;
 mod own_lines;
 mod packing;
 mod runs;

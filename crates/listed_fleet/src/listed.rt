@@ -1,6 +1,6 @@
 //! The listing, as a copy.
 ghost use Rattle.std.specs.Prelude.{◌≡◌, map, IfOk};
-ghost use Rattle.fleet_collector.specs.Listing.{IsListing};
+ghost use Rattle.fleet_collector.specs.Listing.{IsListing, IsListingBefore};
 
 use crate::buffer::{Put, put_front};
 use crate::own_lines::OwnLines;
@@ -14,6 +14,14 @@ fn copied_listing(alloc: Global, fleet: &Fleet) -> Result<OwnLines, NoMemory>
     ensures { IfOk result (λ copies. IsListing fleet.now copies) }
 {
     let lines = fleet.listing(alloc)?;
+    OwnLines::of(alloc, &lines)
+}
+
+/// A copy of the listing of what is before a moment.
+fn copied_listing_before(alloc: Global, fleet: &Fleet, moment: Moment) -> Result<OwnLines, NoMemory>
+    ensures { IfOk result (λ copies. IsListingBefore fleet.now moment.0 copies) }
+{
+    let lines = fleet.lines_before(alloc, moment)?;
     OwnLines::of(alloc, &lines)
 }
 
@@ -56,7 +64,7 @@ pub struct ListedFleet {
 
 impl ListedFleet {
     ghost use Rattle.std.specs.Prelude.{◌≡◌, [], length, IfOk, OnOk, OnErr};
-    ghost use Rattle.fleet_collector.specs.Listing.{IsListing};
+    ghost use Rattle.fleet_collector.specs.Listing.{IsListing, IsListingBefore};
     ghost use Rattle.listed_fleet.specs.Giving.{GivesSo};
 
     /// A fleet of which no stream is there, and no listing. No memory is taken.
@@ -82,6 +90,21 @@ impl ListedFleet {
         ensures refused { OnErr result (self.new ≡ self.old) }
     {
         let lines = copied_listing(alloc, &self.fleet)?;
+        let count = lines.len();
+        self.lines = lines;
+        self.given = 0;
+        Ok(count)
+    }
+
+    /// The same of what is before the cuts of the CPUs at a moment.
+    pub fn list_before(&mut self, alloc: Global, moment: Moment) -> Result<usize, NoMemory>
+        ensures listing { OnOk result (IsListingBefore self.old.fleet moment.0 self.new.lines) }
+        ensures count { IfOk result (λ count. count ≡ length self.new.lines) }
+        ensures first { OnOk result (self.new.given ≡ 0) }
+        ensures fleet { self.new.fleet ≡ self.old.fleet }
+        ensures refused { OnErr result (self.new ≡ self.old) }
+    {
+        let lines = copied_listing_before(alloc, &self.fleet, moment)?;
         let count = lines.len();
         self.lines = lines;
         self.given = 0;

@@ -31,8 +31,8 @@ pub fn pack_bytes(
     }
 }
 
-/// Puts the mark that a CPU of a stream has `count` records to the front of `out`. If there is no such CPU, or memory is
-/// refused, nothing is put.
+/// Puts the mark that a CPU of a stream has `count` records to the front of `out`. If there is no such CPU, or memory
+/// is refused, nothing is put.
 pub fn pack_end(
     alloc: Global,
     stream: StreamId,

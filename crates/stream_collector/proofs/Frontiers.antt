@@ -270,7 +270,7 @@ cuts_standing old new moment was cuts kept same says = record {
 one_watermark : (s : Stream) (cpu v w : ℕ) → IsWatermark s cpu v → IsWatermark s cpu w → v < w → ⊥
 one_watermark s cpu v w a b lt = not_open s cpu v (b.accounted v a.is_open.from lt) a.is_open
 
-same_watermark : (s : Stream) (cpu v w : ℕ) → IsWatermark s cpu v → IsWatermark s cpu w → v ≡ w
+pub same_watermark : (s : Stream) (cpu v w : ℕ) → IsWatermark s cpu v → IsWatermark s cpu w → v ≡ w
 same_watermark s cpu v w a b = ⊎_elim
     (λ (lt : v < w). absurd (one_watermark s cpu v w a b lt))
     (λ (le : w ≤ v). ⊎_elim
@@ -279,11 +279,12 @@ same_watermark s cpu v w a b = ⊎_elim
     (cases_lt w v))
     (cases_lt v w)
 
-pub later_after : (s : Stream) (later : List Parcel) (frontier : Moment) (cpu cut : ℕ) → IsFrontier s (Some frontier)
-    → IsCpuThere s cpu → IsCut s cpu frontier.0 cut → Agree (s.parcels ++ later)
+-- at or after a moment that isn't after that at which the CPU is held
+pub later_not_before : (s : Stream) (later : List Parcel) (frontier : Moment) (cpu cut : ℕ)
+    → IsNotAfter s (Some frontier) cpu → IsCut s cpu frontier.0 cut → Agree (s.parcels ++ later)
     → AreWithinEnds record s { parcels = s.parcels ++ later } → NeverFall (s.parcels ++ later) cpu
     → (n : ℕ) (r : Record) → cut ≤ n → Has (s.parcels ++ later) cpu n r → frontier.0 ≤ r.moment
-later_after s later frontier cpu cut is there c agree within rises n r from h = ⊎_elim
+later_not_before s later frontier cpu cut is c agree within rises n r from h = ⊎_elim
     (λ (stopped : cut < c.watermark).
     let next = c.stops stopped in
     let own = (joined_left s.parcels later).has cpu cut next.0 next.1.has in
@@ -305,7 +306,7 @@ later_after s later frontier cpu cut is there c agree within rises n r from h = 
     let same = same_watermark s cpu held.1.watermark c.watermark held.1.is_watermark c.is_watermark in
     let low = held.2 in
     at_last held.0 (subst (λ (w : ℕ). IsLastMoment s cpu w held.0) same held.1.last) low whole)
-    (is.least cpu there))
+    is)
     (cases_lt cut c.watermark)
   where
     at_last : (moment : ℕ) → IsLastMoment s cpu c.watermark moment → frontier.0 ≤ moment → c.watermark ≤ cut
@@ -315,3 +316,10 @@ later_after s later frontier cpu cut is there c agree within rises n r from h = 
         let before = c.before k q last.has (omega arith) in
         absurd (omega arith)
     at_last moment (by_none none e) low whole = omega arith
+
+pub later_after : (s : Stream) (later : List Parcel) (frontier : Moment) (cpu cut : ℕ) → IsFrontier s (Some frontier)
+    → IsCpuThere s cpu → IsCut s cpu frontier.0 cut → Agree (s.parcels ++ later)
+    → AreWithinEnds record s { parcels = s.parcels ++ later } → NeverFall (s.parcels ++ later) cpu
+    → (n : ℕ) (r : Record) → cut ≤ n → Has (s.parcels ++ later) cpu n r → frontier.0 ≤ r.moment
+later_after s later frontier cpu cut is there =
+    later_not_before s later frontier cpu cut (is.least cpu there)

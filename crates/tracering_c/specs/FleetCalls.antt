@@ -1,23 +1,27 @@
 -- What the calls of C make of a fleet.
 use Rattle.std.specs.Prelude.{◌≡◌, ℕ, ℤ, pos, List, length, ltb, cond, [], Option, IfSome, IfNone, unwrap_or, Result, Ok, OnErr}
+use Rattle.trace_model.specs.declared.numbers.Moment.{Moment}
 use Rattle.listed_collector.specs.declared.missing.Run.{Run}
 use Rattle.stream_collector.specs.declared.added.Marked.{Marked}
 use Rattle.stream_collector.specs.declared.added.Marked.TheVariants.{Known}
 use Rattle.stream_collector.specs.declared.fault.MarkFault.{MarkFault}
 use Rattle.stream_collector.specs.Stream.{Stream}
 use Rattle.fleet_collector.specs.Fleet.{stream_at, KeepsOthers}
-use Rattle.fleet_collector.specs.Listing.{IsListing}
+use Rattle.fleet_collector.specs.Listing.{IsListing, IsListingBefore}
+use Rattle.fleet_collector.specs.Frontier.{IsFleetFrontier, AllForgottenBefore, SomeForgottenBefore}
 use Rattle.fleet_collector.specs.Changes.{ForgetsBelow, LosesBelow}
+use Rattle.fleet_collector.specs.declared.merge_fault.FleetMergeFault.{FleetMergeFault}
 use Rattle.listed_fleet.specs.declared.adding.AddAnswer.{AddAnswer}
 use Rattle.listed_fleet.specs.declared.listed.Given.{Given}
 use Rattle.listed_fleet.specs.declared.listed.ListedFleet.{ListedFleet}
 use Rattle.listed_fleet.specs.Adding.{AddsSo}
 use Rattle.listed_fleet.specs.Cpus.{IsLeastFrom, HasNoneFrom}
 use Rattle.listed_fleet.specs.Giving.{GivesSo}
+use Rattle.listed_fleet.specs.Merging as merging
 use Rattle.listed_fleet.specs.Runs.{PutsRuns}
 use Rattle.tracering_c.specs.declared.fleet_codes.StreamFault.{StreamFault}
 use Rattle.tracering_c.specs.declared.fleet_codes.FleetLine.{FleetLine}
-use Rattle.tracering_c.specs.FleetCodes.{answer_code, answer_used, answer_at, marked_code, marked_at, found_code, given_code, next_line}
+use Rattle.tracering_c.specs.FleetCodes.{answer_code, answer_used, answer_at, marked_code, marked_at, merged_code, merged_at, found_code, frontier_code, frontier_moment, given_code, next_line}
 
 -- No stream is there, and no line is to be given.
 pub record IsEmpty (listed : ListedFleet) : Type 0 where
@@ -80,6 +84,30 @@ pub record IsListed (old : ListedFleet) (count : ℕ) (new : ListedFleet) : Type
   pub first : new.given ≡ 0
   pub fleet : new.fleet ≡ old.fleet
 
+-- The same of what is before the cuts of the CPUs at a moment.
+pub record IsListedBefore (old : ListedFleet) (moment count : ℕ) (new : ListedFleet) : Type 0 where
+  pub listing : IsListingBefore old.fleet moment new.lines
+  pub count_is : count ≡ length new.lines
+  pub first : new.given ≡ 0
+  pub fleet : new.fleet ≡ old.fleet
+
+-- Each stream has forgotten what is before the cuts of its CPUs at a moment. The listing stays.
+pub record HasForgotten (old : ListedFleet) (moment : ℕ) (new : ListedFleet) : Type 0 where
+  pub streams : AllForgottenBefore old.fleet new.fleet moment
+  pub listing : new ≡ record old { fleet = new.fleet }
+
+-- Each stream has, or is as it was. The listing stays.
+pub record HasForgottenSome (old : ListedFleet) (moment : ℕ) (new : ListedFleet) : Type 0 where
+  pub streams : SomeForgottenBefore old.fleet new.fleet moment
+  pub listing : new ≡ record old { fleet = new.fleet }
+
+-- The fleet's frontier is told, or that there is none: all is complete.
+pub record FrontierSo (listed : ListedFleet) (was : ℕ) (code : ℤ) (moment : ℕ) : Type 0 where
+  pub answer : Option Moment
+  pub frontier : IsFleetFrontier listed.fleet answer
+  pub code_is : code ≡ frontier_code answer
+  pub moment_is : moment ≡ frontier_moment was answer
+
 -- What is given of the listing, by its number; and the numbers of the line that is next, if there is one.
 pub record NextSo (old : ListedFleet) (out : List ℕ) (was : FleetLine) (code : ℤ) (left : List ℕ) (line : FleetLine)
     (new : ListedFleet) : Type 0 where
@@ -87,3 +115,11 @@ pub record NextSo (old : ListedFleet) (out : List ℕ) (was : FleetLine) (code :
   pub gives : GivesSo old out answer left new
   pub code_is : code ≡ given_code answer
   pub line_is : line ≡ next_line was answer
+
+-- A fleet is merged with another one as Rattle's call answers, and the number and the place are those of its answer.
+pub record MergesSo (old other : ListedFleet) (was : StreamFault) (code : ℤ) (at : StreamFault) (new : ListedFleet)
+    : Type 0 where
+  pub fault : Option FleetMergeFault
+  pub merges : merging.MergesSo old other.fleet fault new
+  pub code_is : code ≡ merged_code fault
+  pub at_is : at ≡ merged_at was fault

@@ -1,5 +1,6 @@
 -- The numbers by which C is answered of fleets, and what is told beside them.
 use Rattle.std.specs.Prelude.{ℕ, ℤ, pos, negsuc, Option, Some, None, Result, Ok, Err}
+use Rattle.trace_model.specs.declared.numbers.Moment.{Moment}
 use Rattle.collector.specs.declared.fault.AddFault.TheVariants.{Clash, TakenAndMissing, NoMemory as NoMemoryToAdd}
 use Rattle.page_numbers.specs.declared.fault.ParcelFault.{ParcelFault}
 use Rattle.parcel_streams.specs.declared.fault.PieceFault.{PieceFault}
@@ -12,6 +13,9 @@ use Rattle.stream_collector.specs.declared.fault.AddFault.{AddFault}
 use Rattle.stream_collector.specs.declared.fault.AddFault.TheVariants.{BeyondEnd as ParcelBeyondEnd, Refused as ParcelRefused}
 use Rattle.stream_collector.specs.declared.fault.MarkFault.{MarkFault}
 use Rattle.stream_collector.specs.declared.fault.MarkFault.TheVariants.{OtherEnd, BeyondEnd, NotFinal, NoMemory}
+use Rattle.stream_collector.specs.declared.fault.MergeFault.{MergeFault}
+use Rattle.stream_collector.specs.declared.fault.MergeFault.TheVariants.{OtherEnd as EndsDiffer, BeyondEnd as MergeBeyondEnd, Clash as MergeClash, TakenAndMissing as MergeTakenAndMissing, NoMemory as NoMergeMemory}
+use Rattle.fleet_collector.specs.declared.merge_fault.FleetMergeFault.{FleetMergeFault}
 use Rattle.fleet_collector.specs.declared.refusal.PieceRefusal.{PieceRefusal}
 use Rattle.fleet_collector.specs.declared.refusal.PieceRefusal.TheVariants.{Parcel, Mark}
 use Rattle.listed_fleet.specs.declared.adding.RefusedPiece.{RefusedPiece}
@@ -114,6 +118,30 @@ abbrev pub marked_at : StreamFault → (stream cpu : ℕ) → Result Marked Mark
 marked_at was stream cpu (Ok marked) = was
 marked_at was stream cpu (Err fault) = place_at was stream cpu (mark_number fault)
 
+-- the number of why streams aren't merged
+abbrev pub merge_code : MergeFault → ℤ
+merge_code (EndsDiffer cpu end other) = pos 42
+merge_code (MergeBeyondEnd cpu number) = pos 41
+merge_code (MergeClash cpu number) = pos 29
+merge_code (MergeTakenAndMissing cpu number) = pos 30
+merge_code NoMergeMemory = pos 12
+
+-- the number of what is answered to fleets that are to be merged, and where they are at odds
+abbrev pub merged_code : Option FleetMergeFault → ℤ
+merged_code (Some fault) = merge_code fault.fault
+merged_code None = pos 0
+
+abbrev pub merge_at : StreamFault → (stream : ℕ) → MergeFault → StreamFault
+merge_at was stream (EndsDiffer cpu end other) = record { stream = stream; number = other.0; cpu = cpu.0 }
+merge_at was stream (MergeBeyondEnd cpu number) = record { stream = stream; number = number.0; cpu = cpu.0 }
+merge_at was stream (MergeClash cpu number) = record { stream = stream; number = number.0; cpu = cpu.0 }
+merge_at was stream (MergeTakenAndMissing cpu number) = record { stream = stream; number = number.0; cpu = cpu.0 }
+merge_at was stream NoMergeMemory = was
+
+abbrev pub merged_at : StreamFault → Option FleetMergeFault → StreamFault
+merged_at was (Some fault) = merge_at was fault.stream.0 fault.fault
+merged_at was None = was
+
 -- the number of what became of a piece that was to go to a buffer, and how many bytes it has, if it could be packed
 abbrev pub packed_code : Result Put ParcelFault → ℤ
 packed_code (Ok (Done len)) = pos 0
@@ -129,6 +157,15 @@ packed_len was (Err fault) = was
 abbrev pub found_code : Option ℕ → ℤ
 found_code (Some number) = pos 0
 found_code None = pos 31
+
+-- the number of a frontier, if there is one, and its moment
+abbrev pub frontier_code : Option Moment → ℤ
+frontier_code (Some moment) = pos 0
+frontier_code None = pos 31
+
+abbrev pub frontier_moment : ℕ → Option Moment → ℕ
+frontier_moment was (Some moment) = moment.0
+frontier_moment was None = was
 
 -- the number of what is given of a listing, and the numbers of the line that is next
 abbrev pub given_code : Given → ℤ

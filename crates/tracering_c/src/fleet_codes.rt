@@ -2,11 +2,12 @@
 use crate::codes::{
     CLASH, DONE, END, KNOWN, NO_MEMORY, NO_ROOM, TAKEN_AND_MISSING, code_of_parcel,
 };
-use fleet_collector::PieceRefusal;
+use fleet_collector::{FleetMergeFault, PieceRefusal};
 use listed_fleet::{AddAnswer, Given, LineNumbers, Put, RefusedPiece};
 use page_numbers::ParcelFault;
 use parcel_streams::PieceFault;
-use stream_collector::{AddFault, Added, MarkFault, Marked};
+use stream_collector::{AddFault, Added, MarkFault, Marked, MergeFault};
+use trace_model::Moment;
 
 /// The parcel ends below the bound of its CPU.
 pub const FORGOTTEN: i32 = -5;
@@ -62,7 +63,7 @@ pub struct FleetLine {
 }
 
 ghost use Rattle.std.specs.Prelude.{◌≡◌};
-ghost use Rattle.tracering_c.specs.FleetCodes.{piece_code, parcel_refusal_code, mark_code, refusal_code, added_code, answer_code, answer_used, answer_at, marked_code, marked_at, packed_code, packed_len, found_code, given_code, next_line, line_at, parcel_number, mark_number, refusal_number, place_at};
+ghost use Rattle.tracering_c.specs.FleetCodes.{piece_code, parcel_refusal_code, mark_code, refusal_code, added_code, answer_code, answer_used, answer_at, marked_code, marked_at, merge_code, merged_code, packed_code, packed_len, found_code, frontier_code, frontier_moment, given_code, next_line, line_at, parcel_number, mark_number, refusal_number, place_at};
 
 /// The number of why bytes have no piece at their front.
 fn code_of_piece(fault: PieceFault) -> i32
@@ -185,7 +186,7 @@ fn number_of(refusal: PieceRefusal) -> Option<u64>
 
 impl StreamFault {
     ghost use Rattle.std.specs.Prelude.{◌≡◌};
-    ghost use Rattle.tracering_c.specs.FleetCodes.{answer_at, marked_at, place_at};
+    ghost use Rattle.tracering_c.specs.FleetCodes.{answer_at, marked_at, merged_at, place_at};
 
     /// This place, if there is a number; else as it was.
     fn place(self, stream: u64, cpu: u32, number: Option<u64>) -> StreamFault
@@ -216,6 +217,24 @@ impl StreamFault {
         self.place(stream.0, cpu.0, number_of(refusal))
     }
 
+    /// Where this fault says that fleets are at odds; else as it was.
+    pub(crate) fn of_merged(self, fault: Option<FleetMergeFault>) -> StreamFault
+        ensures { result ≡ merged_at self fault }
+    {
+        let Some(FleetMergeFault { stream, fault }) = fault else {
+            return self;
+        };
+        match fault {
+            MergeFault::OtherEnd(cpu, _, end) => self.place(stream.0, cpu.0, Some(end.0)),
+            MergeFault::BeyondEnd(cpu, number) => self.place(stream.0, cpu.0, Some(number.0)),
+            MergeFault::Clash(cpu, number) => self.place(stream.0, cpu.0, Some(number.0)),
+            MergeFault::TakenAndMissing(cpu, number) => {
+                self.place(stream.0, cpu.0, Some(number.0))
+            }
+            MergeFault::NoMemory => self,
+        }
+    }
+
     /// Where this answer says that a bound isn't raised; else as it was.
     pub(crate) fn of_marked(
         self,
@@ -240,6 +259,29 @@ pub fn code_of_marked(answer: Result<Marked, MarkFault>) -> i32
         Ok(Marked::New) => DONE,
         Ok(Marked::Known) => KNOWN,
         Err(fault) => code_of_mark(fault),
+    }
+}
+
+/// The number of why streams aren't merged.
+fn code_of_merge(fault: MergeFault) -> i32
+    ensures { result ≡ merge_code fault }
+{
+    match fault {
+        MergeFault::OtherEnd(_, _, _) => OTHER_END,
+        MergeFault::BeyondEnd(_, _) => BEYOND_END,
+        MergeFault::Clash(_, _) => CLASH,
+        MergeFault::TakenAndMissing(_, _) => TAKEN_AND_MISSING,
+        MergeFault::NoMemory => NO_MEMORY,
+    }
+}
+
+/// The number of what is answered to fleets that are to be merged.
+pub fn code_of_merged(fault: Option<FleetMergeFault>) -> i32
+    ensures { result ≡ merged_code fault }
+{
+    match fault {
+        Some(fault) => code_of_merge(fault.fault),
+        None => DONE,
     }
 }
 
@@ -282,6 +324,26 @@ pub fn code_of_found_cpu(found: Option<u32>) -> i32
     match found {
         Some(_) => DONE,
         None => END,
+    }
+}
+
+/// The number of a frontier, if there is one.
+pub fn code_of_frontier(found: Option<Moment>) -> i32
+    ensures { result ≡ frontier_code found }
+{
+    match found {
+        Some(_) => DONE,
+        None => END,
+    }
+}
+
+/// Its moment; else as it was.
+pub fn moment_of_frontier(found: Option<Moment>, was: u64) -> u64
+    ensures { result ≡ frontier_moment was found }
+{
+    match found {
+        Some(moment) => moment.0,
+        None => was,
     }
 }
 

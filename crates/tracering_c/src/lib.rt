@@ -12,6 +12,8 @@ mod collecting;
 pub mod ends;
 mod fleet;
 pub mod fleet_codes;
+mod fleet_growing;
+mod fleet_joining;
 mod fleet_reading;
 pub mod handle;
 pub mod held;

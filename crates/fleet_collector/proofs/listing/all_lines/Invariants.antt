@@ -4,4 +4,4 @@ use Rattle.fleet_collector.specs.Lines.{line_seen, AreLinesOf, HasIn}
 use Rattle.fleet_collector.proofs.listing.all_lines.Given as goal
 
 abbrev pub invariant-loop-stream : goal.invariant-loop-stream
-invariant-loop-stream l = AreLinesOf (HasIn (map entry_seen l.yielded)) (map line_seen l.lines.items)
+invariant-loop-stream l = AreLinesOf (HasIn l.before (map entry_seen l.yielded)) (map line_seen l.lines.items)

@@ -7,5 +7,5 @@ abbrev pub invariant-loop-stream : goal.invariant-loop-stream
 invariant-loop-stream l = record {
   merges : AreMerges l.one l.other l.joined;
   there : OfEachThere (λ id. IsSome (known_of l.joined id)) (map entry_seen l.yielded);
-  stays : (id : ℕ) → IsSome (known_of l.initial.joined id) → IsSome (known_of l.joined id)
+  stays : (id : ℕ) → IsSome (known_of l.initial.joined id) → IsSome (known_of l.joined id);
 }

@@ -1,8 +1,8 @@
-use Rattle.std.proofs.Common.{ℕ, ◌+◌, ◌∷◌, [], length, subst, sym, arith}
+use Rattle.std.proofs.Common.{ℕ, ◌∷◌, [], length, subst, sym, arith}
 use Rattle.std.proofs.lemmas.List.{length-append}
-use Rattle.std.proofs.lemmas.Iterator.Consumers.{YieldsList-from_first, YieldsList-turn, YieldsList-end}
+use Rattle.std.proofs.lemmas.Iterator.Consumers.{YieldsList-from_first, YieldsList-turn}
 use Rattle.collector.specs.Known.{cpu_number}
-use Rattle.listed_fleet.proofs.LeastFrom.{AreBelow, one_more, least_is, none_is}
+use Rattle.listed_fleet.proofs.LeastFrom.{AreBelow, one_more, least_is}
 use Rattle.listed_fleet.proofs.cpus.least_known.Goals as goal
 
 pub loop-cpu-preserved : goal.loop-cpu-preserved

@@ -1,7 +1,7 @@
 use Rattle.std.proofs.Common.{◌≡◌, ◌++◌, map}
 use Rattle.page_borrow.specs.Entries.{numbered_record}
 use Rattle.fleet_collector.specs.Lines.{line_seen, line_of}
-use Rattle.fleet_collector.proofs.listing.put_cpu.Given as goal
+use Rattle.fleet_collector.proofs.listing.put_all_of_cpu.Given as goal
 
 abbrev pub invariant-loop-entry : goal.invariant-loop-entry
 invariant-loop-entry l =

@@ -1,0 +1,20 @@
+use Rattle.std.proofs.Common.{◌++◌, ◌∙◌, ap, ℕ, List, map}
+use Rattle.std.proofs.lemmas.Iterator.Consumers.{YieldsList-from_first, YieldsList-end}
+use Rattle.page_borrow.specs.Entries.{numbered_record}
+use Rattle.trace_model.specs.Record.{Record}
+use Rattle.fleet_collector.specs.Lines.{line_seen, line_of}
+use Rattle.fleet_collector.proofs.ByNumber.{listed_of}
+use Rattle.fleet_collector.proofs.listing.put_all_of_cpu.Goals as goal
+
+pub returns : goal.returns
+returns c =
+    let records = c.records-entry-items.result in
+    let given = c.into_iter-entry-iterator.ensures.into_iter_gives in
+    let all = YieldsList-end (YieldsList-from_first numbered_record (λ left. left) records given) c.loop-entry.yielded _
+    c.loop-entry.yielded_by _ _ c.in-None.is c.next.ensures.steps in (
+      records,
+      listed_of c.args.known.now c.args.cpu.0 records c.records-entry-items.ensures,
+      c.loop-entry.invariant
+          ∙ ap (λ (rs : List (ℕ × Record)). map line_seen c.args.lines.now.items ++ map
+          (line_of c.args.stream.0 c.args.cpu.0) rs) all.0,
+    )
