@@ -1,5 +1,5 @@
 //! The command `collect`: over captures, or over streams of parcels.
-ghost use Rattle.std.specs.Prelude.{◌≡◌, ◌↔◌, IsTrue, All};
+ghost use Rattle.std.specs.Prelude.{◌≡◌, ◌⊎◌, ◌↔◌, IsTrue, All, length};
 ghost use Rattle.command_line.specs.Calls.{IsInRange};
 ghost use Rattle.piece_source.specs.Reading.{BeginsStream};
 ghost use Rattle.piece_source.specs.Readers.{peeked_unread};
@@ -23,19 +23,20 @@ const NOT_FOR_STREAMS: &str = "tracering: --page, --names and --formats are for 
 
 const KEEP_IS_READ: &str = "tracering: the file of --keep is read";
 
-/// Whether each input begins as a stream of parcels does.
+/// Whether each input begins as a stream of parcels does, or has no byte: it is a stream without a piece then.
 fn are_streams(inputs: &[Input<Reader<'_>>]) -> bool
-    ensures { IsTrue result ↔ All (λ input. BeginsStream (peeked_unread input.reader)) inputs.now }
+    ensures { IsTrue result ↔ All (λ input. BeginsStream (peeked_unread input.reader)
+        ⊎ (length (peeked_unread input.reader) ≡ 0)) inputs.now }
 {
     for input in inputs {
-        if !input.reader.is_stream() {
+        if !input.reader.is_stream() && !input.reader.is_empty() {
             return false;
         }
     }
     true
 }
 
-/// Whether none does.
+/// Whether none begins as a stream of parcels does.
 fn are_captures(inputs: &[Input<Reader<'_>>]) -> bool
     ensures { IsTrue result ↔ All (λ input. BeginsStream (peeked_unread input.reader) → ⊥) inputs.now }
 {
@@ -83,19 +84,21 @@ fn list<'b>(rt: &HostRuntime, asked: &CollectCall<'b>) -> Result<u8, Trial<'b>>
     // What a terminal shows of the output tells how far it is.
     let is_unseen = is_watched && !rt.stdout().is_terminal();
     let inputs = open_inputs(rt, &asked.files, is_watched)?;
-    if are_captures(&inputs) {
-        if asked.keep.is_some() || asked.parcels {
-            return Ok(refuse(rt, NOT_FOR_CAPTURES));
+    let is_for_streams = asked.keep.is_some() || asked.parcels;
+    let is_capture = are_captures(&inputs);
+    if are_streams(&inputs) && (is_for_streams || !is_capture) {
+        if asked.has_page || asked.names {
+            return Ok(refuse(rt, NOT_FOR_STREAMS));
         }
-        return collect_captures(rt, asked, inputs, is_unseen);
+        return collect_pieces(rt, asked, inputs, is_unseen);
     }
-    if !are_streams(&inputs) {
+    if !is_capture {
         return Ok(refuse(rt, MIXED));
     }
-    if asked.has_page || asked.names {
-        return Ok(refuse(rt, NOT_FOR_STREAMS));
+    if is_for_streams {
+        return Ok(refuse(rt, NOT_FOR_CAPTURES));
     }
-    collect_pieces(rt, asked, inputs, is_unseen)
+    collect_captures(rt, asked, inputs, is_unseen)
 }
 
 /// Carries out `collect`, and gives the exit status.
