@@ -27,6 +27,7 @@ LISTED = 2_000_000
 GROWTH = [(parcels, 100, order) for parcels in (10_000, 100_000, 1_000_000) for order in ("rising", "shuffled")]
 GROWTH += [(1_000_000, streams, "shuffled") for streams in (10_000, 100_000)]
 FORGETTING = [(parcels, 100, "rising", "forget") for parcels in (10_000, 100_000, 1_000_000)]
+FORGETTING.append((1_000_000, 100_000, "rising", "forget"))
 
 
 def built(folder, name, *libraries):

@@ -1,6 +1,6 @@
 // How a fleet grows: `fleet_scale PARCELS STREAMS ORDER [forget]` adds so many parcels of so many streams, each
 // stream's in their order (`rising`) or all shuffled (`shuffled`), and prints what that took, a number a line with its
-// name. With `forget` each stream's bound is raised to its watermark after some parcels.
+// name. With `forget` the bounds are raised to the watermarks meanwhile.
 //
 // A parcel has RECORDS records with payloads of 24 bytes, and every eighth one a number that is missing before them.
 #define _GNU_SOURCE
@@ -77,12 +77,16 @@ static void make(uint64_t index, uint8_t *piece, size_t *len)
     must(tracering_pack(mixed(stream), parcel, sizeof parcel, piece, TRACERING_PIECE(PARCEL), len), "pack");
 }
 
-static void forget(struct tracering_fleet *fleet, uint64_t stream)
+// Forgets what is below the watermarks, as examples/fleet/log.h does.
+static void forget(struct tracering_fleet *fleet)
 {
-    struct tracering_cpu_state state;
-    struct tracering_stream_fault at;
-    must(tracering_fleet_state(fleet, mixed(stream), 0, &state), "state");
-    must(tracering_fleet_forget(fleet, mixed(stream), 0, state.watermark, &at), "forget");
+    static double from;
+    if (seconds() < from)
+        return;
+    must(tracering_fleet_forget_before(fleet, UINT64_MAX), "forget_before");
+    double begun = seconds();
+    must(tracering_fleet_forget_before(fleet, UINT64_MAX), "forget_before");
+    from = seconds() + 10 * (seconds() - begun);
 }
 
 // Adds all, and answers the seconds that this took.
@@ -96,13 +100,14 @@ static double add_all(struct tracering_fleet *fleet, const uint32_t *order, uint
         for (uint64_t k = 0; k < count; k++)
             make(order[done + k], batch[k], &lens[k]);
         double begun = seconds();
-        for (uint64_t k = 0; k < count; k++) {
+        for (uint64_t k = 0; k < count; k++)
             must(tracering_fleet_add(fleet, batch[k], lens[k], &used, &at), "add");
-            if (is_forgetting && order[done + k] / streams % 16 == 15)
-                forget(fleet, order[done + k] % streams);
-        }
+        if (is_forgetting)
+            forget(fleet);
         took += seconds() - begun;
     }
+    if (is_forgetting)
+        must(tracering_fleet_forget_before(fleet, UINT64_MAX), "forget_before");
     return took;
 }
 

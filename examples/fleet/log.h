@@ -5,24 +5,26 @@
 
 #include "fleet.h"
 
-enum { AT_A_TIME = 1024 };
-
 struct log {
     FILE *file;
     struct tracering_fleet fleet;
     uint64_t added, known, refused;
+    double forgets_from; // when it forgets again
     char buffer[1 << 20];
 };
 
-// What is below a CPU's watermark is known for good, and is in the log: the fleet needn't keep it. (To forget takes
-// time by what the stream keeps, so it is done for many records at a time.)
-static inline void forget_final(struct log *l, uint64_t stream, uint32_t cpu)
+// What is below the watermarks is known for good, and is in the log: the fleet needn't keep it. (To forget it takes
+// time by all that is kept. The second call finds nothing to forget, so it tells what is left: that may take a tenth of
+// the time.)
+static inline void forget_final(struct log *l)
 {
-    struct tracering_stream_fault at;
-    struct tracering_cpu_state state;
-    must(tracering_fleet_state(&l->fleet, stream, cpu, &state), "state");
-    if (state.watermark >= state.bound + AT_A_TIME || (state.has_end && state.watermark == state.end))
-        must(tracering_fleet_forget(&l->fleet, stream, cpu, state.watermark, &at), "forget");
+    if (seconds_now() < l->forgets_from)
+        return;
+    must(tracering_fleet_forget_before(&l->fleet, UINT64_MAX), "forget_before");
+    double begun = seconds_now();
+    must(tracering_fleet_forget_before(&l->fleet, UINT64_MAX), "forget_before");
+    double ended = seconds_now();
+    l->forgets_from = ended + 0.01 + 10 * (ended - begun);
 }
 
 // Adds the first piece of these bytes.
@@ -32,10 +34,9 @@ static inline int32_t add_piece(struct log *l, const uint8_t *bytes, size_t len,
     int32_t code = tracering_fleet_add(&l->fleet, bytes, len, used, at);
     l->added += code == TRACERING_DONE;
     l->known += code < TRACERING_DONE;
-    if (code == TRACERING_DONE)
-        forget_final(l, number_at(bytes, STREAM_AT), (uint32_t)number_at(bytes, CPU_AT));
     if (code == TRACERING_NO_MEMORY)
         die("add", tracering_text(code));
+    forget_final(l);
     return code;
 }
 
