@@ -366,6 +366,7 @@ int32_t tracering_raw_fleet_next(struct tracering_held *, uint8_t *, size_t, str
 int32_t tracering_raw_fleet_frontier(struct tracering_held *, uint64_t *);
 int32_t tracering_raw_fleet_list_before(struct tracering_held *, uint64_t, size_t *);
 int32_t tracering_raw_fleet_forget_before(struct tracering_held *, uint64_t);
+int32_t tracering_raw_fleet_pack(struct tracering_held *, uint64_t, uint8_t *, size_t, size_t *);
 int32_t tracering_raw_fleet_free(struct tracering_held *);
 
 // Bytes that may be null if there are none.
@@ -1188,6 +1189,21 @@ static inline int32_t tracering_fleet_forget_before(struct tracering_fleet *f, u
     if (!tracering_enter(&f->in_call))
         return TRACERING_BUSY;
     return tracering_leave(&f->in_call, tracering_raw_fleet_forget_before(&f->held, moment));
+}
+
+// What is known of a stream as packed pieces, one after the other, which go to the front of `out`: a new fleet to which
+// they are added knows the same of it. `len` is how many bytes they have; 0, if the stream isn't there. NO_ROOM: `len`
+// is set to how many bytes are wanted. NO_MEMORY: `len` isn't changed. Then nothing goes to `out`.
+static inline int32_t tracering_fleet_pack(struct tracering_fleet *f, uint64_t stream, void *out, size_t room,
+    size_t *len)
+{
+    uint8_t none;
+    if (!(f && (out || !room) && len))
+        return TRACERING_NULL;
+    if (!tracering_enter(&f->in_call))
+        return TRACERING_BUSY;
+    uint8_t *to = out ? (uint8_t *)out : &none;
+    return tracering_leave(&f->in_call, tracering_raw_fleet_pack(&f->held, stream, to, room, len));
 }
 
 // Frees the fleet and its listing. The handle is all zeros afterwards.

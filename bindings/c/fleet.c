@@ -340,8 +340,10 @@ static void refused_handles(void)
     IS(tracering_fleet_frontier(&none, &id) == TRACERING_ABSENT);
     IS(tracering_fleet_list_before(&none, 0, &len) == TRACERING_ABSENT);
     IS(tracering_fleet_forget_before(&none, 0) == TRACERING_ABSENT);
+    IS(tracering_fleet_pack(&none, 0, NULL, 0, &len) == TRACERING_ABSENT);
     IS(tracering_fleet_next(&f, NULL, 0, &line) == TRACERING_END);
     IS(tracering_fleet_frontier(&f, &id) == TRACERING_END);
+    IS(tracering_fleet_pack(&f, 0, NULL, 0, &len) == TRACERING_DONE && len == 0);
     free_fleet(&f);
 }
 
@@ -379,6 +381,28 @@ static void merged(void)
     free_fleet(&whole), free_fleet(&other);
 }
 
+// A stream's snapshot makes the same of a new fleet.
+static void snapshots(void)
+{
+    struct tracering_fleet whole = TRACERING_FLEET_INIT, copy = TRACERING_FLEET_INIT;
+    struct tracering_stream_fault at;
+    fill(&whole, 0, 0, PIECES);
+    IS(tracering_fleet_forget(&whole, id_of(1), 1, 2 * RECORDS + 1, &at) == TRACERING_DONE);
+    IS(tracering_fleet_new(&copy) == TRACERING_DONE);
+    for (uint64_t k = 0; k < STREAMS; k++) {
+        size_t len = 0, used = 0, again = 0;
+        IS(tracering_fleet_pack(&whole, id_of(k), NULL, 0, &len) == TRACERING_NO_ROOM);
+        uint8_t *bytes = malloc(len);
+        IS(tracering_fleet_pack(&whole, id_of(k), bytes, len - 1, &again) == TRACERING_NO_ROOM && again == len);
+        IS(tracering_fleet_pack(&whole, id_of(k), bytes, len, &again) == TRACERING_DONE && again == len);
+        for (size_t from = 0; from < len; from += used)
+            IS(tracering_fleet_add(&copy, bytes + from, len - from, &used, &at) <= 0);
+        free(bytes);
+    }
+    is_same(&whole, &copy, true);
+    free_fleet(&whole), free_fleet(&copy);
+}
+
 // A listing that goes out while it grows has the lines of the whole, in their order, each once.
 static void growing(void)
 {
@@ -412,18 +436,20 @@ static void growing(void)
     }
 }
 
-enum { ADDS, MERGES, LISTS, FORGETS, GIVES_UP, LISTS_BEFORE, FORGETS_BEFORE, CALLS };
+enum { ADDS, ENDS, MERGES, LISTS, FORGETS, GIVES_UP, PACKS, LISTS_BEFORE, FORGETS_BEFORE, CALLS };
 
-static int32_t call(int which, struct tracering_fleet *f, struct tracering_fleet *other)
+static int32_t call(int which, struct tracering_fleet *f, struct tracering_fleet *other, uint8_t *out, size_t room)
 {
     struct tracering_stream_fault at;
     size_t len;
     switch (which) {
     case ADDS: return tracering_fleet_add(f, pieces[7].bytes, pieces[7].len, &len, &at);
+    case ENDS: return tracering_fleet_add(f, pieces[PAGES].bytes, pieces[PAGES].len, &len, &at);
     case MERGES: return tracering_fleet_merge(f, other, &at);
     case LISTS: return tracering_fleet_list(f, &len);
     case FORGETS: return tracering_fleet_forget(f, id_of(0), 0, 3, &at);
     case GIVES_UP: return tracering_fleet_give_up(f, id_of(0), 0, ALL, &at);
+    case PACKS: return tracering_fleet_pack(f, id_of(0), out, room, &len);
     case LISTS_BEFORE: return tracering_fleet_list_before(f, 40, &len);
     default: return tracering_fleet_forget_before(f, 40);
     }
@@ -432,13 +458,14 @@ static int32_t call(int which, struct tracering_fleet *f, struct tracering_fleet
 // Refuses the growths of each call in turn: nothing has changed, and the call made once more does what it does.
 static long refuse(void)
 {
+    static uint8_t out[PIECES * sizeof pieces[0].bytes];
     long growths = 0;
     for (int which = 0; which < CALLS; which++) {
         struct tracering_fleet other = TRACERING_FLEET_INIT, twin = TRACERING_FLEET_INIT, f = TRACERING_FLEET_INIT;
         fill(&other, 0, 5, PIECES), fill(&twin, 0, 0, 5), fill(&f, 0, 0, 5);
         for (long refused = 0;; refused++) {
             granted = refused;
-            int32_t code = call(which, &f, &other);
+            int32_t code = call(which, &f, &other, out, sizeof out);
             long left = granted;
             granted = -1;
             if (left >= 0) {
@@ -493,6 +520,7 @@ int main(void)
     changed();
     odds();
     merged();
+    snapshots();
     growing();
     new_is_refused();
     IS(refuse() > 20 && refuse_packing() > 3);

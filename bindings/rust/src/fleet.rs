@@ -36,6 +36,7 @@ extern "C" {
     fn tracering_raw_fleet_frontier(f: *mut Handle, moment: *mut u64) -> i32;
     fn tracering_raw_fleet_list_before(f: *mut Handle, moment: u64, count: *mut usize) -> i32;
     fn tracering_raw_fleet_forget_before(f: *mut Handle, moment: u64) -> i32;
+    fn tracering_raw_fleet_pack(f: *mut Handle, stream: u64, out: *mut u8, room: usize, len: *mut usize) -> i32;
     fn tracering_raw_fleet_free(f: *mut Handle) -> i32;
 }
 
@@ -312,6 +313,11 @@ impl Fleet {
         let mut line = FleetLine::default();
         let code = unsafe { tracering_raw_fleet_next(self.0.get_mut(), out.as_mut_ptr(), out.len(), &mut line) };
         done(code).map(|()| line).map_err(|fault| (fault, line))
+    }
+
+    /// What is known of a stream, as packed pieces.
+    pub fn pack(&self, stream: u64) -> Result<Vec<u8>, Fault> {
+        packed(0, |out, room, len| unsafe { tracering_raw_fleet_pack(self.0.get(), stream, out, room, len) })
     }
 }
 

@@ -112,6 +112,19 @@ fn shares_are_merged() {
 }
 
 #[test]
+fn a_snapshot_makes_the_same() {
+    let mut whole = fleet_of(&pieces(5));
+    whole.forget(5, 3, 1).unwrap();
+    let (bytes, mut copy) = (whole.pack(5).unwrap(), Fleet::new().unwrap());
+    let mut at = 0;
+    while at < bytes.len() {
+        at += copy.add(&bytes[at..]).unwrap().1;
+    }
+    assert!(copy.same(&whole));
+    assert_eq!(whole.pack(6), Ok(Vec::new()));
+}
+
+#[test]
 fn a_listing_goes_out_while_it_grows() {
     let (left, right) = (pieces(5), pieces(9));
     let mut fleet = fleet_of(&[left[0].clone(), right[0].clone()]);

@@ -24,12 +24,13 @@ use Rattle.stream_collector.specs.declared.fault.MarkFault.{MarkFault}
 use Rattle.fleet_collector.specs.Changes.{IsChangedBy, change_of}
 use Rattle.fleet_collector.specs.Fleet.{stream_at, or_empty, KeepsOthers}
 use Rattle.fleet_collector.specs.Pieces.{AddsPiece, AddsMark, AddsParcel, IsMarked, HasMark, IsMarkRefusal}
-use Rattle.fleet_collector.specs.Told.{IsStreamOf, IsFleetOf}
-use Rattle.fleet_collector.proofs.Telling.{only, stream_of, stream_same, apart_same, again_same, parcel_told, end_told}
+use Rattle.fleet_collector.specs.Told.{stream_of, IsStreamOf, IsFleetOf}
+use Rattle.fleet_collector.proofs.Telling.{only, stream_same, apart_same, again_same, parcel_told, end_told}
 use Rattle.fleet_collector.proofs.Telling.{bound_told, low_bound_told, run_told, run_known}
 
 -- a stream that is told, and the others, which stay
-fleet_told : (pieces : List Packed) (piece : Packed) (old new : List (ℕ × Stream)) → KeepsOthers old new (stream_of piece)
+fleet_told : (pieces : List Packed) (piece : Packed) (old new : List (ℕ × Stream))
+    → KeepsOthers old new (stream_of piece)
     → IsFleetOf pieces old
     → IsStreamOf (pieces ++ piece ∷ []) (stream_of piece) (stream_at new (stream_of piece))
     → IsFleetOf (pieces ++ piece ∷ []) new

@@ -1,6 +1,6 @@
 -- The records of a CPU before its cut.
-use Rattle.std.proofs.Common.{◌≡◌, ◌⊎◌, inl, inr, ⊎_elim, ℕ, zero, suc, ◌+◌, ◌<◌, ◌≤◌, List, [], ◌∷◌, ◌++◌, length, map, take}
-use Rattle.std.proofs.Common.{◌-◌, drop, Some, None, refl, sym, ap, ◌∙◌, subst, arith}
+use Rattle.std.proofs.Common.{◌≡◌, ◌⊎◌, ⊎_elim, ℕ, zero, suc, ◌+◌, ◌<◌, ◌≤◌, List, [], ◌∷◌, ◌++◌, length, map, take}
+use Rattle.std.proofs.Common.{◌-◌, drop, Some, sym, ap, ◌∙◌, subst, arith}
 use Rattle.std.specs.List.{slice_get}
 use Rattle.std.proofs.lemmas.Bool.{cases_lt}
 use Rattle.std.proofs.lemmas.List.{take-append-drop, map-append}
@@ -11,10 +11,10 @@ use Rattle.fleet_collector.proofs.Telling.{only}
 use Rattle.trace_model.specs.Record.{Record}
 use Rattle.trace_model.proofs.collections.Elements.{some_is, get_in_front, get_in_either}
 use Rattle.collector.specs.Listed.{AreListed, AreRecordsFrom}
-use Rattle.stream_collector.specs.Stream.{Stream, bound_of, HasRecord}
+use Rattle.stream_collector.specs.Stream.{Stream, bound_of}
 use Rattle.stream_collector.specs.Frontier.{IsCut}
 use Rattle.stream_collector.proofs.Frontiers.{same_watermark}
-use Rattle.fleet_collector.specs.Listing.{IsListing, IsListingBefore, HasBefore}
+use Rattle.fleet_collector.specs.Listing.{IsListingBefore, HasBefore}
 use Rattle.fleet_collector.specs.Lines.{IsListingShown}
 use Rattle.fleet_collector.specs.Listing.{Line}
 use Rattle.trace_model.specs.declared.numbers.Moment.{Moment}
@@ -150,9 +150,6 @@ first_below done list cut index is low j a lt at =
     low j a (subst (λ (xs : List (ℕ × Record)). slice_get xs j ≡ Some a) (sym is) (get_early index list j a lt at))
 
 -- ---- by what is shown
-
-pub all_shown : (fleet : List (ℕ × Stream)) (lines : List Line) → IsListingShown None fleet lines → IsListing fleet lines
-all_shown fleet lines p = record { ordered = p.ordered; of_them = p.of_them; whole = p.whole }
 
 pub before_shown : (fleet : List (ℕ × Stream)) (moment : Moment) (lines : List Line)
     → IsListingShown (Some moment) fleet lines → IsListingBefore fleet moment.0 lines

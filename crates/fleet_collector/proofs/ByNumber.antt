@@ -60,7 +60,8 @@ record IsOf (before : Option Moment) (stream : ℕ) (known : Stream) (cpu other 
   cpu_is : c ≡ cpu
   has : IsShown before known cpu n r
 
-cpu_lines : (before : Option Moment) (stream : ℕ) (known : Stream) (cpu : ℕ) (list : List (ℕ × Record)) → AreListed (IsShown before known cpu) list
+cpu_lines : (before : Option Moment) (stream : ℕ) (known : Stream) (cpu : ℕ) (list : List (ℕ × Record))
+    → AreListed (IsShown before known cpu) list
     → AreLinesOf (IsOf before stream known cpu) (map (line_of stream cpu) list)
 cpu_lines before stream known cpu list records = record {
   ordered = ordered_map (λ (a b : ℕ × Record). a.0 < b.0) IsBeforeAtOnce (line_of stream cpu)
@@ -97,7 +98,8 @@ pub stream_more : (before : Option Moment) (stream : ℕ) (known : Stream) (fron
     → AreListed (IsShown before known cpu) list → AreLinesOf (HasAmong before stream known front) lines
     → AreLinesOf (HasAmong before stream known (front ++ cpu ∷ [])) (lines ++ map (line_of stream cpu) list)
 stream_more before stream known front cpu lines list low records so_far =
-    lines_append (HasAmong before stream known front) (IsOf before stream known cpu) (HasAmong before stream known (front ++ cpu ∷ []))
+    lines_append (HasAmong before stream known front) (IsOf before stream known cpu) (HasAmong before stream known
+    (front ++ cpu ∷ []))
     (λ s c n r h. record {
       stream_is = h.stream_is;
       index = h.index;
@@ -125,7 +127,8 @@ stream_more before stream known front cpu lines list low records so_far =
     lines (map (line_of stream cpu) list) so_far (cpu_lines before stream known cpu list records)
 
 -- no CPU: no line
-pub stream_none : (before : Option Moment) (stream : ℕ) (known : Stream) → AreLinesOf (HasAmong before stream known []) []
+pub stream_none : (before : Option Moment) (stream : ℕ) (known : Stream)
+    → AreLinesOf (HasAmong before stream known []) []
 stream_none before stream known = record {
   ordered = tt;
   of_them = λ line s. absurd (none-some line s.1);
@@ -133,7 +136,8 @@ stream_none before stream known = record {
 }
 
 -- all CPUs of which something is known
-pub stream_all : (before : Option Moment) (stream : ℕ) (known : Stream) (cpus : List ℕ) (lines : List Line) → AreCpusOf known.parcels cpus
+pub stream_all : (before : Option Moment) (stream : ℕ) (known : Stream) (cpus : List ℕ) (lines : List Line)
+    → AreCpusOf known.parcels cpus
     → AreLinesOf (HasAmong before stream known cpus) lines → AreLinesOf (HasOf before stream known) lines
 stream_all before stream known cpus lines are p = record {
   ordered = p.ordered;
@@ -179,7 +183,8 @@ listed_of known cpu list records = record {
 abbrev pub AreBelow : List (ℕ × Stream) → ℕ → Type 0
 AreBelow front stream = (k : ℕ) (entry : ℕ × Stream) → slice_get front k ≡ Some entry → entry.0 < stream
 
-pub fleet_more : (before : Option Moment) (front : List (ℕ × Stream)) (stream : ℕ) (known : Stream) (lines more : List Line)
+pub fleet_more : (before : Option Moment) (front : List (ℕ × Stream)) (stream : ℕ) (known : Stream)
+    (lines more : List Line)
     → AreBelow front stream
     → AreLinesOf (HasIn before front) lines
     → AreLinesOf (HasOf before stream known) more
@@ -203,7 +208,8 @@ fleet_more before front stream known lines more low p q =
     { index = there.0; known = h.known; at = there.1; has = h.has })
     (λ (here : (k : ℕ) × (slice_get ((stream, known) ∷ []) k ≡ Some (s, h.known))).
     let is : (stream, known) ≡ (s, h.known) = only (stream, known) here.0 (s, h.known) here.1 in
-    let has : IsShown before known c n r = subst (λ x. IsShown before x c n r) (sym (ap (λ (e : ℕ × Stream). e.1) is)) h.has in
+    let has : IsShown before known c n r = subst (λ x. IsShown before x c n r) (sym (ap (λ
+    (e : ℕ × Stream). e.1) is)) h.has in
     inr record { stream_is = sym (ap (λ (e : ℕ × Stream). e.0) is); has = has })
     (get_in_either front ((stream, known) ∷ []) h.index (s, h.known) h.at))
     (λ a b h k.

@@ -137,7 +137,8 @@ has_in : (before : Option Moment) (fleet : List (ℕ × Stream)) (stream cpu num
     → IsShown before (stream_at fleet stream) cpu number r → HasIn before fleet stream cpu number r
 has_in before fleet stream cpu number r h = at (known_of fleet stream) refl h
   where
-    at : (o : Option Stream) → known_of fleet stream ≡ o → IsShown before (or_empty o) cpu number r → HasIn before fleet stream
+    at : (o : Option Stream) → known_of fleet stream ≡ o → IsShown before (or_empty o) cpu number r
+        → HasIn before fleet stream
         cpu number r
     at None e h =
         let has = (shown_has before empty_stream cpu number r h).has in absurd (none-some has.parcel has.at)
@@ -152,8 +153,10 @@ has_in before fleet stream cpu number r h = at (known_of fleet stream) refl h
         }
 
 -- and the other way round, if their ids rise
-in_has : (before : Option Moment) (fleet : List (ℕ × Stream)) → IsStrictlySortedBy nat_cmp (map (λ (e : ℕ × Stream). e.0) fleet)
-    → (stream cpu number : ℕ) (r : Record) → HasIn before fleet stream cpu number r → IsShown before (stream_at fleet stream) cpu
+in_has : (before : Option Moment) (fleet : List (ℕ × Stream))
+    → IsStrictlySortedBy nat_cmp (map (λ (e : ℕ × Stream). e.0) fleet)
+    → (stream cpu number : ℕ) (r : Record) → HasIn before fleet stream cpu number r
+    → IsShown before (stream_at fleet stream) cpu
     number r
 in_has before fleet rising stream cpu number r h =
     let found = known_of_place fleet rising h.index stream h.known h.at in
@@ -173,7 +176,8 @@ stands_still xs ys x moved s = stands_at ys x (Contains-permutation xs ys x move
 -- lines by stream, CPU and number, moved about and sorted by time
 sorted_lines : (before : Option Moment) (fleet : List (ℕ × Stream)) (xs ys : List Line) → IsStrictlySortedBy nat_cmp
     (map (λ (e : ℕ × Stream). e.0) fleet)
-    → AreLinesOf (HasIn before fleet) xs → IsPermutation xs ys → IsSortedBy comes_before ys → IsListingShown before fleet ys
+    → AreLinesOf (HasIn before fleet) xs → IsPermutation xs ys → IsSortedBy comes_before ys
+    → IsListingShown before fleet ys
 sorted_lines before fleet xs ys rising lines moved sorted = record {
   ordered = λ k a b at next. before_next a b (sorted_pairs comes_before ys sorted k a b at next)
       (neighbours_differ xs ys lines.ordered moved k a b at next);

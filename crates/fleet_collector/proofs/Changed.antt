@@ -1,5 +1,6 @@
 -- A stream of a fleet that was changed or put there.
-use Rattle.std.proofs.Common.{◌≡◌, ⊎_elim, inl, inr, IsSome, ℕ, zero, suc, ◌<◌, Bool, true, false, cond, List, [], ◌∷◌, ◌++◌, Some}
+use Rattle.std.proofs.Common.{◌≡◌, ⊎_elim, inl, inr, IsSome, ℕ, zero, suc, ◌<◌, Bool, true, false, cond, List, []}
+use Rattle.std.proofs.Common.{◌∷◌, ◌++◌, Some}
 use Rattle.std.proofs.Common.{None, Result, Ok, Err, OnOk, OnErr, refl, sym, ap, ◌∙◌, subst, arith}
 use Rattle.std.specs.List.{slice_get}
 use Rattle.std.specs.Ordering.{nat_cmp}
@@ -89,7 +90,8 @@ cpus_of_empty = record {
       (λ (m : Misses [] cpu number). absurd (none-some m.parcel m.at))
       known;
   given_up = λ cpu number m. absurd (none-some m.parcel m.at);
-  marked = λ cpu says. ⊎_elim (λ (lt : 0 < 0). absurd (omega arith)) (λ (some : IsSome (marks_at [] cpu).end). let no : ⊥ = cc in absurd no)
+  marked = λ cpu says. ⊎_elim (λ (lt : 0 < 0). absurd (omega arith)) (λ (some : IsSome
+      (marks_at [] cpu).end). let no : ⊥ = cc in absurd no)
       says;
 }
 

@@ -1,6 +1,7 @@
 -- Up to which moment a fleet is known, and what was forgotten before it.
-use Rattle.std.proofs.Common.{◌≡◌, ◌⊎◌, inl, inr, ⊎_elim, ℕ, suc, ◌+◌, ◌<◌, ◌≤◌, List, [], ◌∷◌, ◌++◌, length, map, get_or}
-use Rattle.std.proofs.Common.{Bool, not, Result, Ok, Err, OnOk, OnErr, Option, Some, None, IsSome, refl, sym, ap, ◌∙◌, subst, arith}
+use Rattle.std.proofs.Common.{◌≡◌, ◌⊎◌, inl, inr, ⊎_elim, ℕ, ◌+◌, ◌<◌, ◌≤◌, List, [], ◌∷◌, ◌++◌, length, map}
+use Rattle.std.proofs.Common.{Bool, not, Result, Ok, Err, OnOk, OnErr, Option, Some, None, IsSome, refl, sym, ap, ◌∙◌}
+use Rattle.std.proofs.Common.{subst, arith}
 use Rattle.std.specs.Borrow.{Bor}
 use Rattle.std.specs.List.{slice_get}
 use Rattle.std.specs.List.Sorted.{IsStrictlyIncreasing}
@@ -8,24 +9,24 @@ use Rattle.std.proofs.lemmas.Bool.{cases_lt, cases_eq}
 use Rattle.std.proofs.lemmas.List.{map-append}
 use Rattle.std.proofs.lemmas.Map.Keys.{below_from_sorted, sorted_from_strictly_increasing}
 use Rattle.std.proofs.lemmas.Option.{none-some, slice_get_within, get_or_from_slice_get}
-use Rattle.trace_model.specs.Record.{Record}
 use Rattle.trace_model.specs.Parcel.{Parcel}
-use Rattle.trace_model.specs.Collection.{Has, Misses}
+use Rattle.trace_model.specs.Collection.{Misses}
 use Rattle.trace_model.specs.declared.limits.TheConstants.{MAX_CPUS}
 use Rattle.trace_model.specs.declared.numbers.Moment.{Moment}
 use Rattle.trace_model.proofs.collections.Collections.{same_itself}
 use Rattle.trace_model.proofs.collections.Elements.{get_in_either}
-use Rattle.collector.specs.Known.{IsKnown, IsTaken, ends_below}
+use Rattle.collector.specs.Known.{IsTaken, ends_below}
 use Rattle.parcel_streams.specs.declared.piece.StreamId.{StreamId}
-use Rattle.stream_collector.specs.Marks.{bounds_of, marks_at}
+use Rattle.stream_collector.specs.Marks.{bounds_of}
 use Rattle.stream_collector.specs.Stream.{Stream, bound_of, end_of, IsAccounted, has_record, is_missing, is_undelivered}
-use Rattle.stream_collector.specs.Frontier.{IsHeldAt, IsCpuThere, by_marks, by_known, by_undelivered, IsNotAfter, IsOfOne}
+use Rattle.stream_collector.specs.Frontier.{IsHeldAt, IsCpuThere, by_marks, by_known, by_undelivered, IsNotAfter}
+use Rattle.stream_collector.specs.Frontier.{IsOfOne}
 use Rattle.stream_collector.specs.Frontier.{IsFrontier, IsForgottenBefore}
 use Rattle.stream_collector.proofs.Frontiers.{not_after}
 use Rattle.time_merge.proofs.Ordered.{at_mapped}
-use Rattle.fleet_collector.specs.Fleet.{known_of, stream_at, or_empty, empty_stream, entry_seen, HasKnownCpus, KeepsOthers}
-use Rattle.fleet_collector.specs.Frontier.{IsOfSome, IsFleetFrontier, AllForgottenBefore, SomeForgottenBefore}
-use Rattle.fleet_collector.proofs.Changed.{cpus_of_empty}
+use Rattle.fleet_collector.specs.Fleet.{known_of, stream_at, or_empty, empty_stream, entry_seen, HasKnownCpus}
+use Rattle.fleet_collector.specs.Fleet.{KeepsOthers}
+use Rattle.fleet_collector.specs.Frontier.{IsOfSome, AllForgottenBefore, SomeForgottenBefore}
 use Rattle.fleet_collector.proofs.Joined.{place_of}
 use Rattle.fleet_collector.proofs.Marked.{get_filtered}
 use Rattle.fleet_collector.proofs.Telling.{only}
@@ -120,7 +121,8 @@ pub least_of_all : (fleet : List (ℕ × Stream)) (frontier : Option Moment) →
     → (id cpu : ℕ) → IsCpuThere (stream_at fleet id) cpu → IsNotAfter (stream_at fleet id) frontier cpu
 least_of_all fleet frontier all id cpu there = at (known_of fleet id) refl there
   where
-    at : (o : Option Stream) → known_of fleet id ≡ o → IsCpuThere (or_empty o) cpu → IsNotAfter (or_empty o) frontier cpu
+    at : (o : Option Stream) → known_of fleet id ≡ o → IsCpuThere (or_empty o) cpu
+        → IsNotAfter (or_empty o) frontier cpu
     at None e c = absurd (not_there cpu c)
     at (Some known) e c = let place = place_of fleet id known e in all place.0 (id, known) place.1 cpu c
 
@@ -143,7 +145,8 @@ forget_begins ids first moment = record {
 rises : (ids : List ℕ) → IsStrictlyIncreasing ids → (j k a b : ℕ) → j < k → slice_get ids j ≡ Some a
     → slice_get ids k ≡ Some b → a < b
 rises ids rising j k a b lt at next =
-    let less = below_from_sorted ids j k 0 (sorted_from_strictly_increasing ids rising) lt (slice_get_within ids k b next)
+    let less = below_from_sorted ids j k 0 (sorted_from_strictly_increasing ids rising) lt
+    (slice_get_within ids k b next)
     in
     let x = get_or_from_slice_get ids j a 0 at in
     let y = get_or_from_slice_get ids k b 0 next in
@@ -176,7 +179,8 @@ forget_goes_on ids first now new moment index id rising at was here others =
           let apart : q ≡ id → ⊥ = λ e. omega arith in
           stays q apart ∙ was.waiting id q at (omega arith);
       some = λ q. ⊎_elim
-          (λ (e : q ≡ id). inr (subst (λ (x : ℕ). IsForgottenBefore (stream_at first x) (stream_at new x) moment) (sym e)
+          (λ (e : q ≡ id). inr (subst (λ (x : ℕ). IsForgottenBefore (stream_at first x) (stream_at new x) moment)
+          (sym e)
           whole))
           (λ (apart : q ≡ id → ⊥). ⊎_elim
           (λ (same : stream_at now q ≡ stream_at first q). inl (stays q apart ∙ same))

@@ -1,5 +1,6 @@
 -- The streams of a fleet, one after the other.
-use Rattle.std.proofs.Common.{◌≡◌, ℕ, ◌<◌, List, [], ◌∷◌, ◌++◌, length, map, take, drop, get_or, Option, Some, sym, ap, ◌∙◌}
+use Rattle.std.proofs.Common.{◌≡◌, ℕ, ◌<◌, List, [], ◌∷◌, ◌++◌, length, map, take, drop, get_or, Option, Some, sym}
+use Rattle.std.proofs.Common.{ap, ◌∙◌}
 use Rattle.std.proofs.Common.{subst, arith}
 use Rattle.std.specs.Borrow.{Bor}
 use Rattle.std.specs.List.{slice_get}
@@ -50,7 +51,8 @@ below_next fleet rising n entry within is k e at =
     omega arith
 
 -- the lines of one stream more
-pub lines_more : (before : Option Moment) (fleet : List (ℕ × Stream)) (done : List (StreamId × Bor Stream)) (item : StreamId × Bor Stream)
+pub lines_more : (before : Option Moment) (fleet : List (ℕ × Stream)) (done : List (StreamId × Bor Stream))
+    (item : StreamId × Bor Stream)
     (lines more new : List Line)
     → IsStrictlyIncreasing (ids fleet)
     → map entry_seen done ≡ take (length done) fleet

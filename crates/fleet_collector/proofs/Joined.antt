@@ -1,6 +1,7 @@
 -- Fleets that are put together, and fleets that are the same.
-use Rattle.std.proofs.Common.{◌≡◌, ◌↔◌, ◌⊎◌, inl, inr, ⊎_elim, ℕ, ◌<◌, ◌≤◌, max, Bool, true, false, cond, List, [], ◌∷◌}
-use Rattle.std.proofs.Common.{◌++◌, length, map, get_or, Option, Some, None, IsSome, Result, Ok, Err, OnOk, OnErr, Ordering, Less, Equal, Greater, refl, sym}
+use Rattle.std.proofs.Common.{◌≡◌, ◌↔◌, ◌⊎◌, inl, inr, ⊎_elim, ℕ, ◌<◌, ◌≤◌, Bool, true, false, cond, List, [], ◌∷◌}
+use Rattle.std.proofs.Common.{◌++◌, map, Option, Some, None, IsSome, Result, Ok, Err, OnOk, OnErr, Ordering, Less}
+use Rattle.std.proofs.Common.{Equal, Greater, refl, sym}
 use Rattle.std.proofs.Common.{ap, ◌∙◌, subst, arith}
 use Rattle.std.specs.Borrow.{Bor}
 use Rattle.std.specs.List.{slice_get}
@@ -13,26 +14,24 @@ use Rattle.std.proofs.lemmas.Map.Lookups.{exact_unsigned}
 use Rattle.std.proofs.lemmas.Option.{none-some}
 use Rattle.trace_model.specs.Parcel.{Parcel, IsPairOf, IsMissingOf}
 use Rattle.trace_model.specs.Record.{Record}
-use Rattle.trace_model.specs.Collection.{Has, Misses, IsBelow}
-use Rattle.trace_model.specs.declared.limits.TheConstants.{MAX_CPUS}
+use Rattle.trace_model.specs.Collection.{Has, Misses}
 use Rattle.trace_model.proofs.collections.Collections.{below_itself}
-use Rattle.trace_model.proofs.collections.Elements.{some_is, get_in_front, get_in_either}
+use Rattle.trace_model.proofs.collections.Elements.{some_is, get_in_either}
 use Rattle.trace_model.proofs.collections.Joined.{joined_left, joined_right}
-use Rattle.collector.specs.Known.{IsKnown, IsTaken, IsSameFrom}
+use Rattle.collector.specs.Known.{IsTaken}
 use Rattle.collector.proofs.Known.{from_itself}
 use Rattle.parcel_streams.specs.declared.piece.StreamId.{StreamId}
 use Rattle.parcel_streams.specs.declared.piece.Mark.TheVariants.{End, Forgotten, Undelivered}
 use Rattle.parcel_streams.specs.Pieces.{Packed, parcel_piece, mark_piece}
-use Rattle.stream_collector.specs.Marks.{marks_at, bounds_of, SaySomething}
-use Rattle.stream_collector.specs.Marking.{IsReached, by_bound, by_parcels, by_given_up}
-use Rattle.stream_collector.specs.Merging.{IsMerge, FitTogether, HaveOneEnd}
+use Rattle.stream_collector.specs.Marks.{bounds_of}
+use Rattle.stream_collector.specs.Merging.{IsMerge, FitTogether}
 use Rattle.stream_collector.specs.Same.{IsSameStream}
-use Rattle.stream_collector.specs.Stream.{Stream, bound_of, end_of, HasRecord, IsMissing, IsUndelivered, IsNotKnown}
+use Rattle.stream_collector.specs.Stream.{Stream, bound_of, end_of, HasRecord, IsMissing, IsNotKnown}
 use Rattle.collector.specs.Shown.{IsUnknown}
 use Rattle.fleet_collector.specs.Fleet.{known_of, stream_at, empty_stream, or_empty, entry_seen, HasKnownCpus}
 use Rattle.fleet_collector.specs.Merging.{IsMergeAt, AreMerges, OfEachThere, IsSameFleet}
-use Rattle.fleet_collector.specs.Told.{IsPieceOf, TellEnd, TellForgotten, TellGivenUp, TellParcel, TellOfNumber, TellRecord}
-use Rattle.fleet_collector.specs.Told.{TellMissing, IsBoundTold, IsStreamOf, IsFleetOf}
+use Rattle.fleet_collector.specs.Told.{IsPieceOf, TellEnd, TellForgotten, TellParcel, TellOfNumber, TellRecord}
+use Rattle.fleet_collector.specs.Told.{TellMissing, IsBoundTold, IsStreamOf}
 use Rattle.fleet_collector.proofs.Changed.{IsPut}
 use Rattle.fleet_collector.proofs.Telling.{only, told_in_either, from_bound, none_forgets}
 
@@ -166,14 +165,6 @@ merged_cpus s o new merge own others = record {
 
 -- ---- nothing and nothing
 
-not_reached : (cpu n : ℕ) → IsReached empty_stream cpu n → ⊥
-not_reached cpu n (by_bound lt) = absurd (omega arith)
-not_reached cpu n (by_parcels known) = ⊎_elim
-    (λ (taken : IsTaken [] cpu n). let h = taken.1 in absurd (none-some h.parcel h.at))
-    (λ (m : Misses [] cpu n). absurd (none-some m.parcel m.at))
-    known
-not_reached cpu n (by_given_up m) = absurd (none-some m.parcel m.at)
-
 pub nothing_merged : IsMerge empty_stream empty_stream empty_stream
 nothing_merged = record {
   bounds = λ cpu. refl;
@@ -259,7 +250,8 @@ module _ (pieces others : List Packed) (id : ℕ) where
       { time = t.time; contents = t.contents; told = back })
       ((told_in_either pieces others (parcel_piece id p t.time t.contents)).0 t.told)
 
-  module _ (s o new : Stream) (was : IsStreamOf pieces id s) (too : IsStreamOf others id o) (merge : IsMerge s o new) where
+  module _ (s o new : Stream) (was : IsStreamOf pieces id s) (too : IsStreamOf others id o)
+      (merge : IsMerge s o new) where
     bounds : (cpu : ℕ) → IsBoundTold (pieces ++ others) id cpu (bound_of new cpu)
     bounds cpu =
         let is = merge.bounds cpu in

@@ -7,4 +7,6 @@ pub mod Adding
 pub mod Joined
 pub mod Forgotten
 pub mod BeforeCut
+pub mod GoesOut
+pub mod Snapshots
 pub mod Marked

@@ -19,7 +19,9 @@ use Rattle.stream_collector.specs.Marking.{HasEnd}
 use Rattle.stream_collector.specs.GivenUp.{GivesUp, AllGivenUp, IsInRun}
 use Rattle.stream_collector.specs.Forgetting.{HasBound}
 use Rattle.stream_collector.proofs.StreamLaws.{records_stay, missing_stay, one_raised}
-use Rattle.fleet_collector.specs.Told.{IsPieceOf, TellEnd, TellForgotten, TellGivenUp, TellParcel, TellOfNumber, TellRecord}
+use Rattle.fleet_collector.specs.Told.{stream_of, IsPieceOf, TellEnd, TellForgotten, TellGivenUp, TellParcel}
+use Rattle.fleet_collector.specs.Told.{TellOfNumber}
+use Rattle.fleet_collector.specs.Told.{TellRecord}
 use Rattle.fleet_collector.specs.Told.{TellMissing, IsBoundTold, IsStreamOf, IsFleetOf, HaveSamePieces, IsListingOf}
 use Rattle.fleet_collector.specs.Fleet.{stream_at}
 use Rattle.fleet_collector.specs.Listing.{Line, IsListing}
@@ -344,7 +346,8 @@ module _ (pieces : List Packed) (id c : ℕ) (mark : Mark) where
     below = t.below;
   }
 
-  -- the bounds, the ends and what is given up are those that the pieces and the mark tell, and nothing else changes from
+  -- the bounds, the ends and what is given up are those that the pieces and the mark tell, and nothing else changes
+  -- from
   -- the bounds on
   marked_told : (old new : Stream) → IsStreamOf pieces id old
       → ((cpu : ℕ) → IsBoundTold (pieces ++ mark_piece id c mark ∷ []) id cpu (bound_of new cpu))
@@ -655,11 +658,6 @@ again_same pieces piece id there = record {
   );
 }
 
--- the stream of a piece
-abbrev pub stream_of : Packed → ℕ
-stream_of (parcel_piece stream parcel time contents) = stream
-stream_of (mark_piece stream cpu mark) = stream
-
 -- one of another stream
 pub apart_same : (pieces : List Packed) (piece : Packed) (id : ℕ) → (id ≡ stream_of piece → ⊥)
     → TellSame pieces (pieces ++ piece ∷ []) id
@@ -683,7 +681,11 @@ apart_same pieces piece id apart = record {
 -- ---- the same pieces
 pub pieces_same : (pieces others : List Packed) (id : ℕ) → HaveSamePieces pieces others → TellSame pieces others id
 pieces_same pieces others id same =
-    record { parcels = λ p time contents. same (parcel_piece id p time contents); marks = λ cpu mark. same (mark_piece id cpu mark) }
+    record {
+      parcels = λ p time contents. same (parcel_piece id p time contents);
+      marks = λ cpu mark. same
+          (mark_piece id cpu mark);
+    }
 
 pub fleet_same : (pieces others : List Packed) (fleet : List (ℕ × Stream)) → HaveSamePieces pieces others
     → IsFleetOf pieces fleet → IsFleetOf others fleet

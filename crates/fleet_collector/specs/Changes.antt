@@ -2,7 +2,8 @@
 -- relation for each of its calls.
 use Rattle.std.specs.Prelude.{◌≡◌, ◌↔◌, ℕ, ◌<◌, ◌≤◌, Result, Some, None, Ok, IfErr, OnOk, OnErr}
 use Rattle.parcel_streams.specs.declared.piece.Mark.{Mark}
-use Rattle.parcel_streams.specs.declared.piece.Mark.TheVariants.{End as EndMark, Forgotten as ForgottenMark, Undelivered as UndeliveredMark}
+use Rattle.parcel_streams.specs.declared.piece.Mark.TheVariants.{End as EndMark, Forgotten as ForgottenMark}
+use Rattle.parcel_streams.specs.declared.piece.Mark.TheVariants.{Undelivered as UndeliveredMark}
 use Rattle.stream_collector.specs.Stream.{Stream, bound_of, end_of, IsUpToEnd}
 use Rattle.stream_collector.specs.GivenUp.{GivesUp, AllGivenUp, IsUndeliveredFault}
 use Rattle.stream_collector.specs.Marking.{IsReached, HasEnd, IsEndFault}

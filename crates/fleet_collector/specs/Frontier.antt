@@ -1,7 +1,5 @@
 -- From where on all that comes of a fleet is later, and what is listed before that.
-use Rattle.std.specs.Prelude.{◌≡◌, ℕ, ◌<◌, ◌⊎◌, ⊤, List, Option, Some, None}
-use Rattle.std.specs.List.{slice_get}
-use Rattle.trace_model.specs.Record.{Record}
+use Rattle.std.specs.Prelude.{◌≡◌, ℕ, ◌⊎◌, ⊤, List, Option, Some, None}
 use Rattle.trace_model.specs.declared.numbers.Moment.{Moment}
 use Rattle.stream_collector.specs.Stream.{Stream}
 use Rattle.stream_collector.specs.Frontier.{IsHeldAt, IsCpuThere, IsNotAfter, IsForgottenBefore}

@@ -6,3 +6,4 @@ pub mod Frontier
 pub mod Lines
 pub mod Told
 pub mod Pieces
+pub mod Snapshot

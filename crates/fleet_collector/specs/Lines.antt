@@ -60,19 +60,22 @@ pub record IsListingShown (before : Option Moment) (fleet : List (ℕ × Stream)
       → (k : ℕ) × (slice_get lines k ≡ Some (line_for stream cpu number r))
 
 -- this stream has the record
-pub record HasOf (before : Option Moment) (stream : ℕ) (known : Stream) (other cpu number : ℕ) (r : Record) : Type 0 where
+pub record HasOf (before : Option Moment) (stream : ℕ) (known : Stream) (other cpu number : ℕ)
+    (r : Record) : Type 0 where
   pub stream_is : other ≡ stream
   pub has : IsShown before known cpu number r
 
 -- so it has, of one of these CPUs
-pub record HasAmong (before : Option Moment) (stream : ℕ) (known : Stream) (cpus : List ℕ) (other cpu number : ℕ) (r : Record) : Type 0 where
+pub record HasAmong (before : Option Moment) (stream : ℕ) (known : Stream) (cpus : List ℕ) (other cpu number : ℕ)
+    (r : Record) : Type 0 where
   pub stream_is : other ≡ stream
   pub index : ℕ
   pub at : slice_get cpus index ≡ Some cpu
   pub has : IsShown before known cpu number r
 
 -- one of these streams has the record
-pub record HasIn (before : Option Moment) (fleet : List (ℕ × Stream)) (stream cpu number : ℕ) (r : Record) : Type 0 where
+pub record HasIn (before : Option Moment) (fleet : List (ℕ × Stream)) (stream cpu number : ℕ)
+    (r : Record) : Type 0 where
   pub index : ℕ
   pub known : Stream
   pub at : slice_get fleet index ≡ Some (stream, known)

@@ -20,7 +20,8 @@ use Rattle.stream_collector.specs.declared.fault.AddFault.TheVariants.{Refused}
 use Rattle.stream_collector.specs.declared.added.Added.{Added}
 use Rattle.stream_collector.specs.declared.added.Added.TheVariants.{New, Known, Forgotten as IsNotKept}
 use Rattle.fleet_collector.specs.declared.refusal.PieceRefusal.{PieceRefusal}
-use Rattle.fleet_collector.specs.declared.refusal.PieceRefusal.TheVariants.{Parcel as ParcelRefused, Mark as MarkRefused}
+use Rattle.fleet_collector.specs.declared.refusal.PieceRefusal.TheVariants.{Parcel as ParcelRefused}
+use Rattle.fleet_collector.specs.declared.refusal.PieceRefusal.TheVariants.{Mark as MarkRefused}
 use Rattle.fleet_collector.specs.Fleet.{known_of, stream_at, KeepsOthers}
 
 -- ---- a parcel

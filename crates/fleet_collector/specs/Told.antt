@@ -10,6 +10,11 @@ use Rattle.stream_collector.specs.Stream.{Stream, bound_of, end_of, HasRecord, I
 use Rattle.fleet_collector.specs.Fleet.{stream_at}
 use Rattle.fleet_collector.specs.Listing.{Line, IsTimeOrdered, line_for}
 
+-- the stream that a piece is of
+abbrev pub stream_of : Packed → ℕ
+stream_of (parcel_piece stream parcel time contents) = stream
+stream_of (mark_piece stream cpu mark) = stream
+
 -- the piece is one of these
 abbrev pub IsPieceOf : List Packed → Packed → Type 0
 IsPieceOf pieces piece = (k : ℕ) × (slice_get pieces k ≡ Some piece)

@@ -28,7 +28,8 @@ impl Fleet {
     ghost use Rattle.fleet_collector.specs.Frontier.{IsFleetFrontier, AllForgottenBefore, SomeForgottenBefore};
 
     /// The moment up to which all is known, if each CPU's moments never fall: the least of the frontiers of the streams
-    /// (`StreamCollector::frontier`). It is none if each CPU of which something is there is complete. What comes later is
+    /// (`StreamCollector::frontier`). It is none if each CPU of which something is there is complete. What comes
+    /// later is
     /// at or after it, but for records of a CPU of which nothing is there yet. It takes no memory.
     pub fn frontier(&self) -> Option<Moment>
         ensures { IsFleetFrontier self.now result }
@@ -40,7 +41,8 @@ impl Fleet {
         least
     }
 
-    /// Raises the bound of each CPU of each stream to its cut at a moment, as `StreamCollector::forget_before` does: what
+    /// Raises the bound of each CPU of each stream to its cut at a moment, as `StreamCollector::forget_before` does:
+    /// what
     /// `lines_before` lists at that moment is forgotten. If memory is refused, some streams may have been done; it may
     /// be called again.
     pub fn forget_before(&mut self, moment: Moment) -> Result<(), NoMemory>

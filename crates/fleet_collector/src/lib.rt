@@ -11,6 +11,7 @@ mod marks;
 mod merge;
 mod merge_fault;
 mod next;
+mod pack;
 mod piece;
 mod refusal;
 mod streams;

@@ -85,7 +85,8 @@ fn put_all_merged(
 
 /// Whether the same is known in two fleets of each stream of a fleet.
 fn are_all_same(streams: &Fleet, one: &Fleet, other: &Fleet) -> bool
-    ensures { IsTrue result ↔ OfEachThere (λ id. IsSameStream (stream_at one.now id) (stream_at other.now id)) streams.now }
+    ensures { IsTrue result ↔ OfEachThere (λ id. IsSameStream (stream_at one.now id)
+        (stream_at other.now id)) streams.now }
 {
     let nothing = nothing(one.alloc);
     for (stream, _known) in streams.streams() {

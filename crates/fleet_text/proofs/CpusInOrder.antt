@@ -76,9 +76,11 @@ one_more front stream known cpus more low p q = record {
       let lt : x.stream < y.stream = omega arith in inl lt));
   of_them = λ at s. ⊎_elim
       (λ front_at. let t = p.of_them at front_at in (t.0, get_in_front front ((stream, known) ∷ []) t.0 (at.stream, at.known) t.1))
-      (λ back. (length front + 0,
-      get_behind front ((stream, known) ∷ []) 0
-      ∙ ap (λ (s : ℕ). Some (s, known)) (sym (q.stream_is at back)) ∙ ap (λ (k : Stream). Some (at.stream, k)) (sym (q.known_is at back))))
+      (λ back. (
+        length front + 0,
+        get_behind front ((stream, known) ∷ []) 0
+            ∙ ap (λ (s : ℕ). Some (s, known)) (sym (q.stream_is at back)) ∙ ap (λ (k : Stream). Some (at.stream, k)) (sym (q.known_is at back)),
+      ))
       (get_in_either cpus more s.0 at s.1);
   whole = λ s cpu k among there. ⊎_elim
       (λ (front_at : (j : ℕ) × (slice_get front j ≡ Some (s, k))).

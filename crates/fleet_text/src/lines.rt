@@ -46,7 +46,12 @@ fn put_id<W: Sink>(buffer: &mut TextBuffer, writer: &mut W, stream: StreamId)
 }
 
 /// Puts a CPU of a stream.
-pub(crate) fn put_cpu<W: Sink>(buffer: &mut TextBuffer, writer: &mut W, stream: StreamId, cpu: CpuId)
+pub(crate) fn put_cpu<W: Sink>(
+    buffer: &mut TextBuffer,
+    writer: &mut W,
+    stream: StreamId,
+    cpu: CpuId,
+)
     requires { has_failed buffer.old ≡ W.failed writer.old }
     ensures tied { has_failed buffer.new ≡ W.failed writer.new }
     ensures put { Puts (cpu_text stream.0 cpu.0)
@@ -58,7 +63,12 @@ pub(crate) fn put_cpu<W: Sink>(buffer: &mut TextBuffer, writer: &mut W, stream: 
 }
 
 /// Puts a CPU of a stream as members of an object.
-pub(crate) fn put_json_cpu<W: Sink>(buffer: &mut TextBuffer, writer: &mut W, stream: StreamId, cpu: CpuId)
+pub(crate) fn put_json_cpu<W: Sink>(
+    buffer: &mut TextBuffer,
+    writer: &mut W,
+    stream: StreamId,
+    cpu: CpuId,
+)
     requires { has_failed buffer.old ≡ W.failed writer.old }
     ensures tied { has_failed buffer.new ≡ W.failed writer.new }
     ensures put { Puts (json_cpu stream.0 cpu.0)
@@ -119,7 +129,12 @@ fn put_json_line<W: Sink>(buffer: &mut TextBuffer, writer: &mut W, line: &FleetL
 }
 
 /// Puts a record's line.
-pub(crate) fn put_line<W: Sink>(buffer: &mut TextBuffer, writer: &mut W, form: Form, line: &FleetLine<'_>)
+pub(crate) fn put_line<W: Sink>(
+    buffer: &mut TextBuffer,
+    writer: &mut W,
+    form: Form,
+    line: &FleetLine<'_>,
+)
     requires { has_failed buffer.old ≡ W.failed writer.old }
     ensures tied { has_failed buffer.new ≡ W.failed writer.new }
     ensures put { Puts (record_line form (line_seen line.now))
@@ -178,7 +193,13 @@ fn put_json_run<W: Sink>(buffer: &mut TextBuffer, writer: &mut W, kind: RunKind,
 }
 
 /// Puts the line of a run.
-fn put_run<W: Sink>(buffer: &mut TextBuffer, writer: &mut W, form: Form, kind: RunKind, run: &FleetRun)
+fn put_run<W: Sink>(
+    buffer: &mut TextBuffer,
+    writer: &mut W,
+    form: Form,
+    kind: RunKind,
+    run: &FleetRun,
+)
     requires { has_failed buffer.old ≡ W.failed writer.old }
     ensures tied { has_failed buffer.new ≡ W.failed writer.new }
     ensures put { Puts (run_line form kind (run_seen run.now))

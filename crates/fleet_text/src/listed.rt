@@ -51,7 +51,13 @@ impl<'a> Listed<'a> {
         put_lines(buffer, writer, form, &self.lines);
         put_runs(buffer, writer, form, RunKind::Missing, &self.missing);
         put_runs(buffer, writer, form, RunKind::Unknown, &self.unknown);
-        put_runs(buffer, writer, form, RunKind::Undelivered, &self.undelivered);
+        put_runs(
+            buffer,
+            writer,
+            form,
+            RunKind::Undelivered,
+            &self.undelivered,
+        );
         put_runs(buffer, writer, form, RunKind::Forgotten, &self.forgotten);
     }
 }

@@ -51,12 +51,7 @@ fn put_json_place<W: Sink>(buffer: &mut TextBuffer, writer: &mut W, place: Piece
 }
 
 /// Puts a parcel as text.
-fn put_parcel<W: Sink>(
-    buffer: &mut TextBuffer,
-    writer: &mut W,
-    stream: StreamId,
-    parcel: &Parcel,
-)
+fn put_parcel<W: Sink>(buffer: &mut TextBuffer, writer: &mut W, stream: StreamId, parcel: &Parcel)
     requires { has_failed buffer.old ≡ W.failed writer.old }
     ensures tied { has_failed buffer.new ≡ W.failed writer.new }
     ensures put { Puts (parcel_text stream.0 (as_parcel parcel.now))

@@ -3,6 +3,8 @@ use Rattle.std.specs.Prelude.{ℕ, List}
 use Rattle.trace_model.specs.Parcel.{Parcel}
 use Rattle.trace_model.specs.ParcelBytes.{DecodesParcel}
 use Rattle.parcel_streams.specs.Pieces.{parcel_piece, bytes_of_piece, IsPiece}
+use Rattle.stream_collector.specs.Stream.{Stream}
+use Rattle.fleet_collector.specs.Snapshot.{IsSnapshot}
 use Rattle.listed_fleet.specs.declared.buffer.Put.{Put}
 use Rattle.listed_fleet.specs.Buffer.{PutsSo}
 
@@ -14,3 +16,9 @@ pub record PacksSo (stream : ℕ) (bytes out : List ℕ) (put : Put) (left : Lis
   pub reads : DecodesParcel bytes parcel
   pub sound : IsPiece (parcel_piece stream parcel time contents)
   pub puts : PutsSo (bytes_of_piece (parcel_piece stream parcel time contents)) out put left
+
+-- The pieces are put into the buffer, or have no room there, which tell just what is known of a stream.
+pub record PacksSnapshot (id : ℕ) (stream : Stream) (out : List ℕ) (put : Put) (left : List ℕ) : Type 0 where
+  pub bytes : List ℕ
+  pub is_snapshot : IsSnapshot id stream bytes
+  pub puts : PutsSo bytes out put left

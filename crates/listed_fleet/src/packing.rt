@@ -7,6 +7,7 @@ ghost use Rattle.listed_fleet.specs.Buffer.{PutsSo};
 ghost use Rattle.listed_fleet.specs.Packing.{PacksSo};
 
 use crate::buffer::{Put, put_front};
+use crate::listed::ListedFleet;
 use page_numbers::{Parcel, ParcelFault};
 use parcel_streams::{Mark, StreamId, pack_mark, pack_parcel};
 use std::alloc::Global;
@@ -53,5 +54,23 @@ pub fn pack_end(
     match pack_mark(alloc, stream, cpu, Mark::End(count)) {
         Ok(piece) => Ok(put_front(out, &piece)),
         Err(NoMemory) => Err(ParcelFault::NoMemory),
+    }
+}
+
+impl ListedFleet {
+    ghost use Rattle.fleet_collector.specs.Fleet.{stream_at};
+    ghost use Rattle.listed_fleet.specs.Packing.{PacksSnapshot};
+
+    /// Puts what is known of a stream as packed pieces to the front of `out`. If memory is refused, nothing is put.
+    pub fn pack(&self, alloc: Global, stream: StreamId, out: &mut [u8]) -> Result<Put, ParcelFault>
+        ensures packs { IfOk result (λ put.
+            PacksSnapshot stream.0 (stream_at self.now.fleet stream.0) out.old put out.new) }
+        ensures fault { IfErr result (λ fault. fault ≡ ParcelFault.NoMemory) }
+        ensures refused { OnErr result (out.new ≡ out.old) }
+    {
+        match self.fleet.pack(alloc, stream) {
+            Ok(pieces) => Ok(put_front(out, &pieces)),
+            Err(NoMemory) => Err(ParcelFault::NoMemory),
+        }
     }
 }

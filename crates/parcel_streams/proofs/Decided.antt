@@ -95,7 +95,8 @@ same_parts bytes more s h =
       sum_is = ap (λ (n : ℕ). take 8 (drop (n - 8) whole)) is ∙ sum;
     }
 
-sums_same : (bytes whole : List ℕ) → SameParts bytes whole → le64 (crc32c (summed_in whole)) ≡ le64 (crc32c (summed_in bytes))
+sums_same : (bytes whole : List ℕ) → SameParts bytes whole
+    → le64 (crc32c (summed_in whole)) ≡ le64 (crc32c (summed_in bytes))
 sums_same bytes whole p = ap (λ (b : List ℕ). le64 (crc32c b)) p.summed_is
 
 seal_same : (bytes whole : List ℕ) → SameParts bytes whole → IsSealed bytes → IsSealed whole

@@ -172,7 +172,8 @@ sound_not_bad cpu mark known sound bad =
     ⊎_elim
     (λ other. other (length-mark cpu mark))
     (λ more. ⊎_elim
-    (λ (past : MAX_CPUS ≤ from_le64 body). let is = from_le64-le64 cpu (numbers_of_mark mark) (omega arith) in omega arith)
+    (λ (past : MAX_CPUS ≤ from_le64 body).
+    let is = from_le64-le64 cpu (numbers_of_mark mark) (omega arith) in omega arith)
     (λ empty. sound_not_empty (kind_of_mark mark) body (kind_least mark) (kind_most mark)
     (subst IsMark (sym (stated_is cpu mark sound)) sound) empty)
     more)

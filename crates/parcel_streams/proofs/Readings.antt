@@ -220,7 +220,8 @@ same_marks bytes stream other cpu cpu' mark mark' b c =
     let own = b.sound.cpu_known in
     let that = c.sound.cpu_known in
     let kinds : kind_of_mark mark ≡ kind_of_mark mark' = sym one.kind_is ∙ two.kind_is in
-    let bodies : le64 cpu ++ numbers_of_mark mark ≡ le64 cpu' ++ numbers_of_mark mark' = sym one.body_is ∙ two.body_is in
+    let bodies : le64 cpu ++ numbers_of_mark mark ≡ le64 cpu' ++ numbers_of_mark mark' =
+    sym one.body_is ∙ two.body_is in
     let cpus : cpu ≡ cpu' = sym (from_le64-le64 cpu (numbers_of_mark mark) (omega arith)) ∙ ap from_le64 bodies
     ∙ from_le64-le64 cpu' (numbers_of_mark mark') (omega arith) in
     let marks : mark ≡ mark' = sym (stated_is cpu mark b.sound.sound) ∙ (λ i. mark_stated (kinds i) (bodies i))

@@ -95,7 +95,8 @@ pub record IsParcelBody (body : List ℕ) (parcel : ParcelValue) : Type 0 where
 abbrev pub mark_stated : (kind : ℕ) → List ℕ → Mark
 mark_stated kind body =
     let first = from_le64 (drop 8 body) in
-    if kind == 1 then End first else (if kind == 2 then Forgotten first else Undelivered first (from_le64 (drop 16 body)))
+    if kind == 1 then End first
+    else (if kind == 2 then Forgotten first else Undelivered first (from_le64 (drop 16 body)))
 
 -- the body is that of this mark, whose kind this is, of this CPU
 pub record IsMarkBody (kind : ℕ) (body : List ℕ) (cpu : ℕ) (mark : Mark) : Type 0 where

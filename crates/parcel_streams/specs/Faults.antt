@@ -61,8 +61,8 @@ pub record IsWhole (bytes : List ℕ) : Type 0 where
   pub stated : HasLength bytes
   pub there : length_in bytes ≤ length bytes
 
--- The bytes decide what the piece at the front is: its head is there, and all that it states if it states a length that a
--- piece may have. More bytes change nothing.
+-- The bytes decide what the piece at the front is: its head is there, and all that it states if it states a length that
+-- a piece may have. More bytes change nothing.
 pub record IsDecided (bytes : List ℕ) : Type 0 where
   pub long : HEAD ≤ length bytes
   pub there : HasLength bytes → length_in bytes ≤ length bytes

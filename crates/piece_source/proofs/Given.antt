@@ -1,11 +1,11 @@
 -- Pieces that are given one after the other.
-use Rattle.std.proofs.Common.{◌≡◌, ℕ, List, [], ◌∷◌, ◌++◌, length, Option, Some, None, refl, sym, ap, ◌∙◌, subst, append-nil}
+use Rattle.std.proofs.Common.{◌≡◌, ℕ, ◌+◌, ◌-◌, ◌^◌, min, List, [], ◌∷◌, ◌++◌, length, Option, Some, None, refl, sym, ap, ◌∙◌, subst, arith, append-nil, length-append}
 use Rattle.std.specs.Io.KnownBytes.{Consumes, Keeps, IsAtEnd}
 use Rattle.std.proofs.KnownBytes.{Consumes-nil, Consumes-trans, Consumes-kept}
 use Rattle.parcel_streams.specs.Pieces.{Packed, bytes_of_piece, bytes_of_pieces, IsStream}
 use Rattle.parcel_streams.specs.Faults.{PieceCause, FirstStreamFault}
 use Rattle.parcel_streams.proofs.Streams.{one_more, all_joined}
-use Rattle.piece_source.specs.Reading.{AreLeft, GivesPiece, HasFaultAhead, GivesPieces}
+use Rattle.piece_source.specs.Reading.{AreLeft, GivesPiece, HasFaultAhead, GivesPieces, HasGiven}
 
 pub gives_none : (first : Option (List ℕ)) → GivesPieces first first []
 gives_none first = record { sound = tt; taken = Consumes-nil first }
@@ -65,3 +65,25 @@ fault_given (Some x) (Some y) pieces cause given h = (
   faulty x h.ahead pieces cause (Some y) h
       (given.taken ∙ ap (λ (b : List ℕ). bytes_of_pieces pieces ++ b) h.are_left) (Some x) given,
 )
+
+-- ---- and counted
+
+pub counts_none : (first : Option (List ℕ)) → HasGiven first first 0 0 []
+counts_none first = record { gives = gives_none first; index_is = refl; at_is = refl }
+
+pub counts_more : (first left rest : Option (List ℕ)) (index at : ℕ) (pieces : List Packed) (piece : Packed)
+    → HasGiven first left index at pieces → GivesPiece left rest piece
+    → HasGiven first rest (min (index + 1) (2 ^ 64 - 1)) (min (at + length (bytes_of_piece piece)) (2 ^ 64 - 1))
+    (pieces ++ piece ∷ [])
+counts_more first left rest index at pieces piece before next =
+    let index_is = before.index_is in
+    let at_is = before.at_is in
+    let count : length (pieces ++ piece ∷ []) ≡ length pieces + 1 = length-append pieces (piece ∷ []) in
+    let bytes : length (bytes_of_pieces (pieces ++ piece ∷ []))
+    ≡ length (bytes_of_pieces pieces) + length (bytes_of_piece piece) =
+    ap length (one_more pieces piece) ∙ length-append (bytes_of_pieces pieces) (bytes_of_piece piece) in
+    record {
+      gives = gives_more first left rest pieces piece before.gives next;
+      index_is = omega arith;
+      at_is = omega arith;
+    }

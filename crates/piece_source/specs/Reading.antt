@@ -1,6 +1,6 @@
 -- What is read of a source of pieces. The bytes that a source has yet to give are known, or they aren't; where they
 -- aren't, nothing is said of them.
-use Rattle.std.specs.Prelude.{◌≡◌, ℕ, ◌<◌, ◌≤◌, ◌⊎◌, ⊤, List, ◌++◌, length, Option, Some, None}
+use Rattle.std.specs.Prelude.{◌≡◌, ℕ, ◌-◌, ◌^◌, ◌<◌, ◌≤◌, min, ◌⊎◌, ⊤, List, ◌++◌, length, Option, Some, None, Result, Ok, Err}
 use Rattle.std.specs.Io.KnownBytes.{Consumes, IsAtEnd}
 use Rattle.parcel_streams.specs.Pieces.{Packed, bytes_of_piece, IsPiece, AreAllPieces, bytes_of_pieces}
 use Rattle.parcel_streams.specs.Faults.{HasMagic, PieceCause, FirstPieceFault, IsDecided}
@@ -33,6 +33,19 @@ pub record HasPieceAhead (left : Option (List ℕ)) : Type 0 where
 pub record GivesPieces (first rest : Option (List ℕ)) (pieces : List Packed) : Type 0 where
   pub sound : AreAllPieces pieces
   pub taken : Consumes first rest (bytes_of_pieces pieces)
+
+-- A reader has given these pieces of what was there at first, and the rest is left; so many they are, and so many bytes
+-- they have. The two numbers stop at 2^64 - 1.
+pub record HasGiven (first rest : Option (List ℕ)) (index at : ℕ) (pieces : List Packed) : Type 0 where
+  pub gives : GivesPieces first rest pieces
+  pub index_is : index ≡ min (length pieces) (2 ^ 64 - 1)
+  pub at_is : at ≡ min (length (bytes_of_pieces pieces)) (2 ^ 64 - 1)
+
+-- no piece is answered, and this holds then
+abbrev pub OnNoPiece : {A E : Type 0} → Result (Option A) E → Type 0 → Type 0
+OnNoPiece (Ok (Some piece)) holds = ⊤
+OnNoPiece (Ok None) holds = holds
+OnNoPiece (Err fault) holds = holds
 
 -- ---- steps of a reader
 

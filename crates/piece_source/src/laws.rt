@@ -1,9 +1,9 @@
 //! What the pieces are that are given of a source.
-ghost use Rattle.std.specs.Prelude.{◌≡◌, ℕ, ◌+◌, List, [], ◌∷◌, ◌++◌, length, Option};
+ghost use Rattle.std.specs.Prelude.{◌≡◌, ℕ, ◌+◌, ◌-◌, ◌^◌, min, List, [], ◌∷◌, ◌++◌, length, Option};
 ghost use Rattle.std.specs.Io.KnownBytes.{IsAtEnd, Keeps};
-ghost use Rattle.parcel_streams.specs.Pieces.{Packed, bytes_of_pieces, IsStream};
+ghost use Rattle.parcel_streams.specs.Pieces.{Packed, bytes_of_piece, bytes_of_pieces, IsStream};
 ghost use Rattle.parcel_streams.specs.Faults.{PieceCause, FirstStreamFault};
-ghost use Rattle.piece_source.specs.Reading.{AreLeft, GivesPiece, HasFaultAhead, GivesPieces};
+ghost use Rattle.piece_source.specs.Reading.{AreLeft, GivesPiece, HasFaultAhead, GivesPieces, HasGiven};
 ghost use Rattle.piece_source.specs.declared.limits.TheConstants.{ROOM};
 ghost use Rattle.parcel_streams.specs.declared.limits.TheConstants.{MAX_PIECE};
 
@@ -23,6 +23,15 @@ pub fn pieces_given_are_a_stream()
         → GivesPieces first left pieces → HasFaultAhead left cause
         → (bytes : List ℕ) × AreLeft first bytes
         × FirstStreamFault bytes (length pieces) (length (bytes_of_pieces pieces)) cause }
+{}
+
+/// What a reader has given is counted: nothing at first, and then with each piece one more, and its bytes.
+pub fn pieces_given_are_counted()
+    ensures none { (first : Option (List ℕ)) → HasGiven first first 0 0 [] }
+    ensures more { (first left rest : Option (List ℕ)) (index at : ℕ) (pieces : List Packed) (piece : Packed)
+        → HasGiven first left index at pieces → GivesPiece left rest piece
+        → HasGiven first rest (min (index + 1) (2 ^ 64 - 1)) (min (at + length (bytes_of_piece piece)) (2 ^ 64 - 1))
+        (pieces ++ piece ∷ []) }
 {}
 
 /// The number has this value. The contracts name it, so that one that is changed is refused here.

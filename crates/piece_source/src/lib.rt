@@ -1,7 +1,7 @@
 //! Streams of parcels, read from their source piece by piece: at most a fixed number of bytes is held of it.
 //!
-//! What a reader of pieces gives are the pieces of the stream that its source has, or its first fault. And a source whose
-//! first bytes were looked at, to see whether it is a stream, is still a source of all its bytes.
+//! What a reader of pieces gives are the pieces of the stream that its source has, or its first fault. And a source
+//! whose first bytes were looked at, to see whether it is a stream, is still a source of all its bytes.
 #![tactic(auto)]
 
 mod fault;

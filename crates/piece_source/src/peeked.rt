@@ -38,6 +38,13 @@ impl<R> Peeked<R> {
         is_stream(&self.first[self.given..self.len])
     }
 
+    /// Whether the source has no byte. It is asked for before anything is read of it.
+    pub fn is_empty(&self) -> bool
+        ensures { IsTrue result ↔ (length (peeked_unread self.now) ≡ 0) }
+    {
+        self.first[self.given..self.len].is_empty()
+    }
+
     /// Gives of the bytes that were looked at.
     fn give(&mut self, buf: &mut [u8]) -> usize
         ensures bound { result ≤ length buf.new }
@@ -55,7 +62,7 @@ impl<R> Peeked<R> {
 }
 
 impl<R: Source> Peeked<R> {
-    ghost use Rattle.std.specs.Prelude.{◌≡◌, ◌↔◌, false, IfOk, IfSome, OnOk};
+    ghost use Rattle.std.specs.Prelude.{◌≡◌, ◌↔◌, false, length, IfOk, IfSome, OnOk};
     ghost use Rattle.std.specs.Io.KnownBytes.{Keeps};
     ghost use Rattle.piece_source.specs.Reading.{BeginsStream};
     ghost use Rattle.piece_source.specs.Readers.{peeked_reader, peeked_unread, peeked_left};
@@ -69,6 +76,8 @@ impl<R: Source> Peeked<R> {
         ensures sound { IfOk result (λ peeked. R.failed (peeked_reader peeked) ≡ false) }
         ensures stream { IfOk result (λ peeked. IfSome (R.remaining reader) (λ bytes.
             BeginsStream (peeked_unread peeked) ↔ BeginsStream bytes)) }
+        ensures empty { IfOk result (λ peeked. IfSome (R.remaining reader) (λ bytes.
+            (length (peeked_unread peeked) ≡ 0) ↔ (length bytes ≡ 0))) }
     {
         let mut reader = reader;
         let mut first = [0; PEEKED];

@@ -20,7 +20,8 @@ impl<R> PieceReader<R> {
     ghost use Rattle.std.specs.Prelude.{◌≡◌, [], IfOk};
     ghost use Rattle.piece_source.specs.Readers.{source_of, given_of, index_of, at_of};
 
-    /// The bytes of the piece that was given last, as they are in the stream; none if none was given.
+    /// The bytes of the piece that the last call of [`PieceReader::next`] gave, as they are in the stream; none if it
+    /// gave none.
     pub fn bytes(&self) -> &[u8]
         ensures { result.now ≡ given_of self.now }
     {
@@ -56,13 +57,13 @@ impl<R> PieceReader<R> {
 }
 
 impl<R: Source> PieceReader<R> {
-    ghost use Rattle.std.specs.Prelude.{◌≡◌, ℕ, ◌+◌, ◌-◌, ◌^◌, ◌↔◌, true, false, [], min, length, None, Ok, Err, IfOk, IfSome, OnOk, OnErr};
+    ghost use Rattle.std.specs.Prelude.{◌≡◌, ℕ, ◌+◌, ◌-◌, ◌^◌, ◌↔◌, true, false, [], min, length, None, Ok, Err, IfOk, IfSome, OnOk};
     ghost use Rattle.std.specs.Io.KnownBytes.{IsAtEnd, Keeps};
     ghost use Rattle.parcel_streams.specs.Pieces.{bytes_of_piece};
     ghost use Rattle.parcel_streams.specs.Faults.{PieceCause};
     ghost use Rattle.parcel_streams.specs.Answers.{piece_seen, piece_fault};
     ghost use Rattle.parcel_streams.specs.declared.fault.PieceFault.TheVariants.{NoMemory as MemoryIs};
-    ghost use Rattle.piece_source.specs.Reading.{GivesPiece, HasFaultAhead, HasPieceAhead};
+    ghost use Rattle.piece_source.specs.Reading.{GivesPiece, HasFaultAhead, HasPieceAhead, OnNoPiece};
     ghost use Rattle.piece_source.specs.Readers.{source_of, left_of, given_of, index_of, at_of};
 
     /// A reader that has given nothing of this source.
@@ -103,9 +104,10 @@ impl<R: Source> PieceReader<R> {
             → HasPieceAhead (left_of R.remaining self.old) }
         ensures read_fault { (R.failed (source_of self.new) ≡ true) ↔ (result ≡ Err ReadPieceFault.Read) }
         ensures sound { OnOk result (R.failed (source_of self.new) ≡ false) }
-        ensures left { OnErr result (Keeps (left_of R.remaining self.old) (left_of R.remaining self.new)) }
-        ensures same_index { OnErr result (index_of self.new ≡ index_of self.old) }
-        ensures same_at { OnErr result (at_of self.new ≡ at_of self.old) }
+        ensures left { OnNoPiece result (Keeps (left_of R.remaining self.old) (left_of R.remaining self.new)) }
+        ensures no_bytes { OnNoPiece result (given_of self.new ≡ []) }
+        ensures same_index { OnNoPiece result (index_of self.new ≡ index_of self.old) }
+        ensures same_at { OnNoPiece result (at_of self.new ≡ at_of self.old) }
     {
         self.window.give(0);
         if fill(&mut self.window, &mut self.source).is_err() {

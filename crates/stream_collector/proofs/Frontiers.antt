@@ -98,12 +98,6 @@ not_before_first {X} holds x list l n y h = let found = l.whole n y h in at_inde
     at_index (suc k) at = let lt = above_first x list l.rising k (n, y) at in omega arith
 
 module _ (ps : List Parcel) (cpu from : ℕ) where
-  pub none_from : (list : List (ℕ × Record)) → AreRecordsFrom ps cpu from list → list ≡ []
-      → (n : ℕ) (r : Record) → from ≤ n → Has ps cpu n r → ⊥
-  none_from list l e n r up h =
-      let found = l.whole n r record { has = h; up = up } in
-      none-some (n, r) (subst (λ (xs : List (ℕ × Record)). slice_get xs found.0 ≡ Some (n, r)) e found.1)
-
   pub first_has : (list rest : List (ℕ × Record)) (x : ℕ × Record) → AreRecordsFrom ps cpu from list → list ≡ x ∷ rest
       → HasFrom ps cpu from x.0 x.1
   first_has list rest x l e =

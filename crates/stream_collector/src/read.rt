@@ -35,6 +35,13 @@ impl StreamCollector {
         self.marks(cpu).end.map(RecordNo)
     }
 
+    /// What was given up, as parcels without a record, which miss those numbers. They may overlap.
+    pub fn given_up_parcels(&self) -> &[Parcel]
+        ensures { as_parcels result.now ≡ self.now.given_up }
+    {
+        self.given_up.parcels()
+    }
+
     /// The record of a CPU under a number from its bound on, if there is one.
     pub fn get(&self, cpu: CpuId, number: RecordNo) -> Option<Entry<'_>>
         ensures number { IfSome result (λ entry. (numbered_record entry).0 ≡ number.0) }

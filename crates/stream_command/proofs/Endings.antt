@@ -29,28 +29,28 @@ use Rattle.stream_command.proofs.Gathered.{added_told, GathersTo, all_gathered}
 
 module _ {S T : Type 0} (f : S → T) (takes : S → Placed → S → Type 0) (takes' : T → Placed → T → Type 0)
     (each : (p : S) (x : Placed) (q : S) → takes p x q → takes' (f p) x (f q)) where
-  takes_seen : (p : S) (xs : List Placed) (q : S) → TakesAll takes p xs q → TakesAll takes' (f p) xs (f q)
+  pub takes_seen : (p : S) (xs : List Placed) (q : S) → TakesAll takes p xs q → TakesAll takes' (f p) xs (f q)
   takes_seen p [] q same = ap f same
   takes_seen p (x ∷ xs) q (m, one, more) = (f m, each p x m one, takes_seen m xs q more)
 
   module _ {R : Type 0} (remaining : R → Option (List ℕ)) (has_failed : R → Bool)
       (refuses : S → Placed → PieceRefusal → S → Type 0) (refuses' : T → Placed → PieceRefusal → T → Type 0)
       (refused : (p : S) (x : Placed) (r : PieceRefusal) (q : S) → refuses p x r q → refuses' (f p) x r (f q)) where
-    trouble_seen : (input at : ℕ) (new : PieceReader R) (left : Option (List ℕ)) (p q : S) (trouble : PieceTrouble)
+    pub trouble_seen : (input at : ℕ) (new : PieceReader R) (left : Option (List ℕ)) (p q : S) (trouble : PieceTrouble)
         → IsTrouble remaining has_failed takes refuses input at new left p q trouble
         → IsTrouble remaining has_failed takes' refuses' input at new left (f p) (f q) trouble
     trouble_seen input at new left p q (Unread fault) (same, is) = (ap f same, is)
     trouble_seen input at new left p q (Refused stream cpu refusal) (piece, origin, gives, is) =
         (piece, origin, gives, refused p record { input = input; at = at; piece = piece } refusal q is)
 
-    why_seen : (input : ℕ) (new : PieceReader R) (pieces : List Piece) (left : Option (List ℕ)) (p q : S) (stop : Stop)
+    pub why_seen : (input : ℕ) (new : PieceReader R) (pieces : List Piece) (left : Option (List ℕ)) (p q : S) (stop : Stop)
         → IsWhy remaining has_failed takes refuses input new pieces left p q stop
         → IsWhy remaining has_failed takes' refuses' input new pieces left (f p) (f q) stop
     why_seen input new pieces left p q Read (same, is) = (ap f same, is)
     why_seen input new pieces left p q (PieceStop index at trouble) (index_is, at_is, is) =
         (index_is, at_is, trouble_seen input at new left p q trouble is)
 
-    pub stops_seen : (old new : List (PieceReader R)) (p q : S) (stopped : Stopped)
+    abbrev pub stops_seen : (old new : List (PieceReader R)) (p q : S) (stopped : Stopped)
         → StopsInputs remaining has_failed takes refuses old new p q stopped
         → StopsInputs remaining has_failed takes' refuses' old new (f p) (f q) stopped
     stops_seen old new p q stopped s = record {
@@ -123,12 +123,27 @@ module _ {G K : Type 0} (fleet_of : G → List (ℕ × Stream)) (buffer_of : G �
         (all_gathered fleet_of buffer_of contents failed start [] pieces p s.here.between has
         (all_taken remaining has_failed Gathering RefusesTo old new p q stopped s))
 
-    pub stops_adding : (old new : List (PieceReader R)) (p q : G × K) (stopped : Stopped) → fleet_of p.0 ≡ []
-        → (s : StopsInputs remaining has_failed Gathering RefusesTo old new p q stopped)
-        → StopsInputs remaining has_failed Adds IsRefused old new (fleet_of p.0) (fleet_of q.0) stopped
+    abbrev pub stops_adding : (old new : List (PieceReader R)) (p q : G × K) (stopped : Stopped) → fleet_of p.0 ≡ []
+        → StopsInputs remaining has_failed Gathering RefusesTo old new p q stopped
+        → StopsInputs remaining has_failed Adds IsRefused old new [] (fleet_of q.0) stopped
     stops_adding old new p q stopped none s =
-        stops_seen (λ (z : G × K). fleet_of z.0) Gathering Adds (λ a x b g. (g.added, g.adds)) remaining has_failed RefusesTo
-        IsRefused (λ a x r b g. (g.fleet_stays, g.refused)) old new p q stopped s
+        let seen = stops_seen (λ (z : G × K). fleet_of z.0) Gathering Adds (λ a x b g. (g.added, g.adds)) remaining has_failed
+        RefusesTo IsRefused (λ a x r b g. (g.fleet_stays, g.refused)) old new p q stopped s in
+        record {
+          front = seen.front;
+          front_new = seen.front_new;
+          this = seen.this;
+          this_new = seen.this_new;
+          behind = seen.behind;
+          old_is = seen.old_is;
+          new_is = seen.new_is;
+          input_is = seen.input_is;
+          pieces = seen.pieces;
+          are_whole = seen.are_whole;
+          between = seen.between;
+          taken = subst (λ (f : List (ℕ × Stream)). TakesAll Adds f seen.pieces seen.between) none seen.taken;
+          here = seen.here;
+        }
 
 -- what was gathered and then written
 pub gathered : {T F : Type 0} (result : Result T F) (contents after : Option (List ℕ)) (before : Option (List ℕ))
@@ -206,7 +221,7 @@ module _ {P W : Type 0} (form_of : P → Form) (buffer_of : P → TextBuffer) (c
         (all_printed start [] pieces p s.here.between has
         (all_taken remaining has_failed PrintsTo NeverRefuses old new p q stopped s))
 
-    pub stops_printing : (old new : List (PieceReader R)) (p q : P × W) (stopped : Stopped)
+    abbrev pub stops_printing : (old new : List (PieceReader R)) (p q : P × W) (stopped : Stopped)
         (s : StopsInputs remaining has_failed PrintsTo NeverRefuses old new p q stopped)
         → StopsInputs remaining has_failed Prints IsNotPrinted old new tt tt stopped
     stops_printing old new p q stopped s =

@@ -35,7 +35,7 @@ module _ {R : Type 0} (remaining : R → Option (List ℕ)) (has_failed : R → 
     ap (λ ps. ps ++ placed (input + suc (length olds)) 0 own) is
         ∙ append_assoc (placed input 0 first) others (placed (input + suc (length olds)) 0 own)
         ∙ ap (λ k. placed input 0 first ++ (others ++ placed k 0 own))
-            (let e : input + suc (length olds) ≡ suc input + length olds = omega arith in e),
+        (let e : input + suc (length olds) ≡ suc input + length olds = omega arith in e),
     one,
     whole_more (suc input) olds news others old new own more whole,
   )
@@ -83,7 +83,8 @@ module _ {R : Type 0} (remaining : R → Option (List ℕ)) (has_failed : R → 
             → IsNext old now at before after this so_far
         by [] now_is same =
             let long = ap length now_is in
-            let joined = length-append so_far.front_now ([] {A = Reader}) in
+            let none : List Reader = [] in
+            let joined = length-append so_far.front_now none in
             let here = so_far.at_now_is in
             absurd (omega arith)
         by (x ∷ rest) now_is same =

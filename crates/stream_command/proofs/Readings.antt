@@ -49,7 +49,7 @@ placed_more input at (first ∷ pieces) piece =
     ap (λ more. this ∷ more) (placed_more input (at + piece_length first) pieces piece)
     ∙ ap (λ n. this ∷ placed input (at + piece_length first) pieces ++ record { input = input; at = capped n; piece = piece } ∷ [])
     (let e : at + piece_length first + length (bytes_of_pieces (pieces_seen pieces))
-        ≡ at + length (bytes_of_piece (piece_seen first) ++ bytes_of_pieces (pieces_seen pieces)) = omega (arith, long) in e)
+    ≡ at + length (bytes_of_piece (piece_seen first) ++ bytes_of_pieces (pieces_seen pieces)) = omega (arith, long) in e)
 
 pub capped_more : (n m old new : ℕ) → old ≡ capped n → new ≡ min (old + m) (2 ^ 64 - 1) → new ≡ capped (n + m)
 capped_more n m old new is more = omega arith

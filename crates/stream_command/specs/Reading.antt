@@ -67,8 +67,9 @@ pub record IsUnread (left : Option (List ℕ)) (fault : PieceFault) : Type 0 whe
 module _ {R : Type 0} (remaining : R → Option (List ℕ)) (has_failed : R → Bool) where
   -- These pieces are all of the input.
   pub record IsWhole (old new : PieceReader R) (pieces : List Piece) : Type 0 where
-    pub gives : GivesPieces (left_of remaining old) (left_of remaining new) (pieces_seen pieces)
-    pub end : IsAtEnd (left_of remaining new)
+    pub left : Option (List ℕ)
+    pub gives : GivesPieces (left_of remaining old) left (pieces_seen pieces)
+    pub end : IsAtEnd left
     pub sound : has_failed (source_of new) ≡ false
 
   -- these are all of the inputs, before which there are so many others

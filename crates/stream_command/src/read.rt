@@ -2,6 +2,7 @@
 ghost use Rattle.std.specs.Prelude.{◌≡◌, false, All, IfErr, OnOk, length};
 ghost use Rattle.parcel_streams.specs.Pieces.{IsPiece, bytes_of_piece};
 ghost use Rattle.parcel_streams.specs.Answers.{piece_seen};
+ghost use Rattle.fleet_collector.specs.declared.refusal.PieceRefusal.{PieceRefusal};
 ghost use Rattle.piece_source.specs.Readers.{source_of};
 ghost use Rattle.stream_command.specs.Reading.{Placed, IsOrigin, IsFresh, TakesInput, StopsInput, TakesInputs, StopsInputs};
 
@@ -91,7 +92,7 @@ fn read_input<R: Source, W, T: TakesPieces<W>>(
     ensures stopped { IfErr result (λ stop. StopsInput R.remaining R.failed T.takes T.refuses input reader.old reader.new
         (taker.old, writer.old) (taker.new, writer.new) stop) }
 {
-    while reader.index() < u64::MAX {
+    'pieces: while reader.index() < u64::MAX {
         let index = reader.index();
         let at = reader.at();
         let piece = match reader.next(alloc) {

@@ -1,2 +1,3 @@
 pub mod StatusFour
 pub mod SameCpus
+pub mod Each

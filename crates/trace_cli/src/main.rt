@@ -1,13 +1,17 @@
 //! The program `tracering`: replays scripts of writers, readers and collectors of a trace ring, tells their steps, runs
-//! them by threads, prints page images, and lists what a kernel wrote.
+//! them by threads, prints page images, and lists what a kernel wrote, or streams of parcels say.
 #![tactic(auto)]
 
 mod answer;
+mod choose;
 mod collect;
+mod inputs;
 mod laws;
+mod streams;
+mod unkept;
 
 use crate::answer::answer_to;
-use crate::collect::collect;
+use crate::choose::collect;
 pub use collect_command::collect_to;
 use command_io::message_for;
 pub use command_io::{Sink, Source, Std};
@@ -17,6 +21,7 @@ pub use replay_command::replay_to;
 pub use run_command::run_to;
 use std::process::ExitCode;
 pub use steps_command::steps_to;
+pub use stream_command::{collect_streams, print_pieces};
 
 // What is chosen here, `answer_to` and `message_for` say, and of `collect` the functions that it calls. The rest has no
 // contract: that the line goes to standard error, and that the process ends with the status.

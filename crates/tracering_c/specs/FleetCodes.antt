@@ -18,7 +18,6 @@ use Rattle.stream_collector.specs.declared.fault.MergeFault.TheVariants.{OtherEn
 use Rattle.fleet_collector.specs.declared.merge_fault.FleetMergeFault.{FleetMergeFault}
 use Rattle.fleet_collector.specs.declared.refusal.PieceRefusal.{PieceRefusal}
 use Rattle.fleet_collector.specs.declared.refusal.PieceRefusal.TheVariants.{Parcel, Mark}
-use Rattle.listed_fleet.specs.declared.adding.RefusedPiece.{RefusedPiece}
 use Rattle.listed_fleet.specs.declared.adding.AddAnswer.{AddAnswer}
 use Rattle.listed_fleet.specs.declared.adding.AddAnswer.TheVariants.{Added as IsAdded, Refused as IsRefused, NoPiece}
 use Rattle.listed_fleet.specs.declared.buffer.Put.{Put}

@@ -6,7 +6,9 @@ use Rattle.page_numbers.specs.declared.fault.ParcelFault.TheVariants.{BadCpu, No
 use Rattle.parcel_streams.specs.Pieces.{mark_piece, bytes_of_piece, IsPiece}
 use Rattle.parcel_streams.specs.declared.piece.Mark.TheVariants.{End}
 use Rattle.listed_collector.specs.Adding.{IsNoParcel}
+use Rattle.fleet_collector.specs.Fleet.{stream_at}
 use Rattle.listed_fleet.specs.declared.buffer.Put.{Put}
+use Rattle.listed_fleet.specs.declared.listed.ListedFleet.{ListedFleet}
 use Rattle.listed_fleet.specs.Buffer.{PutsSo}
 use Rattle.listed_fleet.specs.Packing as piece
 use Rattle.tracering_c.specs.FleetCodes.{packed_code, packed_len}
@@ -30,6 +32,17 @@ pub record PacksEnd (stream cpu count : ℕ) (out : List ℕ) (was : ℕ) (code 
   pub sound : OnOk answer (IsPiece (mark_piece stream cpu (End count)))
   pub bad_cpu : (answer ≡ Err BadCpu) ↔ (MAX_CPUS ≤ cpu)
   pub fault : IfErr answer (λ fault. (fault ≡ BadCpu) ⊎ (fault ≡ NoMemory))
+  pub refused : OnErr answer (left ≡ out)
+  pub code_is : code ≡ packed_code answer
+  pub len_is : len ≡ packed_len was answer
+
+-- The pieces that tell just what is known of a stream are put to the buffer, or have no room there; or memory is
+-- refused, and nothing is put. The number and the length are those of the answer.
+pub record PacksStream (listed : ListedFleet) (stream : ℕ) (out : List ℕ) (was : ℕ) (code : ℤ) (left : List ℕ)
+    (len : ℕ) : Type 0 where
+  pub answer : Result Put ParcelFault
+  pub packs : IfOk answer (λ put. piece.PacksSnapshot stream (stream_at listed.fleet stream) out put left)
+  pub fault : IfErr answer (λ fault. fault ≡ NoMemory)
   pub refused : OnErr answer (left ≡ out)
   pub code_is : code ≡ packed_code answer
   pub len_is : len ≡ packed_len was answer

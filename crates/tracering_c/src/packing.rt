@@ -1,8 +1,13 @@
-//! Pieces of a stream, packed into a buffer. No handle is needed.
-ghost use Rattle.tracering_c.specs.Packing.{PacksSo, PacksEnd};
+//! Pieces of a stream, packed into a buffer.
+ghost use Rattle.std.specs.Prelude.{◌≡◌, Some, None, pos};
+ghost use Rattle.tracering_c.specs.declared.ends.HeldFleet.{HeldFleet as EndValue};
+ghost use Rattle.tracering_c.specs.Held.{fleet_of};
+ghost use Rattle.tracering_c.specs.Packing.{PacksSo, PacksEnd, PacksStream};
 
+use crate::codes::ABSENT;
 use crate::fleet_codes::{code_of_packed, len_of_packed};
-use listed_fleet::{pack_bytes, pack_end};
+use crate::handle::FleetHandle;
+use listed_fleet::{ListedFleet, pack_bytes, pack_end};
 use parcel_streams::StreamId;
 use std::alloc::Global;
 use trace_model::CpuId;
@@ -36,6 +41,43 @@ pub extern "C" fn tracering_raw_pack_end(
     ensures { PacksEnd stream cpu count out.old len.old result out.new len.new }
 {
     let answer = pack_end(alloc, StreamId(stream), CpuId(cpu), count, out);
+    *len = len_of_packed(answer, *len);
+    code_of_packed(answer)
+}
+
+/// Puts what is known of a stream as packed pieces to the front of `out`.
+#[unsafe(no_mangle)]
+pub extern "C" fn tracering_raw_fleet_pack(
+    alloc: Global,
+    f: &mut FleetHandle,
+    stream: u64,
+    out: &mut [u8],
+    len: &mut usize,
+) -> i32
+    ensures absent { fleet_of f.old.held.value ≡ None → result ≡ pos 8 }
+    ensures out_stays { fleet_of f.old.held.value ≡ None → out.new ≡ out.old }
+    ensures len_stays { fleet_of f.old.held.value ≡ None → len.new ≡ len.old }
+    ensures packs { (old : EndValue) → fleet_of f.old.held.value ≡ Some old
+        → PacksStream old.listed stream out.old len.old result out.new len.new }
+    ensures stays { fleet_of f.new.held.value ≡ fleet_of f.old.held.value }
+{
+    if !f.live {
+        return ABSENT;
+    }
+    pack_stream(alloc, &f.held.fleet().listed, stream, out, len)
+}
+
+/// `tracering_raw_fleet_pack`, of the fleet itself.
+fn pack_stream(
+    alloc: Global,
+    listed: &ListedFleet,
+    stream: u64,
+    out: &mut [u8],
+    len: &mut usize,
+) -> i32
+    ensures { PacksStream listed.now stream out.old len.old result out.new len.new }
+{
+    let answer = listed.pack(alloc, StreamId(stream), out);
     *len = len_of_packed(answer, *len);
     code_of_packed(answer)
 }

@@ -31,7 +31,8 @@ pub returns-in-Forgotten-clause-cpus : goal.returns-in-Forgotten-clause-cpus
 returns-in-Forgotten-clause-cpus c =
     let a = c.forgotten.ensures in
     cpus_changed c.forgotten.result c.args.known.now c.forgotten.new.self c.args.cpu.0 c.requires
-    (λ e. bound_new c.args.known.now c.forgotten.new.self c.args.cpu.0 c.in-Forgotten.bound.0 (a.raised e) (a.given_up e))
+    (λ e. bound_new c.args.known.now c.forgotten.new.self c.args.cpu.0 c.in-Forgotten.bound.0 (a.raised e)
+    (a.given_up e))
     a.unchanged a.refused
 
 pub returns-in-Forget-clause-cpus : goal.returns-in-Forget-clause-cpus

@@ -9,7 +9,8 @@ pub returns-clause-same : goal.returns-clause-same
 returns-clause-same c = fleet_same
 
 pub returns-clause-moved : goal.returns-clause-moved
-returns-clause-moved c pieces others fleet moved was = fleet_same pieces others fleet (moved_same pieces others moved) was
+returns-clause-moved c pieces others fleet moved was = fleet_same pieces others fleet
+    (moved_same pieces others moved) was
 
 pub returns-clause-swapped : goal.returns-clause-swapped
 returns-clause-swapped c pieces others fleet was =

@@ -37,5 +37,6 @@ returns c =
     let yields = YieldsList-from_first entry_seen (λ left. left) fleet (begun ∙ c.streams-stream-items.ensures.all) in
     let all = YieldsList-end yields c.loop-stream.yielded _ c.loop-stream.yielded_by _ _ c.in-None.is
     c.next.ensures.steps in
-    subst (λ (es : List (ℕ × Stream)). AreLinesOf (HasIn c.args.before es) (map line_seen c.loop-stream.lines.items)) all.0
+    subst (λ (es : List (ℕ × Stream)). AreLinesOf (HasIn c.args.before es)
+    (map line_seen c.loop-stream.lines.items)) all.0
     c.loop-stream.invariant

@@ -1,5 +1,4 @@
-use Rattle.std.proofs.Common.{◌≡◌, ◌++◌, ◌∙◌, inl, inr, ap, sym, ℕ, List, length, map, take, Some, rules, arith, append-nil}
-use Rattle.std.specs.List.{slice_get}
+use Rattle.std.proofs.Common.{◌++◌, ◌∙◌, inl, inr, ap, sym, ℕ, List, length, map, take, Some, arith, append-nil}
 use Rattle.std.proofs.lemmas.Grind.{common_steps}
 use Rattle.std.proofs.lemmas.Iterator.Consumers.{YieldsList-from_first, YieldsList-so_far, YieldsList-turn}
 use Rattle.std.proofs.lemmas.Iterator.Consumers.{YieldsList-end}
@@ -11,7 +10,11 @@ use Rattle.fleet_collector.proofs.BeforeCut.{none_above, one_more_below, first_b
 use Rattle.fleet_collector.proofs.listing.put_before_cut.Goals as goal
 
 pub loop-entry-init : goal.loop-entry-init
-loop-entry-init c = record { put = sym (append-nil (map line_seen c.args.lines.now.items)); low = none_above c.cut-cut.result.0 }
+loop-entry-init c = record {
+  put = sym (append-nil (map line_seen c.args.lines.now.items));
+  low = none_above
+      c.cut-cut.result.0;
+}
 
 pub loop-entry-preserved : goal.loop-entry-preserved
 loop-entry-preserved c = record {

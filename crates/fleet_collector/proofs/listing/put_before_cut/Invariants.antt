@@ -8,5 +8,5 @@ abbrev pub invariant-loop-entry : goal.invariant-loop-entry
 invariant-loop-entry l = record {
   put : map line_seen l.lines.items
       ≡ map line_seen l.initial.lines.items ++ map (line_of l.stream.0 l.cpu.0) (map numbered_record l.yielded);
-  low : AllBelowCut (map numbered_record l.yielded) l.cut.0
+  low : AllBelowCut (map numbered_record l.yielded) l.cut.0;
 }

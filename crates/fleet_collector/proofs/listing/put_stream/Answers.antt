@@ -31,9 +31,11 @@ loop-cpu-preserved c =
     let put = c.in_ok-put_cpu.ensures in
     let more = map (line_of c.args.stream.0 c.in-Some.cpu.0) put.0 in (
       before.0 ++ more,
-      subst (λ (cs : List ℕ). AreLinesOf (HasAmong c.args.before c.args.stream.0 c.args.known.now cs) (before.0 ++ more))
+      subst (λ (cs : List ℕ). AreLinesOf (HasAmong c.args.before c.args.stream.0 c.args.known.now cs) (before.0
+          ++ more))
           (sym (map-append cpu_number done (c.in-Some.cpu ∷ [])))
-          (stream_more c.args.before c.args.stream.0 c.args.known.now (map cpu_number done) c.in-Some.cpu.0 before.0 put.0 low put.1
+          (stream_more c.args.before c.args.stream.0 c.args.known.now
+          (map cpu_number done) c.in-Some.cpu.0 before.0 put.0 low put.1
           before.1),
       put.2 ∙ ap (λ (ls : List Line). ls ++ more) before.2 ∙ append_assoc (map line_seen c.args.lines.now.items)
           before.0 more,
@@ -48,6 +50,7 @@ returns c =
     let put = c.loop-cpu.invariant in (
       put.0,
       stream_all c.args.before c.args.stream.0 c.args.known.now cpus put.0 c.known_cpus-cpu-items.ensures
-          (subst (λ (cs : List ℕ). AreLinesOf (HasAmong c.args.before c.args.stream.0 c.args.known.now cs) put.0) all.0 put.1),
+          (subst (λ (cs : List ℕ). AreLinesOf (HasAmong c.args.before c.args.stream.0 c.args.known.now cs) put.0)
+          all.0 put.1),
       put.2,
     )

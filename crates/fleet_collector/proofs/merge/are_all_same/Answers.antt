@@ -1,13 +1,11 @@
-use Rattle.std.proofs.Common.{◌≡◌, ◌∙◌, ℕ, true≢false, Some, ap, sym, subst}
+use Rattle.std.proofs.Common.{◌∙◌, ℕ, true≢false, Some, ap, sym, subst}
 use Rattle.std.specs.Borrow.{Bor}
-use Rattle.std.specs.List.{slice_get}
-use Rattle.std.proofs.lemmas.Iterator.Consumers.{YieldsList-from_first, YieldsList-turn, YieldsList-end}
+use Rattle.std.proofs.lemmas.Iterator.Consumers.{YieldsList-from_first, YieldsList-turn}
 use Rattle.std.proofs.lemmas.Option.{slice_get-get_or}
 use Rattle.parcel_streams.specs.declared.piece.StreamId.{StreamId}
 use Rattle.stream_collector.specs.Stream.{Stream}
 use Rattle.stream_collector.specs.Same.{IsSameStream}
 use Rattle.fleet_collector.specs.Fleet.{stream_at, entry_seen}
-use Rattle.fleet_collector.specs.Merging.{OfEachThere}
 use Rattle.fleet_collector.proofs.Joined.{each_more}
 use Rattle.fleet_collector.proofs.merge.are_all_same.Goals as goal
 
@@ -19,7 +17,8 @@ loop-stream-preserved c =
     let item : StreamId × Bor Stream = (c.in-Some.stream, c.in-Some._known) in
     let same : IsSameStream c.known_or.result.now c.known_or-in-loop-stream.result.now =
     c.same.ensures.0 c.if-not-same.false in
-    each_more (λ q. IsSameStream (stream_at one q) (stream_at other q)) c.loop-stream.yielded item c.loop-stream.invariant
+    each_more (λ q. IsSameStream (stream_at one q) (stream_at other q)) c.loop-stream.yielded item
+    c.loop-stream.invariant
     (subst (λ (s : Stream). IsSameStream s (stream_at other id)) c.known_or.ensures.known
     (subst (λ (o : Stream). IsSameStream c.known_or.result.now o) c.known_or-in-loop-stream.ensures.known same))
 

@@ -1,6 +1,6 @@
-use Rattle.std.proofs.Common.{◌≡◌, map}
+use Rattle.std.proofs.Common.{map}
 use Rattle.stream_collector.specs.Same.{IsSameStream}
-use Rattle.fleet_collector.specs.Fleet.{stream_at, empty_stream, entry_seen}
+use Rattle.fleet_collector.specs.Fleet.{stream_at, entry_seen}
 use Rattle.fleet_collector.specs.Merging.{OfEachThere}
 use Rattle.fleet_collector.proofs.merge.are_all_same.Given as goal
 

@@ -1,4 +1,4 @@
-use Rattle.std.proofs.Common.{◌∙◌, ℕ, IsSome, ⊎_elim}
+use Rattle.std.proofs.Common.{IsSome}
 use Rattle.std.specs.Borrow.{Bor}
 use Rattle.parcel_streams.specs.declared.piece.StreamId.{StreamId}
 use Rattle.stream_collector.specs.Stream.{Stream}

@@ -1,4 +1,4 @@
-use Rattle.std.proofs.Common.{◌≡◌, ℕ, List, sym, subst}
+use Rattle.std.proofs.Common.{ℕ, List, sym, subst}
 use Rattle.stream_collector.specs.Stream.{Stream}
 use Rattle.fleet_collector.specs.Merging.{AreMerges}
 use Rattle.fleet_collector.proofs.Changed.{cpus_inserted}

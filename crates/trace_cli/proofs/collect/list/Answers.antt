@@ -6,5 +6,5 @@ use Rattle.trace_cli.proofs.collect.list.Goals as goal
 
 pub collect_to-requires-clause-cpus : goal.collect_to-requires-clause-cpus
 collect_to-requires-clause-cpus c =
-    let asked = subst (λ (files : List CpuFile). All (λ file. file.cpu.0 < MAX_CPUS) files) (sym c.deref-2.ensures.value) c.requires.cpus in
-    rw c.as_mut_slice.ensures.value (All-same (λ input. input.cpu) (λ file. file.cpu) _ _ c.in_ok-inputs.ensures.cpus (λ cpu. cpu.0 < MAX_CPUS) asked)
+    rw c.as_mut_slice.ensures.value
+    (All-same (λ input. input.cpu) (λ file. file.cpu) _ _ c.requires.cpus (λ cpu. cpu.0 < MAX_CPUS) c.requires.range.cpus)

@@ -1,9 +1,7 @@
-use Rattle.std.proofs.Common.{◌≡◌, ◌∙◌, ℕ, ◌+◌, ◌<◌, List, length, map, Some, sym, ap, subst, arith}
-use Rattle.std.specs.List.{slice_get}
+use Rattle.std.proofs.Common.{◌∙◌, ℕ, ◌<◌, List, length, sym, subst, arith}
 use Rattle.std.specs.List.Sorted.{IsStrictlyIncreasing}
 use Rattle.std.proofs.lemmas.Option.{slice_get-get_or}
 use Rattle.stream_collector.specs.Stream.{Stream}
-use Rattle.fleet_collector.specs.Fleet.{stream_at}
 use Rattle.fleet_collector.specs.Frontier.{SomeForgottenBefore}
 use Rattle.fleet_collector.proofs.Forgotten.{forget_begins, forget_goes_on, forget_ends}
 use Rattle.fleet_collector.proofs.fleet.Fleet.forget_before.Goals as goal

@@ -1,4 +1,4 @@
-use Rattle.std.proofs.Common.{◌≡◌, ◌∙◌, ℕ, is_some, sym, ap, subst}
+use Rattle.std.proofs.Common.{◌≡◌, ◌∙◌, is_some, sym, ap}
 use Rattle.std.proofs.lemmas.Result.{on_err_weaker}
 use Rattle.fleet_collector.proofs.Changed.{cpus_put, same_put}
 use Rattle.fleet_collector.proofs.Forgotten.{cpus_forgotten}

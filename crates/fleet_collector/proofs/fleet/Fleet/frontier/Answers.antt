@@ -1,11 +1,9 @@
-use Rattle.std.proofs.Common.{◌≡◌, ◌∙◌, ℕ, List, Some, None, ap, sym, subst, map}
+use Rattle.std.proofs.Common.{◌∙◌, ℕ, List, None, subst}
 use Rattle.std.specs.Borrow.{Bor}
-use Rattle.std.specs.List.{slice_get}
 use Rattle.std.proofs.lemmas.Iterator.Consumers.{YieldsList-from_first, YieldsList-turn, YieldsList-end}
-use Rattle.std.proofs.lemmas.Option.{slice_get-get_or}
 use Rattle.parcel_streams.specs.declared.piece.StreamId.{StreamId}
 use Rattle.stream_collector.specs.Stream.{Stream}
-use Rattle.fleet_collector.specs.Fleet.{stream_at, or_empty, entry_seen}
+use Rattle.fleet_collector.specs.Fleet.{entry_seen}
 use Rattle.fleet_collector.proofs.Forgotten.{AreNotBefore, none_before, one_more_not_before, one_more_of_some}
 use Rattle.fleet_collector.proofs.Forgotten.{least_of_all}
 use Rattle.fleet_collector.proofs.InTurn.{stream_at_place}

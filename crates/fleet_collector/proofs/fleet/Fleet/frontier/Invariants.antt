@@ -7,5 +7,5 @@ use Rattle.fleet_collector.proofs.fleet.Fleet.frontier.Given as goal
 abbrev pub invariant-loop-stream : goal.invariant-loop-stream
 invariant-loop-stream l = record {
   of_some : IsOfSome l.self l.least;
-  least : AreNotBefore (map entry_seen l.yielded) l.least
+  least : AreNotBefore (map entry_seen l.yielded) l.least;
 }

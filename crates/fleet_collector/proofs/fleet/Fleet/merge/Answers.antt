@@ -1,8 +1,7 @@
-use Rattle.std.proofs.Common.{◌≡◌, ◌++◌, ℕ, List, sym, subst}
+use Rattle.std.proofs.Common.{ℕ, List, sym, subst}
 use Rattle.stream_collector.specs.Stream.{Stream}
 use Rattle.stream_collector.specs.Merging.{IsMerge}
 use Rattle.fleet_collector.specs.Fleet.{stream_at}
-use Rattle.fleet_collector.specs.Told.{IsStreamOf}
 use Rattle.fleet_collector.proofs.Joined.{merged_at, joined_told}
 use Rattle.fleet_collector.proofs.fleet.Fleet.merge.Goals as goal
 

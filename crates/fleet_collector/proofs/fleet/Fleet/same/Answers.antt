@@ -1,4 +1,3 @@
-use Rattle.fleet_collector.specs.Merging.{OfEachThere}
 use Rattle.fleet_collector.proofs.Joined.{same_at_all}
 use Rattle.fleet_collector.proofs.fleet.Fleet.same.Goals as goal
 

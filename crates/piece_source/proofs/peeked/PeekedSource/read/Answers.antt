@@ -9,7 +9,8 @@ returns-then-self-clause-bytes g c =
     let remaining = g.R.Source.remaining in
     let given = c.give-count.ensures in (
       subst (λ r. Consumes (prepend_known (peeked_unread c.args.self.now) (remaining c.args.self.now.reader))
-          (prepend_known (peeked_unread c.give-count.new.self) (remaining r)) (take c.give-count.result c.give-count.new.buf))
+          (prepend_known (peeked_unread c.give-count.new.self) (remaining r))
+          (take c.give-count.result c.give-count.new.buf))
           (sym given.reader) (takes (peeked_unread c.args.self.now) (peeked_unread c.give-count.new.self)
           (take c.give-count.result c.give-count.new.buf) (remaining c.args.self.now.reader) given.taken),
       λ none some. let empty = given.some c.if-self.true none in absurd (omega arith),

@@ -25,7 +25,8 @@ same_piece e f is = cc
 
 some_there : (unread shown : List ℕ) → shown ≡ unread → false ≡ (length shown == 0) → 0 < length unread
 some_there unread shown is test = ⊎_elim
-    (λ (none : length unread < 1). absurd (true≢false (sym (eq-eqb (length shown) 0 (ap length is ∙ omega arith)) ∙ sym test)))
+    (λ (none : length unread < 1).
+    absurd (true≢false (sym (eq-eqb (length shown) 0 (ap length is ∙ omega arith)) ∙ sym test)))
     (λ (some : 1 ≤ length unread). omega arith)
     (cases_lt (length unread) 1)
 
@@ -75,5 +76,5 @@ returns-clause-piece g c =
     let piece = piece_seen c.in_ok-piece.piece in
     let begins : BeginsWith unread piece =
     subst (λ (b : List ℕ). BeginsWith b piece) c.unread-2.ensures c.in_ok-piece.ensures.piece in
-    gives_piece unread (held_unread c.give-2.new.self) (remaining c.fill.new.source) old piece c.in_ok-piece.len kept begins
-    c.in_ok-piece.ensures.len c.give-2.ensures.unread
+    gives_piece unread (held_unread c.give-2.new.self) (remaining c.fill.new.source) old piece c.in_ok-piece.len kept
+    begins c.in_ok-piece.ensures.len c.give-2.ensures.unread

@@ -1,9 +1,10 @@
 use Rattle.std.proofs.Common.{◌≡◌, false, map, take, All}
 use Rattle.command_io.specs.Ends.{has_failed}
-use Rattle.trace_cli.proofs.collect.open_inputs.Given as goal
+use Rattle.piece_source.specs.Readers.{peeked_reader}
+use Rattle.trace_cli.proofs.inputs.open_inputs.Given as goal
 
 abbrev pub invariant-loop-file : goal.invariant-loop-file
 invariant-loop-file l = record {
   cpus : map (λ input. input.cpu) l.inputs.items ≡ map (λ file. file.cpu) (take l.file-index l.files);
-  sound : All (λ input. has_failed input.reader ≡ false) l.inputs.items;
+  sound : All (λ input. has_failed (peeked_reader input.reader) ≡ false) l.inputs.items;
 }

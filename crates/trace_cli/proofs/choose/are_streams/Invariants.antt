@@ -1,0 +1,10 @@
+use Rattle.std.proofs.Common.{◌≡◌, ◌⊎◌, length}
+use Rattle.piece_source.specs.Reading.{BeginsStream}
+use Rattle.piece_source.specs.Readers.{peeked_unread}
+use Rattle.trace_cli.proofs.Each.{AllBefore}
+use Rattle.trace_cli.proofs.choose.are_streams.Given as goal
+
+abbrev pub invariant-loop-input : goal.invariant-loop-input
+invariant-loop-input l =
+    AllBefore (λ input. BeginsStream (peeked_unread input.reader) ⊎ (length (peeked_unread input.reader) ≡ 0)) l.inputs
+    l.input-index
