@@ -1,5 +1,6 @@
 -- Sets of CPUs: what is among them after one is put in.
-use Rattle.std.proofs.Common.{◌≡◌, ◌⊎◌, ◌↔◌, ◌+◌, length, inl, inr, ⊎_elim, ℕ, zero, suc, List, [], ◌∷◌, ◌++◌, Some, refl, sym, ap, ◌∙◌, subst}
+use Rattle.std.proofs.Common.{◌≡◌, ◌⊎◌, ◌↔◌, ◌+◌, length, inl, inr, ⊎_elim, ℕ, zero, suc, List, [], ◌∷◌, ◌++◌, Some}
+use Rattle.std.proofs.Common.{refl, sym, ap, ◌∙◌, subst}
 use Rattle.std.specs.List.{slice_get, Contains}
 use Rattle.std.proofs.Common.{Ordering, Less, Equal, Greater}
 use Rattle.std.specs.Ordering.{nat_cmp, match_ordering}
@@ -81,7 +82,8 @@ pub both_more : (old mid new done : List ℕ) (cpu : ℕ) → HasBoth old mid do
     → HasBoth old new (done ++ cpu ∷ [])
 both_more old mid new done cpu both is = record {
   of_them = λ c s. ⊎_elim
-      (λ there. ⊎_elim (λ was. inl was) (λ (k, at). inr (k, get_in_front done (cpu ∷ []) k c at)) (both.of_them c there))
+      (λ there. ⊎_elim (λ was. inl was) (λ (k, at). inr (k, get_in_front done (cpu ∷ []) k c at))
+      (both.of_them c there))
       (λ here. inr (length done + 0, get_behind done (cpu ∷ []) 0 ∙ ap (λ y. Some y) here))
       (put_either mid cpu c (subst (λ xs. IsAmong xs c) is s));
   old_are = λ c s. subst (λ xs. IsAmong xs c) (sym is) (put_keeps mid cpu c (both.old_are c s));
@@ -103,7 +105,8 @@ all_there known a b c parcels given_up marked first second third of_parcels of_g
       (λ is. inr (inl ((of_given_up.known cpu).0 (contains_at given_up cpu is)))) (second.of_them cpu in_b))
       (λ is. inr (inr ((of_marks.marked cpu).0 (contains_at marked cpu is)))) (third.of_them cpu s),
   λ there. ⊎_elim
-      (λ is. third.old_are cpu (second.old_are cpu (first.more_are cpu (stands_at parcels cpu ((of_parcels.known cpu).1 is)))))
+      (λ is. third.old_are cpu
+      (second.old_are cpu (first.more_are cpu (stands_at parcels cpu ((of_parcels.known cpu).1 is)))))
       (λ others. ⊎_elim
       (λ is. third.old_are cpu (second.more_are cpu (stands_at given_up cpu ((of_given_up.known cpu).1 is))))
       (λ is. third.more_are cpu (stands_at marked cpu ((of_marks.marked cpu).1 is))) others) there,

@@ -1,5 +1,6 @@
 -- The CPUs of one stream after the other.
-use Rattle.std.proofs.Common.{◌≡◌, ◌⊎◌, inl, inr, ⊎_elim, ◌↔◌, ℕ, zero, suc, ◌+◌, ◌<◌, List, [], ◌∷◌, ◌++◌, length, map, take, drop, get_or, Option, Some, None, true, refl, sym, ap, ◌∙◌, subst, arith}
+use Rattle.std.proofs.Common.{◌≡◌, inl, inr, ⊎_elim, ◌↔◌, ℕ, suc, ◌+◌, ◌<◌, List, [], ◌∷◌, ◌++◌, length, map, take}
+use Rattle.std.proofs.Common.{drop, get_or, Option, Some, None, true, refl, sym, ap, ◌∙◌, subst, arith}
 use Rattle.std.specs.Borrow.{Bor}
 use Rattle.std.specs.List.{slice_get}
 use Rattle.std.specs.List.Sorted.{IsStrictlySortedBy, IsStrictlyIncreasing}
@@ -11,13 +12,13 @@ use Rattle.std.proofs.lemmas.Map.Keys.{below_from_sorted, sorted_from_strictly_i
 use Rattle.std.proofs.lemmas.Map.Entries.{place_from_lookup}
 use Rattle.std.proofs.lemmas.Map.Lookups.{exact_unsigned}
 use Rattle.std.proofs.lemmas.Option.{none-some, slice_get_within, get_or_from_slice_get, slice_get-get_or}
-use Rattle.trace_model.proofs.collections.Elements.{some_is, get_in_front, get_behind, get_in_either}
+use Rattle.trace_model.proofs.collections.Elements.{get_in_front, get_behind, get_in_either}
 use Rattle.time_merge.specs.Lines.{AreOrdered}
 use Rattle.time_merge.proofs.Ordered.{ordered_append, before_each, ordered_rising, ordered_map, mapped_at, at_mapped}
 use Rattle.collector.specs.Known.{IsCpuKnown}
 use Rattle.stream_collector.specs.Stream.{Stream}
 use Rattle.parcel_streams.specs.declared.piece.StreamId.{StreamId}
-use Rattle.fleet_collector.specs.Fleet.{known_of, stream_at, or_empty, entry_seen}
+use Rattle.fleet_collector.specs.Fleet.{known_of, or_empty, entry_seen}
 use Rattle.fleet_collector.proofs.InTurn.{known_of_place}
 use Rattle.fleet_text.specs.Cpus.{FleetCpu, IsAmong, IsBefore, IsThere, AreCpusOfStream, AreCpusIn, AreCpusOfFleet}
 use Rattle.fleet_text.proofs.CpuSets.{only}
@@ -38,7 +39,8 @@ cpu_at stream known cpu = record { stream = stream; cpu = cpu; known = known }
 -- ---- one stream
 
 pub stream_cpus : (stream : ℕ) (known : Stream) (keys : List ℕ) → IsStrictlySortedBy nat_cmp keys
-    → ((cpu : ℕ) → (IsAmong keys cpu ↔ IsThere known cpu)) → AreCpusOfStream stream known (map (cpu_at stream known) keys)
+    → ((cpu : ℕ) → (IsAmong keys cpu ↔ IsThere known cpu)) → AreCpusOfStream stream known
+    (map (cpu_at stream known) keys)
 stream_cpus stream known keys sorted there = record {
   ordered = ordered_map (λ (a b : ℕ). a < b) IsBefore (cpu_at stream known) (λ a b lt. inr (refl, lt)) keys
       (rising keys sorted);
@@ -66,7 +68,8 @@ abbrev AreBelow : List (ℕ × Stream) → ℕ → Type 0
 AreBelow front stream = (k : ℕ) (entry : ℕ × Stream) → slice_get front k ≡ Some entry → entry.0 < stream
 
 one_more : (front : List (ℕ × Stream)) (stream : ℕ) (known : Stream) (cpus more : List FleetCpu) → AreBelow front stream
-    → AreCpusIn front cpus → AreCpusOfStream stream known more → AreCpusIn (front ++ (stream, known) ∷ []) (cpus ++ more)
+    → AreCpusIn front cpus → AreCpusOfStream stream known more → AreCpusIn (front ++ (stream, known) ∷ [])
+    (cpus ++ more)
 one_more front stream known cpus more low p q = record {
   ordered = ordered_append IsBefore cpus more p.ordered q.ordered
       (λ k x at. before_each IsBefore x more (λ j y there.
@@ -75,11 +78,16 @@ one_more front stream known cpus more low p q = record {
       let is = q.stream_is y (j, there) in
       let lt : x.stream < y.stream = omega arith in inl lt));
   of_them = λ at s. ⊎_elim
-      (λ front_at. let t = p.of_them at front_at in (t.0, get_in_front front ((stream, known) ∷ []) t.0 (at.stream, at.known) t.1))
+      (λ front_at. let t = p.of_them at front_at in (
+        t.0,
+        get_in_front front ((stream, known) ∷ []) t.0
+            (at.stream, at.known) t.1,
+      ))
       (λ back. (
         length front + 0,
         get_behind front ((stream, known) ∷ []) 0
-            ∙ ap (λ (s : ℕ). Some (s, known)) (sym (q.stream_is at back)) ∙ ap (λ (k : Stream). Some (at.stream, k)) (sym (q.known_is at back)),
+            ∙ ap (λ (s : ℕ). Some (s, known)) (sym (q.stream_is at back)) ∙ ap (λ (k : Stream). Some (at.stream, k))
+            (sym (q.known_is at back)),
       ))
       (get_in_either cpus more s.0 at s.1);
   whole = λ s cpu k among there. ⊎_elim
@@ -150,7 +158,8 @@ all_streams fleet cpus rising p = record {
   ordered = p.ordered;
   known_is = λ at s.
       let t = p.of_them at s in
-      sym (ap or_empty (known_of_place fleet (sorted_from_strictly_increasing (ids fleet) rising) t.0 at.stream at.known t.1));
+      sym (ap or_empty (known_of_place fleet (sorted_from_strictly_increasing (ids fleet) rising) t.0 at.stream at.known
+      t.1));
   whole = λ stream cpu there. by stream cpu (known_of fleet stream) refl there;
 }
   where

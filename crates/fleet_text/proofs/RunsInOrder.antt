@@ -1,9 +1,11 @@
 -- The runs of one CPU after the other.
-use Rattle.std.proofs.Common.{◌≡◌, ◌⊎◌, inl, inr, ⊎_elim, ℕ, zero, suc, ◌+◌, ◌<◌, ◌≤◌, ◌-◌, List, [], ◌∷◌, ◌++◌, length, map, take, drop, get_or, Option, Some, IsSome, Result, Ok, Err, OnOk, refl, sym, ap, ◌∙◌, subst, arith}
+use Rattle.std.proofs.Common.{◌≡◌, ◌⊎◌, inl, inr, ⊎_elim, ℕ, zero, suc, ◌+◌, ◌<◌, ◌≤◌, ◌-◌, List, [], ◌∷◌, ◌++◌, length}
+use Rattle.std.proofs.Common.{map, take, drop, get_or, Some, IsSome, Result, Ok, Err, OnOk, refl, sym, ap, ◌∙◌, subst}
+use Rattle.std.proofs.Common.{arith}
 use Rattle.std.specs.List.{slice_get}
-use Rattle.std.proofs.lemmas.List.{take-append-drop, take_more, length-take-le, map-append}
+use Rattle.std.proofs.lemmas.List.{take-append-drop, take_more, length-take-le}
 use Rattle.std.proofs.lemmas.Option.{none-some, slice_get_within, get_or_from_slice_get, slice_get-get_or}
-use Rattle.trace_model.specs.Runs.{AreRuns, InRun as InRunOf}
+use Rattle.trace_model.specs.Runs.{AreRuns}
 use Rattle.trace_model.proofs.collections.Elements.{some_is, get_in_front, get_behind, get_in_either}
 use Rattle.time_merge.specs.Lines.{IsBeforeAll, AreOrdered}
 use Rattle.time_merge.proofs.Ordered.{ordered_append, before_each, ordered_rising, ordered_map, mapped_at, at_mapped}
@@ -13,7 +15,7 @@ use Rattle.fleet_text.specs.declared.run.RunKind.{RunKind}
 use Rattle.fleet_text.specs.declared.run.RunKind.TheVariants.{Missing, Unknown, Undelivered, Forgotten}
 use Rattle.fleet_text.specs.declared.cpus.StreamCpu.{StreamCpu}
 use Rattle.fleet_text.specs.Cpus.{FleetCpu, cpu_seen, IsAmong, IsBefore, IsThere, AreCpusOfFleet}
-use Rattle.fleet_text.specs.Runs.{Run, run_at, IsOfKind, IsApart, InRun, AreRunsOf, IsOfKindAmong, AreRunsOfFleet}
+use Rattle.fleet_text.specs.Runs.{Run, run_at, IsOfKind, IsApart, AreRunsOf, IsOfKindAmong, AreRunsOfFleet}
 use Rattle.fleet_text.proofs.CpuSets.{only}
 
 -- runs behind others, if each of those is before each of them
@@ -36,7 +38,8 @@ module _ (first second both : (stream cpu number : ℕ) → Type 0)
   pub runs_append : (xs ys : List Run) → AreRunsOf first xs → AreRunsOf second ys → AreRunsOf both (xs ++ ys)
   runs_append xs ys p q = record {
     ordered = ordered_append IsApart xs ys p.ordered q.ordered
-        (λ k x at. before_each IsApart x ys (λ j y there. before x y (starts first xs p x (k, at)) (starts second ys q y (j, there))));
+        (λ k x at. before_each IsApart x ys (λ j y there. before x y (starts first xs p x (k, at))
+        (starts second ys q y (j, there))));
     forward = λ run s. ⊎_elim
         (λ (front : IsAmong xs run). p.forward run front)
         (λ (back : IsAmong ys run). q.forward run back)
@@ -48,10 +51,22 @@ module _ (first second both : (stream cpu number : ℕ) → Type 0)
         { run = h.run; among = back; stream_is = h.stream_is; cpu_is = h.cpu_is; from = h.from; to = h.to }))
         (get_in_either xs ys h.among.0 h.run h.among.1);
     whole = λ s c n h. ⊎_elim
-        (λ (one : first s c n). let r = p.whole s c n one in record
-        { run = r.run; among = (r.among.0, get_in_front xs ys r.among.0 r.run r.among.1); stream_is = r.stream_is; cpu_is = r.cpu_is; from = r.from; to = r.to })
-        (λ (other : second s c n). let r = q.whole s c n other in record
-        { run = r.run; among = (length xs + r.among.0, get_behind xs ys r.among.0 ∙ r.among.1); stream_is = r.stream_is; cpu_is = r.cpu_is; from = r.from; to = r.to })
+        (λ (one : first s c n). let r = p.whole s c n one in record {
+          run = r.run;
+          among = (r.among.0, get_in_front xs ys r.among.0 r.run r.among.1);
+          stream_is = r.stream_is;
+          cpu_is = r.cpu_is;
+          from = r.from;
+          to = r.to;
+        })
+        (λ (other : second s c n). let r = q.whole s c n other in record {
+          run = r.run;
+          among = (length xs + r.among.0, get_behind xs ys r.among.0 ∙ r.among.1);
+          stream_is = r.stream_is;
+          cpu_is = r.cpu_is;
+          from = r.from;
+          to = r.to;
+        })
         (either s c n h);
   }
 
@@ -60,7 +75,8 @@ on_ok (Ok x) f p = f p
 on_ok (Err e) f p = tt
 
 -- runs of a kind were put
-pub put_of_kind : {E : Type 0} (kind own : RunKind) (at : StreamCpu) (result : Result (Unit {0}) E) (list : List (ℕ × ℕ))
+pub put_of_kind : {E : Type 0} (kind own : RunKind) (at : StreamCpu) (result : Result (Unit {0}) E)
+    (list : List (ℕ × ℕ))
     (old new : List Run) → kind ≡ own → AreRuns (IsOfKind own at.known.now at.cpu.0) list
     → OnOk result (new ≡ old ++ map (run_at at.stream.0 at.cpu.0) list)
     → OnOk result ((xs : List (ℕ × ℕ)) × AreRuns (IsOfKind kind at.known.now at.cpu.0) xs
@@ -112,7 +128,7 @@ cpu_runs kind at list runs = record {
       };
 }
 
--- the numbers below a bound are one run, or none if it is 0
+-- the numbers below a bound are one run
 pub some_forgotten : (known : Stream) (cpu bound : ℕ) → bound ≡ bound_of known cpu → 0 < bound
     → AreRuns (IsOfKind Forgotten known cpu) ((0, bound - 1) ∷ [])
 some_forgotten known cpu bound is some = record {
@@ -122,14 +138,6 @@ some_forgotten known cpu bound is some = record {
       let last : n ≤ bound - 1 = subst (λ (r : ℕ × ℕ). n ≤ r.1) (sym (only (0, bound - 1) h.index h.run h.at)) h.to in
       omega arith;
   whole = λ n low. record { index = 0; run = (0, bound - 1); at = refl; from = omega arith; to = omega arith };
-}
-
-pub none_forgotten : (known : Stream) (cpu : ℕ) → bound_of known cpu ≤ 0 → AreRuns (IsOfKind Forgotten known cpu) []
-none_forgotten known cpu none = record {
-  forward = λ k run at. absurd (none-some run at);
-  apart = λ k a b at next. absurd (none-some b next);
-  of_them = λ n h. absurd (none-some h.run h.at);
-  whole = λ n low. absurd (omega arith);
 }
 
 -- ---- one CPU more
@@ -150,7 +158,11 @@ runs_more kind front at runs list low one before =
     runs_append (IsOfKindAmong kind front) (IsOf kind at) (IsOfKindAmong kind (front ++ at ∷ []))
     (λ s c n h. record {
       known = h.known;
-      among = (h.among.0, get_in_front front (at ∷ []) h.among.0 record { stream = s; cpu = c; known = h.known } h.among.1);
+      among = (
+        h.among.0,
+        get_in_front front (at ∷ []) h.among.0 record { stream = s; cpu = c; known = h.known }
+            h.among.1,
+      );
       of_kind = h.of_kind;
     })
     (λ s c n h. record {
@@ -202,14 +214,16 @@ ordered_at before (z ∷ xs) ordered (suc i) (suc j) x y less at there =
     ordered_at before xs ordered.1 i j x y (omega arith) at there
 
 -- those in front of a place are before the one there
-pub front_before : (cpus : List FleetCpu) (n : ℕ) (at : FleetCpu) → AreOrdered IsBefore cpus → slice_get cpus n ≡ Some at
+pub front_before : (cpus : List FleetCpu) (n : ℕ) (at : FleetCpu) → AreOrdered IsBefore cpus → slice_get cpus n ≡ Some
+    at
     → (x : FleetCpu) → IsAmong (take n cpus) x → IsBefore x at
 front_before cpus n at ordered there x (k, is) =
     let early = slice_get_within (take n cpus) k x is in
     let within = slice_get_within cpus n at there in
     let short : length (take n cpus) ≡ n = length-take-le n cpus (omega arith) in
     let here : slice_get cpus k ≡ Some x =
-    subst (λ (xs : List FleetCpu). slice_get xs k ≡ Some x) (take-append-drop n cpus) (get_in_front (take n cpus) (drop n cpus) k x is) in
+    subst (λ (xs : List FleetCpu). slice_get xs k ≡ Some x) (take-append-drop n cpus)
+    (get_in_front (take n cpus) (drop n cpus) k x is) in
     ordered_at IsBefore cpus ordered k n x at (omega arith) here there
 
 -- ---- one CPU more, of those in a list
@@ -226,7 +240,8 @@ next_cpu kind cpus n at runs list new ordered within is before one put =
     let there : slice_get cpus n ≡ Some at = slice_get-get_or cpus n at within ∙ ap (λ x. Some x) (sym is) in
     let here : slice_get seen n ≡ Some (cpu_seen at) = at_mapped cpu_seen cpus n at there in
     let inside = slice_get_within seen n (cpu_seen at) here in
-    let last : get_or seen n (cpu_seen at) ≡ cpu_seen at = get_or_from_slice_get seen n (cpu_seen at) (cpu_seen at) here in
+    let last : get_or seen n (cpu_seen at) ≡ cpu_seen at = get_or_from_slice_get seen n (cpu_seen at)
+    (cpu_seen at) here in
     let more : take (n + 1) seen ≡ take n seen ++ cpu_seen at ∷ [] =
     take_more seen n (cpu_seen at) inside ∙ ap (λ x. take n seen ++ x ∷ []) last in
     subst (λ xs. AreRunsOf (IsOfKindAmong kind xs) new) (sym more)

@@ -1,6 +1,5 @@
 -- The runs of a fleet's numbers of one kind.
-use Rattle.std.specs.Prelude.{◌≡◌, ℕ, suc, ◌<◌, ◌≤◌, ◌⊎◌, List, Some}
-use Rattle.std.specs.List.{slice_get}
+use Rattle.std.specs.Prelude.{◌≡◌, ℕ, suc, ◌<◌, ◌≤◌, ◌⊎◌, List}
 use Rattle.stream_collector.specs.Stream.{Stream, bound_of, IsMissing, IsUndelivered, IsUnknownYet}
 use Rattle.time_merge.specs.Lines.{AreOrdered}
 use Rattle.fleet_collector.specs.Fleet.{stream_at}

@@ -2,7 +2,9 @@
 ghost use Rattle.std.specs.Prelude.{◌≡◌, ◌++◌, codes};
 ghost use Rattle.std.specs.Fmt.{decimal};
 ghost use Rattle.text_buffer.specs.Putting.{has_failed, Puts};
-ghost use Rattle.fleet_text.specs.Faults.{word_fault_name, image_fault_name, parcel_fault_name, piece_fault_name, refused_by_parcels, refused_parcel, refused_mark, trouble_text, fault_line, numbered_cpu, is_no_memory, is_memory_fault, is_memory_refusal};
+ghost use Rattle.fleet_text.specs.Faults.{word_fault_name, image_fault_name, parcel_fault_name, piece_fault_name};
+ghost use Rattle.fleet_text.specs.Faults.{refused_by_parcels, refused_parcel, refused_mark, trouble_text, fault_line};
+ghost use Rattle.fleet_text.specs.Faults.{numbered_cpu, is_no_memory, is_memory_fault, is_memory_refusal};
 
 use crate::lines::{put_cpu, put_numbered};
 use command_io::Sink;

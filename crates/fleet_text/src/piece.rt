@@ -3,7 +3,9 @@ ghost use Rattle.std.specs.Prelude.{◌≡◌};
 ghost use Rattle.text_buffer.specs.Putting.{has_failed, Puts};
 ghost use Rattle.page_numbers.specs.Parcels.{as_parcel};
 ghost use Rattle.parcel_streams.specs.Answers.{piece_seen};
-ghost use Rattle.fleet_text.specs.Pieces.{place_text, json_place, mark_name, mark_numbers, json_mark_numbers, mark_text, json_mark, parcel_text, json_parcel, piece_text, json_piece, piece_line};
+ghost use Rattle.fleet_text.specs.Pieces.{place_text, json_place, mark_name, mark_numbers, json_mark_numbers};
+ghost use Rattle.fleet_text.specs.Pieces.{mark_text, json_mark, parcel_text, json_parcel, piece_text, json_piece};
+ghost use Rattle.fleet_text.specs.Pieces.{piece_line};
 
 use crate::lines::{put_cpu, put_json_cpu, put_numbered};
 use capture_text::Form;

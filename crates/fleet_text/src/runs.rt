@@ -35,8 +35,10 @@ fn put_all(
 
 /// Puts the run of the forgotten numbers of a CPU, if there are any.
 fn put_forgotten(runs: &mut Vec<FleetRun>, at: &StreamCpu<'_>) -> Result<(), NoMemory>
-    ensures { OnOk result ((list : List (ℕ × ℕ)) × AreRuns (IsOfKind RunKind.Forgotten at.now.known.now at.now.cpu.0) list
-        × (map run_seen runs.new.items ≡ map run_seen runs.old.items ++ map (run_at at.now.stream.0 at.now.cpu.0) list)) }
+    ensures { OnOk result ((list : List (ℕ × ℕ))
+        × AreRuns (IsOfKind RunKind.Forgotten at.now.known.now at.now.cpu.0) list
+        × (map run_seen runs.new.items
+        ≡ map run_seen runs.old.items ++ map (run_at at.now.stream.0 at.now.cpu.0) list)) }
 {
     let bound = at.known.bound(at.cpu);
     if bound.0 > 0 {
@@ -53,7 +55,8 @@ fn put_forgotten(runs: &mut Vec<FleetRun>, at: &StreamCpu<'_>) -> Result<(), NoM
 /// Puts the runs of a CPU's numbers of this kind.
 fn put_kind(runs: &mut Vec<FleetRun>, kind: RunKind, at: &StreamCpu<'_>) -> Result<(), NoMemory>
     ensures { OnOk result ((list : List (ℕ × ℕ)) × AreRuns (IsOfKind kind at.now.known.now at.now.cpu.0) list
-        × (map run_seen runs.new.items ≡ map run_seen runs.old.items ++ map (run_at at.now.stream.0 at.now.cpu.0) list)) }
+        × (map run_seen runs.new.items
+        ≡ map run_seen runs.old.items ++ map (run_at at.now.stream.0 at.now.cpu.0) list)) }
 {
     match kind {
         RunKind::Missing => put_all(runs, at.stream, at.cpu, at.known.missing(at.cpu)),

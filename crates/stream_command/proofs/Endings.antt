@@ -1,11 +1,11 @@
 -- How a run ends, by what was read and taken.
-use Rattle.std.proofs.Common.{◌≡◌, ◌⊎◌, inl, inr, ◌↔◌, ℕ, Bool, true, false, true≢false, List, [], ◌∷◌, ◌++◌, map, flat_map, append_assoc, append-nil, Option, Result, Ok, Err, OnOk, OnErr, IsErr, IfErr, refl, sym, ap, ◌∙◌, subst}
+use Rattle.std.proofs.Common.{◌≡◌, ◌↔◌, ℕ, Bool, true, true≢false, List, [], ◌∷◌, ◌++◌, append_assoc, append-nil}
+use Rattle.std.proofs.Common.{Option, Result, Ok, Err, OnOk, OnErr, IsErr, IfErr, refl, sym, ap, ◌∙◌, subst}
 use Rattle.std.specs.Result.{is_ok}
 use Rattle.std.specs.Io.KnownBytes.{Appends}
-use Rattle.std.proofs.lemmas.List.{map-append}
 use Rattle.command_io.specs.CommandRun.{AppendsPrefix}
 use Rattle.parcel_streams.specs.Pieces.{bytes_of_pieces}
-use Rattle.parcel_streams.specs.Answers.{piece_seen, pieces_seen}
+use Rattle.parcel_streams.specs.Answers.{piece_seen}
 use Rattle.parcel_streams.specs.declared.piece.Piece.{Piece}
 use Rattle.stream_collector.specs.Stream.{Stream}
 use Rattle.fleet_collector.specs.declared.refusal.PieceRefusal.{PieceRefusal}
@@ -19,8 +19,8 @@ use Rattle.piece_source.specs.declared.reader.PieceReader.{PieceReader}
 use Rattle.stream_command.specs.declared.read.Stop.{Stop}
 use Rattle.stream_command.specs.declared.read.Stop.TheVariants.{Read, Piece as PieceStop}
 use Rattle.stream_command.specs.declared.read.Stopped.{Stopped}
-use Rattle.stream_command.specs.Reading.{Placed, placed, piece_length, TakesAll, IsTrouble, IsWhy, StopsInput, StopsInputs, TakesInputs}
-use Rattle.stream_command.specs.Gathering.{HasGathered, IsGathered, Gathers, Refuses, PrintsPiece, pieces_in, piece_lines}
+use Rattle.stream_command.specs.Reading.{Placed, placed, piece_length, TakesAll, IsTrouble, IsWhy, StopsInputs}
+use Rattle.stream_command.specs.Gathering.{HasGathered, IsGathered, Refuses, PrintsPiece, pieces_in, piece_lines}
 use Rattle.stream_command.specs.Runs.{Adds, IsRefused, Prints, IsNotPrinted}
 use Rattle.stream_command.proofs.Readings.{takes_both}
 use Rattle.stream_command.proofs.Gathered.{added_told, GathersTo, all_gathered}
@@ -43,7 +43,8 @@ module _ {S T : Type 0} (f : S → T) (takes : S → Placed → S → Type 0) (t
     trouble_seen input at new left p q (Refused stream cpu refusal) (piece, origin, gives, is) =
         (piece, origin, gives, refused p record { input = input; at = at; piece = piece } refusal q is)
 
-    pub why_seen : (input : ℕ) (new : PieceReader R) (pieces : List Piece) (left : Option (List ℕ)) (p q : S) (stop : Stop)
+    pub why_seen : (input : ℕ) (new : PieceReader R) (pieces : List Piece) (left : Option (List ℕ)) (p q : S)
+        (stop : Stop)
         → IsWhy remaining has_failed takes refuses input new pieces left p q stop
         → IsWhy remaining has_failed takes' refuses' input new pieces left (f p) (f q) stop
     why_seen input new pieces left p q Read (same, is) = (ap f same, is)
@@ -102,7 +103,8 @@ module _ {G K : Type 0} (fleet_of : G → List (ℕ × Stream)) (buffer_of : G �
     -- a piece that is refused, or none, changes nothing
     still : (start : Option (List ℕ)) (pieces : List Piece) (input : ℕ) (new : PieceReader R) (own : List Piece)
         (left : Option (List ℕ)) (p q : G × K) (stop : Stop)
-        → IsWhy remaining has_failed Gathering RefusesTo input new own left p q stop → Has start pieces p → Has start pieces q
+        → IsWhy remaining has_failed Gathering RefusesTo input new own left p q stop → Has start pieces p
+        → Has start pieces q
     still start pieces input new own left p q Read (same, is) has = subst (Has start pieces) same has
     still start pieces input new own left p q (PieceStop index at (Unread fault)) (index_is, at_is, (same, is)) has =
         subst (Has start pieces) same has
@@ -127,7 +129,8 @@ module _ {G K : Type 0} (fleet_of : G → List (ℕ × Stream)) (buffer_of : G �
         → StopsInputs remaining has_failed Gathering RefusesTo old new p q stopped
         → StopsInputs remaining has_failed Adds IsRefused old new [] (fleet_of q.0) stopped
     stops_adding old new p q stopped none s =
-        let seen = stops_seen (λ (z : G × K). fleet_of z.0) Gathering Adds (λ a x b g. (g.added, g.adds)) remaining has_failed
+        let seen = stops_seen (λ (z : G × K). fleet_of z.0) Gathering Adds (λ a x b g. (g.added, g.adds)) remaining
+        has_failed
         RefusesTo IsRefused (λ a x r b g. (g.fleet_stays, g.refused)) old new p q stopped s in
         record {
           front = seen.front;
@@ -150,7 +153,8 @@ pub gathered : {T F : Type 0} (result : Result T F) (contents after : Option (Li
     (failed_before failed : Bool) (buffer : TextBuffer) (pieces : List Piece) (fleet : List (ℕ × Stream))
     → HasGathered contents before failed_before buffer fleet pieces
     → ((text : List ℕ) → HasPut contents before failed_before text buffer → OnOk result (Appends contents after text))
-    → ((text : List ℕ) → HasPut contents before failed_before text buffer → OnErr result (AppendsPrefix contents after text))
+    → ((text : List ℕ) → HasPut contents before failed_before text buffer → OnErr result
+    (AppendsPrefix contents after text))
     → ((failed ≡ true) ↔ IsErr result)
     → IsGathered contents after failed pieces fleet (is_ok result)
 gathered (Ok x) contents after before failed_before failed buffer pieces fleet has all prefix fault =
@@ -176,7 +180,8 @@ gathered (Err e) contents after before failed_before failed buffer pieces fleet 
 
 -- ---- printing
 
-module _ {P W : Type 0} (form_of : P → Form) (buffer_of : P → TextBuffer) (contents : W → Option (List ℕ)) (failed : W → Bool) where
+module _ {P W : Type 0} (form_of : P → Form) (buffer_of : P → TextBuffer) (contents : W → Option (List ℕ))
+    (failed : W → Bool) where
   abbrev pub PrintsTo : (P × W) → Placed → (P × W) → Type 0
   PrintsTo p placed q = PrintsPiece placed (form_of p.0) (buffer_of p.0) (contents p.1) (failed p.1)
       (form_of q.0) (buffer_of q.0) (contents q.1) (failed q.1)
@@ -192,8 +197,10 @@ module _ {P W : Type 0} (form_of : P → Form) (buffer_of : P → TextBuffer) (c
       (subst (λ t. HasPut start (contents p.1) (failed p.1) t (buffer_of p.0)) (sym (append-nil text)) has)
   all_printed start text (x ∷ xs) p q has (m, one, more) =
       let line = piece_line (form_of p.0) x.input x.at (piece_length x.piece) (piece_seen x.piece) in
-      subst (λ t. HasPut start (contents q.1) (failed q.1) t (buffer_of q.0)) (append_assoc text line (piece_lines (form_of p.0) xs))
-      (subst (λ f. HasPut start (contents q.1) (failed q.1) ((text ++ line) ++ piece_lines f xs) (buffer_of q.0)) one.form_stays
+      subst (λ t. HasPut start (contents q.1) (failed q.1) t (buffer_of q.0))
+      (append_assoc text line (piece_lines (form_of p.0) xs))
+      (subst (λ f. HasPut start (contents q.1) (failed q.1) ((text ++ line) ++ piece_lines f xs) (buffer_of q.0))
+      one.form_stays
       (all_printed start (text ++ line) xs m q (one.put start text has) more))
 
   module _ {R : Type 0} (remaining : R → Option (List ℕ)) (has_failed : R → Bool) where
@@ -216,7 +223,8 @@ module _ {P W : Type 0} (form_of : P → Form) (buffer_of : P → TextBuffer) (c
         (piece_lines (form_of p.0) (s.pieces ++ placed stopped.input 0 s.here.pieces)) (buffer_of q.0)
     stops_printed start old new p q stopped s has =
         let pieces = s.pieces ++ placed stopped.input 0 s.here.pieces in
-        still_put start (piece_lines (form_of p.0) pieces) stopped.input s.this_new s.here.pieces s.here.left s.here.between q
+        still_put start (piece_lines (form_of p.0) pieces) stopped.input s.this_new s.here.pieces s.here.left
+        s.here.between q
         stopped.stop s.here.why
         (all_printed start [] pieces p s.here.between has
         (all_taken remaining has_failed PrintsTo NeverRefuses old new p q stopped s))
@@ -230,7 +238,8 @@ module _ {P W : Type 0} (form_of : P → Form) (buffer_of : P → TextBuffer) (c
 
 -- ---- by whether all was read
 
-pub by_read : {E Goal A C : Type 0} {B D : E → Type 0} (read : Result (Unit {0}) E) → OnOk read A → IfErr read B → OnOk read C
+pub by_read : {E Goal A C : Type 0} {B D : E → Type 0} (read : Result (Unit {0}) E) → OnOk read A → IfErr read B
+    → OnOk read C
     → IfErr read D → (A → C → Goal) → ((e : E) → B e → D e → Goal) → Goal
 by_read (Ok x) a b c d whole stopped = whole a c
 by_read (Err e) a b c d whole stopped = stopped e b d

@@ -1,14 +1,14 @@
 -- All inputs, one after the other.
-use Rattle.std.proofs.Common.{◌≡◌, ◌⊎◌, ℕ, zero, suc, ◌+◌, ◌<◌, ◌≤◌, Bool, false, List, [], ◌∷◌, ◌++◌, length, map, get_or, append_assoc, append-nil, length-append, Option, Some, All, refl, sym, ap, ◌∙◌, subst, arith}
+use Rattle.std.proofs.Common.{◌≡◌, ℕ, suc, ◌+◌, ◌<◌, ◌≤◌, Bool, List, [], ◌∷◌, ◌++◌, length, get_or, append_assoc}
+use Rattle.std.proofs.Common.{append-nil, length-append, Option, refl, sym, ap, ◌∙◌, subst, arith}
 use Rattle.std.proofs.Math.ListN.{set}
 use Rattle.std.proofs.Math.Seq.{get_or-append_seam, set-append_seam}
 use Rattle.fleet_collector.specs.declared.refusal.PieceRefusal.{PieceRefusal}
 use Rattle.parcel_streams.specs.declared.piece.Piece.{Piece}
 use Rattle.piece_source.specs.declared.reader.PieceReader.{PieceReader}
-use Rattle.piece_source.specs.Readers.{source_of}
 use Rattle.stream_command.specs.declared.read.Stop.{Stop}
-use Rattle.stream_command.specs.declared.read.Stopped.{Stopped}
-use Rattle.stream_command.specs.Reading.{Placed, placed, TakesAll, IsWhole, AreWhole, IsFresh, TakesInput, StopsInput, TakesInputs, StopsInputs}
+use Rattle.stream_command.specs.Reading.{Placed, placed, TakesAll, IsWhole, AreWhole, TakesInput, StopsInput}
+use Rattle.stream_command.specs.Reading.{TakesInputs, StopsInputs}
 use Rattle.stream_command.proofs.Readings.{takes_both}
 
 module _ {R : Type 0} (remaining : R → Option (List ℕ)) (has_failed : R → Bool) where
@@ -18,11 +18,13 @@ module _ {R : Type 0} (remaining : R → Option (List ℕ)) (has_failed : R → 
   -- one input more is whole
   whole_more : (input : ℕ) (olds news : List Reader) (pieces : List Placed) (old new : Reader) (own : List Piece)
       → AreWhole remaining has_failed input olds news pieces → IsWhole remaining has_failed old new own
-      → AreWhole remaining has_failed input (olds ++ old ∷ []) (news ++ new ∷ []) (pieces ++ placed (input + length olds) 0 own)
+      → AreWhole remaining has_failed input (olds ++ old ∷ []) (news ++ new ∷ [])
+      (pieces ++ placed (input + length olds) 0 own)
   whole_more input [] [] pieces old new own none whole = (
     own,
     [],
-    ap (λ ps. ps ++ placed (input + 0) 0 own) none ∙ ap (λ n. placed n 0 own) (let e : input + 0 ≡ input = omega arith in e)
+    ap (λ ps. ps ++ placed (input + 0) 0 own) none ∙ ap (λ n. placed n 0 own)
+        (let e : input + 0 ≡ input = omega arith in e)
         ∙ sym (append-nil (placed input 0 own)),
     whole,
     refl,
@@ -89,7 +91,8 @@ module _ {R : Type 0} (remaining : R → Option (List ℕ)) (has_failed : R → 
             absurd (omega arith)
         by (x ∷ rest) now_is same =
             let first : get_or now at this ≡ x =
-            ap (λ xs. get_or xs at this) now_is ∙ ap (λ n. get_or (so_far.front_now ++ x ∷ rest) n this) so_far.at_now_is
+            ap (λ xs. get_or xs at this) now_is ∙ ap (λ n. get_or (so_far.front_now ++ x ∷ rest) n this)
+            so_far.at_now_is
             ∙ get_or-append_seam so_far.front_now x rest this in
             record { rest = rest; behind_is = same ∙ ap (λ y. y ∷ rest) (sym (is ∙ first)) }
 
@@ -98,7 +101,8 @@ module _ {R : Type 0} (remaining : R → Option (List ℕ)) (has_failed : R → 
         (so_far : AreReadSoFar old now at before after) → IsNext old now at before after this so_far
         → (get_or old at this ≡ this) × (at < length old)
     as_first old now at before after this so_far next =
-        let old_is : old ≡ so_far.front ++ this ∷ next.rest = so_far.old_is ∙ ap (λ xs. so_far.front ++ xs) next.behind_is in
+        let old_is : old ≡ so_far.front ++ this ∷ next.rest = so_far.old_is ∙ ap (λ xs. so_far.front ++ xs)
+        next.behind_is in
         let long = ap length old_is in
         let joined = length-append so_far.front (this ∷ next.rest) in
         let here = so_far.at_is in (
@@ -130,21 +134,25 @@ module _ {R : Type 0} (remaining : R → Option (List ℕ)) (has_failed : R → 
           front = so_far.front ++ this ∷ [];
           front_now = so_far.front_now ++ new ∷ [];
           behind = next.rest;
-          old_is = so_far.old_is ∙ ap (λ xs. so_far.front ++ xs) next.behind_is ∙ sym (append_assoc so_far.front (this ∷ []) next.rest);
+          old_is = so_far.old_is ∙ ap (λ xs. so_far.front ++ xs) next.behind_is ∙ sym
+              (append_assoc so_far.front (this ∷ []) next.rest);
           now_is = new_list old now at before between this new so_far next
               ∙ sym (append_assoc so_far.front_now (new ∷ []) next.rest);
           at_is = omega arith;
           at_now_is = omega arith;
           pieces = so_far.pieces ++ placed (0 + length so_far.front) 0 one.pieces;
-          are_whole = whole_more 0 so_far.front so_far.front_now so_far.pieces this new one.pieces so_far.are_whole one.whole;
-          taken = takes_both takes before so_far.pieces between (placed (0 + length so_far.front) 0 one.pieces) after so_far.taken
+          are_whole = whole_more 0 so_far.front so_far.front_now so_far.pieces this new one.pieces so_far.are_whole
+              one.whole;
+          taken = takes_both takes before so_far.pieces between (placed (0 + length so_far.front) 0 one.pieces) after
+              so_far.taken
               (subst (λ xs. TakesAll takes between xs after) places one.taken);
         }
 
     pub stops_here : (old now : List Reader) (at : ℕ) (before between after : S) (this new : Reader) (stop : Stop)
         (so_far : AreReadSoFar old now at before between) → IsNext old now at before between this so_far
         → StopsInput remaining has_failed takes refuses at this new between after stop
-        → StopsInputs remaining has_failed takes refuses old (set now at new) before after record { input = at; stop = stop }
+        → StopsInputs remaining has_failed takes refuses old (set now at new) before after record
+        { input = at; stop = stop }
     stops_here old now at before between after this new stop so_far next one = record {
       front = so_far.front;
       front_new = so_far.front_now;
@@ -169,7 +177,8 @@ module _ {R : Type 0} (remaining : R → Option (List ℕ)) (has_failed : R → 
             → TakesInputs remaining has_failed takes refuses old now before after
         by [] old_is now_is = record {
           pieces = so_far.pieces;
-          are_whole = subst (λ xs. AreWhole remaining has_failed 0 xs now so_far.pieces) (sym (old_is ∙ append-nil so_far.front))
+          are_whole = subst (λ xs. AreWhole remaining has_failed 0 xs now so_far.pieces)
+              (sym (old_is ∙ append-nil so_far.front))
               (subst (λ xs. AreWhole remaining has_failed 0 so_far.front xs so_far.pieces)
               (sym (now_is ∙ append-nil so_far.front_now)) so_far.are_whole);
           taken = so_far.taken;

@@ -1,24 +1,22 @@
 -- An input is read piece by piece, and its pieces are taken.
-use Rattle.std.proofs.Common.{◌≡◌, ◌⊎◌, inl, inr, ℕ, ◌+◌, ◌-◌, ◌^◌, ◌<◌, ◌≤◌, Bool, true, false, List, [], ◌∷◌, ◌++◌, length, map, length-append, Option, Some, refl, sym, ap, ◌∙◌, subst, arith}
+use Rattle.std.proofs.Common.{◌≡◌, ℕ, ◌+◌, ◌-◌, ◌^◌, List, [], ◌∷◌, ◌++◌, length, length-append, Option, refl, sym, ap}
+use Rattle.std.proofs.Common.{◌∙◌, subst, arith}
 use Rattle.std.specs.Prelude.{min}
-use Rattle.std.specs.Io.KnownBytes.{IsAtEnd, Keeps}
 use Rattle.std.proofs.lemmas.List.{map-append}
-use Rattle.std.proofs.lemmas.Grind.{common_steps}
-use Rattle.parcel_streams.specs.Pieces.{Packed, bytes_of_piece, bytes_of_pieces}
+use Rattle.parcel_streams.specs.Pieces.{bytes_of_piece, bytes_of_pieces}
 use Rattle.parcel_streams.specs.Answers.{piece_seen, pieces_seen}
 use Rattle.parcel_streams.specs.declared.piece.Piece.{Piece}
-use Rattle.parcel_streams.specs.declared.fault.PieceFault.{PieceFault}
 use Rattle.parcel_streams.proofs.Streams.{one_more}
-use Rattle.fleet_collector.specs.declared.refusal.PieceRefusal.{PieceRefusal}
 use Rattle.piece_source.specs.declared.reader.PieceReader.{PieceReader}
 use Rattle.piece_source.specs.Reading.{GivesPiece, GivesPieces}
-use Rattle.piece_source.specs.Readers.{source_of, left_of, index_of, at_of}
-use Rattle.piece_source.proofs.Given.{gives_none, gives_more, gives_again}
+use Rattle.piece_source.specs.Readers.{left_of, index_of, at_of}
+use Rattle.piece_source.proofs.Given.{gives_none, gives_more}
 use Rattle.stream_command.specs.Reading.{Placed, capped, piece_length, placed, TakesAll, IsFresh}
 
 -- ---- taking
 
-pub takes_both : {S : Type 0} (takes : S → Placed → S → Type 0) (p : S) (xs : List Placed) (m : S) (ys : List Placed) (q : S)
+pub takes_both : {S : Type 0} (takes : S → Placed → S → Type 0) (p : S) (xs : List Placed) (m : S) (ys : List Placed)
+    (q : S)
     → TakesAll takes p xs m → TakesAll takes m ys q → TakesAll takes p (xs ++ ys) q
 takes_both takes p [] m ys q first second = subst (λ s. TakesAll takes s ys q) (sym first) second
 takes_both takes p (x ∷ xs) m ys q (mid, one, more) second = (mid, one, takes_both takes mid xs m ys q more second)
@@ -47,9 +45,14 @@ placed_more input at (first ∷ pieces) piece =
     let this : Placed = record { input = input; at = capped at; piece = first } in
     let long = length-append (bytes_of_piece (piece_seen first)) (bytes_of_pieces (pieces_seen pieces)) in
     ap (λ more. this ∷ more) (placed_more input (at + piece_length first) pieces piece)
-    ∙ ap (λ n. this ∷ placed input (at + piece_length first) pieces ++ record { input = input; at = capped n; piece = piece } ∷ [])
+    ∙ ap (λ n. this ∷ placed input (at + piece_length first) pieces ++ record {
+      input = input;
+      at = capped n;
+      piece = piece;
+    } ∷ [])
     (let e : at + piece_length first + length (bytes_of_pieces (pieces_seen pieces))
-    ≡ at + length (bytes_of_piece (piece_seen first) ++ bytes_of_pieces (pieces_seen pieces)) = omega (arith, long) in e)
+    ≡ at + length (bytes_of_piece (piece_seen first) ++ bytes_of_pieces (pieces_seen pieces)) = omega
+    (arith, long) in e)
 
 pub capped_more : (n m old new : ℕ) → old ≡ capped n → new ≡ min (old + m) (2 ^ 64 - 1) → new ≡ capped (n + m)
 capped_more n m old new is more = omega arith
@@ -65,7 +68,8 @@ module _ {R S : Type 0} (remaining : R → Option (List ℕ)) (takes : S → Pla
     pub index_is : index_of now ≡ capped (length pieces)
     pub at_is : at_of now ≡ capped (length (bytes_of_pieces (pieces_seen pieces)))
 
-  pub read_none : (input : ℕ) (reader : PieceReader R) (state : S) → IsFresh reader → IsReadSoFar input reader reader state state
+  pub read_none : (input : ℕ) (reader : PieceReader R) (state : S) → IsFresh reader → IsReadSoFar input reader reader
+      state state
   read_none input reader state fresh = record {
     pieces = [];
     gives = gives_none (left_of remaining reader);
@@ -88,15 +92,20 @@ module _ {R S : Type 0} (remaining : R → Option (List ℕ)) (takes : S → Pla
       let bytes = bytes_more pieces piece in
       record {
         pieces = pieces ++ piece ∷ [];
-        gives = subst (GivesPieces (left_of remaining old) (left_of remaining next)) (sym (map-append piece_seen pieces (piece ∷ [])))
-            (gives_more (left_of remaining old) (left_of remaining now) (left_of remaining next) (pieces_seen pieces) (piece_seen piece) so_far.gives gives);
+        gives = subst (GivesPieces (left_of remaining old) (left_of remaining next))
+            (sym (map-append piece_seen pieces (piece ∷ [])))
+            (gives_more (left_of remaining old) (left_of remaining now) (left_of remaining next) (pieces_seen pieces)
+            (piece_seen piece) so_far.gives gives);
         taken = subst (λ xs. TakesAll takes before xs after) (sym (placed_more input 0 pieces piece))
             (takes_more takes before (placed input 0 pieces) between
-            record { input = input; at = capped (0 + length (bytes_of_pieces (pieces_seen pieces))); piece = piece } after so_far.taken
+            record { input = input; at = capped (0 + length (bytes_of_pieces (pieces_seen pieces))); piece = piece }
+            after so_far.taken
             (subst (λ n. takes between record { input = input; at = n; piece = piece } after)
-            (here ∙ so_far.at_is ∙ (let e : capped (length (bytes_of_pieces (pieces_seen pieces))) ≡ capped (0 + length (bytes_of_pieces (pieces_seen pieces))) = omega arith in e)) taken));
+            (here ∙ so_far.at_is ∙ (let e : capped (length (bytes_of_pieces (pieces_seen pieces))) ≡ capped
+            (0 + length (bytes_of_pieces (pieces_seen pieces))) = omega arith in e)) taken));
         index_is = capped_more (length pieces) 1 (index_of now) (index_of next) so_far.index_is index_is
             ∙ ap capped (let e : length pieces + 1 ≡ length (pieces ++ piece ∷ []) = omega (arith, long) in e);
-        at_is = capped_more (length (bytes_of_pieces (pieces_seen pieces))) (piece_length piece) (at_of now) (at_of next) so_far.at_is at_is
+        at_is = capped_more (length (bytes_of_pieces (pieces_seen pieces))) (piece_length piece) (at_of now)
+            (at_of next) so_far.at_is at_is
             ∙ ap capped (sym bytes);
       }

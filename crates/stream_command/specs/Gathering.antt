@@ -2,7 +2,7 @@
 use Rattle.std.specs.Prelude.{◌≡◌, ℕ, Bool, true, false, List, [], ◌∷◌, ◌++◌, map, flat_map, Option}
 use Rattle.std.specs.Io.KnownBytes.{Appends}
 use Rattle.command_io.specs.CommandRun.{AppendsPrefix}
-use Rattle.parcel_streams.specs.Pieces.{Packed, bytes_of_piece, bytes_of_pieces}
+use Rattle.parcel_streams.specs.Pieces.{Packed, bytes_of_pieces}
 use Rattle.parcel_streams.specs.Answers.{piece_seen, pieces_seen}
 use Rattle.parcel_streams.specs.declared.piece.Piece.{Piece}
 use Rattle.stream_collector.specs.Stream.{Stream}
@@ -34,7 +34,8 @@ pub data AreAdded : List Piece → List (ℕ × Stream) → (kept : List Packed)
 -- ---- one piece
 
 -- A piece was added to a fleet, and its bytes were put if it was new.
-pub record Gathers (piece : Piece) (old : List (ℕ × Stream)) (b : TextBuffer) (contents : Option (List ℕ)) (failed : Bool)
+pub record Gathers (piece : Piece) (old : List (ℕ × Stream)) (b : TextBuffer) (contents : Option (List ℕ))
+    (failed : Bool)
     (new : List (ℕ × Stream)) (b' : TextBuffer) (contents' : Option (List ℕ)) (failed' : Bool) : Type 0 where
   pub added : Added
   pub adds : AddsPiece old new piece added

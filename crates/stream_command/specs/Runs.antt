@@ -3,7 +3,6 @@ use Rattle.std.specs.Prelude.{◌≡◌, ◌⊎◌, ⊤, ℕ, Bool, true, false,
 use Rattle.std.specs.Io.KnownBytes.{Appends}
 use Rattle.command_io.specs.CommandRun.{AppendsPrefix}
 use Rattle.command_io.specs.declared.command.TheConstants.{MEMORY_LINE}
-use Rattle.parcel_streams.specs.declared.piece.Piece.{Piece}
 use Rattle.stream_collector.specs.Stream.{Stream}
 use Rattle.fleet_collector.specs.declared.refusal.PieceRefusal.{PieceRefusal}
 use Rattle.stream_collector.specs.declared.added.Added.{Added}
@@ -34,7 +33,8 @@ IsMemoryLine contents after failed text ending =
 
 -- What is written after a text if an input isn't read to its end: nothing more if a read failed; else the line of the
 -- fault, or that of refused memory.
-abbrev pub TellsStop : (input : ℕ) → Stop → (contents after : Option (List ℕ)) (failed : Bool) → List ℕ → Ending → Type 0
+abbrev pub TellsStop : (input : ℕ) → Stop → (contents after : Option (List ℕ)) (failed : Bool) → List ℕ → Ending
+    → Type 0
 TellsStop input Read contents after failed text ending = IsWritten contents after failed text (NotRead input) ending
 TellsStop input (PieceStop index at trouble) contents after failed text ending =
     ((is_no_memory trouble ≡ false)
@@ -68,7 +68,8 @@ module _ {R : Type 0} (remaining : R → Option (List ℕ)) (has_failed : R → 
 
   -- All inputs were read to their ends, and what the fleet of their pieces has is listed, or memory was refused before
   -- the first line. What was new is kept, in the order of the inputs.
-  pub record ListsAll (form : Form) (old new : List (PieceReader R)) (keep keep_after : Option (List ℕ)) (keep_failed : Bool)
+  pub record ListsAll (form : Form) (old new : List (PieceReader R)) (keep keep_after : Option (List ℕ))
+      (keep_failed : Bool)
       (contents after : Option (List ℕ)) (failed : Bool) (collected : Collected) : Type 0 where
     pub pieces : List Placed
     pub are_whole : AreWhole remaining has_failed 0 old new pieces
@@ -114,7 +115,8 @@ module _ {R : Type 0} (remaining : R → Option (List ℕ)) (has_failed : R → 
     pub written : IsWritten contents after failed (piece_lines form pieces) Done ending
 
   -- An input wasn't read to its end: there is a line for each piece before, and then why.
-  pub record PrintsSome (form : Form) (old new : List (PieceReader R)) (contents after : Option (List ℕ)) (failed : Bool)
+  pub record PrintsSome (form : Form) (old new : List (PieceReader R)) (contents after : Option (List ℕ))
+      (failed : Bool)
       (ending : Ending) : Type 0 where
     pub stopped : Stopped
     pub stops : StopsInputs remaining has_failed Prints IsNotPrinted old new tt tt stopped

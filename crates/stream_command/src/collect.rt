@@ -139,8 +139,8 @@ fn new_gathering(alloc: Global) -> Result<(Gatherer, TextBuffer), NoMemory>
 }
 
 /// Lists what the pieces of all inputs say together: their records by time, and which numbers are missing, unknown,
-/// undelivered or forgotten. The bytes of each piece that is new when it comes are written to `keep`. Nothing is written
-/// to `writer` before all inputs are read, and memory is asked for only before the first byte is written.
+/// undelivered or forgotten. The bytes of each piece that is new when it comes are written to `keep`. Nothing is
+/// written to `writer` before all inputs are read, and memory is asked for only before the first byte is written.
 pub fn collect_streams<R: Source, K: Sink, W: Sink>(
     alloc: Global,
     form: Form,

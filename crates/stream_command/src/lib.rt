@@ -1,5 +1,5 @@
-//! The command `collect` for streams: pieces in, one listing of the fleet by time out, with what it lacks; or a line for
-//! each piece.
+//! The command `collect` for streams: pieces in, one listing of the fleet by time out, with what it lacks; or a line
+//! for each piece.
 #![tactic(auto)]
 
 mod collect;

@@ -4,7 +4,8 @@ ghost use Rattle.parcel_streams.specs.Pieces.{IsPiece, bytes_of_piece};
 ghost use Rattle.parcel_streams.specs.Answers.{piece_seen};
 ghost use Rattle.fleet_collector.specs.declared.refusal.PieceRefusal.{PieceRefusal};
 ghost use Rattle.piece_source.specs.Readers.{source_of};
-ghost use Rattle.stream_command.specs.Reading.{Placed, IsOrigin, IsFresh, TakesInput, StopsInput, TakesInputs, StopsInputs};
+ghost use Rattle.stream_command.specs.Reading.{Placed, IsOrigin, IsFresh, TakesInput, StopsInput, TakesInputs};
+ghost use Rattle.stream_command.specs.Reading.{StopsInputs};
 
 use command_io::Source;
 use fleet_collector::PieceRefusal;
@@ -74,8 +75,8 @@ fn origin_of(piece: &Piece) -> (StreamId, CpuId)
     }
 }
 
-/// Reads an input to its end, and has its pieces taken. So many other inputs are before it. After a fault nothing more is
-/// read.
+/// Reads an input to its end, and has its pieces taken. So many other inputs are before it. After a fault nothing more
+/// is read.
 fn read_input<R: Source, W, T: TakesPieces<W>>(
     alloc: Global,
     input: usize,
@@ -89,8 +90,8 @@ fn read_input<R: Source, W, T: TakesPieces<W>>(
     ensures can { T.can_take (taker.new, writer.new) }
     ensures taken { OnOk result (TakesInput R.remaining R.failed T.takes T.refuses input reader.old reader.new
         (taker.old, writer.old) (taker.new, writer.new)) }
-    ensures stopped { IfErr result (λ stop. StopsInput R.remaining R.failed T.takes T.refuses input reader.old reader.new
-        (taker.old, writer.old) (taker.new, writer.new) stop) }
+    ensures stopped { IfErr result (λ stop. StopsInput R.remaining R.failed T.takes T.refuses input
+        reader.old reader.new (taker.old, writer.old) (taker.new, writer.new) stop) }
 {
     'pieces: while reader.index() < u64::MAX {
         let index = reader.index();

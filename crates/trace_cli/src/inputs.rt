@@ -72,7 +72,8 @@ pub(crate) fn open_inputs<'a, 'b>(
     is_watched: bool,
 ) -> Result<Vec<Input<Reader<'a>>>, Trial<'b>>
     ensures cpus { IfOk result (λ inputs. map (λ input. input.cpu) inputs.items ≡ map (λ file. file.cpu) files.now) }
-    ensures sound { IfOk result (λ inputs. All (λ input. has_failed (peeked_reader input.reader) ≡ false) inputs.items) }
+    ensures sound { IfOk result (λ inputs.
+        All (λ input. has_failed (peeked_reader input.reader) ≡ false) inputs.items) }
 {
     let mut inputs = Vec::new(rt.alloc());
     for file in files {

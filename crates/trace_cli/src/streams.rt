@@ -21,7 +21,8 @@ fn readers_of<'a>(
     inputs: Vec<Input<Reader<'a>>>,
 ) -> Result<Vec<PieceReader<Reader<'a>>>, Trial<'static>>
     requires { All (λ input. has_failed (peeked_reader input.reader) ≡ false) inputs.items }
-    ensures sound { IfOk result (λ readers. All (λ reader. has_failed (peeked_reader (source_of reader)) ≡ false) readers.items) }
+    ensures sound { IfOk result (λ readers.
+        All (λ reader. has_failed (peeked_reader (source_of reader)) ≡ false) readers.items) }
     ensures fresh { IfOk result (λ readers. All (λ reader. IsFresh reader) readers.items) }
 {
     let mut readers = Vec::new(rt.alloc());

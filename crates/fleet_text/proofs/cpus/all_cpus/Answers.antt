@@ -6,12 +6,13 @@ use Rattle.parcel_streams.specs.declared.piece.StreamId.{StreamId}
 use Rattle.stream_collector.specs.Stream.{Stream}
 use Rattle.fleet_collector.specs.Fleet.{entry_seen}
 use Rattle.fleet_text.specs.declared.cpus.StreamCpu.{StreamCpu}
-use Rattle.fleet_text.specs.Cpus.{cpu_seen, AreCpusIn, AreCpusOfFleet}
+use Rattle.fleet_text.specs.Cpus.{cpu_seen, AreCpusIn}
 use Rattle.fleet_text.proofs.CpusInOrder.{no_streams, cpus_more, all_streams}
 use Rattle.fleet_text.proofs.cpus.all_cpus.Goals as goal
 
 pub loop-stream-init : goal.loop-stream-init
-loop-stream-init c = subst (λ (xs : List StreamCpu). AreCpusIn [] (map cpu_seen xs)) (sym c.new-list.ensures.items) no_streams
+loop-stream-init c = subst (λ (xs : List StreamCpu). AreCpusIn [] (map cpu_seen xs)) (sym c.new-list.ensures.items)
+    no_streams
 
 pub loop-stream-preserved : goal.loop-stream-preserved
 loop-stream-preserved c =
@@ -37,4 +38,5 @@ returns c =
     let all = YieldsList-end yields c.loop-stream.yielded _ c.loop-stream.yielded_by _ _ c.in-None.is
     c.next.ensures.steps in
     all_streams fleet (map cpu_seen c.loop-stream.list.items) start.rising
-    (subst (λ (es : List (ℕ × Stream)). AreCpusIn es (map cpu_seen c.loop-stream.list.items)) all.0 c.loop-stream.invariant)
+    (subst (λ (es : List (ℕ × Stream)). AreCpusIn es (map cpu_seen c.loop-stream.list.items)) all.0
+    c.loop-stream.invariant)

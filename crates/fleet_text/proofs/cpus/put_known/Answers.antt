@@ -1,4 +1,4 @@
-use Rattle.std.proofs.Common.{List, ℕ, ◌++◌, ◌∷◌, [], map, sym, subst}
+use Rattle.std.proofs.Common.{List, ℕ, ◌∷◌, [], map, sym, subst}
 use Rattle.std.proofs.lemmas.List.{map-append}
 use Rattle.std.proofs.lemmas.Iterator.Consumers.{YieldsList-from_first, YieldsList-end}
 use Rattle.collector.specs.Known.{cpu_number}
@@ -12,8 +12,10 @@ loop-cpu-init c = both_none c.args.cpus.now.keys
 pub loop-cpu-preserved : goal.loop-cpu-preserved
 loop-cpu-preserved c =
     let done = c.loop-cpu.yielded in
-    subst (λ (more : List ℕ). HasBoth c.args.cpus.now.keys c.insert.new.self.keys more) (sym (map-append cpu_number done (c.in-Some.cpu ∷ [])))
-    (both_more c.args.cpus.now.keys c.loop-cpu.cpus.keys c.insert.new.self.keys (map cpu_number done) c.in-Some.cpu.0 c.loop-cpu.invariant
+    subst (λ (more : List ℕ). HasBoth c.args.cpus.now.keys c.insert.new.self.keys more)
+    (sym (map-append cpu_number done (c.in-Some.cpu ∷ [])))
+    (both_more c.args.cpus.now.keys c.loop-cpu.cpus.keys c.insert.new.self.keys (map cpu_number done) c.in-Some.cpu.0
+    c.loop-cpu.invariant
     c.in_ok-insert.ensures.keys)
 
 pub returns : goal.returns

@@ -14,6 +14,8 @@ returns-clause-put g c = λ start text has.
     let put = rw c.missed.ensures.missed at (c.put_numbered-4.ensures.put start _ put3) in
     let parcel = as_parcel c.args.parcel.now in
     put_as start _ _ _ _ _
-    (four_numbers text (json_cpu c.args.stream.0 parcel.cpu) (codes ",\"fill\":") (decimal parcel.fill) (codes ",\"first\":")
-    (decimal parcel.first) (codes ",\"count\":") (decimal (length parcel.records)) (codes ",\"missed\":") (decimal parcel.missed))
+    (four_numbers text (json_cpu c.args.stream.0 parcel.cpu) (codes ",\"fill\":") (decimal parcel.fill)
+    (codes ",\"first\":")
+    (decimal parcel.first) (codes ",\"count\":") (decimal (length parcel.records)) (codes ",\"missed\":")
+    (decimal parcel.missed))
     put

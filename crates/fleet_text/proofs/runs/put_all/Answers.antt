@@ -7,7 +7,9 @@ use Rattle.fleet_text.proofs.runs.put_all.Goals as goal
 pub returns : goal.returns
 returns c =
     let given = c.into_iter-first-iterator.ensures.into_iter_gives in
-    let all = YieldsList-end (YieldsList-from_first run_numbers (λ left. left) c.args.of_cpu given) c.loop-first.yielded _
+    let all = YieldsList-end (YieldsList-from_first run_numbers (λ left. left) c.args.of_cpu given) c.loop-first.yielded
+    _
     c.loop-first.yielded_by _ _ c.in-None.is c.next.ensures.steps in
     c.loop-first.invariant
-    ∙ ap (λ (rs : List (ℕ × ℕ)). map run_seen c.args.runs.now.items ++ map (run_at c.args.stream.0 c.args.cpu.0) rs) all.0
+    ∙ ap (λ (rs : List (ℕ × ℕ)). map run_seen c.args.runs.now.items ++ map (run_at c.args.stream.0 c.args.cpu.0) rs)
+    all.0

@@ -12,5 +12,6 @@ loop-at-preserved c =
 
 pub loop-at-init : goal.loop-at-init
 loop-at-init c =
-    subst (λ (xs : List FleetRun). AreRunsOf (IsOfKindAmong c.args.kind []) (map run_seen xs)) (sym c.new-runs.ensures.items)
+    subst (λ (xs : List FleetRun). AreRunsOf (IsOfKindAmong c.args.kind []) (map run_seen xs))
+    (sym c.new-runs.ensures.items)
     (no_runs c.args.kind)

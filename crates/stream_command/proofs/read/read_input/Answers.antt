@@ -97,9 +97,11 @@ pieces-preserved g c =
           (subst (λ (n : Option Piece). IfSome n (λ (piece : Piece). GivesPiece now next (piece_seen piece)))
           some.field-0-is some.ensures.piece)
           (subst (λ (n : Option Piece). IfSome n (λ (piece : Piece).
-          index_of c.next.new.self ≡ min (index_of c.pieces.reader + 1) (2 ^ 64 - 1))) some.field-0-is some.ensures.index)
+          index_of c.next.new.self ≡ min (index_of c.pieces.reader + 1) (2 ^ 64 - 1))) some.field-0-is
+          some.ensures.index)
           (subst (λ (n : Option Piece). IfSome n (λ (piece : Piece).
-          at_of c.next.new.self ≡ min (at_of c.pieces.reader + piece_length piece) (2 ^ 64 - 1))) some.field-0-is some.ensures.at)
+          at_of c.next.new.self ≡ min (at_of c.pieces.reader + piece_length piece) (2 ^ 64 - 1))) some.field-0-is
+          some.ensures.at)
           c.at-at.ensures c.in_default.ensures.taken;
     }
 
@@ -119,5 +121,6 @@ pub pieces-init : goal.pieces-init
 pieces-init g c = record {
   can = c.requires.can;
   sound = c.requires.sound;
-  so_far = read_none g.R.Source.remaining g.T.TakesPieces.takes c.args.input c.args.reader.now (c.args.taker.now, c.args.writer.now) c.requires.fresh;
+  so_far = read_none g.R.Source.remaining g.T.TakesPieces.takes c.args.input c.args.reader.now
+      (c.args.taker.now, c.args.writer.now) c.requires.fresh;
 }

@@ -7,4 +7,5 @@ use Rattle.trace_cli.proofs.collect.list.Goals as goal
 pub collect_to-requires-clause-cpus : goal.collect_to-requires-clause-cpus
 collect_to-requires-clause-cpus c =
     rw c.as_mut_slice.ensures.value
-    (All-same (λ input. input.cpu) (λ file. file.cpu) _ _ c.requires.cpus (λ cpu. cpu.0 < MAX_CPUS) c.requires.range.cpus)
+    (All-same (λ input. input.cpu) (λ file. file.cpu) _ _ c.requires.cpus (λ cpu. cpu.0 < MAX_CPUS)
+    c.requires.range.cpus)

@@ -1,8 +1,7 @@
-use Rattle.std.proofs.Common.{List, map, subst}
-use Rattle.fleet_text.specs.declared.cpus.StreamCpu.{StreamCpu}
+use Rattle.std.proofs.Common.{map}
 use Rattle.fleet_text.specs.declared.run.RunKind.TheVariants.{Missing, Unknown, Undelivered, Forgotten}
 use Rattle.fleet_text.specs.Cpus.{cpu_seen}
-use Rattle.fleet_text.specs.Runs.{run_seen, AreRunsOf, IsOfKindAmong}
+use Rattle.fleet_text.specs.Runs.{run_seen}
 use Rattle.fleet_text.proofs.RunsInOrder.{all_runs}
 use Rattle.fleet_text.proofs.listed.Listed.new.Goals as goal
 
