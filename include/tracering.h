@@ -1157,8 +1157,7 @@ static inline int32_t tracering_fleet_next(struct tracering_fleet *f, void *out,
 // the next: of each CPU that isn't complete that of the last record below its watermark (0 if there is none from the
 // bound on), and of these the least. A CPU is complete if its end is known and is its watermark. A stream of which
 // nothing came yet isn't there, and holds nothing up. END: all that is there is complete, so no line comes any more at
-// all; `moment` is not changed. It takes time
-// by all that is kept: call it now and then.
+// all; `moment` is not changed. It takes time by all that is kept: call it now and then.
 static inline int32_t tracering_fleet_frontier(struct tracering_fleet *f, uint64_t *moment)
 {
     if (!(f && moment))
