@@ -1044,7 +1044,8 @@ static inline int32_t tracering_fleet_next_cpu(struct tracering_fleet *f, uint64
     return tracering_leave(&f->in_call, tracering_raw_fleet_next_cpu(&f->held, stream, from, cpu));
 }
 
-// How far a CPU of a stream is known. Of one of which nothing is known, all is 0.
+// How far a CPU of a stream is known. Of one of which nothing is known, all is 0. It takes time by how many gaps and
+// pages are kept of the CPU, as the runs below do: call it now and then, not for each piece.
 static inline int32_t tracering_fleet_state(struct tracering_fleet *f, uint64_t stream, uint32_t cpu,
     struct tracering_cpu_state *state)
 {
@@ -1156,7 +1157,7 @@ static inline int32_t tracering_fleet_next(struct tracering_fleet *f, void *out,
 // the next: of each CPU that isn't complete that of the last record below its watermark (0 if there is none from the
 // bound on), and of these the least. A CPU is complete if its end is known and is its watermark. A stream of which
 // nothing came yet isn't there, and holds nothing up. END: all that is there is complete, so no line comes any more at
-// all; `moment` is not changed.
+// all; `moment` is not changed. It takes time by all that is kept: call it now and then.
 static inline int32_t tracering_fleet_frontier(struct tracering_fleet *f, uint64_t *moment)
 {
     if (!(f && moment))

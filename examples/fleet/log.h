@@ -27,15 +27,21 @@ static inline void forget_final(struct log *l)
     l->forgets_from = ended + 0.01 + 10 * (ended - begun);
 }
 
-// Adds the first piece of these bytes.
-static inline int32_t add_piece(struct log *l, const uint8_t *bytes, size_t len, size_t *used,
-    struct tracering_stream_fault *at)
+// Adds the first piece of these bytes, if there is one: `used` is how many it has, or 0. One that is at odds with
+// others is told, and left out.
+static inline int32_t add_piece(struct log *l, const uint8_t *bytes, size_t len, size_t *used)
 {
-    int32_t code = tracering_fleet_add(&l->fleet, bytes, len, used, at);
-    l->added += code == TRACERING_DONE;
-    l->known += code < TRACERING_DONE;
+    struct tracering_stream_fault at = {.stream = 0};
+    *used = 0;
+    int32_t code = tracering_fleet_add(&l->fleet, bytes, len, used, &at);
     if (code == TRACERING_NO_MEMORY)
         die("add", tracering_text(code));
+    if (code > TRACERING_DONE && *used)
+        fprintf(stderr, "a piece is refused: %s, stream %016" PRIx64 " CPU %" PRIu32 " number %" PRIu64 "\n",
+            tracering_text(code), at.stream, at.cpu, at.number);
+    l->added += code == TRACERING_DONE;
+    l->known += code < TRACERING_DONE;
+    l->refused += code > TRACERING_DONE && *used;
     forget_final(l);
     return code;
 }
@@ -49,15 +55,16 @@ static inline void open_log(struct log *l, const char *path)
     int file = open(path, O_RDWR | O_CREAT | O_APPEND | O_CLOEXEC, 0644);
     if (file < 0 || lockf(file, F_TLOCK, 0) || fstat(file, &is))
         die(path, strerror(errno)); // (it may be another collector's)
-    size_t len = (size_t)is.st_size, at = 0, used = 0;
+    size_t len = (size_t)is.st_size, at = 0, used;
     uint8_t *bytes = len ? mmap(NULL, len, PROT_READ, MAP_PRIVATE, file, 0) : NULL;
     if (bytes == MAP_FAILED)
         die(path, strerror(errno));
     must(tracering_fleet_new(&l->fleet), "new");
-    for (int32_t code = 0; at < len && code != TRACERING_PIECE_CUT; at += used, used = 0) {
-        struct tracering_stream_fault odds;
-        code = add_piece(l, bytes + at, len - at, &used, &odds);
-        if (code > TRACERING_DONE && code != TRACERING_PIECE_CUT) {
+    for (; at < len; at += used) {
+        int32_t code = add_piece(l, bytes + at, len - at, &used);
+        if (code == TRACERING_PIECE_CUT)
+            break;
+        if (!used) {
             fprintf(stderr, "%s, byte %zu: %s\n", path, at, tracering_text(code));
             exit(1);
         }
@@ -70,24 +77,19 @@ static inline void open_log(struct log *l, const char *path)
         die(path, strerror(errno));
 }
 
-// Adds the pieces of a message. Those that are new go to the log, where they are lasting after `sync_log`. One that is
-// refused is told, and left out.
+// Adds the pieces of a message. Those that are new go to the log, where they are lasting after `sync_log`.
 static inline void add_message(struct log *l, const void *message, size_t len)
 {
     const uint8_t *bytes = message;
     for (size_t used; len; bytes += used, len -= used) {
-        struct tracering_stream_fault at = {.stream = 0};
-        used = 0;
-        int32_t code = add_piece(l, bytes, len, &used, &at);
-        if (code > TRACERING_DONE) {
+        int32_t code = add_piece(l, bytes, len, &used);
+        if (!used) {
             l->refused++;
-            fprintf(stderr, "a piece is refused: %s, stream %016" PRIx64 " CPU %" PRIu32 " number %" PRIu64 "\n",
-                tracering_text(code), at.stream, at.cpu, at.number);
+            fprintf(stderr, "a message has no piece: %s\n", tracering_text(code));
+            return;
         }
         if (code == TRACERING_DONE && fwrite(bytes, used, 1, l->file) != 1)
             die("the log", strerror(errno));
-        if (!used)
-            return; // no piece begins here
     }
 }
 

@@ -41,15 +41,6 @@ least_is xs rising count from x below lt is above = record {
       (cases_lt k count);
 }
 
--- if all are below, there is none
-pub none_is : (xs : List ℕ) (count from : ℕ) → AreBelow xs count from → count ≡ length xs → HasNoneFrom (Contains xs) from
-none_is xs count from below all other from_on at =
-    let k : ℕ = at.0 in
-    let in_list : k < length xs = at.1 in
-    let value : get_or xs k 0 ≡ other = sym (get_or_default_zero xs k other in_list) ∙ at.2 in
-    let low = below k (omega arith) in
-    absurd (omega arith)
-
 -- ---- the least of several kinds
 
 -- the least number, from one on, of which this holds, or that there is none

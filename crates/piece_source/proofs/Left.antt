@@ -1,7 +1,7 @@
 -- What is left behind bytes that were read.
 use Rattle.std.proofs.Common.{◌≡◌, ⊎_elim, ℕ, ◌<◌, List, [], ◌++◌, length, drop, Option, Some, None, refl, sym, ap, ◌∙◌, subst, arith, append_assoc, append-nil, length-append}
 use Rattle.std.proofs.lemmas.List.{drop_at}
-use Rattle.std.specs.Io.KnownBytes.{Consumes, Keeps, IsAtEnd, prepend_known}
+use Rattle.std.specs.Io.KnownBytes.{Consumes, Keeps, prepend_known}
 use Rattle.parcel_streams.specs.Pieces.{Packed, bytes_of_piece, BeginsWith}
 use Rattle.parcel_streams.specs.Faults.{PieceCause, FirstPieceFault}
 use Rattle.parcel_streams.specs.Answers.{HasPiece}
@@ -35,11 +35,6 @@ consumes_before None new rest bytes kept taken = tt
 consumes_before (Some x) None rest bytes kept taken = absurd kept
 consumes_before (Some x) (Some y) None bytes kept taken = absurd taken
 consumes_before (Some x) (Some y) (Some z) bytes kept taken = sym kept ∙ taken
-
-pub end_before : (old new : Option (List ℕ)) → Keeps old new → IsAtEnd new → IsAtEnd old
-end_before None new kept end = tt
-end_before (Some x) None kept end = absurd kept
-end_before (Some x) (Some y) kept end = sym kept ∙ end
 
 -- ---- the next piece
 
@@ -112,17 +107,3 @@ piece_ahead unread remaining old kept has =
       are_left = left_before old (prepend_known unread remaining) here.ahead kept here.are_left;
       piece = here.piece;
     }
-
--- ---- the end
-
-nothing_here : (unread : List ℕ) (remaining : Option (List ℕ)) → unread ≡ [] → IsAtEnd remaining
-    → IsAtEnd (prepend_known unread remaining)
-nothing_here unread None none end = tt
-nothing_here unread (Some x) none end = ap (λ (b : List ℕ). b ++ x) none ∙ end
-
-pub end_here : (unread : List ℕ) (remaining old : Option (List ℕ)) → Keeps old (prepend_known unread remaining)
-    → IsEnough unread remaining → unread ≡ [] → IsAtEnd old
-end_here unread remaining old kept enough none = end_before old (prepend_known unread remaining) kept
-    (nothing_here unread remaining none (⊎_elim
-    (λ decided. let long = decided.long in let len : length unread ≡ 0 = ap length none in absurd (omega arith))
-    (λ end. end) enough))
