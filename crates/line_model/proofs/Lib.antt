@@ -24,16 +24,5 @@ pub mod ExamplesMade
 -- what a replay makes
 pub mod RunCalls
 pub mod ReplayedLines
--- what lines add
-pub mod AccountsMade
--- why fills are lost, and frames leave without a record
-pub mod LossesDue
-pub mod EventsDue
--- what lines take
-pub mod LineTakes
--- which wishes are found
-pub mod WishesAsked
-pub mod WishesServed
--- an account of each CPU
-pub mod AccountWindows
-pub mod AccountsOfWorlds
+-- a ring beside an account
+pub mod Standing

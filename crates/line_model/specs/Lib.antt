@@ -1,4 +1,7 @@
+pub mod Due
 pub mod Accounts
+pub mod Shown
+pub mod WholeScripts
 pub mod Lines
 pub mod WriterCalls
 pub mod CallEvents

@@ -1,0 +1,51 @@
+-- What is printed of a script, by the accounts of its CPUs alone: which records, under which numbers, and which numbers
+-- are missing. docs/THEOREM.md.
+use Rattle.std.specs.Prelude.{◌≡◌, ℕ, ◌<◌, ◌↔◌, Bool, List, [], length, Some, Contains, slice_index_or}
+use Rattle.std.specs.List.{slice_get, AllZip}
+use Rattle.trace_model.specs.History.{committed_records}
+use Rattle.trace_model.specs.Window.{RingEvent, history_events_of}
+use Rattle.trace_model.specs.Runs.{AreRuns}
+use Rattle.trace_model.specs.Listing.{Line, IsTimeOrdered}
+use Rattle.link_marks.specs.RunsAsEvents.{fills_taken}
+use Rattle.text_model.specs.Log.{LogLine}
+use Rattle.text_model.specs.Script.{deliver, Script}
+use Rattle.world_model.specs.GenuineWorlds.{StandsIn, IsOverwrittenBefore}
+use Rattle.world_model.specs.Printing.{Shown, printed_world}
+use Rattle.line_model.specs.Accounts.{CpuState, IsAccount}
+
+-- What is shown of a collector, by the fills that were delivered to it, each with its CPU. A line is a committed
+-- record of one of these fills, under its own CPU and number, and each such record has its line. The runs of a CPU are
+-- those of the numbers that were overwritten unread before one of these fills.
+pub record IsShownOf (start : ℕ) (events : ℕ → List RingEvent) (fills : List (ℕ × ℕ)) (shown : Shown) : Type 0 where
+  pub ordered : IsTimeOrdered shown.lines
+  pub lines : (line : Line)
+      → Contains shown.lines line
+      ↔ ((slice_get (committed_records (history_events_of (events line.cpu))) line.number
+      ≡ Some record { moment = line.moment; bytes = line.bytes })
+      × (fill : ℕ)
+      × Contains fills (line.cpu, fill)
+      × StandsIn (history_events_of (events line.cpu)) start fill line.number)
+  pub missing : (cpu : ℕ)
+      → AreRuns (λ number. (fill : ℕ)
+      × Contains fills (cpu, fill)
+      × IsOverwrittenBefore (history_events_of (events cpu)) start (events cpu) fill number)
+      (slice_index_or shown.runs cpu [])
+
+-- These bytes are the collectors of the script, each as it is shown, after the lines of some log, if that is asked for.
+-- Of each CPU there is an account: `states cpu k` is that CPU after the first k lines. A fill is delivered to a
+-- collector exactly if a line of the script delivers it, before which it was taken.
+pub record IsAccounted (script : Script) (asked : Bool) (bytes : List ℕ) : Type 0 where
+  pub states : (cpu lines : ℕ) → CpuState
+  pub accounts : (cpu : ℕ) → cpu < script.cpus → IsAccount script cpu (states cpu)
+  pub fills : List (List (ℕ × ℕ))
+  pub collectors : length fills ≡ script.collectors
+  pub delivered : (collector cpu fill : ℕ) (own : List (ℕ × ℕ))
+      → slice_get fills collector ≡ Some own
+      → Contains own (cpu, fill)
+      ↔ ((k line : ℕ)
+      × (slice_get script.commands k ≡ Some (line, deliver collector cpu fill))
+      × Contains (fills_taken script.start (states cpu k).events) fill)
+  pub shown : List Shown
+  pub each : AllZip (IsShownOf script.start (λ cpu. (states cpu (length script.commands)).events)) fills shown
+  pub log : List LogLine
+  pub printed : bytes ≡ printed_world asked log shown
