@@ -30,7 +30,6 @@ use Rattle.world_model.proofs.WorldsAt.{world_at, kept_at}
 use Rattle.world_model.proofs.DeliveredLines.{IsHanded, handed_by_lines, hands_lines}
 use Rattle.world_model.proofs.LostFills.{overwritten_same}
 use Rattle.world_model.proofs.GenuineWorlds.{world_genuine}
-use Rattle.world_model.proofs.WorldsMade.{world_of_made}
 use Rattle.line_model.specs.Accounts.{IsAccount, IsShownOf, IsAccounted}
 use Rattle.line_model.proofs.AccountsOfWorlds.{events_behind, account_behind, taken_behind, last_reported}
 use Rattle.replay_command.specs.Commands.{AccountGives, IsPrinting, PrintsReplay, PrintsFault, ReplayGives}
@@ -242,7 +241,7 @@ module _ (script : Script) (w : World) (limits : IsWithinLimits script) (of : Wo
 pub accounted : (script : Script) (asked : Bool) (bytes : List ℕ) → IsWithinLimits script → IsPrinting script asked bytes → IsAccounted script asked bytes
 accounted script asked bytes limits p =
     let w : World = p.world in
-    let of : WorldOf script w = world_of_made script w p.of_script in
+    let of : WorldOf script w = p.of_script in
     let genuine : IsGenuineWorld script w = world_genuine script script.commands w limits of in record {
       events = events script w limits of genuine;
       accounts = λ cpu low. account script w limits of genuine cpu (known_at script w limits of genuine cpu) low;

@@ -10,12 +10,11 @@ use Rattle.text_model.proofs.Readings.{same_ok, same_err, ok_is_no_err}
 use Rattle.text_model.proofs.ParsedLimits.{ParsesScript-within}
 use Rattle.text_model.proofs.ScriptReads.{script_reads}
 use Rattle.text_model.specs.ScriptReading.{script_in}
-use Rattle.world_model.specs.World.{World, WorldOf}
+use Rattle.world_model.specs.World.{World}
 use Rattle.world_model.specs.GenuineWorlds.{IsGenuineWorld}
 use Rattle.world_model.proofs.GenuineWorlds.{world_genuine}
 use Rattle.world_model.specs.Printing.{printed_world}
 use Rattle.world_model.proofs.OneWorld.{one_world}
-use Rattle.world_model.proofs.WorldsMade.{world_of_made}
 use Rattle.collector_text.specs.Prints.{IsPrintOf}
 use Rattle.collector_text.proofs.OneText.{one_world_text}
 use Rattle.replay_command.specs.Commands.{IsPrinting, PrintsReading, PrintsReplay, PrintsFault, ReplayGives}
@@ -51,8 +50,7 @@ one_printing : (script : Script) (asked : Bool) (bytes others : List ℕ) → Is
     → IsPrinting script asked bytes → IsPrinting script asked others → bytes ≡ others
 one_printing script asked bytes others limits a b =
     let same : a.world ≡ b.world =
-    one_world script script.commands a.world b.world limits
-    (world_of_made script a.world a.of_script) (world_of_made script b.world b.of_script) in
+    one_world script script.commands a.world b.world limits a.of_script b.of_script in
     let also : AllZip IsPrintOf a.world.delivered b.shown =
     subst (λ (w : World). AllZip IsPrintOf w.delivered b.shown) (sym same) b.reported in
     a.printed
@@ -62,14 +60,10 @@ one_printing script asked bytes others limits a b =
 
 -- the world of a printing is genuine
 pub genuine_replay : (asked : Bool) (text bytes : List ℕ) (status : ℕ) (replay : PrintsReplay asked text bytes status)
-    → WorldOf replay.script replay.printing.world × IsGenuineWorld replay.script replay.printing.world
+    → IsGenuineWorld replay.script replay.printing.world
 genuine_replay asked text bytes status replay =
-    let of : WorldOf replay.script replay.printing.world =
-    world_of_made replay.script replay.printing.world replay.printing.of_script in (
-      of,
-      world_genuine replay.script replay.script.commands replay.printing.world
-          (script_in-within text replay.script replay.spelled) of,
-    )
+    world_genuine replay.script replay.script.commands replay.printing.world
+    (script_in-within text replay.script replay.spelled) replay.printing.of_script
 
 same_replays : (asked : Bool) (text bytes others : List ℕ) (status other : ℕ) → PrintsReplay asked text bytes status
     → PrintsReplay asked text others other → (bytes ≡ others) × (status ≡ other)

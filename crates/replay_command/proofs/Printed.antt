@@ -7,7 +7,6 @@ use Rattle.trace_model.specs.Collection.{IsSame}
 use Rattle.text_model.specs.Log.{LogLine}
 use Rattle.text_model.specs.Script.{Script}
 use Rattle.world_model.specs.Printing.{Shown, printed_world}
-use Rattle.world_model.proofs.WorldsMade.{world_made}
 use Rattle.collector_text.specs.Prints.{IsPrintOf}
 use Rattle.collector_text.proofs.OneText.{same_are_reported}
 use Rattle.replay_log.specs.declared.line.LogLine as logged
@@ -34,7 +33,7 @@ pub printing : (script : Script) (collectors : List (List Parcel)) (log : List l
     → IsPrinting script asked bytes
 printing script collectors log asked bytes h (shown, reported, printed) = record {
   world = h.world;
-  of_script = world_made script h.world h.replay.world;
+  of_script = h.replay.world;
   shown = shown;
   reported = all_report collectors h.world.delivered shown h.replay.collectors_are.count
       (λ k kept parcels at bt. (h.replay.collectors_are.each k kept parcels at bt).same) reported;

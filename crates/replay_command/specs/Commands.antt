@@ -6,10 +6,9 @@ use Rattle.text_model.specs.ScriptLines.{LineFault}
 use Rattle.text_model.specs.Printing.{printed_fault}
 use Rattle.text_model.specs.Script.{Script}
 use Rattle.text_model.specs.ScriptReading.{script_in}
-use Rattle.world_model.specs.World.{World}
-use Rattle.world_model.specs.WorldMade.{MadeWorldOf}
+use Rattle.world_model.specs.World.{World, WorldOf}
 use Rattle.world_model.specs.Printing.{Shown, printed_world}
-use Rattle.line_model.specs.Accounts.{IsAccounted}
+use Rattle.line_model.specs.Shown.{IsAccounted}
 use Rattle.collector_text.specs.Prints.{IsPrintOf}
 use Rattle.command_io.specs.declared.status.TheConstants.{DONE, REFUSED}
 
@@ -21,7 +20,7 @@ AccountGives asked text bytes status = (script : Script) × (script_in text ≡ 
 -- that were delivered to it have and miss.
 pub record IsPrinting (script : Script) (asked : Bool) (bytes : List ℕ) : Type 0 where
   pub world : World
-  pub of_script : MadeWorldOf script world
+  pub of_script : WorldOf script world
   pub shown : List Shown
   pub reported : AllZip IsPrintOf world.delivered shown
   pub printed : bytes ≡ printed_world asked world.log shown

@@ -1,7 +1,6 @@
 //! What is printed for a text: a world or a fault, one output, and a world that is genuine. Each is the contract of a
 //! function with an empty body.
 ghost use Rattle.std.specs.Prelude.{◌≡◌, ◌↔◌, ◌⊎◌, ℕ, Bool, List};
-ghost use Rattle.world_model.specs.World.{WorldOf};
 ghost use Rattle.world_model.specs.GenuineWorlds.{IsGenuineWorld};
 ghost use Rattle.replay_command.specs.Commands.{PrintsFault, PrintsReplay, ReplayGives};
 
@@ -19,9 +18,8 @@ pub fn one_output()
         (bytes ≡ others) × (status ≡ other) }
 {}
 
-/// The world that is printed is also the one that the lines lead to by their exchanges with the rings; and in it each
-/// page is a whole fill, under its own numbers, and each collector is exact.
+/// In the world that is printed each page is a whole fill, under its own numbers, and each collector is exact.
 pub fn printed_worlds_are_genuine()
     ensures { (asked : Bool) (text bytes : List ℕ) (status : ℕ) (replay : PrintsReplay asked text bytes status) →
-        WorldOf replay.script replay.printing.world × IsGenuineWorld replay.script replay.printing.world }
+        IsGenuineWorld replay.script replay.printing.world }
 {}

@@ -5,8 +5,6 @@ pub mod TakenPages
 -- a payload for each frame
 pub mod FramesMove
 pub mod LanePayloads
--- the same by functions
-pub mod LinesMade
 -- worlds: what every line keeps
 pub mod Lookups
 pub mod KeptElements
@@ -14,7 +12,6 @@ pub mod WorldsKept
 pub mod WorldsAt
 pub mod DeliveredLines
 pub mod OneWorld
-pub mod WorldsMade
 pub mod RunEvents
 pub mod LostFills
 pub mod Cuts

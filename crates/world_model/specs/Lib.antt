@@ -1,8 +1,6 @@
 pub mod Lanes
-pub mod LineMade
 pub mod Log
 pub mod World
-pub mod WorldMade
 pub mod RunEvents
 pub mod GenuineWorlds
 pub mod LineEnds

@@ -122,7 +122,6 @@ pub record WorldBehind (script : Script) (lines : List (ℕ × Command)) (w : Wo
   pub is_new : IsNewWorld script new
   pub obeyed : ObeysAll script lines new w
 
--- The world of a script: that after all of its lines. By the law `worlds_are_made` it is that of `MadeWorldOf`, in
--- WorldMade.antt.
+-- the world of a script: that after all of its lines
 abbrev pub WorldOf : Script → World → Type 0
 WorldOf script w = WorldBehind script script.commands w

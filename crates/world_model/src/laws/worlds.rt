@@ -10,7 +10,6 @@ ghost use Rattle.link_marks.specs.RunsAsEvents.{AreEventsOfRun};
 ghost use Rattle.text_model.specs.Script.{Script, Command, deliver};
 ghost use Rattle.text_model.specs.ScriptLimits.{IsWithinLimits};
 ghost use Rattle.world_model.specs.World.{World, Obeys, WorldBehind, WorldOf};
-ghost use Rattle.world_model.specs.WorldMade.{MadeWorldOf};
 ghost use Rattle.world_model.specs.RunEvents.{AreEventsOf, AreEventsOfSteps};
 ghost use Rattle.world_model.specs.GenuineWorlds.{IsGenuineWorld};
 
@@ -24,12 +23,6 @@ pub fn one_world()
     ensures next { (script : Script) (lines : List (ℕ × Command)) (line : ℕ) (command : Command) (w after : World) →
         WorldBehind script lines w → Obeys script line command w after →
         WorldBehind script (lines ++ (line, command) ∷ []) after }
-{}
-
-/// What the lines of a script make of a new world, each as a function of its ring, is the world that they lead to by
-/// their exchanges with the rings.
-pub fn worlds_are_made()
-    ensures { (script : Script) (w : World) → (MadeWorldOf script w ↔ WorldOf script w) }
 {}
 
 /// The events of a run of a new ring, step by step, determine the state that it leads to: its history, window and
