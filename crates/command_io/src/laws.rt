@@ -20,8 +20,8 @@ pub fn constants_are()
     ensures read_chunk { READ_CHUNK ≡ 65536 }
     ensures memory_line { MEMORY_LINE ≡ codes "memory" ++ 10 ∷ [] }
     ensures thread_line { THREAD_LINE.now ≡ codes "thread" ++ 10 ∷ [] }
-    ensures usage_line { USAGE_LINE.now ≡ codes "usage: tracering replay [--log] | run | dump"
-        ++ codes " | steps | collect [--page BYTES] [--names] [--formats DIR] [--json] FILE.." }
+    ensures usage_line { USAGE_LINE.now ≡ codes "usage: tracering replay [--log] | run | dump | steps"
+        ++ codes " | collect [--page BYTES] [--names] [--formats DIR] [--json] [--keep KEPT] [--parcels] FILE.." }
     ensures read_failed { READ_FAILED.now ≡ codes "tracering: reading failed" }
     ensures write_failed { WRITE_FAILED.now ≡ codes "tracering: writing failed" }
     ensures input_too_long { INPUT_TOO_LONG.now

@@ -8,8 +8,10 @@ use std::io::{Read, Write};
 use trace_model::MAX_INPUT;
 
 /// How the program is called.
-pub const USAGE_LINE: &str =
-    "usage: tracering replay [--log] | run | dump | steps | collect [--page BYTES] [--names] [--formats DIR] [--json] FILE..";
+pub const USAGE_LINE: &str = concat!(
+    "usage: tracering replay [--log] | run | dump | steps",
+    " | collect [--page BYTES] [--names] [--formats DIR] [--json] [--keep KEPT] [--parcels] FILE..",
+);
 
 /// The input couldn't be read to its end.
 pub const READ_FAILED: &str = "tracering: reading failed";
