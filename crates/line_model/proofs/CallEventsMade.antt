@@ -2,9 +2,9 @@
 use Rattle.std.proofs.Common.{◌≡◌, ◌≢◌, ℕ, ◌+◌, ◌-◌, ◌<◌, ◌⊎◌, true, List, [], ◌∷◌, length, Some, None, refl, sym, ap, ◌∙◌, subst, inl, inr, arith}
 use Rattle.std.specs.Prelude.{IsTrue}
 use Rattle.trace_model.specs.Words.{padded}
-use Rattle.trace_model.specs.History.{HistoryEvent, is_settled}
+use Rattle.trace_model.specs.History.{HistoryEvent, push, push_close, open_fill, reserve, leave, wished, is_settled}
 use Rattle.trace_model.specs.Packing.{tail_of, FitsBehind, next_reservation}
-use Rattle.trace_model.specs.Window.{Window, history_events_of, IsWindow, WindowEvent, opened_one, released_one, took_one, lost_one}
+use Rattle.trace_model.specs.Window.{Window, history_events_of, IsWindow, RingEvent, closes, takes, loses, acts}
 use Rattle.trace_model.specs.Frames.{FrameState, waiting, reserved, left, number_of, Frame, pushed_onto, pushed_frames}
 use Rattle.trace_model.specs.Ring.{Core}
 use Rattle.trace_model.specs.Steps.{Event, pushes, pushes_close, steps, ends, reads, wishes, Answer, Exchange, after_leave, Step}
@@ -80,13 +80,18 @@ room_in : (n size start : ℕ) (c : Core) (event : Event) (answer : Answer) (aft
 room_in n size start c event answer after r step grown =
     by_window (step_owed n size start c event answer after r.links r.stack r.history (cases_of step)).window
   where
-    by_window_event : (what : WindowEvent) → MovesWindow n c what after → c.opened < c.done + n
-    by_window_event opened_one h = let low = h.step.may in let le = r.links.head_le in omega arith
-    by_window_event released_one h = absurd (let e = ap (λ (w : Window). w.opened) h.step.after_is in omega arith)
-    by_window_event took_one h = absurd (let e = ap (λ (w : Window). w.opened) h.step.after_is in omega arith)
-    by_window_event lost_one h = absurd (let e = ap (λ (w : Window). w.opened) h.step.after_is in omega arith)
+    by_window_event : (what : RingEvent) → MovesWindow n c what after → c.opened < c.done + n
+    by_window_event (acts (push moment len)) h = absurd h.shown
+    by_window_event (acts push_close) h = absurd h.shown
+    by_window_event (acts reserve) h = absurd h.shown
+    by_window_event (acts (leave payload)) h = absurd h.shown
+    by_window_event (acts wished) h = absurd h.shown
+    by_window_event (acts open_fill) h = let low = h.step.may in let le = r.links.head_le in omega arith
+    by_window_event closes h = absurd (let e = ap (λ (w : Window). w.opened) h.step.after_is in omega arith)
+    by_window_event takes h = absurd (let e = ap (λ (w : Window). w.opened) h.step.after_is in omega arith)
+    by_window_event loses h = absurd (let e = ap (λ (w : Window). w.opened) h.step.after_is in omega arith)
 
-    by_window : WindowStays c after ⊎ ((what : WindowEvent) × MovesWindow n c what after) → c.opened < c.done + n
+    by_window : WindowStays c after ⊎ ((what : RingEvent) × MovesWindow n c what after) → c.opened < c.done + n
     by_window (inl stays) = absurd (let e = ap (λ (w : Window). w.opened) stays.0 in omega arith)
     by_window (inr (what, h)) = by_window_event what h
 

@@ -1,7 +1,7 @@
 -- The calls for a frame, joined, are a part of the lines' events.
 use Rattle.std.proofs.Common.{◌≡◌, ◌≢◌, ℕ, suc, ◌+◌, ◌-◌, ◌<◌, ◌≤◌, List, [], ◌∷◌, ◌++◌, length, sym, ap, ◌∙◌, subst, arith, length-append}
 use Rattle.trace_model.specs.History.{HistoryEvent}
-use Rattle.trace_model.specs.Window.{RingEvent, acts, closes, takes, loses, history_events_of, released_one, took_one, lost_one, window_after}
+use Rattle.trace_model.specs.Window.{RingEvent, acts, closes, takes, loses, history_events_of, window_after}
 use Rattle.trace_model.specs.Frames.{for_record, for_close, Frame}
 use Rattle.trace_model.specs.Steps.{Exchange}
 use Rattle.trace_model.proofs.steps.StepSound.{cases_of}
@@ -25,11 +25,11 @@ top_joined n size depth p between after [] ys one two =
 top_joined n size depth p between after (acts a ∷ xs) ys (count, of_top, may, one) two =
     (count, of_top, may, top_joined n size depth (state_after p a) between after xs ys one two)
 top_joined n size depth p between after (closes ∷ xs) ys (may, one) two =
-    (may, top_joined n size depth (state_moved p (window_after p.window released_one)) between after xs ys one two)
+    (may, top_joined n size depth (state_moved p (window_after p.window closes)) between after xs ys one two)
 top_joined n size depth p between after (takes ∷ xs) ys (may, one) two =
-    (may, top_joined n size depth (state_moved p (window_after p.window took_one)) between after xs ys one two)
+    (may, top_joined n size depth (state_moved p (window_after p.window takes)) between after xs ys one two)
 top_joined n size depth p between after (loses ∷ xs) ys (may, one) two =
-    (may, top_joined n size depth (state_moved p (window_after p.window lost_one)) between after xs ys one two)
+    (may, top_joined n size depth (state_moved p (window_after p.window loses)) between after xs ys one two)
 
 reserves_more : (size : ℕ) (p : LineState) (xs : List OpenFrame) (history_events more : List HistoryEvent)
     → ReservesFirst size p xs history_events

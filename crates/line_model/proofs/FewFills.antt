@@ -4,7 +4,7 @@ use Rattle.std.proofs.lemmas.List.{length-map}
 use Rattle.trace_model.specs.History.{HistoryEvent, push, push_close, open_fill, reserve, leave, wished, Reservation, PushedFrame, record_frame, close_frame, after_event, writer_after, reserved_records}
 use Rattle.trace_model.specs.Packing.{opens_of, cut_from, tail_of}
 use Rattle.trace_model.specs.Fitting.{tail_at}
-use Rattle.trace_model.specs.Window.{Window, RingEvent, acts, closes, takes, loses, history_events_of, window_event_of, released_one, took_one, lost_one, window_after, window_behind, WindowRunFrom}
+use Rattle.trace_model.specs.Window.{Window, RingEvent, acts, closes, takes, loses, history_events_of, window_after, WindowRunFrom}
 use Rattle.trace_model.proofs.packing.FillCuts.{opens_of-push, opens_of-push_close, opens_of-reserve, opens_of-leave, opens_of-wished}
 use Rattle.trace_model.proofs.histories.NextRecords.{records_snoc}
 use Rattle.trace_model.proofs.packing.PackedHistories.{plain, plain-finished, cut-plain, plain_nil, tail_is}
@@ -99,7 +99,7 @@ few_reserve start h opened few = by_records (grown (writer_after h).stack (write
 pub few_act : (start : ℕ) (h : List HistoryEvent) (w : Window) (a : HistoryEvent)
     → (a ≡ open_fill → tail_of h ≢ [])
     → IsFew start h w.opened
-    → IsFew start (h ++ a ∷ []) (window_behind w (window_event_of a)).opened
+    → IsFew start (h ++ a ∷ []) (window_after w (acts a)).opened
 few_act start h w (push moment len) begins few =
     few_same start h (push moment len) w.opened (opens_of-push h moment len) (records_snoc h (push moment len)) few
 few_act start h w push_close begins few =
@@ -127,16 +127,16 @@ few_run n start h w after (acts a ∷ events) run begins few =
     let one : h ++ a ∷ history_events_of events ≡ (h ++ a ∷ []) ++ history_events_of events =
     sym (append_assoc h (a ∷ []) (history_events_of events)) in
     subst (λ (l : List HistoryEvent). IsFew start l after.opened) (sym one)
-    (few_run n start (h ++ a ∷ []) (window_behind w (window_event_of a)) after events run.1
+    (few_run n start (h ++ a ∷ []) (window_after w (acts a)) after events run.1
     (λ front behind e. begins front behind (one ∙ e))
     (few_act start h w a
     (λ opens. begins h (history_events_of events) (ap (λ (b : HistoryEvent). h ++ b ∷ history_events_of events) opens)) few))
 few_run n start h w after (closes ∷ events) run begins few =
-    few_run n start h (window_after w released_one) after events run.1 begins record { all = few.all; held = few.held }
+    few_run n start h (window_after w closes) after events run.1 begins record { all = few.all; held = few.held }
 few_run n start h w after (takes ∷ events) run begins few =
-    few_run n start h (window_after w took_one) after events run.1 begins record { all = few.all; held = few.held }
+    few_run n start h (window_after w takes) after events run.1 begins record { all = few.all; held = few.held }
 few_run n start h w after (loses ∷ events) run begins few =
-    few_run n start h (window_after w lost_one) after events run.1 begins record { all = few.all; held = few.held }
+    few_run n start h (window_after w loses) after events run.1 begins record { all = few.all; held = few.held }
 
 pub few_start : (start : ℕ) → IsFew start [] (start + 1)
 few_start start = record { all = omega arith; held = λ some. absurd (some refl) }

@@ -1,7 +1,7 @@
 -- What the lines of a writer do is a run of the window, from the start, and its history events are the history.
 use Rattle.std.proofs.Common.{◌≡◌, ℕ, zero, suc, List, [], ◌∷◌, ◌++◌, sym, ap, ◌∙◌, subst, refl, append_assoc, append-nil}
 use Rattle.trace_model.specs.History.{HistoryEvent, push_close}
-use Rattle.trace_model.specs.Window.{Window, RingEvent, acts, closes, takes, loses, history_events_of, released_one, took_one, lost_one, window_after, WindowRunFrom, WindowRun}
+use Rattle.trace_model.specs.Window.{Window, RingEvent, acts, closes, takes, loses, history_events_of, window_after, WindowRunFrom, WindowRun}
 use Rattle.text_model.specs.Script.{Command, begin_frame, step_frame, finish_frame, write, close, step_reader, take_page, wish, deliver}
 use Rattle.link_marks.proofs.histories.WindowRuns.{history_events-append, run-append}
 use Rattle.line_model.specs.Lines.{LineState, first_state, state_after, state_moved, IsQuiet, IsPush, TopRun, MayGo, stays_on, goes, TopPart, BeginPart, begins, begins_none, WholePart, writes, writes_none, LinePart, LineParts, FinishParts, IsMadeByLines}
@@ -56,19 +56,19 @@ leads_top n size depth before after (acts a ∷ events) (count, of_top, may, run
       history = rest.history ∙ append_assoc before.history (a ∷ []) (history_events_of events);
     }
 leads_top n size depth before after (closes ∷ events) (may, run) =
-    let moved : LineState = state_moved before (window_after before.window released_one) in
+    let moved : LineState = state_moved before (window_after before.window closes) in
     let rest = leads_top n size depth moved after events run in record {
       window = (may, rest.window);
       history = rest.history;
     }
 leads_top n size depth before after (takes ∷ events) (may, run) =
-    let moved : LineState = state_moved before (window_after before.window took_one) in
+    let moved : LineState = state_moved before (window_after before.window takes) in
     let rest = leads_top n size depth moved after events run in record {
       window = (may, rest.window);
       history = rest.history;
     }
 leads_top n size depth before after (loses ∷ events) (may, run) =
-    let moved : LineState = state_moved before (window_after before.window lost_one) in
+    let moved : LineState = state_moved before (window_after before.window loses) in
     let rest = leads_top n size depth moved after events run in record {
       window = (may, rest.window);
       history = rest.history;

@@ -8,7 +8,7 @@ use Rattle.trace_model.specs.Record.{Record}
 use Rattle.trace_model.specs.Words.{padded, slot_len, encoded_len}
 use Rattle.trace_model.specs.History.{HistoryEvent, push, push_close, open_fill, Reservation, record_frame, close_frame, WriterState, after_event, writer_after, reserved_records, last_moment, as_record, committed_records, IsHistory}
 use Rattle.trace_model.specs.Packing.{tail_of, IsPacked}
-use Rattle.trace_model.specs.Window.{Window, RingEvent, acts, closes, takes, loses, history_events_of, window_event_of, took_one, lost_one, window_after, window_behind, WindowRunFrom}
+use Rattle.trace_model.specs.Window.{Window, RingEvent, acts, closes, takes, loses, history_events_of, window_after, WindowRunFrom}
 use Rattle.trace_model.specs.Steps.{IsTooLong}
 use Rattle.text_model.specs.Script.{Command, begin_frame, step_frame, finish_frame, write, close, step_reader, take_page, wish, deliver}
 use Rattle.trace_model.proofs.histories.NextEvent.{writer_snoc, settled_at_rest}
@@ -56,9 +56,9 @@ quiet_window n h w after (acts a ∷ events) run none rest =
     absurd (let z = ap (λ (l : List HistoryEvent). length l) none in omega arith)
 quiet_window n h w after (closes ∷ events) run none rest = absurd (let low = run.0.0 in omega arith)
 quiet_window n h w after (takes ∷ events) run none rest =
-    quiet_window n h (window_after w took_one) after events run.1 none rest
+    quiet_window n h (window_after w takes) after events run.1 none rest
 quiet_window n h w after (loses ∷ events) run none rest =
-    quiet_window n h (window_after w lost_one) after events run.1 none rest
+    quiet_window n h (window_after w loses) after events run.1 none rest
 
 abbrev first_of : HistoryEvent → List HistoryEvent → HistoryEvent
 first_of other [] = other
@@ -71,22 +71,22 @@ others_of (a ∷ history_events) = history_events
 push_window : (n : ℕ) (h : List HistoryEvent) (w after : Window) (events : List RingEvent) (a : HistoryEvent)
     → WindowRunFrom n h w events after
     → history_events_of events ≡ a ∷ []
-    → window_event_of a ≡ None
+    → ((v : Window) → window_after v (acts a) ≡ v)
     → w.done + 1 ≡ w.opened
     → (after.done ≡ w.done) × (after.opened ≡ w.opened)
 push_window n h w after [] a run one none rest = absurd (let z = ap (λ (l : List HistoryEvent). length l) one in omega arith)
 push_window n h w after (acts b ∷ events) a run one none rest =
-    let same : window_behind w (window_event_of b) ≡ w =
-    ap (λ (c : HistoryEvent). window_behind w (window_event_of c)) (ap (first_of a) one) ∙ ap (window_behind w) none in
+    let same : window_after w (acts b) ≡ w =
+    ap (λ (c : HistoryEvent). window_after w (acts c)) (ap (first_of a) one) ∙ none w in
     let (done, opened) =
-    quiet_window n (h ++ b ∷ []) (window_behind w (window_event_of b)) after events run.1 (ap others_of one)
+    quiet_window n (h ++ b ∷ []) (window_after w (acts b)) after events run.1 (ap others_of one)
     (subst (λ (v : Window). v.done + 1 ≡ v.opened) (sym same) rest) in
     (done ∙ ap (λ (v : Window). v.done) same, opened ∙ ap (λ (v : Window). v.opened) same)
 push_window n h w after (closes ∷ events) a run one none rest = absurd (let low = run.0.0 in omega arith)
 push_window n h w after (takes ∷ events) a run one none rest =
-    push_window n h (window_after w took_one) after events a run.1 one none rest
+    push_window n h (window_after w takes) after events a run.1 one none rest
 push_window n h w after (loses ∷ events) a run one none rest =
-    push_window n h (window_after w lost_one) after events a run.1 one none rest
+    push_window n h (window_after w loses) after events a run.1 one none rest
 
 -- ---- a line
 
@@ -199,14 +199,14 @@ module _ (n size start : ℕ) (two : MIN_PAGES ≤ n) (rs : List Reservation) (m
 
     begun_few : (a : HistoryEvent)
         → (a ≡ open_fill → ⊥)
-        → window_event_of a ≡ None
+        → ((v : Window) → window_after v (acts a) ≡ v)
         → (w : Window)
         → w.opened ≡ p.window.opened
         → IsFew start (p.history ++ a ∷ []) w.opened
     begun_few a other none w same =
         let next = few_act start p.history p.window a (λ opens. absurd (other opens)) few in
-        let opened : (window_behind p.window (window_event_of a)).opened ≡ w.opened =
-        ap (λ (v : Window). v.opened) (ap (window_behind p.window) none) ∙ sym same in
+        let opened : (window_after p.window (acts a)).opened ≡ w.opened =
+        ap (λ (v : Window). v.opened) (none p.window) ∙ sym same in
         subst (IsFew start (p.history ++ a ∷ [])) opened next
 
     begun_allowed : (a : HistoryEvent) (front behind events : List RingEvent)
@@ -252,7 +252,7 @@ module _ (n size start : ℕ) (two : MIN_PAGES ≤ n) (rs : List Reservation) (m
     write_line moment payload cpu q events (writes front behind between may cut is_push finish) allowed =
         let a : HistoryEvent = push moment (length payload) in
         let (done, opened) =
-        push_window n p.history p.window between.window front a is_push.window is_push.acts_one refl rest.closed in
+        push_window n p.history p.window between.window front a is_push.window is_push.acts_one (λ v. refl) rest.closed in
         let short : IsTooLong size (length payload) → ⊥ = (λ long. may (inr (inl long))) in
         let early : moment < MOMENT_LIMIT = in_time (λ late. may (inr (inr late))) in
         let o : IsOpen payload (record_frame moment (length payload) None) rs (begun a payload between.window) =
@@ -266,7 +266,7 @@ module _ (n size start : ℕ) (two : MIN_PAGES ≤ n) (rs : List Reservation) (m
         (ap (λ (l : LineState). let s : LineState = record l { frames = with_top_stepped l.frames } in s)
         is_push.after_is) finish.top.run)
         (begun_allowed a front behind events cut is_push.acts_one allowed)
-        (begun_few a (λ e. cc) refl between.window opened)
+        (begun_few a (λ e. cc) (λ v. refl) between.window opened)
         (waits o (let e = rest.closed in omega arith)))
       where
         in_time : (MOMENT_LIMIT ≤ moment → ⊥) → moment < MOMENT_LIMIT
@@ -280,7 +280,7 @@ module _ (n size start : ℕ) (two : MIN_PAGES ≤ n) (rs : List Reservation) (m
         absurd (let none = resting_counts rs p rest in omega arith)
     close_line cpu q events (writes front behind between may cut is_push finish) allowed =
         let (done, opened) =
-        push_window n p.history p.window between.window front push_close is_push.window is_push.acts_one refl
+        push_window n p.history p.window between.window front push_close is_push.window is_push.acts_one (λ v. refl)
         rest.closed in
         let o : IsOpen [] close_frame rs (begun push_close [] between.window) =
         record { frames = begun_frames []; not_finishing = rest.not_finishing; writer = begun_writer push_close } in
@@ -292,7 +292,7 @@ module _ (n size start : ℕ) (two : MIN_PAGES ≤ n) (rs : List Reservation) (m
         (ap (λ (l : LineState). let s : LineState = record l { frames = with_top_stepped l.frames } in s)
         is_push.after_is) finish.top.run)
         (begun_allowed push_close front behind events cut is_push.acts_one allowed)
-        (begun_few push_close (λ e. cc) refl between.window opened)
+        (begun_few push_close (λ e. cc) (λ v. refl) between.window opened)
         (closing_open o))
 
     -- a part as of `f` does nothing

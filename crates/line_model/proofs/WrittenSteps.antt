@@ -5,7 +5,7 @@ use Rattle.trace_model.specs.declared.limits.TheConstants.{MIN_PAGES, LINK_FILLS
 use Rattle.trace_model.specs.Words.{padded, encoded_len}
 use Rattle.trace_model.specs.History.{HistoryEvent, push, push_close, open_fill, reserve, leave, wished, Reservation, PushedFrame, record_frame, close_frame, WriterState, reservation_for, records_with_payload, after_event, writer_after, reserved_records, MayAct, IsHistory}
 use Rattle.trace_model.specs.Packing.{tail_of, FitsBehind, next_reservation, IsPacked}
-use Rattle.trace_model.specs.Window.{Window, RingEvent, acts, closes, takes, loses, history_events_of, released_one, took_one, lost_one, MayMove, window_after}
+use Rattle.trace_model.specs.Window.{Window, RingEvent, acts, closes, takes, loses, history_events_of, MayMove, window_after}
 use Rattle.trace_model.specs.Steps.{IsTooLong}
 use Rattle.trace_model.proofs.histories.NextEvent.{writer_snoc}
 use Rattle.trace_model.proofs.histories.HistoryPrefixes.{none_stands}
@@ -78,10 +78,10 @@ Runs n size start depth P = (p q : LineState) (events : List RingEvent) (more : 
 
 module _ (n size start depth : ℕ) (P : LineState → Type 0)
     (act : (p : LineState) (a : HistoryEvent) → Facts n size start depth p a → P p → P (state_after p a))
-    (closed : (p : LineState) → MayMove n p.history p.window released_one → P p
-    → P (state_moved p (window_after p.window released_one)))
-    (took : (p : LineState) → P p → P (state_moved p (window_after p.window took_one)))
-    (lost : (p : LineState) → P p → P (state_moved p (window_after p.window lost_one))) where
+    (closed : (p : LineState) → MayMove n p.history p.window closes → P p
+    → P (state_moved p (window_after p.window closes)))
+    (took : (p : LineState) → P p → P (state_moved p (window_after p.window takes)))
+    (lost : (p : LineState) → P p → P (state_moved p (window_after p.window loses))) where
   run_keeps : Runs n size start depth P
   run_keeps p q [] more run allowed few keeps =
       subst (Reached n size start P more) run record { keeps = keeps; few = few; allowed = allowed }
@@ -92,13 +92,13 @@ module _ (n size start depth : ℕ) (P : LineState → Type 0)
       (few_act start p.history p.window a here.begins few)
       (act p a here keeps)
   run_keeps p q (closes ∷ events) more (may, run) allowed few keeps =
-      run_keeps (state_moved p (window_after p.window released_one)) q events more run allowed
+      run_keeps (state_moved p (window_after p.window closes)) q events more run allowed
       record { all = few.all; held = few.held } (closed p may keeps)
   run_keeps p q (takes ∷ events) more (may, run) allowed few keeps =
-      run_keeps (state_moved p (window_after p.window took_one)) q events more run allowed
+      run_keeps (state_moved p (window_after p.window takes)) q events more run allowed
       record { all = few.all; held = few.held } (took p keeps)
   run_keeps p q (loses ∷ events) more (may, run) allowed few keeps =
-      run_keeps (state_moved p (window_after p.window lost_one)) q events more run allowed
+      run_keeps (state_moved p (window_after p.window loses)) q events more run allowed
       record { all = few.all; held = few.held } (lost p keeps)
 
 -- ---- a frame that is finishing
@@ -158,7 +158,7 @@ module _ (n size start depth : ℕ) (payload : List ℕ) (frame : PushedFrame) (
   open_stack = ap (λ (w : WriterState). w.stack) o.writer
 
   -- no fill is closed while it is open
-  none_closed : MayMove n p.history p.window released_one → ⊥
+  none_closed : MayMove n p.history p.window closes → ⊥
   none_closed may = let z = ap (λ (l : List PushedFrame). length l) (sym open_stack ∙ none_stands p.history may.1) in
       omega arith
 
@@ -330,14 +330,14 @@ module _ (n size start depth moment : ℕ) (payload : List ℕ) (rs : List Reser
     writing_acts wished f (has_left l) = has_left (left_acts n size start depth _ p wished f l)
     writing_acts wished f (was_refused l worn) = was_refused (left_acts n size start depth _ p wished f l) worn
 
-    writing_closed : MayMove n p.history p.window released_one
+    writing_closed : MayMove n p.history p.window closes
         → IsWriting p
-        → IsWriting (state_moved p (window_after p.window released_one))
+        → IsWriting (state_moved p (window_after p.window closes))
     writing_closed may (waits o tall) = absurd (none_closed n size start depth payload waiting_frame rs p o may)
     writing_closed may (waits_empty o bare) = absurd (none_closed n size start depth payload waiting_frame rs p o may)
     writing_closed may (has_reserved o) = absurd (none_closed n size start depth payload reserved_frame _ p o may)
-    writing_closed may (has_left l) = has_left (left_moved _ p (window_after p.window released_one) l)
-    writing_closed may (was_refused l worn) = was_refused (left_moved _ p (window_after p.window released_one) l) worn
+    writing_closed may (has_left l) = has_left (left_moved _ p (window_after p.window closes) l)
+    writing_closed may (was_refused l worn) = was_refused (left_moved _ p (window_after p.window closes) l) worn
 
     -- the head alone moves
     writing_moved : (head : ℕ)
@@ -375,11 +375,11 @@ module _ (n size start depth : ℕ) (rs : List Reservation) where
     closing_acts (leave paid) f (closing_left l) = closing_left (left_acts n size start depth rs p (leave paid) f l)
     closing_acts wished f (closing_left l) = closing_left (left_acts n size start depth rs p wished f l)
 
-    closing_closed : MayMove n p.history p.window released_one
+    closing_closed : MayMove n p.history p.window closes
         → IsClosing p
-        → IsClosing (state_moved p (window_after p.window released_one))
+        → IsClosing (state_moved p (window_after p.window closes))
     closing_closed may (closing_open o) = absurd (none_closed n size start depth [] close_frame rs p o may)
-    closing_closed may (closing_left l) = closing_left (left_moved rs p (window_after p.window released_one) l)
+    closing_closed may (closing_left l) = closing_left (left_moved rs p (window_after p.window closes) l)
 
     closing_moved : (w : Window) → IsClosing p → IsClosing (state_moved p w)
     closing_moved w (closing_open o) = closing_open (open_moved [] close_frame rs p w o)
@@ -387,8 +387,8 @@ module _ (n size start depth : ℕ) (rs : List Reservation) where
 
   pub closing_run : Runs n size start depth IsClosing
   closing_run = run_keeps n size start depth IsClosing closing_acts closing_closed
-      (λ p c. closing_moved p (window_after p.window took_one) c)
-      (λ p c. closing_moved p (window_after p.window lost_one) c)
+      (λ p c. closing_moved p (window_after p.window takes) c)
+      (λ p c. closing_moved p (window_after p.window loses) c)
 
 -- ---- no frame
 

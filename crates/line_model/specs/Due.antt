@@ -4,24 +4,12 @@ use Rattle.std.specs.Prelude.{◌≡◌, ◌≢◌, ℕ, ◌+◌, ◌<◌, ◌�
 use Rattle.trace_model.specs.declared.limits.TheConstants.{LINK_FILLS}
 use Rattle.trace_model.specs.History.{HistoryEvent, push, push_close, open_fill, reserve, leave, wished, PushedFrame, record_frame, close_frame, reservation_for, writer_after, reserved_records}
 use Rattle.trace_model.specs.Packing.{tail_of, fill_len, is_wished}
-use Rattle.trace_model.specs.Window.{Window, first_window, RingEvent, acts, closes, takes, loses, history_events_of}
+use Rattle.trace_model.specs.Window.{Window, first_window, window_after, RingEvent, acts, closes, takes, loses, history_events_of}
 use Rattle.text_model.specs.Script.{Script}
-
--- the window after an event of the ring
-abbrev pub moved : Window → RingEvent → Window
-moved w (acts (push moment len)) = w
-moved w (acts push_close) = w
-moved w (acts open_fill) = record w { opened = w.opened + 1 }
-moved w (acts reserve) = w
-moved w (acts (leave payload)) = w
-moved w (acts wished) = w
-moved w closes = record w { done = w.done + 1 }
-moved w takes = record w { head = w.head + 1 }
-moved w loses = record w { head = w.head + 1 }
 
 -- the window after the events of a ring whose first fill has this number
 abbrev pub window_at : ℕ → List RingEvent → Window
-window_at start events = fold moved (first_window start) events
+window_at start events = fold window_after (first_window start) events
 
 -- What decides what may happen next: how many positions the ring has, of pages of how many bytes; what its frames did;
 -- its window; and the fill that the reader wishes for.

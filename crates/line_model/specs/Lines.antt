@@ -5,7 +5,7 @@ use Rattle.trace_model.specs.declared.limits.TheConstants.{MAX_FRAMES, MOMENT_LI
 use Rattle.trace_model.specs.Words.{padded}
 use Rattle.trace_model.specs.History.{HistoryEvent, push, push_close, open_fill, reserve, leave, wished, Reservation}
 use Rattle.trace_model.specs.Packing.{tail_of, FitsBehind, next_reservation}
-use Rattle.trace_model.specs.Window.{Window, first_window, RingEvent, acts, closes, takes, loses, history_events_of, window_event_of, released_one, took_one, lost_one, MayMove, MayPass, window_after, window_behind, WindowRunFrom, IsCrowded}
+use Rattle.trace_model.specs.Window.{Window, first_window, RingEvent, acts, closes, takes, loses, history_events_of, MayMove, window_after, WindowRunFrom, IsCrowded}
 use Rattle.trace_model.specs.Steps.{IsTooLong}
 use Rattle.text_model.specs.Script.{Command, begin_frame, step_frame, finish_frame, write, close}
 
@@ -109,7 +109,7 @@ finishing_after (top ∷ next ∷ below) finishing a = finishing
 abbrev pub state_after : LineState → HistoryEvent → LineState
 state_after p a = record {
   history = p.history ++ a ∷ [];
-  window = window_behind p.window (window_event_of a);
+  window = window_after p.window (acts a);
   frames = open_after p.frames a;
   finishing = finishing_after p.frames p.finishing a;
 }
@@ -125,17 +125,17 @@ TopRun n size depth before [] after = before ≡ after
 TopRun n size depth before (acts a ∷ events) after =
     (frame_count before ≡ suc depth)
     × IsOfTop n size before a
-    × MayPass n before.history before.window (window_event_of a)
+    × MayMove n before.history before.window (acts a)
     × TopRun n size depth (state_after before a) events after
 TopRun n size depth before (closes ∷ events) after =
-    MayMove n before.history before.window released_one
-    × TopRun n size depth (state_moved before (window_after before.window released_one)) events after
+    MayMove n before.history before.window closes
+    × TopRun n size depth (state_moved before (window_after before.window closes)) events after
 TopRun n size depth before (takes ∷ events) after =
-    MayMove n before.history before.window took_one
-    × TopRun n size depth (state_moved before (window_after before.window took_one)) events after
+    MayMove n before.history before.window takes
+    × TopRun n size depth (state_moved before (window_after before.window takes)) events after
 TopRun n size depth before (loses ∷ events) after =
-    MayMove n before.history before.window lost_one
-    × TopRun n size depth (state_moved before (window_after before.window lost_one)) events after
+    MayMove n before.history before.window loses
+    × TopRun n size depth (state_moved before (window_after before.window loses)) events after
 
 -- A frame that has made no step yet reserves first, if its record then fits.
 abbrev pub ReservesFirst : ℕ → LineState → List OpenFrame → List HistoryEvent → Type 0

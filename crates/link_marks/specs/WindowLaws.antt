@@ -1,7 +1,7 @@
 -- The laws of a ring's window, as statements: each is a clause of a function of src/laws/windows.rt.
 use Rattle.std.specs.Prelude.{◌≡◌, ℕ, ◌+◌, ◌<◌, ◌≤◌, ◌⊎◌, List, [], ◌∷◌, ◌++◌, IsTrue, Contains}
-use Rattle.trace_model.specs.History.{is_settled, open_fill}
-use Rattle.trace_model.specs.Window.{RingEvent, WindowEvent, WindowStep, opened_one, released_one, took_one, lost_one}
+use Rattle.trace_model.specs.History.{push, push_close, open_fill, reserve, leave, wished, is_settled}
+use Rattle.trace_model.specs.Window.{RingEvent, WindowStep, closes, takes, loses, acts}
 use Rattle.trace_model.specs.Ring.{TakenFill, Core, window_of}
 use Rattle.trace_model.specs.Steps.{Event, Answer, page_taken, Step, Exchange, Run}
 use Rattle.trace_model.specs.Sublist.{IsPrefix}
@@ -11,20 +11,26 @@ use Rattle.link_marks.specs.RunsAsEvents.{fills_taken, fills_lost, AreEventsOfRu
 
 -- ---- steps
 
--- An event of the window as the state shows it. If a fill is begun, the history has one more open_fill; if one is
--- taken, it is the head, and the last page that the reader took; any other event changes neither.
-abbrev pub IsEventShown : Core → Core → WindowEvent → Type 0
-IsEventShown c after opened_one = IsPrefix (c.history ++ open_fill ∷ []) after.history × (after.reader ≡ c.reader)
-IsEventShown c after released_one = (after.history ≡ c.history) × (after.reader ≡ c.reader)
-IsEventShown c after took_one =
+-- An event that moves the window, as the state shows it. If a fill is begun, the history has one more open_fill; if one
+-- is taken, it is the head, and the last page that the reader took; that one is closed or lost changes neither. No other
+-- history event moves the window.
+abbrev pub IsEventShown : Core → Core → RingEvent → Type 0
+IsEventShown c after (acts (push moment len)) = ⊥
+IsEventShown c after (acts push_close) = ⊥
+IsEventShown c after (acts reserve) = ⊥
+IsEventShown c after (acts (leave payload)) = ⊥
+IsEventShown c after (acts wished) = ⊥
+IsEventShown c after (acts open_fill) = IsPrefix (c.history ++ open_fill ∷ []) after.history × (after.reader ≡ c.reader)
+IsEventShown c after closes = (after.history ≡ c.history) × (after.reader ≡ c.reader)
+IsEventShown c after takes =
     (after.history ≡ c.history)
     × (t : TakenFill)
     × (t.fill ≡ c.head)
     × (after.reader.taken ≡ c.reader.taken ++ t ∷ [])
-IsEventShown c after lost_one = (after.history ≡ c.history) × (after.reader ≡ c.reader)
+IsEventShown c after loses = (after.history ≡ c.history) × (after.reader ≡ c.reader)
 
 -- The event moves the window of one state to that of another, as it may, and is shown there.
-pub record MovesWindow (n : ℕ) (c : Core) (what : WindowEvent) (after : Core) : Type 0 where
+pub record MovesWindow (n : ℕ) (c : Core) (what : RingEvent) (after : Core) : Type 0 where
   pub step : WindowStep n c.history (window_of c) what (window_of after)
   pub shown : IsEventShown c after what
 
@@ -39,18 +45,18 @@ abbrev pub StepsMoveWindow : Type 0
 StepsMoveWindow = (n size start : ℕ) (c : Core) (event : Event) (answer : Answer) (after : Core)
     → IsRingKept n size start c
     → Step n size c event answer after
-    → WindowStays c after ⊎ ((what : WindowEvent) × MovesWindow n c what after)
+    → WindowStays c after ⊎ ((what : RingEvent) × MovesWindow n c what after)
 
 -- and what happens is one: what is taken doesn't pass as lost, nor what is lost as taken
 abbrev pub OneWindowEvent : Type 0
-OneWindowEvent = (n : ℕ) (c after : Core) (what other : WindowEvent)
+OneWindowEvent = (n : ℕ) (c after : Core) (what other : RingEvent)
     → MovesWindow n c what after
     → MovesWindow n c other after
     → what ≡ other
 
 -- where the window stays, nothing happens
 abbrev pub NothingHappens : Type 0
-NothingHappens = (n : ℕ) (c after : Core) (what : WindowEvent)
+NothingHappens = (n : ℕ) (c after : Core) (what : RingEvent)
     → window_of after ≡ window_of c
     → MovesWindow n c what after
     → ⊥

@@ -2,7 +2,8 @@
 use Rattle.std.proofs.Common.{◌≡◌, ◌≢◌, ℕ, List, [], ◌∷◌, ◌++◌, map, flat_map, refl, sym, ap, ◌∙◌, ⊎_elim, arith, append_assoc, append-nil}
 use Rattle.std.proofs.lemmas.Bool.{eq-eqb, ne_eqb}
 use Rattle.std.proofs.lemmas.List.{map-append}
-use Rattle.trace_model.specs.Window.{Window, WindowEvent, opened_one, released_one, took_one, lost_one}
+use Rattle.trace_model.specs.History.{push, push_close, open_fill, reserve, leave, wished}
+use Rattle.trace_model.specs.Window.{Window, RingEvent, closes, takes, loses, acts}
 use Rattle.trace_model.specs.Ring.{TakenFill, Reader, Core}
 use Rattle.trace_model.specs.Steps.{Event, Answer, pushed, going, reserved_as, pending, full, gone, refused, reading, empty, moving, page_taken, wished_for, Step, Exchange, Run}
 use Rattle.trace_model.specs.Parcel.{Parcel}
@@ -41,11 +42,16 @@ module _ (n size start : ℕ) (c : Core) (event : Event) (answer : Answer) (afte
   none_taken : ((t : TakenFill) → answer ≢ page_taken t) → after.reader.taken ≡ c.reader.taken ++ []
   none_taken not = ⊎_elim (λ stays. stays.1) (λ (what, happened). by_what what happened) (step_owed n size start c event answer after kept.links kept.stack kept.history (cases_of step)).window ∙ sym (append-nil c.reader.taken)
     where
-      by_what : (what : WindowEvent) → MovesWindow n c what after → after.reader.taken ≡ c.reader.taken
-      by_what opened_one h = ap (λ (r : Reader). r.taken) h.shown.1
-      by_what released_one h = ap (λ (r : Reader). r.taken) h.shown.1
-      by_what lost_one h = ap (λ (r : Reader). r.taken) h.shown.1
-      by_what took_one h = let moved = ap (λ (w : Window). w.head) h.step.after_is in
+      by_what : (what : RingEvent) → MovesWindow n c what after → after.reader.taken ≡ c.reader.taken
+      by_what (acts (push moment len)) h = absurd h.shown
+      by_what (acts push_close) h = absurd h.shown
+      by_what (acts open_fill) h = ap (λ (r : Reader). r.taken) h.shown.1
+      by_what (acts reserve) h = absurd h.shown
+      by_what (acts (leave payload)) h = absurd h.shown
+      by_what (acts wished) h = absurd h.shown
+      by_what closes h = ap (λ (r : Reader). r.taken) h.shown.1
+      by_what loses h = ap (λ (r : Reader). r.taken) h.shown.1
+      by_what takes h = let moved = ap (λ (w : Window). w.head) h.step.after_is in
           ⊎_elim (λ stays. absurd (let no : ⊥ = omega arith in no))
           (λ moves. ⊎_elim (λ (t, is, at, up). absurd (not t is)) (λ lost. ap (λ (r : Reader). r.taken) lost.2) moves)
           (losses_need_a_full_ring n size start c event answer after kept step)

@@ -8,7 +8,7 @@ use Rattle.trace_model.proofs.histories.Allowed.{IsHistory-push}
 use Rattle.trace_model.proofs.histories.NextEvent.{writer_snoc, opened_stack, wished_stack, left_stack, reserved_stack, settled_at_rest}
 use Rattle.trace_model.specs.Links.{Link, header_link}
 use Rattle.trace_model.specs.Frames.{Kind, for_record, for_close, FrameState, waiting, reserved, left, Role, owner, helper, Phase, idle, looking, claiming, looking_next, marking, clearing, opening, releasing, wishing, Frame, pushed_frame, pushed_onto, pushed_frames}
-use Rattle.trace_model.specs.Window.{WindowEvent, opened_one, released_one, took_one, lost_one}
+use Rattle.trace_model.specs.Window.{RingEvent, closes, takes, loses, acts}
 use Rattle.trace_model.specs.Ring.{TakenFill, Reader, ReaderPhase, loading_head, loading_done, storing_spare_link, swapping, Core, window_of}
 use Rattle.trace_model.specs.Steps.{Event, Answer, with_link, with_history_event, in_phase, closing_phase, after_leave, frames_after_leave, with_new_tail, after_begin, after_next, taken_fill}
 use Rattle.trace_model.proofs.steps.StepCases.{StepCases, BeginsAgain, ReserveStep, reserves, finds_nothing, is_crowded, is_worn, notes, LoadLinkStep, load_link_late, sees_free, sees_header, sees_update, ClaimHeadStep, claim_late, claims, claim_fails, LoadNextStep, load_next_late, sees_normal, sees_other, MarkHeadStep, mark_late, marks, mark_fails, ClearUpdateStep, clears, OpenFillStep, open_late, opens, ReleaseFillStep, releases, releases_last, LoadWishStep, grants, closes_more, goes_away, IdleStep, FrameStep, push_step, push_refused, close_step, close_refused, frame_step, frame_lacks, end_step, end_lacks, end_early, read_step, store_wish_step, LoadHeadStep, loads_header, loads_update, loads_owed, loads_passed, LoadDoneStep, finds_none, finds_closed, SwapHeadStep, swaps, swap_fails, ReadStep}
@@ -116,7 +116,7 @@ history_wished n start c h none = record {
 -- what a step owes: what is known stays so, and the window makes a step or none
 pub record Owed (n start : ℕ) (c after : Core) : Type 0 where
   pub kept : HistoryKept n start after
-  pub window : ((window_of after ≡ window_of c) × (after.reader.taken ≡ c.reader.taken)) ⊎ ((what : WindowEvent) × MovesWindow n c what after)
+  pub window : ((window_of after ≡ window_of c) × (after.reader.taken ≡ c.reader.taken)) ⊎ ((what : RingEvent) × MovesWindow n c what after)
 
 module _ (n size start : ℕ) (c : Core) (frame : Frame) (below : List Frame) (k : LinksKept n c) (s : StackKept c) (h : HistoryKept n start c) (top : c.frames ≡ frame ∷ below) where
   goes : (after : Core) (old phase : Phase) → frame.phase ≡ old
@@ -207,7 +207,7 @@ module _ (n size start : ℕ) (c : Core) (frame : Frame) (below : List Frame) (k
               (λ e. inr (inr (omega arith, inl (page, ap (λ (o : ℕ). Some (spot o page)) now))))
               (λ ne. lost_on n start c frame below h top frames (λ q is_q. absurd (none_some (sym (ap passed_spot same) ∙ is_q))) (λ q. inr q) h f low (omega arith));
         };
-        window = inr (lost_one, record { step = record { may = (omega arith, omega arith); after_is = refl }; shown = (refl, refl) });
+        window = inr (loses, record { step = record { may = (omega arith, omega arith); after_is = refl }; shown = (refl, refl) });
       }
   claim_head_owed noted page answer after same (claim_fails now other a is) = goes after (claiming noted page) (looking noted) same (λ p is_p. absurd (none_some is_p)) is
 
@@ -238,11 +238,11 @@ module _ (n size start : ℕ) (c : Core) (frame : Frame) (below : List Frame) (k
   release_fill_owed : (answer : Answer) (after : Core) → frame.phase ≡ releasing → ReleaseFillStep c frame below answer after → Owed n start c after
   release_fill_owed answer after same (releases alone more a is) = subst (Owed n start c) (sym is) record {
     kept = record { allowed = h.allowed; stack = h.stack; lost = h.lost };
-    window = inr (released_one, record { step = record { may = (omega arith, settled_at_rest c.history (rest_releasing same)); after_is = refl }; shown = (refl, refl) });
+    window = inr (closes, record { step = record { may = (omega arith, settled_at_rest c.history (rest_releasing same)); after_is = refl }; shown = (refl, refl) });
   }
   release_fill_owed answer after same (releases_last alone last a is) = subst (Owed n start c) (sym is) record {
     kept = let kept = history_goes n start c frame below h top wishing (λ page at. absurd (none_some (sym (ap passed_spot same) ∙ at))) in record { allowed = kept.allowed; stack = kept.stack; lost = kept.lost };
-    window = inr (released_one, record { step = record { may = (omega arith, settled_at_rest c.history (rest_releasing same)); after_is = refl }; shown = (refl, refl) });
+    window = inr (closes, record { step = record { may = (omega arith, settled_at_rest c.history (rest_releasing same)); after_is = refl }; shown = (refl, refl) });
   }
 
   load_wish_owed : (answer : Answer) (after : Core) → frame.phase ≡ wishing → LoadWishStep n c frame below answer after → Owed n start c after
@@ -261,11 +261,16 @@ module _ (n size start : ℕ) (c : Core) (frame : Frame) (below : List Frame) (k
   }
 
 module _ (n size start : ℕ) (c : Core) (frame : Frame) (below : List Frame) (k : LinksKept n c) (s : StackKept c) (h : HistoryKept n start c) (top : c.frames ≡ frame ∷ below) where
-  links_with_shown : (after : Core) (g : ℕ) (l : Link) (what : WindowEvent) → IsEventShown c after what → IsEventShown c (record after { links = (with_link n c g l).links }) what
-  links_with_shown after g l opened_one x = x
-  links_with_shown after g l released_one x = x
-  links_with_shown after g l took_one x = x
-  links_with_shown after g l lost_one x = x
+  links_with_shown : (after : Core) (g : ℕ) (l : Link) (what : RingEvent) → IsEventShown c after what → IsEventShown c (record after { links = (with_link n c g l).links }) what
+  links_with_shown after g l (acts (push moment len)) x = absurd x
+  links_with_shown after g l (acts push_close) x = absurd x
+  links_with_shown after g l (acts open_fill) x = x
+  links_with_shown after g l (acts reserve) x = absurd x
+  links_with_shown after g l (acts (leave payload)) x = absurd x
+  links_with_shown after g l (acts wished) x = absurd x
+  links_with_shown after g l closes x = x
+  links_with_shown after g l takes x = x
+  links_with_shown after g l loses x = x
 
   -- a link is set, and the frame goes on
   with_link_owed : (after : Core) (g : ℕ) (l : Link) → Owed n start c after → Owed n start c (record after { links = (with_link n c g l).links })
@@ -313,7 +318,7 @@ module _ (n size start : ℕ) (c : Core) (frame : Frame) (below : List Frame) (k
       subst (Owed n start c) (sym is) record {
         kept = history_again n start (with_new_tail c page) frame below (history_begun n start c page h (opens_for noted page same)) top frame.kind frame.state refl
             (λ p at. let e = one_spot n size start c frame below k s h top noted page (c.opened + 1) p (sym (ap passed_spot same) ∙ at) in absurd (omega arith));
-        window = inr (opened_one, record { step = record { may = omega arith; after_is = begun_window frame.kind frame.state page }; shown = (begun_front frame.kind frame.state page, begun_reader frame.kind frame.state page) });
+        window = inr ((acts open_fill), record { step = record { may = omega arith; after_is = begun_window frame.kind frame.state page }; shown = (begun_front frame.kind frame.state page, begun_reader frame.kind frame.state page) });
       }
 
 frame_owed : (n size start : ℕ) (c : Core) (frame : Frame) (below : List Frame) (phase : Phase) (answer : Answer) (after : Core) → LinksKept n c → StackKept c → HistoryKept n start c → c.frames ≡ frame ∷ below → frame.phase ≡ phase → FrameStep n size c frame below phase answer after → Owed n start c after
@@ -361,7 +366,7 @@ module _ (n start : ℕ) (c : Core) (k : LinksKept n c) (h : HistoryKept n start
               (λ e. inl (subst (TakenIn (c.reader.taken ++ t ∷ [])) (here ∙ sym e) (taken_last c.reader.taken t)))
               (λ ne. why_stays n c.reader.taken (c.reader.taken ++ t ∷ []) c.opened c.opened c.frames c.frames f (taken_more c.reader.taken t f) (omega arith) (λ p. inr (refl, p)) (h.lost f low (omega arith)));
         };
-        window = inr (took_one, record { step = record { may = omega arith; after_is = refl }; shown = (refl, t, here, refl) });
+        window = inr (takes, record { step = record { may = omega arith; after_is = refl }; shown = (refl, t, here, refl) });
       }
   swap_head_owed page fill answer after closed (swap_fails at a is) = reader_owed after c.spare_link _ refl is
 

@@ -3,7 +3,7 @@ use Rattle.std.proofs.Common.{◌≡◌, ℕ, ◌+◌, ◌<◌, ◌≤◌, List,
 use Rattle.trace_model.specs.History.{HistoryEvent, push, push_close, open_fill, reserve, leave, wished}
 use Rattle.trace_model.proofs.histories.NextEvent.{settled_at_rest}
 use Rattle.trace_model.specs.Frames.{Kind, for_record, for_close, FrameState, waiting, reserved, left, Phase, idle, looking, claiming, looking_next, marking, clearing, opening, releasing, wishing, Frame}
-use Rattle.trace_model.specs.Window.{first_window, released_one, window_after, RingEvent, acts, closes, takes, loses, history_events_of, window_event_of, window_behind, MayPass, WindowRunFrom}
+use Rattle.trace_model.specs.Window.{first_window, closes, window_after, RingEvent, acts, takes, loses, history_events_of, MayMove, WindowRunFrom}
 use Rattle.trace_model.specs.Ring.{ReaderPhase, loading_head, loading_done, storing_spare_link, swapping, Reader, Core, IsStart, window_of}
 use Rattle.trace_model.specs.Steps.{Event, Answer, with_new_tail, after_begin, taken_fill, Exchange, Run}
 use Rattle.trace_model.proofs.steps.StepCases.{StepCases, BeginsAgain, reserves, finds_nothing, is_crowded, is_worn, notes, IdleStep, load_link_late, sees_free, sees_header, sees_update, claim_late, claims, claim_fails, load_next_late, sees_normal, sees_other, mark_late, marks, mark_fails, clears, open_late, opens, releases, releases_last, grants, closes_more, goes_away, FrameStep, push_step, push_refused, close_step, close_refused, frame_step, frame_lacks, end_step, end_lacks, end_early, read_step, store_wish_step, loads_header, loads_update, loads_owed, loads_passed, finds_none, finds_closed, swaps, swap_fails, ReadStep}
@@ -32,7 +32,7 @@ no_event : (n : ℕ) (c after : Core) → after.history ≡ c.history → window
 no_event n c after h w t = record { events = []; history_events = h ∙ sym (append-nil c.history); window = sym w; took = t ∙ sym (append-nil (numbers_of c.reader.taken)) }
 
 -- a history event of a frame, and what happens with it
-does : (n : ℕ) (c after : Core) (a : HistoryEvent) → MayPass n c.history (window_of c) (window_event_of a) → after.history ≡ c.history ++ a ∷ [] → window_of after ≡ window_behind (window_of c) (window_event_of a) → numbers_of after.reader.taken ≡ numbers_of c.reader.taken → Leads n c after
+does : (n : ℕ) (c after : Core) (a : HistoryEvent) → MayMove n c.history (window_of c) (acts a) → after.history ≡ c.history ++ a ∷ [] → window_of after ≡ window_after (window_of c) (acts a) → numbers_of after.reader.taken ≡ numbers_of c.reader.taken → Leads n c after
 does n c after a may h w t = record { events = acts a ∷ []; history_events = h; window = (may, sym w); took = t ∙ sym (append-nil (numbers_of c.reader.taken)) }
 
 leads_again : (n : ℕ) (c : Core) (frame : Frame) (below : List Frame) (kind : Kind) (state : FrameState) → Leads n c (after_begin kind state c frame below)
@@ -66,7 +66,7 @@ module _ (n size start : ℕ) (c : Core) (frame : Frame) (below : List Frame) (k
   leads_idle left answer after step = absurd step
 
   -- the oldest fill that isn't closed is closed
-  leads_closed : (answer : Answer) (after : Core) → frame.phase ≡ releasing → c.done + 1 < c.opened → after.history ≡ c.history → window_of after ≡ window_after (window_of c) released_one → numbers_of after.reader.taken ≡ numbers_of c.reader.taken → Leads n c after
+  leads_closed : (answer : Answer) (after : Core) → frame.phase ≡ releasing → c.done + 1 < c.opened → after.history ≡ c.history → window_of after ≡ window_after (window_of c) closes → numbers_of after.reader.taken ≡ numbers_of c.reader.taken → Leads n c after
   leads_closed answer after same more h' w t = record {
     events = closes ∷ [];
     history_events = h' ∙ sym (append-nil c.history);

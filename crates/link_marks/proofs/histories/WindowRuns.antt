@@ -4,7 +4,7 @@ use Rattle.std.specs.Prelude.{Contains}
 use mathlib.Core.Logic.{dite}
 use native.Mathlib.Decide.{ℕ_discrete}
 use Rattle.trace_model.specs.History.{HistoryEvent, push, push_close, open_fill, reserve, leave, wished}
-use Rattle.trace_model.specs.Window.{Window, released_one, took_one, lost_one, window_after, RingEvent, acts, closes, takes, loses, history_events_of, window_event_of, window_behind, WindowRunFrom}
+use Rattle.trace_model.specs.Window.{Window, closes, takes, loses, window_after, RingEvent, acts, history_events_of, WindowRunFrom}
 use Rattle.trace_model.specs.Ring.{TakenFill}
 use Rattle.link_marks.specs.RunsAsEvents.{fills_taken, fills_lost, numbers_of}
 
@@ -17,7 +17,7 @@ pub record Rises (w after : Window) : Type 0 where
   pub opened : w.opened ≤ after.opened
 
 -- with a history event at most one fill more is begun
-pub acts_behind : (w : Window) (a : HistoryEvent) → ((window_behind w (window_event_of a)).head ≡ w.head) × ((window_behind w (window_event_of a)).done ≡ w.done) × (w.opened ≤ (window_behind w (window_event_of a)).opened)
+pub acts_behind : (w : Window) (a : HistoryEvent) → ((window_after w (acts a)).head ≡ w.head) × ((window_after w (acts a)).done ≡ w.done) × (w.opened ≤ (window_after w (acts a)).opened)
 acts_behind w (push moment len) = (refl, refl, omega arith)
 acts_behind w push_close = (refl, refl, omega arith)
 acts_behind w open_fill = (refl, refl, omega arith)
@@ -27,13 +27,13 @@ acts_behind w wished = (refl, refl, omega arith)
 
 pub run_rises : (n : ℕ) (history : List HistoryEvent) (w after : Window) (events : List RingEvent) → WindowRunFrom n history w events after → Rises w after
 run_rises n history w after [] run = subst (Rises w) run record { head = omega arith; done = omega arith; opened = omega arith }
-run_rises n history w after (acts a ∷ events) run = let r = run_rises n (history ++ a ∷ []) (window_behind w (window_event_of a)) after events run.1 in let (same, closed, more) = acts_behind w a in
+run_rises n history w after (acts a ∷ events) run = let r = run_rises n (history ++ a ∷ []) (window_after w (acts a)) after events run.1 in let (same, closed, more) = acts_behind w a in
     let a = r.head in let b = r.done in let c = r.opened in record { head = omega arith; done = omega arith; opened = omega arith }
-run_rises n history w after (closes ∷ events) run = let r = run_rises n history (window_after w released_one) after events run.1 in
+run_rises n history w after (closes ∷ events) run = let r = run_rises n history (window_after w closes) after events run.1 in
     let a = r.head in let b = r.done in let c = r.opened in record { head = omega arith; done = omega arith; opened = omega arith }
-run_rises n history w after (takes ∷ events) run = let r = run_rises n history (window_after w took_one) after events run.1 in
+run_rises n history w after (takes ∷ events) run = let r = run_rises n history (window_after w takes) after events run.1 in
     let a = r.head in let b = r.done in let c = r.opened in record { head = omega arith; done = omega arith; opened = omega arith }
-run_rises n history w after (loses ∷ events) run = let r = run_rises n history (window_after w lost_one) after events run.1 in
+run_rises n history w after (loses ∷ events) run = let r = run_rises n history (window_after w loses) after events run.1 in
     let a = r.head in let b = r.done in let c = r.opened in record { head = omega arith; done = omega arith; opened = omega arith }
 
 -- ---- the fills
@@ -78,33 +78,33 @@ not_both head (loses ∷ events) f taken lost = let low = taken_from_head (head 
 
 pub passed_by : (n : ℕ) (history : List HistoryEvent) (w after : Window) (events : List RingEvent) (f : ℕ) → WindowRunFrom n history w events after → w.head ≤ f → f < after.head → Contains (fills_taken w.head events) f ⊎ Contains (fills_lost w.head events) f
 passed_by n history w after [] f run low high = let same : w.head ≡ after.head = ap (λ (v : Window). v.head) run in absurd (omega arith)
-passed_by n history w after (acts a ∷ events) f run low high = let next = window_behind w (window_event_of a) in let (same, closed, more) = acts_behind w a in
+passed_by n history w after (acts a ∷ events) f run low high = let next = window_after w (acts a) in let (same, closed, more) = acts_behind w a in
     subst (λ (head : ℕ). Contains (fills_taken head events) f ⊎ Contains (fills_lost head events) f) same (passed_by n (history ++ a ∷ []) next after events f run.1 (omega arith) high)
-passed_by n history w after (closes ∷ events) f run low high = passed_by n history (window_after w released_one) after events f run.1 low high
+passed_by n history w after (closes ∷ events) f run low high = passed_by n history (window_after w closes) after events f run.1 low high
 passed_by n history w after (takes ∷ events) f run low high = dite (ℕ_discrete w.head f)
     (λ e. inl (subst (Contains (w.head ∷ fills_taken (w.head + 1) events)) e (has_first w.head (fills_taken (w.head + 1) events))))
-    (λ ne. ⊎_elim (λ t. inl (has_more w.head f (fills_taken (w.head + 1) events) t)) (λ l. inr l) (passed_by n history (window_after w took_one) after events f run.1 (omega arith) high))
+    (λ ne. ⊎_elim (λ t. inl (has_more w.head f (fills_taken (w.head + 1) events) t)) (λ l. inr l) (passed_by n history (window_after w takes) after events f run.1 (omega arith) high))
 passed_by n history w after (loses ∷ events) f run low high = dite (ℕ_discrete w.head f)
     (λ e. inr (subst (Contains (w.head ∷ fills_lost (w.head + 1) events)) e (has_first w.head (fills_lost (w.head + 1) events))))
-    (λ ne. ⊎_elim (λ t. inl t) (λ l. inr (has_more w.head f (fills_lost (w.head + 1) events) l)) (passed_by n history (window_after w lost_one) after events f run.1 (omega arith) high))
+    (λ ne. ⊎_elim (λ t. inl t) (λ l. inr (has_more w.head f (fills_lost (w.head + 1) events) l)) (passed_by n history (window_after w loses) after events f run.1 (omega arith) high))
 
 pub taken_closed : (n : ℕ) (history : List HistoryEvent) (w after : Window) (events : List RingEvent) (f : ℕ) → WindowRunFrom n history w events after → Contains (fills_taken w.head events) f → (w.head ≤ f) × (f < after.head) × (f < after.done)
 taken_closed n history w after [] f run has = has_none f has
-taken_closed n history w after (acts a ∷ events) f run has = let next = window_behind w (window_event_of a) in let (same, closed, more) = acts_behind w a in
+taken_closed n history w after (acts a ∷ events) f run has = let next = window_after w (acts a) in let (same, closed, more) = acts_behind w a in
     let (x, y, z) = taken_closed n (history ++ a ∷ []) next after events f run.1 (subst (λ (head : ℕ). Contains (fills_taken head events) f) (sym same) has) in (omega arith, y, z)
-taken_closed n history w after (closes ∷ events) f run has = taken_closed n history (window_after w released_one) after events f run.1 has
-taken_closed n history w after (takes ∷ events) f run has = let may = run.0 in let r = run_rises n history (window_after w took_one) after events run.1 in let a = r.head in let b = r.done in
-    ⊎_elim (λ e. (omega arith, omega arith, omega arith)) (λ more. let (x, y, z) = taken_closed n history (window_after w took_one) after events f run.1 more in (omega arith, y, z)) (has_cases w.head f (fills_taken (w.head + 1) events) has)
-taken_closed n history w after (loses ∷ events) f run has = let (x, y, z) = taken_closed n history (window_after w lost_one) after events f run.1 has in (omega arith, y, z)
+taken_closed n history w after (closes ∷ events) f run has = taken_closed n history (window_after w closes) after events f run.1 has
+taken_closed n history w after (takes ∷ events) f run has = let may = run.0 in let r = run_rises n history (window_after w takes) after events run.1 in let a = r.head in let b = r.done in
+    ⊎_elim (λ e. (omega arith, omega arith, omega arith)) (λ more. let (x, y, z) = taken_closed n history (window_after w takes) after events f run.1 more in (omega arith, y, z)) (has_cases w.head f (fills_taken (w.head + 1) events) has)
+taken_closed n history w after (loses ∷ events) f run has = let (x, y, z) = taken_closed n history (window_after w loses) after events f run.1 has in (omega arith, y, z)
 
 pub lost_closed : (n : ℕ) (history : List HistoryEvent) (w after : Window) (events : List RingEvent) (f : ℕ) → WindowRunFrom n history w events after → Contains (fills_lost w.head events) f → (w.head ≤ f) × (f < after.head) × (f < after.done) × (f + n ≤ after.opened)
 lost_closed n history w after [] f run has = has_none f has
-lost_closed n history w after (acts a ∷ events) f run has = let next = window_behind w (window_event_of a) in let (same, closed, more) = acts_behind w a in
+lost_closed n history w after (acts a ∷ events) f run has = let next = window_after w (acts a) in let (same, closed, more) = acts_behind w a in
     let (x, y, z, u) = lost_closed n (history ++ a ∷ []) next after events f run.1 (subst (λ (head : ℕ). Contains (fills_lost head events) f) (sym same) has) in (omega arith, y, z, u)
-lost_closed n history w after (closes ∷ events) f run has = lost_closed n history (window_after w released_one) after events f run.1 has
-lost_closed n history w after (takes ∷ events) f run has = let (x, y, z, u) = lost_closed n history (window_after w took_one) after events f run.1 has in (omega arith, y, z, u)
-lost_closed n history w after (loses ∷ events) f run has = let may = run.0.0 in let full = run.0.1 in let r = run_rises n history (window_after w lost_one) after events run.1 in let a = r.head in let b = r.done in let c = r.opened in
-    ⊎_elim (λ e. (omega arith, omega arith, omega arith, omega arith)) (λ more. let (x, y, z, u) = lost_closed n history (window_after w lost_one) after events f run.1 more in (omega arith, y, z, u)) (has_cases w.head f (fills_lost (w.head + 1) events) has)
+lost_closed n history w after (closes ∷ events) f run has = lost_closed n history (window_after w closes) after events f run.1 has
+lost_closed n history w after (takes ∷ events) f run has = let (x, y, z, u) = lost_closed n history (window_after w takes) after events f run.1 has in (omega arith, y, z, u)
+lost_closed n history w after (loses ∷ events) f run has = let may = run.0.0 in let full = run.0.1 in let r = run_rises n history (window_after w loses) after events run.1 in let a = r.head in let b = r.done in let c = r.opened in
+    ⊎_elim (λ e. (omega arith, omega arith, omega arith, omega arith)) (λ more. let (x, y, z, u) = lost_closed n history (window_after w loses) after events f run.1 more in (omega arith, y, z, u)) (has_cases w.head f (fills_lost (w.head + 1) events) has)
 
 -- ---- two runs, one after the other
 
@@ -117,18 +117,18 @@ history_events-append (loses ∷ events) more = history_events-append events mor
 
 pub run-append : (n : ℕ) (history : List HistoryEvent) (w between after : Window) (events more : List RingEvent) → WindowRunFrom n history w events between → WindowRunFrom n (history ++ history_events_of events) between more after → WindowRunFrom n history w (events ++ more) after
 run-append n history w between after [] more first rest = subst (λ (v : Window). WindowRunFrom n history v more after) (sym first) (subst (λ (h : List HistoryEvent). WindowRunFrom n h between more after) (append-nil history) rest)
-run-append n history w between after (acts a ∷ events) more first rest = (first.0, run-append n (history ++ a ∷ []) (window_behind w (window_event_of a)) between after events more first.1 (subst (λ (h : List HistoryEvent). WindowRunFrom n h between more after) (sym (append_assoc history (a ∷ []) (history_events_of events))) rest))
-run-append n history w between after (closes ∷ events) more first rest = (first.0, run-append n history (window_after w released_one) between after events more first.1 rest)
-run-append n history w between after (takes ∷ events) more first rest = (first.0, run-append n history (window_after w took_one) between after events more first.1 rest)
-run-append n history w between after (loses ∷ events) more first rest = (first.0, run-append n history (window_after w lost_one) between after events more first.1 rest)
+run-append n history w between after (acts a ∷ events) more first rest = (first.0, run-append n (history ++ a ∷ []) (window_after w (acts a)) between after events more first.1 (subst (λ (h : List HistoryEvent). WindowRunFrom n h between more after) (sym (append_assoc history (a ∷ []) (history_events_of events))) rest))
+run-append n history w between after (closes ∷ events) more first rest = (first.0, run-append n history (window_after w closes) between after events more first.1 rest)
+run-append n history w between after (takes ∷ events) more first rest = (first.0, run-append n history (window_after w takes) between after events more first.1 rest)
+run-append n history w between after (loses ∷ events) more first rest = (first.0, run-append n history (window_after w loses) between after events more first.1 rest)
 
 pub taken-append : (n : ℕ) (history : List HistoryEvent) (w between : Window) (events more : List RingEvent) → WindowRunFrom n history w events between → fills_taken w.head (events ++ more) ≡ fills_taken w.head events ++ fills_taken between.head more
 taken-append n history w between [] more run = ap (λ (v : Window). fills_taken v.head more) run
 taken-append n history w between (acts a ∷ events) more run = subst (λ (head : ℕ). fills_taken head (events ++ more) ≡ fills_taken head events ++ fills_taken between.head more) (acts_behind w a).0
-    (taken-append n (history ++ a ∷ []) (window_behind w (window_event_of a)) between events more run.1)
-taken-append n history w between (closes ∷ events) more run = taken-append n history (window_after w released_one) between events more run.1
-taken-append n history w between (takes ∷ events) more run = ap (λ (l : List ℕ). w.head ∷ l) (taken-append n history (window_after w took_one) between events more run.1)
-taken-append n history w between (loses ∷ events) more run = taken-append n history (window_after w lost_one) between events more run.1
+    (taken-append n (history ++ a ∷ []) (window_after w (acts a)) between events more run.1)
+taken-append n history w between (closes ∷ events) more run = taken-append n history (window_after w closes) between events more run.1
+taken-append n history w between (takes ∷ events) more run = ap (λ (l : List ℕ). w.head ∷ l) (taken-append n history (window_after w takes) between events more run.1)
+taken-append n history w between (loses ∷ events) more run = taken-append n history (window_after w loses) between events more run.1
 
 pub numbers-push : (taken : List TakenFill) (t : TakenFill) → numbers_of (taken ++ t ∷ []) ≡ numbers_of taken ++ t.fill ∷ []
 numbers-push [] t = refl

@@ -1,9 +1,9 @@
 -- By which steps the head and the count of closed fills move.
 use Rattle.std.proofs.Common.{◌≡◌, ℕ, ◌+◌, ◌⊎◌, IsTrue, List, ◌∷◌, refl, ap, ◌∙◌, inl, inr, ⊎_elim, arith}
-use Rattle.trace_model.specs.History.{is_settled}
+use Rattle.trace_model.specs.History.{push, push_close, open_fill, reserve, leave, wished, is_settled}
 use Rattle.trace_model.specs.Frames.{Kind, for_record, for_close, FrameState, waiting, reserved, left, Role, Phase, Frame}
 use Rattle.trace_model.specs.Ring.{ReaderPhase, loading_head, loading_done, storing_spare_link, swapping, Core, window_of}
-use Rattle.trace_model.specs.Window.{Window, WindowEvent, opened_one, released_one, took_one, lost_one, WindowStep}
+use Rattle.trace_model.specs.Window.{Window, RingEvent, closes, takes, loses, WindowStep, acts}
 use Rattle.trace_model.specs.Steps.{Event, Answer, with_new_tail, after_begin, taken_fill}
 use Rattle.trace_model.proofs.steps.StepCases.{StepCases, BeginsAgain, ReserveStep, reserves, finds_nothing, is_crowded, is_worn, notes, LoadLinkStep, load_link_late, sees_free, sees_header, sees_update, ClaimHeadStep, claim_late, claims, claim_fails, LoadNextStep, load_next_late, sees_normal, sees_other, MarkHeadStep, mark_late, marks, mark_fails, ClearUpdateStep, clears, OpenFillStep, open_late, opens, ReleaseFillStep, releases, releases_last, LoadWishStep, grants, closes_more, goes_away, IdleStep, FrameStep, by_phase, loads_header, loads_update, loads_owed, loads_passed, finds_none, finds_closed, swaps, swap_fails, ReadStep, push_step, push_refused, close_step, close_refused, frame_step, frame_lacks, end_step, end_lacks, end_early, read_step, store_wish_step}
 use Rattle.trace_model.proofs.steps.StepSound.{cases_of}
@@ -127,8 +127,13 @@ pub closes_need_no_frame : ClosesNeedNoFrame
 closes_need_no_frame n size start c event answer after r step =
     ⊎_elim (λ same. inl (ap (λ (w : Window). w.done) same.0)) (λ one. by_what one.0 one.1.step) (step_owed n size start c event answer after r.links r.stack r.history (cases_of step)).window
   where
-    by_what : (what : WindowEvent) → WindowStep n c.history (window_of c) what (window_of after) → DoneMoves c after
-    by_what opened_one w = inl (ap (λ (v : Window). v.done) w.after_is)
-    by_what released_one w = inr (w.may.1, ap (λ (v : Window). v.done) w.after_is)
-    by_what took_one w = inl (ap (λ (v : Window). v.done) w.after_is)
-    by_what lost_one w = inl (ap (λ (v : Window). v.done) w.after_is)
+    by_what : (what : RingEvent) → WindowStep n c.history (window_of c) what (window_of after) → DoneMoves c after
+    by_what (acts (push moment len)) w = inl (ap (λ (v : Window). v.done) w.after_is)
+    by_what (acts push_close) w = inl (ap (λ (v : Window). v.done) w.after_is)
+    by_what (acts open_fill) w = inl (ap (λ (v : Window). v.done) w.after_is)
+    by_what (acts reserve) w = inl (ap (λ (v : Window). v.done) w.after_is)
+    by_what (acts (leave payload)) w = inl (ap (λ (v : Window). v.done) w.after_is)
+    by_what (acts wished) w = inl (ap (λ (v : Window). v.done) w.after_is)
+    by_what closes w = inr (w.may.1, ap (λ (v : Window). v.done) w.after_is)
+    by_what takes w = inl (ap (λ (v : Window). v.done) w.after_is)
+    by_what loses w = inl (ap (λ (v : Window). v.done) w.after_is)

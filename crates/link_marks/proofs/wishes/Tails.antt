@@ -4,7 +4,7 @@ use Rattle.trace_model.specs.History.{HistoryEvent, push, push_close, open_fill,
 use Rattle.trace_model.specs.Packing.{opens_of, tail_of}
 use Rattle.trace_model.specs.Fitting.{IsRising, tail_at}
 use Rattle.trace_model.specs.Frames.{for_close, waiting}
-use Rattle.trace_model.specs.Window.{Window, RingEvent, acts, closes, takes, loses, history_events_of, window_event_of, window_behind, released_one, took_one, lost_one, window_after, WindowRunFrom}
+use Rattle.trace_model.specs.Window.{Window, RingEvent, acts, closes, takes, loses, history_events_of, window_after, WindowRunFrom}
 use Rattle.trace_model.proofs.packing.FillCuts.{IsRising-more, opens_of-push, opens_of-push_close, opens_of-reserve, opens_of-leave, opens_of-wished}
 use Rattle.trace_model.proofs.histories.NextRecords.{records_snoc, length_after_event}
 use Rattle.trace_model.proofs.packing.PackedHistories.{plain-finished, tail_is, needs_alike, needs_reserved}
@@ -41,7 +41,7 @@ tail_snoc h a cuts t =
     }
 
 -- a history event begins a fill, or it leaves the window and the cuts as they are
-begins_or_not : (h : List HistoryEvent) (w : Window) (a : HistoryEvent) → ((window_behind w (window_event_of a) ≡ w) × (opens_of (h ++ a ∷ []) ≡ opens_of h)) ⊎ (w.opened < (window_behind w (window_event_of a)).opened)
+begins_or_not : (h : List HistoryEvent) (w : Window) (a : HistoryEvent) → ((window_after w (acts a) ≡ w) × (opens_of (h ++ a ∷ []) ≡ opens_of h)) ⊎ (w.opened < (window_after w (acts a)).opened)
 begins_or_not h w (push moment len) = inl (refl, opens_of-push h moment len)
 begins_or_not h w push_close = inl (refl, opens_of-push_close h)
 begins_or_not h w open_fill = inr (omega arith)
@@ -52,15 +52,15 @@ begins_or_not h w wished = inl (refl, opens_of-wished h)
 has_over : (n : ℕ) (h : List HistoryEvent) (w : Window) (events : List RingEvent) (after : Window) → WindowRunFrom n h w events after → after.opened ≤ w.opened → HasTail h → HasTail (h ++ history_events_of events)
 has_over n h w [] after run le t = subst HasTail (sym (append-nil h)) t
 has_over n h w (acts a ∷ events) after run le t =
-    let rises = run_rises n (h ++ a ∷ []) (window_behind w (window_event_of a)) after events run.1 in let opens = rises.opened in
+    let rises = run_rises n (h ++ a ∷ []) (window_after w (acts a)) after events run.1 in let opens = rises.opened in
     ⊎_elim
-    (λ (same, cuts). let at : (window_behind w (window_event_of a)).opened ≡ w.opened = ap (λ (v : Window). v.opened) same in
-    subst HasTail (append_assoc h (a ∷ []) (history_events_of events)) (has_over n (h ++ a ∷ []) (window_behind w (window_event_of a)) events after run.1 (omega arith) (tail_snoc h a cuts t)))
+    (λ (same, cuts). let at : (window_after w (acts a)).opened ≡ w.opened = ap (λ (v : Window). v.opened) same in
+    subst HasTail (append_assoc h (a ∷ []) (history_events_of events)) (has_over n (h ++ a ∷ []) (window_after w (acts a)) events after run.1 (omega arith) (tail_snoc h a cuts t)))
     (λ more. absurd (omega arith))
     (begins_or_not h w a)
-has_over n h w (closes ∷ events) after run le t = has_over n h (window_after w released_one) events after run.1 le t
-has_over n h w (takes ∷ events) after run le t = has_over n h (window_after w took_one) events after run.1 le t
-has_over n h w (loses ∷ events) after run le t = has_over n h (window_after w lost_one) events after run.1 le t
+has_over n h w (closes ∷ events) after run le t = has_over n h (window_after w closes) events after run.1 le t
+has_over n h w (takes ∷ events) after run le t = has_over n h (window_after w takes) events after run.1 le t
+has_over n h w (loses ∷ events) after run le t = has_over n h (window_after w loses) events after run.1 le t
 
 pub tail_over : (n : ℕ) (h : List HistoryEvent) (w : Window) (events : List RingEvent) (after : Window) → IsRising 0 (opens_of h) (length (reserved_records h)) → WindowRunFrom n h w events after → after.opened ≡ w.opened → tail_of h ≢ [] → tail_of (h ++ history_events_of events) ≢ []
 tail_over n h w events after rising run same some = (has_over n h w events after run (omega arith) record { rising = rising; holds = some }).holds
