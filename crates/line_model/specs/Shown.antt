@@ -28,7 +28,7 @@ pub record IsShownOf (start : ℕ) (events : ℕ → List RingEvent) (fills : Li
   pub missing : (cpu : ℕ)
       → AreRuns (λ number. (fill : ℕ)
       × Contains fills (cpu, fill)
-      × IsOverwrittenBefore (history_events_of (events cpu)) start (events cpu) fill number)
+      × IsOverwrittenBefore start (events cpu) fill number)
       (slice_index_or shown.runs cpu [])
 
 -- These bytes are the collectors of the script, each as it is shown, after the lines of some log, if that is asked for.

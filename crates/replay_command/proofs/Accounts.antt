@@ -177,7 +177,7 @@ module _ (script : Script) (w : World) (limits : IsWithinLimits script) (of : Wo
           → Misses parcels cpu number
           ↔ ((fill : ℕ)
           × Contains (keys_of parcels) (cpu, fill)
-          × IsOverwrittenBefore (history_events_of of_cpu) script.start of_cpu fill number)
+          × IsOverwrittenBefore script.start of_cpu fill number)
 
     is_of : (cpu : ℕ) (k : Known cpu) → IsOf cpu (all_of cpu k)
     is_of cpu (known below) =
@@ -195,13 +195,13 @@ module _ (script : Script) (w : World) (limits : IsWithinLimits script) (of : Wo
           );
           misses = λ number. (
             λ there. let (parcel, one, over) = (e.misses number).0 there in
-                (parcel.fill, key_in cpu parcel one, overwritten_same script.pages script.start lane.core cut.events here cut.reported reported h parcel.fill number over),
+                (parcel.fill, key_in cpu parcel one, overwritten_same script.pages script.start lane.core cut.events here cut.reported reported parcel.fill number over),
             λ (fill, key, over). let (parcel, one, is) = key_of_one cpu fill key in
                 (e.misses number).1 (
                   parcel,
                   one,
-                  subst (λ (f : ℕ). IsOverwrittenBefore h script.start cut.events f number) (sym is)
-                      (overwritten_same script.pages script.start lane.core here cut.events reported cut.reported h fill number over),
+                  subst (λ (f : ℕ). IsOverwrittenBefore script.start cut.events f number) (sym is)
+                      (overwritten_same script.pages script.start lane.core here cut.events reported cut.reported fill number over),
                 ),
           );
         }

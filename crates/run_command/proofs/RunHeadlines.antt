@@ -215,7 +215,7 @@ module _ (script : Script) (ran : Ran) (run : IsRan script ran) where
           → Misses kept cpu number
           ↔ ((fill : ℕ)
           × Contains fills (cpu, fill)
-          × IsOverwrittenBefore (history_events_of of_cpu) script.start of_cpu fill number)
+          × IsOverwrittenBefore script.start of_cpu fill number)
 
     -- the parcel of a key is one of the ledger's
     one_of : (cpu : ℕ) (ledger : Ledger) (fill : ℕ) → slice_get ledgers cpu ≡ Some ledger → Contains fills (cpu, fill) → (parcel : Parcel) × IsOneOf (taken_of ledger) cpu parcel × (parcel.fill ≡ fill)
@@ -244,13 +244,13 @@ module _ (script : Script) (ran : Ran) (run : IsRan script ran) where
           );
           misses = λ number. (
             λ there. let (parcel, one, over) = (e.misses number).0 there in
-                (parcel.fill, key_of_one cpu ledger parcel at one, overwritten_same script.pages script.start c is.cut.events here is.cut.reported cut.reported h parcel.fill number over),
+                (parcel.fill, key_of_one cpu ledger parcel at one, overwritten_same script.pages script.start c is.cut.events here is.cut.reported cut.reported parcel.fill number over),
             λ (fill, key, over). let (parcel, one, same) = one_of cpu ledger fill at key in
                 (e.misses number).1 (
                   parcel,
                   one,
-                  subst (λ (f : ℕ). IsOverwrittenBefore h script.start is.cut.events f number) (sym same)
-                      (overwritten_same script.pages script.start c here is.cut.events cut.reported is.cut.reported h fill number over),
+                  subst (λ (f : ℕ). IsOverwrittenBefore script.start is.cut.events f number) (sym same)
+                      (overwritten_same script.pages script.start c here is.cut.events cut.reported is.cut.reported fill number over),
                 ),
           );
         }

@@ -37,8 +37,8 @@ IsFit size front (leave payload) = Unit {0}
 IsFit size front wished = Unit {0}
 
 abbrev pub AreFit : ℕ → List HistoryEvent → Type 0
-AreFit size history = (front behind : List HistoryEvent) (a : HistoryEvent)
-    → history ≡ front ++ a ∷ behind
+AreFit size history = (front rest : List HistoryEvent) (a : HistoryEvent)
+    → history ≡ front ++ a ∷ rest
     → IsFit size front a
 
 -- ---- frames

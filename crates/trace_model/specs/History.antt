@@ -150,5 +150,5 @@ MayAct stack wished = MayWish stack
 
 -- The discipline of the stack: each event is one that the stack after the events before it allows.
 abbrev pub IsHistory : List HistoryEvent → Type 0
-IsHistory history = (front behind : List HistoryEvent) (a : HistoryEvent) → history ≡ front ++ a ∷ behind
+IsHistory history = (front rest : List HistoryEvent) (a : HistoryEvent) → history ≡ front ++ a ∷ rest
     → MayAct (writer_after front).stack a

@@ -9,9 +9,9 @@ use Rattle.trace_model.specs.History.{HistoryEvent, open_fill, reserve, wished, 
 -- how many records were reserved before each open, in order
 abbrev pub opens_behind : List HistoryEvent → List HistoryEvent → List ℕ
 opens_behind front [] = []
-opens_behind front (open_fill ∷ behind) =
-    length (reserved_records front) ∷ opens_behind (front ++ open_fill ∷ []) behind
-opens_behind front (event ∷ behind) = opens_behind (front ++ event ∷ []) behind
+opens_behind front (open_fill ∷ rest) =
+    length (reserved_records front) ∷ opens_behind (front ++ open_fill ∷ []) rest
+opens_behind front (event ∷ rest) = opens_behind (front ++ event ∷ []) rest
 
 abbrev pub opens_of : List HistoryEvent → List ℕ
 opens_of history = opens_behind [] history
@@ -88,19 +88,19 @@ MayCloseTail front (close_frame ∷ stack) = Unit {0}
 -- frame, or for the reader's wish.
 pub record IsPacked (history : List HistoryEvent) (size : ℕ) : Type 0 where
   pub rooms : (k : ℕ) → k < length (fills_of history) → fill_len (slice_index_or (fills_of history) k []) ≤ size
-  pub reserves : (front behind : List HistoryEvent) (r : Reservation)
-      → history ≡ front ++ reserve ∷ behind
+  pub reserves : (front rest : List HistoryEvent) (r : Reservation)
+      → history ≡ front ++ reserve ∷ rest
       → next_reservation front ≡ Some r
       → FitsBehind size (tail_of front) r
-  pub begins : (front behind : List HistoryEvent)
-      → history ≡ front ++ open_fill ∷ behind
+  pub begins : (front rest : List HistoryEvent)
+      → history ≡ front ++ open_fill ∷ rest
       → tail_of front ≢ []
-  pub needed : (front behind : List HistoryEvent) (r : Reservation)
-      → history ≡ front ++ open_fill ∷ behind
+  pub needed : (front rest : List HistoryEvent) (r : Reservation)
+      → history ≡ front ++ open_fill ∷ rest
       → next_reservation front ≡ Some r
       → FitsBehind size (tail_of front) r
       → ⊥
-  pub asked : (front behind : List HistoryEvent)
-      → history ≡ front ++ open_fill ∷ behind
+  pub asked : (front rest : List HistoryEvent)
+      → history ≡ front ++ open_fill ∷ rest
       → next_reservation front ≡ None
       → MayCloseTail front (writer_after front).stack

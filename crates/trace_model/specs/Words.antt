@@ -127,7 +127,7 @@ MovesTime (time_stamp time) = ⊥
 
 -- wherever a word moves the time, the moment there fits 64 bits
 abbrev pub FitsTime : ℕ → List Word → Type 0
-FitsTime time words = (front : List Word) (w : Word) (behind : List Word) → words ≡ front ++ w ∷ behind
+FitsTime time words = (front : List Word) (w : Word) (rest : List Word) → words ≡ front ++ w ∷ rest
     → MovesTime w → moment_after time (front ++ w ∷ []) < 2 ^ 64
 
 -- the bytes are these words, and then an ending

@@ -8,14 +8,14 @@ use Rattle.std.proofs.lemmas.List.{length-map}
 use mathlib.Core.Logic.{dite}
 use native.Mathlib.Decide.{dec_le, ℕ_discrete}
 use Rattle.trace_model.specs.Record.{Record}
-use Rattle.trace_model.specs.History.{Reservation, reserved_records, as_record, committed_records}
+use Rattle.trace_model.specs.History.{HistoryEvent, Reservation, reserved_records, as_record, committed_records}
 use Rattle.trace_model.specs.Packing.{opens_of, cut_from, first_of_fill}
 use Rattle.trace_model.specs.Fitting.{IsRising}
 use Rattle.trace_model.specs.Partition.{Piece, IsPartition, covered_count, first_from, first_of}
 use Rattle.trace_model.specs.Parcel.{Parcel, IsMissingOf}
 use Rattle.trace_model.specs.Collection.{Has}
 use Rattle.trace_model.specs.Ring.{PageRecords, TakenFill, Core, window_of}
-use Rattle.trace_model.specs.Window.{RingEvent, first_window}
+use Rattle.trace_model.specs.Window.{RingEvent, first_window, history_events_of}
 use Rattle.trace_model.proofs.collections.Elements.{some_is}
 use Rattle.trace_model.proofs.packing.FillFirsts.{first_below, first_rises_to}
 use Rattle.trace_model.proofs.packing.FillOfNumber.{LiesIn, lies_in, ends_before}
@@ -189,17 +189,23 @@ module _ (n size start : ℕ) (c : Core) (r : IsReached n size start c) where
             (λ no. let next = ends_before cuts xs (u.fill - start) (t.fill - start) (omega arith) (omega arith) rising in
             apart i k u t u.held.first at_u at (omega arith) (omega arith) (omega arith) (omega arith))
 
-    overwritten : IsOverwrittenBefore c.history start events t.fill number
-    overwritten = record { lost = start + j; was_lost = lost; stands = stands; before = let less = earlier in omega arith; behind = behind }
+    stands_by_events : StandsIn (history_events_of events) start (start + j) number
+    stands_by_events = subst (λ (h : List HistoryEvent). StandsIn h start (start + j) number) (sym reported.history_events) stands
+
+    overwritten : IsOverwrittenBefore start events t.fill number
+    overwritten = record { lost = start + j; was_lost = lost; stands = stands_by_events; before = let less = earlier in omega arith; after_taken = behind }
 
   -- ---- what was lost is missing
 
-  module _ (t : TakenFill) (number : ℕ) (o : IsOverwrittenBefore c.history start events t.fill number) where
+  module _ (t : TakenFill) (number : ℕ) (o : IsOverwrittenBefore start events t.fill number) where
+    lost_stands : StandsIn c.history start o.lost number
+    lost_stands = subst (λ (h : List HistoryEvent). StandsIn h start o.lost number) reported.history_events o.stands
+
     from_start : start ≤ o.lost
     from_start = (lost_closed n [] (first_window start) (window_of c) events o.lost reported.window o.was_lost).0
 
     is_high : (k : ℕ) → slice_get taken k ≡ Some t → number < t.held.first
-    is_high k at = let p = page k t at in let first = p.first_is in let within = p.within in let from = from_start in let before = o.before in let ends = o.stands.1 in
+    is_high k at = let p = page k t at in let first = p.first_is in let within = p.within in let from = from_start in let before = o.before in let ends = lost_stands.1 in
         let rise = rises (suc o.lost - start) (t.fill - start) (omega arith) (omega arith) in omega arith
 
     is_low : (k : ℕ) → slice_get taken k ≡ Some t → t.held.first ≤ number + t.skipped
@@ -207,8 +213,8 @@ module _ (n size start : ℕ) (c : Core) (r : IsReached n size start c) where
     is_low (suc k) at = let (u, at_u) = one_before taken k t at in let p = page (suc k) t at in let q = page k u at_u in
         let next = first_next 0 (pieces_of taken) k (piece_of u) (piece_of t) u.held.first t.held.first q.piece_at p.piece_at q.first_at p.first_at in
         let less = kept.partition.fills.rising k (suc k) u t (omega arith) at_u at in
-        let behind = o.behind u.fill (fill_of_page k u at_u) less in
-        let from = from_start in let before = o.before in let within = p.within in let begins = o.stands.0 in
+        let behind = o.after_taken u.fill (fill_of_page k u at_u) less in
+        let from = from_start in let before = o.before in let within = p.within in let begins = lost_stands.0 in
         let low_u = q.from_start in let first = q.first_is in let size = q.size_is in
         let ends = ends_before cuts xs (u.fill - start) (o.lost - start) (omega arith) (omega arith) rising in omega arith
 
@@ -245,7 +251,7 @@ module _ (n size start : ℕ) (c : Core) (r : IsReached n size start c) where
       records_are = ap (λ (h : PageRecords). map as_record h.records) fill.held;
     }
 
-    pub is_missing : (k : ℕ) (t : TakenFill) (number : ℕ) → slice_get taken k ≡ Some t → IsMissingOf (parcel_of cpu t) cpu number ↔ IsOverwrittenBefore c.history start events t.fill number
+    pub is_missing : (k : ℕ) (t : TakenFill) (number : ℕ) → slice_get taken k ≡ Some t → IsMissingOf (parcel_of cpu t) cpu number ↔ IsOverwrittenBefore start events t.fill number
     is_missing k t number at = (
       λ m. overwritten k t at number m.low m.high,
       λ o. record { cpu_is = refl; low = is_low t number o k at; high = is_high t number o k at },
@@ -282,7 +288,7 @@ module _ (n size start : ℕ) (c : Core) (r : IsReached n size start c) where
         rest = (taken_partition n size start c kept).0;
         partition = subst (λ (l : List Piece). IsPartition (committed_records c.history) l (taken_partition n size start c kept).0) (pieces_same taken ∙ ap pieces_in (sym same)) (taken_partition n size start c kept).1;
         missing = λ parcel number has. let p = page_of_one parcel has in
-            subst (λ (x : Parcel). IsMissingOf x x.cpu number ↔ IsOverwrittenBefore c.history start events x.fill number) p.parcel_is (is_missing p.index p.taken_page number p.page_at);
+            subst (λ (x : Parcel). IsMissingOf x x.cpu number ↔ IsOverwrittenBefore start events x.fill number) p.parcel_is (is_missing p.index p.taken_page number p.page_at);
       }
 
     -- ---- a collector
@@ -334,9 +340,9 @@ module _ (n size start : ℕ) (c : Core) (r : IsReached n size start c) where
             };
           }
 
-      missing_of : (parcel : Parcel) (number : ℕ) → IsOneOf parcels cpu parcel → IsMissingOf parcel cpu number ↔ IsOverwrittenBefore c.history start events parcel.fill number
+      missing_of : (parcel : Parcel) (number : ℕ) → IsOneOf parcels cpu parcel → IsMissingOf parcel cpu number ↔ IsOverwrittenBefore start events parcel.fill number
       missing_of parcel number one = let p = pages parcel one in
-          subst (λ (x : Parcel). IsMissingOf x cpu number ↔ IsOverwrittenBefore c.history start events x.fill number) p.parcel_is (is_missing p.index p.taken_page number p.page_at)
+          subst (λ (x : Parcel). IsMissingOf x cpu number ↔ IsOverwrittenBefore start events x.fill number) p.parcel_is (is_missing p.index p.taken_page number p.page_at)
 
       pub is_exact : IsExact c.history start events cpu parcels parcels
       is_exact = record {

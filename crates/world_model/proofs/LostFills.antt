@@ -6,7 +6,7 @@ use Rattle.trace_model.specs.Window.{RingEvent, first_window}
 use Rattle.trace_model.specs.Ring.{Core, window_of}
 use Rattle.link_marks.specs.RunsAsEvents.{fills_taken, fills_lost, AreEventsOfRun}
 use Rattle.link_marks.proofs.histories.WindowRuns.{not_both, passed_by, lost_closed}
-use Rattle.world_model.specs.GenuineWorlds.{IsOverwrittenBefore}
+use Rattle.world_model.specs.GenuineWorlds.{StandsIn, IsOverwrittenBefore}
 
 module _ (n start : ℕ) (c : Core) (events others : List RingEvent) (reported : AreEventsOfRun n start c events) (other : AreEventsOfRun n start c others) where
   taken_same : (f : ℕ) → Contains (fills_taken start others) f → Contains (fills_taken start events) f
@@ -18,11 +18,11 @@ module _ (n start : ℕ) (c : Core) (events others : List RingEvent) (reported :
       ⊎_elim (λ taken. absurd (not_both start events f (taken_same f taken) has)) (λ lost. lost)
       (passed_by n [] (first_window start) (window_of c) others f other.window low high)
 
-  pub overwritten_same : (history : List HistoryEvent) (fill number : ℕ) → IsOverwrittenBefore history start events fill number → IsOverwrittenBefore history start others fill number
-  overwritten_same history fill number o = record {
+  pub overwritten_same : (fill number : ℕ) → IsOverwrittenBefore start events fill number → IsOverwrittenBefore start others fill number
+  overwritten_same fill number o = record {
     lost = o.lost;
     was_lost = lost_same o.lost o.was_lost;
-    stands = o.stands;
+    stands = subst (λ (h : List HistoryEvent). StandsIn h start o.lost number) (reported.history_events ∙ sym other.history_events) o.stands;
     before = o.before;
-    behind = λ taken has. o.behind taken (taken_same taken has);
+    after_taken = λ taken has. o.after_taken taken (taken_same taken has);
   }

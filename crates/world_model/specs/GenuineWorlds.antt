@@ -11,7 +11,7 @@ use Rattle.trace_model.specs.Parcel.{Parcel, IsMissingOf, AreGenuine}
 use Rattle.trace_model.specs.Collection.{Has, Misses, Agree}
 use Rattle.trace_model.specs.Ring.{Core, IsStart, fill_of}
 use Rattle.trace_model.specs.Steps.{Exchange}
-use Rattle.trace_model.specs.Window.{RingEvent}
+use Rattle.trace_model.specs.Window.{RingEvent, history_events_of}
 use Rattle.link_marks.specs.RunsAsEvents.{fills_taken, fills_lost, AreEventsOfRun}
 use Rattle.text_model.specs.Script.{Script}
 use Rattle.world_model.specs.Lanes.{Lane}
@@ -40,15 +40,14 @@ abbrev pub StandsIn : (history : List HistoryEvent) (start fill number : ℕ) �
 StandsIn history start fill number =
     (first_of_fill history start fill ≤ number) × (number < first_of_fill history start (suc fill))
 
--- The record of this number was overwritten unread before a fill: it is in one that was lost, after all
--- that were taken before that fill.
-pub record IsOverwrittenBefore (history : List HistoryEvent) (start : ℕ) (events : List RingEvent) (fill number : ℕ)
-    : Type 0 where
+-- By the events of a ring, the record of this number was overwritten unread before a fill: it is in one that was lost,
+-- after all that were taken before that fill.
+pub record IsOverwrittenBefore (start : ℕ) (events : List RingEvent) (fill number : ℕ) : Type 0 where
   pub lost : ℕ
   pub was_lost : Contains (fills_lost start events) lost
-  pub stands : StandsIn history start lost number
+  pub stands : StandsIn (history_events_of events) start lost number
   pub before : lost < fill
-  pub behind : (taken : ℕ) → Contains (fills_taken start events) taken → taken < fill → taken < lost
+  pub after_taken : (taken : ℕ) → Contains (fills_taken start events) taken → taken < fill → taken < lost
 
 -- What the ring of a CPU, of n positions, did up to this state, and the parcels that were taken from it. Its frames
 -- made a packed history. Steps lead to this state from a new ring, and the events are those of these steps, one step
@@ -71,7 +70,7 @@ pub record IsCut (n size start : ℕ) (c : Core) (parcels : List Parcel) : Type 
   pub partition : IsPartition (committed_records c.history) (pieces_in parcels) rest
   pub missing : (parcel : Parcel) (number : ℕ)
       → Contains parcels parcel
-      → IsMissingOf parcel parcel.cpu number ↔ IsOverwrittenBefore c.history start events parcel.fill number
+      → IsMissingOf parcel parcel.cpu number ↔ IsOverwrittenBefore start events parcel.fill number
 
 -- of these parcels, this one is of the CPU
 abbrev pub IsOneOf : List Parcel → (cpu : ℕ) → Parcel → Type 0
@@ -93,7 +92,7 @@ pub record IsExact (history : List HistoryEvent) (start : ℕ) (events : List Ri
       → Misses kept cpu number
       ↔ ((parcel : Parcel)
       × IsOneOf delivered cpu parcel
-      × IsOverwrittenBefore history start events parcel.fill number)
+      × IsOverwrittenBefore start events parcel.fill number)
 
 -- Of a world: it has the CPUs and the collectors of its script. Each CPU's history is cut into the parcels that were
 -- taken from its ring, and each parcel that was taken is one of a CPU that there is, and genuine for that CPU's. So
