@@ -26,3 +26,6 @@ pub mod RunCalls
 pub mod ReplayedLines
 -- a ring beside an account
 pub mod Standing
+-- what the frame on top does
+pub mod WishesKept
+pub mod DueRuns
