@@ -29,3 +29,4 @@ pub mod Standing
 -- what the frame on top does
 pub mod WishesKept
 pub mod DueRuns
+pub mod TopSteps
