@@ -30,3 +30,4 @@ pub mod Standing
 pub mod WishesKept
 pub mod DueRuns
 pub mod TopSteps
+pub mod TopsDo
