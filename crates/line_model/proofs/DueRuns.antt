@@ -1,15 +1,15 @@
 -- The events of a ring and its situation: how each event moves it, and events that are due one after the other.
-use Rattle.std.proofs.Common.{◌≡◌, ℕ, ◌+◌, List, [], ◌∷◌, ◌++◌, refl, sym, ap, ◌∙◌, subst, arith, append_assoc, append-nil}
+use Rattle.std.proofs.Common.{◌≡◌, ℕ, ◌+◌, List, [], ◌∷◌, ◌++◌, refl, sym, ap, ◌∙◌, subst, append_assoc, append-nil}
 use Rattle.std.specs.Prelude.{⊤, fold}
 use Rattle.std.proofs.lemmas.List.Sums.{fold-append}
 use Rattle.trace_model.specs.History.{HistoryEvent, push, push_close, open_fill, reserve, leave, wished}
 use Rattle.trace_model.specs.Window.{Window, first_window, released_one, took_one, lost_one, window_after, RingEvent, acts, closes, takes, loses, history_events_of, window_event_of, window_behind, WindowRunFrom}
 use Rattle.trace_model.specs.Ring.{Core, window_of}
 use Rattle.text_model.specs.Script.{Script}
-use Rattle.link_marks.specs.RunsAsEvents.{fills_taken, numbers_of, AreEventsOfRun}
+use Rattle.link_marks.specs.RunsAsEvents.{fills_taken, AreEventsOfRun}
 use Rattle.link_marks.proofs.histories.WindowRuns.{history_events-append, run-append, taken-append}
 use Rattle.world_model.specs.RunEvents.{AreEventsOf}
-use Rattle.line_model.specs.Due.{moved, window_at, Situation, situation_after, IsDue}
+use Rattle.line_model.specs.Due.{moved, Situation, situation_after, IsDue}
 use Rattle.line_model.proofs.Standing.{AreDue}
 
 -- ---- the window

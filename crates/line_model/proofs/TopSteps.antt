@@ -1,18 +1,18 @@
 -- One step of the frame on top, beside an account: which events it makes, each its own and due, and what it leaves.
 use Rattle.std.proofs.Common.{◌≡◌, ◌≢◌, ℕ, suc, ◌+◌, ◌-◌, ◌<◌, ◌≤◌, ◌⊎◌, Bool, true, false, List, [], ◌∷◌, ◌++◌, length, drop, Option, Some, None, refl, sym, ap, ◌∙◌, subst, inl, inr, ⊎_elim, arith, append_assoc, append-nil}
-use Rattle.std.specs.Prelude.{⊤, if◌then◌else◌, ◌==◌, IsTrue}
+use Rattle.std.specs.Prelude.{if◌then◌else◌, ◌==◌}
 use mathlib.Core.Logic.{dite}
 use native.Mathlib.Decide.{dec_le}
 use Rattle.trace_model.specs.declared.limits.TheConstants.{LINK_FILLS}
 use Rattle.trace_model.specs.Words.{padded}
-use Rattle.trace_model.specs.History.{HistoryEvent, push, push_close, open_fill, reserve, leave, wished, Reservation, PushedFrame, close_frame, writer_after, reserved_records, reservation_for}
+use Rattle.trace_model.specs.History.{push, push_close, open_fill, reserve, leave, wished, Reservation, PushedFrame, close_frame, writer_after, reserved_records, reservation_for}
 use Rattle.trace_model.proofs.histories.NextEvent.{opened_stack, settled_at_rest}
 use Rattle.trace_model.specs.Packing.{opens_of, tail_of, fill_len, is_wished}
 use Rattle.trace_model.specs.Fitting.{NeedsFill}
 use Rattle.trace_model.specs.Window.{Window, RingEvent, acts, closes, takes, loses, history_events_of, released_one, lost_one, opened_one, window_after, WindowRunFrom}
 use Rattle.trace_model.specs.Frames.{Kind, for_record, for_close, FrameState, waiting, reserved, left, Role, owner, helper, Phase, idle, looking, claiming, looking_next, marking, clearing, opening, releasing, wishing, noted_fill, owned_update, pushed_frame, pushed_onto, Frame, pushed_frames}
 use Rattle.trace_model.specs.Ring.{Reader, Core, window_of}
-use Rattle.trace_model.specs.Steps.{Event, steps, ends, Answer, Step, closing_phase, frames_after_leave, with_new_tail, after_begin, after_next, IsGranted, NeedsPage as NeedsPageThere}
+use Rattle.trace_model.specs.Steps.{Event, ends, Answer, Step, closing_phase, frames_after_leave, with_new_tail, after_begin, after_next, IsGranted, NeedsPage as NeedsPageThere}
 use Rattle.trace_model.proofs.packing.PackedHistories.{tail_is}
 use Rattle.trace_model.proofs.steps.StepCases.{BeginsAgain, IdleStep, reserves, finds_nothing, is_crowded, is_worn, notes, FrameStep, load_link_late, sees_free, sees_header, sees_update, claim_late, claims, claim_fails, load_next_late, sees_normal, sees_other, mark_late, marks, mark_fails, clears, open_late, opens, releases, releases_last, grants, closes_more, goes_away}
 use Rattle.trace_model.proofs.steps.StepSound.{cases_of}
@@ -22,7 +22,6 @@ use Rattle.link_marks.specs.KeptLinks.{PhaseKept}
 use Rattle.link_marks.specs.KeptStack.{MayBeIn}
 use Rattle.link_marks.specs.KeptPacking.{FramesNeed}
 use Rattle.link_marks.specs.RingKept.{IsRingKept}
-use Rattle.link_marks.specs.Reached.{IsReached}
 use Rattle.link_marks.specs.RunsAsEvents.{fills_taken, numbers_of}
 use Rattle.link_marks.specs.Seats.{IsOfReader, ReaderStays}
 use Rattle.link_marks.proofs.histories.HistorySteps.{top_agrees, releasing_left, wishing_left, stack_waiting, stack_reserved, stack_empty, top_stack}
@@ -37,9 +36,9 @@ use Rattle.world_model.proofs.FramesMove.{PushesNone, step_moves}
 use Rattle.world_model.proofs.LanePayloads.{fit_moved}
 use Rattle.line_model.specs.CallEvents.{IsRecordOnTop}
 use Rattle.line_model.specs.Due.{Situation, situation_after, Needs, NeedsPage, HasNoPage, HasNoRecord, Leaves, IsDue}
-use Rattle.line_model.specs.Accounts.{LineFrame, CpuState, IsThere, IsOwn, Does, HasGone, with_own}
+use Rattle.line_model.specs.Accounts.{LineFrame, CpuState, IsThere, IsOwn, Does, with_own}
 use Rattle.line_model.proofs.Standing.{FrameStands, FramesStand, Stands, IsFresh, StaysOrGoes}
-use Rattle.line_model.proofs.WishesKept.{Serves, reached_serves, rests_unneeded}
+use Rattle.line_model.proofs.WishesKept.{Serves, reached_serves}
 use Rattle.line_model.proofs.DueRuns.{situation_of, situation_moved, situation_next, situation_is, run_on, DueFrom}
 
 -- a frame of an account that has made a step
@@ -197,7 +196,8 @@ module _ (script : Script) (before : Lane) (state : CpuState) (p : Option (List 
   -- a frame that has noted the next fill needs it, and it has a number
   needed : noted_fill frame.phase ≡ Some c.opened → NeedsPage s × (c.opened + n < LINK_FILLS)
   needed noted =
-      let needs = (subst (FramesNeed size (opens_of c.history) (reserved_records c.history) (is_wished c.history) c.opened)
+      let needs = (subst
+      (FramesNeed size (opens_of c.history) (reserved_records c.history) (is_wished c.history) c.opened)
       top kept.packed.needs).1 noted in (
         subst (Needs s) (sym (top_stack n script.start c frame fs kept.history top))
             (needs_of frame.kind frame.state (top_agrees c frame fs kept.stack top).1 needs),
@@ -368,7 +368,8 @@ module _ (script : Script) (before : Lane) (state : CpuState) (p : Option (List 
       stands_after own below are
           (subst (λ (xs : List Frame). FramesStand xs (payloads_left xs before.payloads) below) (sym is)
           (subst (λ (xs : List (List ℕ)). FramesStand fs xs below)
-          (sym (ap (payloads_left fs) paid ∙ popped_payloads fs payload ps (stand_counted fs ps below others))) others)),
+          (sym (ap (payloads_left fs) paid ∙ popped_payloads fs payload ps (stand_counted fs ps below others)))
+          others)),
     );
   }
     where
@@ -430,7 +431,8 @@ module _ (script : Script) (before : Lane) (state : CpuState) (p : Option (List 
       → Made
   goes to next brief is frames h w up owned =
       let windows = ap window_of is ∙ w in
-      stays_with [] p l (record frame { phase = to }) (no_event (ap (λ (d : Core). d.history) is ∙ h) windows) refl tt brief
+      stays_with [] p l (record frame { phase = to }) (no_event (ap (λ (d : Core). d.history) is ∙ h) windows) refl tt
+      brief
       (ap (λ (d : Core). d.frames) is ∙ frames) refl (stand_in to l owned) there
       (λ closing waits o noted. up closing waits o noted ∙ ap (λ (v : Window). v.opened) (sym windows))
 
@@ -472,7 +474,8 @@ module _ (script : Script) (before : Lane) (state : CpuState) (p : Option (List 
             moving = λ o owns. absurd (closing_owns d o owns);
           } (inr bottom) (λ closing waits o noted. absurd (closing_notes d o noted))
       by_below (next ∷ under) nested left_is =
-          let some = some_below next under ps below (subst (λ (xs : List Frame). FramesStand xs ps below) nested others) in
+          let some = some_below next under ps below
+          (subst (λ (xs : List Frame). FramesStand xs ps below) nested others) in
           goes_with own false are does due brief (left_is ∙ sym nested)
           (λ what is_own its_due. none_own below false what some is_own)
 
@@ -511,7 +514,8 @@ module _ (script : Script) (before : Lane) (state : CpuState) (p : Option (List 
           → after ≡ after_begin kind st c frame fs
           → Made
       by_kind (for_record moment len) waiting k w which is =
-          on from idle _ at ne is refl refl refl (λ o e. absurd (let no : ⊥ = cc in no)) (λ o e. absurd (let no : ⊥ = cc in no))
+          on from idle _ at ne is refl refl refl (λ o e. absurd (let no : ⊥ = cc in no))
+          (λ o e. absurd (let no : ⊥ = cc in no))
       by_kind for_close waiting k w which is =
           absurd (again.passed (fresh frame fs noted top k w (ap noted_fill at ∙ noted_is)))
       by_kind kind (reserved number) k w (inl e) is = absurd (let no : ⊥ = cc in no)
@@ -550,7 +554,8 @@ module _ (script : Script) (before : Lane) (state : CpuState) (p : Option (List 
           → Made
       goes_to to next is frames h w unnoted unowned =
           stays_with (acts open_fill ∷ []) p false (record frame { phase = to })
-          (events_are (acts open_fill ∷ []) refl (ap (λ (d : Core). d.history) is ∙ h) (room, sym (ap window_of is ∙ w)))
+          (events_are (acts open_fill ∷ []) refl (ap (λ (d : Core). d.history) is ∙ h)
+          (room, sym (ap window_of is ∙ w)))
           (there, refl) (due_one (acts open_fill) due)
           (later (acts open_fill ∷ []) (opening noted page) at (λ e. cc) (λ k. omega arith))
           (ap (λ (d : Core). d.frames) is ∙ frames) refl
@@ -606,10 +611,12 @@ module _ (script : Script) (before : Lane) (state : CpuState) (p : Option (List 
       (events_are (acts reserve ∷ []) refl (ap (λ (d : Core). d.history) is ∙ h) (tt, sym (ap window_of is ∙ win)))
       (held (not_left waiting (λ e. cc) w), refl)
       (due_one (acts reserve) (subst (λ (st : List PushedFrame). HasNoRecord st × (Needs s st → ⊥))
-      (sym (stack_of_kind (for_record moment len) k w))
-      (tt, λ needs.
-          let low = subst (λ (x : Reservation). fill_len (tail_of c.history ++ x ∷ []) ≤ size) r_is fits in
-          omega (arith, low, needs))))
+      (sym (stack_of_kind (for_record moment len) k w)) (
+        tt,
+        λ needs.
+            let low = subst (λ (x : Reservation). fill_len (tail_of c.history ++ x ∷ []) ≤ size) r_is fits in
+            omega (arith, low, needs),
+      )))
       ((λ not. omega arith), (λ not waits rests free. refl))
       (ap (λ (d : Core). d.frames) is ∙ frames) refl
       record {
@@ -776,8 +783,8 @@ module _ (script : Script) (before : Lane) (state : CpuState) (p : Option (List 
       (ap (λ (d : Core). d.frames) is ∙ frames) refl
       (stand_in (looking_next owner noted page) true (λ o e. refl)) there
       (λ closing waits o e.
-          fresh frame fs o top closing waits (ap noted_fill at ∙ e)
-          ∙ ap (λ (v : Window). v.opened) (sym (ap window_of is ∙ w)))
+      fresh frame fs o top closing waits (ap noted_fill at ∙ e)
+      ∙ ap (λ (v : Window). v.opened) (sym (ap window_of is ∙ w)))
 
   some_of : (a b : ℕ) → Some a ≡ Some b → a ≡ b
   some_of a b e = cc
@@ -790,9 +797,11 @@ module _ (script : Script) (before : Lane) (state : CpuState) (p : Option (List 
   frame_does idle at active it = idle_does frame.state refl active at it
   frame_does (looking o) at active (load_link_late again) = late (looking o) o at (λ e. cc) refl active again
   frame_does (looking o) at active (sees_free page now link a is) =
-      on (looking o) (opening o page) _ at (λ e. cc) is refl refl refl (λ x e. e) (λ x e. absurd (let no : ⊥ = cc in no))
+      on (looking o) (opening o page) _ at (λ e. cc) is refl refl refl (λ x e. e)
+      (λ x e. absurd (let no : ⊥ = cc in no))
   frame_does (looking o) at active (sees_header page lost now sum link a is) =
-      on (looking o) (claiming o page) _ at (λ e. cc) is refl refl refl (λ x e. e) (λ x e. absurd (let no : ⊥ = cc in no))
+      on (looking o) (claiming o page) _ at (λ e. cc) is refl refl refl (λ x e. e)
+      (λ x e. absurd (let no : ⊥ = cc in no))
   frame_does (looking o) at active (sees_update page lost now sum link a is) =
       on (looking o) (looking_next helper o page) _ at (λ e. cc) is refl refl refl (λ x e. e)
       (λ x e. absurd (let no : ⊥ = cc in no))
@@ -800,12 +809,14 @@ module _ (script : Script) (before : Lane) (state : CpuState) (p : Option (List 
       late (claiming o page) o at (λ e. cc) refl active again
   frame_does (claiming o page) at active (claims lost now sum link a is) =
       let (open_yet, begun_yet, room, small) =
-      (subst (PhaseKept n c.links c.order c.head c.done c.opened) at (top_kept n c frame fs kept.links top)).noted o refl in
+      (subst (PhaseKept n c.links c.order c.head c.done c.opened) at (top_kept n c frame fs kept.links top)).noted o
+      refl in
       let unread = kept.links.head_le in let within = kept.links.opened_le in
       let (here, page_is, head_at) = header_inside n c kept.links o page lost (omega arith) (omega arith) sum link in
       loses_with o page lost _ at now (omega arith, omega arith) is refl refl refl
   frame_does (claiming o page) at active (claim_fails now other a is) =
-      on (claiming o page) (looking o) _ at (λ e. cc) is refl refl refl (λ x e. e) (λ x e. absurd (let no : ⊥ = cc in no))
+      on (claiming o page) (looking o) _ at (λ e. cc) is refl refl refl (λ x e. e)
+      (λ x e. absurd (let no : ⊥ = cc in no))
   frame_does (looking_next role o page) at active (load_next_late helps again) =
       late (looking_next role o page) o at (λ e. cc) refl active again
   frame_does (looking_next role o page) at active (sees_normal lost next may sum link a is) =
@@ -853,10 +864,11 @@ module _ (script : Script) (before : Lane) (state : CpuState) (p : Option (List 
       (due_one (acts (leave (Some (padded payload))))
       (subst (λ (st : List PushedFrame). Leaves s st (Some (padded payload)))
       (sym (stack_reserved n script.start c frame fs kept.history top number at
-      ∙ ap (λ (k : Kind). pushed_frame k (reserved number) ∷ pushed_frames fs) e.kind_is)) tt))
-      ((λ not. omega arith),
-      (λ not waits rests free.
-          absurd (let both : reserved number ≡ waiting = sym at ∙ waits in let no : ⊥ = cc in no)))
+      ∙ ap (λ (k : Kind). pushed_frame k (reserved number) ∷ pushed_frames fs) e.kind_is)) tt)) (
+        (λ not. omega arith),
+        (λ not waits rests free.
+            absurd (let both : reserved number ≡ waiting = sym at ∙ waits in let no : ⊥ = cc in no)),
+      )
       (ap (λ (d : Core). d.frames) e.after_is)
 
   pub step_does : event ≡ event_on_top c.frames before.payloads → Made

@@ -1,8 +1,8 @@
 -- What the frame on top does in a run, beside an account: what it does in its steps, one after the other.
-use Rattle.std.proofs.Common.{◌≡◌, ◌≢◌, ℕ, suc, ◌+◌, ◌<◌, ◌≤◌, Bool, true, false, List, [], ◌∷◌, ◌++◌, length, Option, Some, None, refl, sym, ap, ◌∙◌, subst, inl, inr, ⊎_elim, arith, append_assoc, append-nil, length-append}
+use Rattle.std.proofs.Common.{◌≡◌, ◌≢◌, ℕ, ◌+◌, ◌<◌, ◌≤◌, Bool, true, false, List, [], ◌∷◌, ◌++◌, length, Option, Some, None, refl, sym, ap, ◌∙◌, subst, inl, inr, ⊎_elim, arith, append_assoc, append-nil, length-append}
 use Rattle.trace_model.specs.History.{HistoryEvent, reserve}
 use Rattle.trace_model.specs.Window.{RingEvent, acts, history_events_of}
-use Rattle.trace_model.specs.Frames.{FrameState, waiting, reserved, left, Frame}
+use Rattle.trace_model.specs.Frames.{Kind, FrameState, waiting, reserved, left, idle, noted_fill, Frame}
 use Rattle.trace_model.specs.Ring.{Core}
 use Rattle.trace_model.specs.Steps.{Exchange}
 use Rattle.text_model.specs.Script.{Script}
@@ -12,9 +12,9 @@ use Rattle.world_model.specs.Lanes.{Lane, lane_behind, event_in, event_on_top, F
 use Rattle.world_model.proofs.FramesMove.{PushesNone}
 use Rattle.world_model.proofs.LanePayloads.{pushes_none}
 use Rattle.line_model.specs.CallEvents.{IsRecordOnTop}
-use Rattle.line_model.specs.Due.{Situation, situation_after, NeedsPage}
-use Rattle.line_model.specs.Accounts.{LineFrame, CpuState, IsThere, IsOwn, frame_after, Does, HasGone, with_own}
-use Rattle.line_model.proofs.Standing.{FrameStands, FramesStand, Stands, IsFresh, StaysOrGoes, TopDoes, TopsDo}
+use Rattle.line_model.specs.Due.{situation_after, NeedsPage}
+use Rattle.line_model.specs.Accounts.{LineFrame, CpuState, IsThere, frame_after, Does, HasGone}
+use Rattle.line_model.proofs.Standing.{FrameStands, FramesStand, Stands, IsFresh, StaysOrGoes, TopsDo}
 use Rattle.line_model.proofs.DueRuns.{DueFrom, due_append, are_due}
 use Rattle.line_model.proofs.TopSteps.{line, IsNew, StepDoes, step_does}
 
@@ -38,7 +38,8 @@ record RunDoes (script : Script) (before : Lane) (state : CpuState) (payload : O
 -- ---- the stack
 
 -- the frame on top, beside that of the account
-record HasTop (frames : List Frame) (payloads : List (List ℕ)) (first : LineFrame) (below : List LineFrame) : Type 0 where
+record HasTop (frames : List Frame) (payloads : List (List ℕ)) (first : LineFrame) (below : List LineFrame)
+    : Type 0 where
   frame : Frame
   under : List Frame
   payload : List ℕ
@@ -143,9 +144,13 @@ module _ (script : Script) (below : List LineFrame) (depth : ℕ) where
         few = λ on_top. omega arith;
         first = λ on_top some. absurd (some refl);
         ends = subst (StaysOrGoes script before state [] (line payload losing) below) same
-            (inl (there_of t.frame t.payload below (line payload losing) t.one, refl,
-            subst (λ (xs : List RingEvent). Stands script before
-            (record state { events = xs; frames = line payload losing ∷ below })) (sym (append-nil state.events)) stands));
+            (inl (
+              there_of t.frame t.payload below (line payload losing) t.one,
+              refl,
+              subst (λ (xs : List RingEvent). Stands script before
+                  (record state { events = xs; frames = line payload losing ∷ below }))
+                  (sym (append-nil state.events)) stands,
+            ));
       }
 
   module _ (before : Lane) (state : CpuState) (payload : Option (List ℕ)) (losing : Bool) (x : Exchange) (core : Core)
@@ -174,17 +179,21 @@ module _ (script : Script) (below : List LineFrame) (depth : ℕ) where
       first = λ on_top some new free.
           (r.own, ap (λ (xs : List RingEvent). xs ++ r.own) (d.first on_top new free));
       ends = ⊎_elim
-          (λ (there, same, stands). inl (there, same ∙ long,
-          subst (λ (xs : List RingEvent). Stands script after
-          (record state { events = xs; frames = line r.payload_after r.losing_after ∷ below }))
-          (append_assoc state.events d.own r.own) stands))
+          (λ (there, same, stands). inl (
+            there,
+            same ∙ long,
+            subst (λ (xs : List RingEvent). Stands script after
+                (record state { events = xs; frames = line r.payload_after r.losing_after ∷ below }))
+                (append_assoc state.events d.own r.own) stands,
+          ))
           (λ (gone, fewer, stands). inr (
-          subst (λ (xs : List RingEvent).
-          HasGone (situation_after script state.wish xs) below (line r.payload_after r.losing_after))
-          (append_assoc state.events d.own r.own) gone,
-          omega (arith, fewer, long),
-          subst (λ (xs : List RingEvent). Stands script after (record state { events = xs; frames = below }))
-          (append_assoc state.events d.own r.own) stands))
+            subst (λ (xs : List RingEvent).
+                HasGone (situation_after script state.wish xs) below (line r.payload_after r.losing_after))
+                (append_assoc state.events d.own r.own) gone,
+            omega (arith, fewer, long),
+            subst (λ (xs : List RingEvent). Stands script after (record state { events = xs; frames = below }))
+                (append_assoc state.events d.own r.own) stands,
+          ))
           r.ends;
     }
 
@@ -253,3 +262,23 @@ tops_do script before state top below exchanges after stands is fresh run =
           r.first on_top some (new_stand before.core.frames before.payloads top below stack new) free;
       ends = r.ends;
     }
+
+-- ---- when the frame on top is fresh
+
+abbrev first_frame : Frame → List Frame → Frame
+first_frame other [] = other
+first_frame other (frame ∷ frames) = frame
+
+-- a record frame is
+pub record_fresh : (c : Core) → IsRecordOnTop c.frames → IsFresh c
+record_fresh c on_top frame below o top closing waits noted = absurd (subst IsRecordOnTop top on_top closing)
+
+-- so is a frame that was just pushed
+pub pushed_fresh : (c : Core) (kind : Kind) (under : List Frame)
+    → c.frames ≡ record { kind = kind; state = waiting; phase = idle } ∷ under
+    → IsFresh c
+pushed_fresh c kind under is frame below o top closing waits noted =
+    let same : frame ≡ record { kind = kind; state = waiting; phase = idle } =
+    ap (first_frame frame) (sym top ∙ is) in
+    let both : None ≡ Some o = sym (ap (λ (f : Frame). noted_fill f.phase) same) ∙ noted in
+    absurd (let no : ⊥ = cc in no)
