@@ -26,3 +26,8 @@ pub mod RunCalls
 pub mod ReplayedLines
 -- a ring beside an account
 pub mod Standing
+-- what the frame on top does
+pub mod WishesKept
+pub mod DueRuns
+pub mod TopSteps
+pub mod TopsDo
