@@ -26,3 +26,5 @@ pub mod RunCalls
 pub mod ReplayedLines
 -- a ring beside an account
 pub mod Standing
+-- whole scripts have one account
+pub mod OneAccount
