@@ -3,18 +3,18 @@ use Rattle.std.proofs.Common.{◌≡◌, ℕ, ◌+◌, List, [], ◌∷◌, ◌+
 use Rattle.std.specs.Prelude.{⊤, fold}
 use Rattle.std.proofs.lemmas.List.Sums.{fold-append}
 use Rattle.trace_model.specs.History.{HistoryEvent, push, push_close, open_fill, reserve, leave, wished}
-use Rattle.trace_model.specs.Window.{Window, first_window, released_one, took_one, lost_one, window_after, RingEvent, acts, closes, takes, loses, history_events_of, window_event_of, window_behind, WindowRunFrom}
+use Rattle.trace_model.specs.Window.{Window, first_window, closes, takes, loses, window_after, RingEvent, acts, history_events_of, WindowRunFrom}
 use Rattle.trace_model.specs.Ring.{Core, window_of}
 use Rattle.text_model.specs.Script.{Script}
 use Rattle.link_marks.specs.RunsAsEvents.{fills_taken, AreEventsOfRun}
 use Rattle.link_marks.proofs.histories.WindowRuns.{history_events-append, run-append, taken-append}
 use Rattle.world_model.specs.RunEvents.{AreEventsOf}
-use Rattle.line_model.specs.Due.{moved, Situation, situation_after, IsDue}
+use Rattle.line_model.specs.Due.{Situation, situation_after, IsDue}
 use Rattle.line_model.proofs.Standing.{AreDue}
 
 -- ---- the window
 
-act_moves : (w : Window) (a : HistoryEvent) → window_behind w (window_event_of a) ≡ moved w (acts a)
+act_moves : (w : Window) (a : HistoryEvent) → window_after w (acts a) ≡ window_after w (acts a)
 act_moves w (push moment len) = refl
 act_moves w push_close = refl
 act_moves w open_fill = refl
@@ -25,14 +25,14 @@ act_moves w wished = refl
 -- a run leads to the window of its events
 pub run_leads : (n : ℕ) (h : List HistoryEvent) (w after : Window) (events : List RingEvent)
     → WindowRunFrom n h w events after
-    → fold moved w events ≡ after
+    → fold window_after w events ≡ after
 run_leads n h w after [] run = run
 run_leads n h w after (acts a ∷ events) run =
-    subst (λ (v : Window). fold moved v events ≡ after) (act_moves w a)
-    (run_leads n (h ++ a ∷ []) (window_behind w (window_event_of a)) after events run.1)
-run_leads n h w after (closes ∷ events) run = run_leads n h (window_after w released_one) after events run.1
-run_leads n h w after (takes ∷ events) run = run_leads n h (window_after w took_one) after events run.1
-run_leads n h w after (loses ∷ events) run = run_leads n h (window_after w lost_one) after events run.1
+    subst (λ (v : Window). fold window_after v events ≡ after) (act_moves w a)
+    (run_leads n (h ++ a ∷ []) (window_after w (acts a)) after events run.1)
+run_leads n h w after (closes ∷ events) run = run_leads n h (window_after w closes) after events run.1
+run_leads n h w after (takes ∷ events) run = run_leads n h (window_after w takes) after events run.1
+run_leads n h w after (loses ∷ events) run = run_leads n h (window_after w loses) after events run.1
 
 -- ---- the situation
 
@@ -50,14 +50,14 @@ situation_of script c = record {
 abbrev pub situation_moved : Situation → RingEvent → Situation
 situation_moved s event = record s {
   history = s.history ++ history_events_of (event ∷ []);
-  window = moved s.window event;
+  window = window_after s.window event;
 }
 
 pub situation_next : (script : Script) (asked : ℕ) (events : List RingEvent) (event : RingEvent)
     → situation_after script asked (events ++ event ∷ []) ≡ situation_moved (situation_after script asked events) event
 situation_next script asked events event =
     let h = history_events-append events (event ∷ []) in
-    let w = fold-append moved (first_window script.start) events (event ∷ []) in
+    let w = fold-append window_after (first_window script.start) events (event ∷ []) in
     λ i. record { pages = script.pages; size = script.size; history = h i; window = w i; wish = asked }
 
 -- the situation of a ring is that after its events

@@ -31,3 +31,5 @@ pub mod WishesKept
 pub mod DueRuns
 pub mod TopSteps
 pub mod TopsDo
+-- whole scripts have one account
+pub mod OneAccount

@@ -9,7 +9,7 @@ use Rattle.trace_model.specs.History.{push, push_close, open_fill, reserve, leav
 use Rattle.trace_model.proofs.histories.NextEvent.{opened_stack, settled_at_rest}
 use Rattle.trace_model.specs.Packing.{opens_of, tail_of, fill_len, is_wished}
 use Rattle.trace_model.specs.Fitting.{NeedsFill}
-use Rattle.trace_model.specs.Window.{Window, RingEvent, acts, closes, takes, loses, history_events_of, released_one, lost_one, opened_one, window_after, WindowRunFrom}
+use Rattle.trace_model.specs.Window.{Window, RingEvent, acts, closes, takes, loses, history_events_of, window_after, WindowRunFrom}
 use Rattle.trace_model.specs.Frames.{Kind, for_record, for_close, FrameState, waiting, reserved, left, Role, owner, helper, Phase, idle, looking, claiming, looking_next, marking, clearing, opening, releasing, wishing, noted_fill, owned_update, pushed_frame, pushed_onto, Frame, pushed_frames}
 use Rattle.trace_model.specs.Ring.{Reader, Core, window_of}
 use Rattle.trace_model.specs.Steps.{Event, ends, Answer, Step, closing_phase, frames_after_leave, with_new_tail, after_begin, after_next, IsGranted, NeedsPage as NeedsPageThere}
@@ -548,7 +548,7 @@ module _ (script : Script) (before : Lane) (state : CpuState) (p : Option (List 
           → after ≡ next
           → next.frames ≡ record frame { phase = to } ∷ fs
           → next.history ≡ c.history ++ open_fill ∷ []
-          → window_of next ≡ window_after (window_of c) opened_one
+          → window_of next ≡ window_after (window_of c) (acts open_fill)
           → ((o : ℕ) → noted_fill to ≡ Some o → ⊥)
           → ((o : ℕ) → owned_update to ≡ Some o → ⊥)
           → Made
@@ -666,7 +666,7 @@ module _ (script : Script) (before : Lane) (state : CpuState) (p : Option (List 
       → after ≡ next
       → next.frames ≡ record frame { phase = to } ∷ fs
       → next.history ≡ c.history
-      → window_of next ≡ window_after (window_of c) released_one
+      → window_of next ≡ window_after (window_of c) closes
       → ((o : ℕ) → owned_update to ≡ Some o → ⊥)
       → Made
   closes_with to next at alone more is frames h w unowned =
@@ -771,7 +771,7 @@ module _ (script : Script) (before : Lane) (state : CpuState) (p : Option (List 
       → after ≡ next
       → next.frames ≡ record frame { phase = looking_next owner noted page } ∷ fs
       → next.history ≡ c.history
-      → window_of next ≡ window_after (window_of c) lost_one
+      → window_of next ≡ window_after (window_of c) loses
       → Made
   loses_with noted page lost next at now (unread, full) is frames h w =
       let needs = needed (ap noted_fill at ∙ ap (λ (o : ℕ). Some o) now) in
