@@ -28,3 +28,4 @@ pub mod ReplayedLines
 pub mod Standing
 -- whole scripts have one account
 pub mod OneAccount
+pub mod OneText
