@@ -33,3 +33,4 @@ pub mod TopSteps
 pub mod TopsDo
 -- whole scripts have one account
 pub mod OneAccount
+pub mod OneText

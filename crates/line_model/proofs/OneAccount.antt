@@ -1,5 +1,5 @@
--- A script whose lines ask for no single steps has one account of each CPU: of what a frame may do, at most one event is
--- due at a time.
+-- A script whose lines ask for no single steps has one account of each CPU: of what a frame may do, at most one event
+-- is due at a time.
 use Rattle.std.proofs.Common.{◌≡◌, ◌≢◌, ℕ, zero, suc, ◌+◌, ◌<◌, ◌≤◌, ◌⊎◌, IsTrue, Bool, true, false, List, [], ◌∷◌, ◌++◌, length, Some, None, get_or, refl, sym, ap, ◌∙◌, subst, inl, inr, append_assoc, append-nil, arith}
 use Rattle.std.specs.Prelude.{⊤}
 use Rattle.std.proofs.lemmas.List.Sums.{fold-append}
@@ -367,7 +367,8 @@ module _ (script : Script) (before : CpuState) (whole : IsWhole script.start bef
   one_idle own other one two first second = first.1 ∙ sym second.1
 
   -- `b`
-  one_begin : (Refused : Type 0) (event : HistoryEvent) (payload : List ℕ) (own other : List RingEvent) (one two : CpuState)
+  one_begin : (Refused : Type 0) (event : HistoryEvent) (payload : List ℕ) (own other : List RingEvent)
+      (one two : CpuState)
       → Begins Refused event payload before own one
       → Begins Refused event payload before other two
       → one ≡ two
@@ -435,7 +436,14 @@ module _ (script : Script) (before : CpuState) (whole : IsWhole script.start bef
       }
 
   -- `w` and `c`
-  one_write : (Refused : Type 0) (event : HistoryEvent) (payload : List ℕ) (own other : List RingEvent) (one two : CpuState)
+  after_push : (event : HistoryEvent) (own rest : List RingEvent)
+      → own ≡ acts event ∷ rest
+      → before.events ++ own ≡ (before.events ++ acts event ∷ []) ++ rest
+  after_push event own rest is =
+      ap (λ (l : List RingEvent). before.events ++ l) is ∙ sym (append_assoc before.events (acts event ∷ []) rest)
+
+  one_write : (Refused : Type 0) (event : HistoryEvent) (payload : List ℕ) (own other : List RingEvent)
+      (one two : CpuState)
       → AllDue script before.wish before.events own
       → AllDue script before.wish before.events other
       → WritesWhole script Refused event payload before own one
@@ -456,10 +464,9 @@ module _ (script : Script) (before : CpuState) (whole : IsWhole script.start bef
       others next last (kept_on script before.wish before.seen before.events (acts event) here.0 whole.kept) does did
       here.1 there.1
       (subst (λ (l : List RingEvent). HasGone (situation_after script before.wish l) before.frames next)
-      (ap (λ (l : List RingEvent). before.events ++ l) is ∙ sym (append_assoc before.events (acts event ∷ []) rest)) gone)
+      (after_push event own rest is) gone)
       (subst (λ (l : List RingEvent). HasGone (situation_after script before.wish l) before.frames last)
-      (ap (λ (l : List RingEvent). before.events ++ l) be ∙ sym (append_assoc before.events (acts event ∷ []) others))
-      went) in
+      (after_push event other others be) went) in
       at
       ∙ ap (λ (l : List RingEvent). with_own before l before.frames)
       (is ∙ ap (λ (l : List RingEvent). acts event ∷ l) same ∙ sym be)

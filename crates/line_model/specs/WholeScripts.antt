@@ -1,8 +1,9 @@
--- How many accounts a script has, as a statement: one, if no line asks for single steps.
-use Rattle.std.specs.Prelude.{◌≡◌, ℕ, ◌≤◌, ⊤, All, length}
+-- How many accounts a script has, and how many texts, as statements: one, if no line asks for single steps.
+use Rattle.std.specs.Prelude.{◌≡◌, ℕ, ◌≤◌, ⊤, false, List, All, length}
 use Rattle.text_model.specs.Script.{Command, begin_frame, step_frame, finish_frame, write, close, step_reader, take_page, wish, deliver, Script}
 use Rattle.text_model.specs.ScriptLimits.{IsWithinLimits}
 use Rattle.line_model.specs.Accounts.{CpuState, IsAccount}
+use Rattle.line_model.specs.Shown.{IsAccounted}
 
 -- the line isn't `s` or `r`
 abbrev pub IsWholeLine : Command → Type 0
@@ -30,3 +31,12 @@ OneAccount = (script : Script) (cpu : ℕ) (one other : ℕ → CpuState)
     → (k : ℕ)
     → k ≤ length script.commands
     → one k ≡ other k
+
+-- What is printed of a script without its log is one text.
+abbrev pub OneText : Type 0
+OneText = (script : Script) (bytes others : List ℕ)
+    → IsWithinLimits script
+    → HasWholeLines script
+    → IsAccounted script false bytes
+    → IsAccounted script false others
+    → bytes ≡ others

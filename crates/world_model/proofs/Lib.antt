@@ -18,3 +18,5 @@ pub mod Cuts
 pub mod GenuineWorlds
 -- frames and takes end
 pub mod LineEnds
+-- runs and their text
+pub mod OneRuns

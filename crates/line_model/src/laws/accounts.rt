@@ -10,7 +10,7 @@ ghost use Rattle.world_model.specs.Lanes.{Lane};
 ghost use Rattle.world_model.specs.World.{World, WorldOf};
 ghost use Rattle.line_model.specs.Due.{window_at};
 ghost use Rattle.line_model.specs.Accounts.{LineFrame, CpuState, Does, IsAccount};
-ghost use Rattle.line_model.specs.WholeScripts.{OneAccount};
+ghost use Rattle.line_model.specs.WholeScripts.{OneAccount, OneText};
 
 /// A world of a script within its limits has an account of each of its CPUs; after all lines the events are those of
 /// the CPU's ring in that world.
@@ -24,6 +24,11 @@ pub fn worlds_have_accounts()
 /// A script without lines that ask for single steps has at most one account of each CPU.
 pub fn whole_scripts_have_one_account()
     ensures one { OneAccount }
+{}
+
+/// What the accounts of such a script print without a log is one text.
+pub fn whole_scripts_have_one_output()
+    ensures one { OneText }
 {}
 
 /// The events of an account are a run of the window, which leads to the one that they are counted to.
