@@ -26,3 +26,6 @@ pub mod RunCalls
 pub mod ReplayedLines
 -- a ring beside an account
 pub mod Standing
+-- what an account is
+pub mod AccountWindows
+pub mod NestedFrames
