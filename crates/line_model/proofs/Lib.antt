@@ -29,3 +29,6 @@ pub mod Standing
 -- what an account is
 pub mod AccountWindows
 pub mod NestedFrames
+-- worlds have accounts
+pub mod StandingKept
+pub mod ReaderLines
