@@ -32,3 +32,4 @@ pub mod NestedFrames
 -- worlds have accounts
 pub mod StandingKept
 pub mod ReaderLines
+pub mod ReaderStands
