@@ -33,3 +33,5 @@ pub mod NestedFrames
 pub mod StandingKept
 pub mod ReaderLines
 pub mod ReaderStands
+pub mod PushCases
+pub mod RecordsStand
