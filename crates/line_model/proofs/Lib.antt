@@ -35,3 +35,4 @@ pub mod ReaderLines
 pub mod ReaderStands
 pub mod PushCases
 pub mod RecordsStand
+pub mod WriterStands
