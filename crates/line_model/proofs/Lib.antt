@@ -36,3 +36,4 @@ pub mod ReaderStands
 pub mod PushCases
 pub mod RecordsStand
 pub mod WriterStands
+pub mod LinesStand
