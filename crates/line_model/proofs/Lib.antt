@@ -37,3 +37,4 @@ pub mod PushCases
 pub mod RecordsStand
 pub mod WriterStands
 pub mod LinesStand
+pub mod AccountsOfWorlds
