@@ -34,3 +34,15 @@ pub mod TopsDo
 -- whole scripts have one account
 pub mod OneAccount
 pub mod OneText
+-- what an account is
+pub mod AccountWindows
+pub mod NestedFrames
+-- worlds have accounts
+pub mod StandingKept
+pub mod ReaderLines
+pub mod ReaderStands
+pub mod PushCases
+pub mod RecordsStand
+pub mod WriterStands
+pub mod LinesStand
+pub mod AccountsOfWorlds

@@ -20,7 +20,7 @@ use Rattle.line_model.proofs.PartsJoined.{start_between}
 -- ---- the kinds of frames, until the top frame is popped
 
 -- all frames are record frames, but perhaps the one that has depth frames below it
-abbrev AreRecordsBelow : ℕ → List Frame → Type 0
+abbrev pub AreRecordsBelow : ℕ → List Frame → Type 0
 AreRecordsBelow depth frames =
     AreForRecords frames
     ⊎ ((top : Frame) × (below : List Frame)
@@ -32,7 +32,7 @@ abbrev others_of : List Frame → List Frame
 others_of [] = []
 others_of (first ∷ others) = others
 
-moved_below : (depth : ℕ) (frames after : List Frame)
+pub moved_below : (depth : ℕ) (frames after : List Frame)
     → Moves frames after
     → AreRecordsBelow depth frames
     → AreRecordsBelow depth after
@@ -65,7 +65,7 @@ module _ (n size start depth : ℕ) where
       (moved_records s.frames u.frames (call_moves n size start s x u payloads e call) are)
 
   -- it is popped, so the others are left
-  popped_records : (frames : List Frame) → length frames ≤ depth → AreRecordsBelow depth frames → AreForRecords frames
+  pub popped_records : (frames : List Frame) → length frames ≤ depth → AreRecordsBelow depth frames → AreForRecords frames
   popped_records frames low (inl are) = are
   popped_records frames low (inr (top, below, e, deep, are)) =
       absurd (let long = ap (λ (l : List Frame). length l) e in omega arith)

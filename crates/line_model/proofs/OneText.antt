@@ -80,7 +80,7 @@ Covers events others fills more = (cpu fill : ℕ)
 abbrev IsMissed : (start : ℕ) (events : ℕ → List RingEvent) (fills : List (ℕ × ℕ)) (cpu number : ℕ) → Type 0
 IsMissed start events fills cpu number = (fill : ℕ)
     × Contains fills (cpu, fill)
-    × IsOverwrittenBefore (history_events_of (events cpu)) start (events cpu) fill number
+    × IsOverwrittenBefore start (events cpu) fill number
 
 -- what the one shows, the other shows
 lines_below : (start : ℕ) (events others : ℕ → List RingEvent) (fills more : List (ℕ × ℕ)) (shown other : Shown)
@@ -111,7 +111,7 @@ missed_below start events others fills more cpu number covers (fill, has, lost) 
     let (also, same) = covers cpu fill has in (
       fill,
       also,
-      subst (λ (l : List RingEvent). IsOverwrittenBefore (history_events_of l) start l fill number) same lost,
+      subst (λ (l : List RingEvent). IsOverwrittenBefore start l fill number) same lost,
     )
 
 -- two collectors of the same fills have one text
