@@ -7,7 +7,7 @@ use Rattle.trace_model.specs.History.{committed_records}
 use Rattle.trace_model.specs.Window.{RingEvent, history_events_of}
 use Rattle.trace_model.specs.Listing.{Line, IsTimeOrdered}
 use Rattle.trace_model.proofs.collections.Elements.{some_is}
-use Rattle.trace_model.proofs.collections.Listings.{Stands, not_before_itself, before_before, ordered_tail, before_all}
+use Rattle.trace_model.proofs.collections.Listings.{Stands, same_lines}
 use Rattle.link_marks.specs.RunsAsEvents.{fills_taken}
 use Rattle.text_model.specs.Script.{Command, deliver, Script}
 use Rattle.text_model.specs.ScriptLimits.{IsCommandWithin, IsWithinLimits}
@@ -26,47 +26,6 @@ stands lines line (k, within, at) = (k, slice_get-get_or lines k line within ∙
 
 contains : (lines : List Line) (line : Line) (k : ℕ) → slice_get lines k ≡ Some line → Contains lines line
 contains lines line k at = (k, slice_get_within lines k line at, get_or_from_slice_get lines k line line at)
-
--- of two ordered lists that have each other's first line, this is one line
-first_same : (x y : Line) (xs ys : List Line)
-    → IsTimeOrdered (x ∷ xs)
-    → IsTimeOrdered (y ∷ ys)
-    → Stands (y ∷ ys) x
-    → Stands (x ∷ xs) y
-    → x ≡ y
-first_same x y xs ys ordered also (zero, at) there = sym (some_is y x at)
-first_same x y xs ys ordered also (suc j, at) (zero, there) = some_is x y there
-first_same x y xs ys ordered also (suc j, at) (suc k, there) =
-    absurd (not_before_itself x (before_before x y x (before_all x xs ordered k y there) (before_all y ys also j x at)))
-
--- a line behind the first one isn't the first one
-behind_first : (x y : Line) (xs ys : List Line)
-    → x ≡ y
-    → IsTimeOrdered (x ∷ xs)
-    → (k : ℕ) (line : Line)
-    → slice_get xs k ≡ Some line
-    → Stands (y ∷ ys) line
-    → Stands ys line
-behind_first x y xs ys same ordered k line at (zero, there) =
-    let again : slice_get xs k ≡ Some x = at ∙ sym there ∙ ap Some (sym same) in
-    absurd (not_before_itself x (before_all x xs ordered k x again))
-behind_first x y xs ys same ordered k line at (suc j, there) = (j, there)
-
-one_order : (xs ys : List Line)
-    → IsTimeOrdered xs
-    → IsTimeOrdered ys
-    → ((k : ℕ) (line : Line) → slice_get xs k ≡ Some line → Stands ys line)
-    → ((k : ℕ) (line : Line) → slice_get ys k ≡ Some line → Stands xs line)
-    → xs ≡ ys
-one_order [] [] ordered also there back = refl
-one_order [] (y ∷ ys) ordered also there back = absurd (none-some y (back 0 y refl).1)
-one_order (x ∷ xs) [] ordered also there back = absurd (none-some x (there 0 x refl).1)
-one_order (x ∷ xs) (y ∷ ys) ordered also there back =
-    let first = first_same x y xs ys ordered also (there 0 x refl) (back 0 y refl) in
-    let rest = one_order xs ys (ordered_tail x xs ordered) (ordered_tail y ys also)
-    (λ k line at. behind_first x y xs ys first ordered k line at (there (suc k) line at))
-    (λ k line at. behind_first y x ys xs (sym first) also k line at (back (suc k) line at)) in
-    (λ i. first i ∷ rest i)
 
 -- ---- a collector
 
@@ -123,7 +82,7 @@ one_collector : (start : ℕ) (events others : ℕ → List RingEvent) (fills mo
     → IsShownOf start others more other
     → printed_collector number shown ≡ printed_collector number other
 one_collector start events others fills more shown other number there back s o =
-    let lines : shown.lines ≡ other.lines = one_order shown.lines other.lines s.ordered o.ordered
+    let lines : shown.lines ≡ other.lines = same_lines shown.lines other.lines s.ordered o.ordered
     (lines_below start events others fills more shown other there s o)
     (lines_below start others events more fills other shown back o s) in
     let runs : (cpu : ℕ) → slice_index_or shown.runs cpu [] ≡ slice_index_or other.runs cpu [] = λ cpu.

@@ -94,7 +94,7 @@ behind_first : (x y : Line) (xs ys : List Line) → x ≡ y → IsTimeOrdered (x
 behind_first x y xs ys same ordered k line at (zero, there) = absurd (not_again x xs ordered k (at ∙ sym there ∙ ap Some (sym same)))
 behind_first x y xs ys same ordered k line at (suc j, there) = (j, there)
 
-same_lines : (xs ys : List Line) → IsTimeOrdered xs → IsTimeOrdered ys
+pub same_lines : (xs ys : List Line) → IsTimeOrdered xs → IsTimeOrdered ys
     → ((k : ℕ) (line : Line) → slice_get xs k ≡ Some line → Stands ys line) → ((k : ℕ) (line : Line) → slice_get ys k ≡ Some line → Stands xs line) → xs ≡ ys
 same_lines [] [] ordered also there back = refl
 same_lines [] (y ∷ ys) ordered also there back = absurd (none-some y (back 0 y refl).1)
