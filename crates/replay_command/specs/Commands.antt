@@ -9,7 +9,7 @@ use Rattle.text_model.specs.ScriptReading.{script_in}
 use Rattle.world_model.specs.World.{World}
 use Rattle.world_model.specs.WorldMade.{MadeWorldOf}
 use Rattle.world_model.specs.Printing.{Shown, printed_world}
-use Rattle.line_model.specs.Accounts.{IsAccounted}
+use Rattle.line_model.specs.Shown.{IsAccounted}
 use Rattle.collector_text.specs.Prints.{IsPrintOf}
 use Rattle.command_io.specs.declared.status.TheConstants.{DONE, REFUSED}
 
