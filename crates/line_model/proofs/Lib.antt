@@ -26,6 +26,11 @@ pub mod RunCalls
 pub mod ReplayedLines
 -- a ring beside an account
 pub mod Standing
+-- what the frame on top does
+pub mod WishesKept
+pub mod DueRuns
+pub mod TopSteps
+pub mod TopsDo
 -- what an account is
 pub mod AccountWindows
 pub mod NestedFrames

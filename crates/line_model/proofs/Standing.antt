@@ -4,8 +4,8 @@ use Rattle.std.proofs.Common.{◌≡◌, ◌≢◌, ℕ, ◌<◌, ◌≤◌, ◌
 use Rattle.std.specs.Prelude.{⊤}
 use Rattle.trace_model.specs.Window.{RingEvent, acts, history_events_of}
 use Rattle.trace_model.specs.History.{reserve}
-use Rattle.trace_model.specs.Frames.{waiting, left, idle, owned_update, Frame}
-use Rattle.trace_model.specs.Ring.{loading_head}
+use Rattle.trace_model.specs.Frames.{for_close, waiting, left, idle, noted_fill, owned_update, Frame}
+use Rattle.trace_model.specs.Ring.{loading_head, Core}
 use Rattle.trace_model.specs.Steps.{Exchange}
 use Rattle.text_model.specs.Script.{Script}
 use Rattle.link_marks.specs.RunsAsEvents.{AreEventsOfRun}
@@ -42,6 +42,16 @@ pub record Stands (script : Script) (lane : Lane) (state : CpuState) : Type 0 wh
   pub at_rest : state.in_take ≡ false → lane.core.reader.phase ≡ loading_head
   pub wish : state.wish ≡ lane.core.wish
 
+-- The frame on top, if it is a close frame that waits and has noted a fill to begin: it is the next one. No other frame
+-- has begun a fill meanwhile, since a close frame is pushed and goes in one line.
+abbrev pub IsFresh : Core → Type 0
+IsFresh c = (frame : Frame) (below : List Frame) (o : ℕ)
+    → c.frames ≡ frame ∷ below
+    → frame.kind ≡ for_close
+    → frame.state ≡ waiting
+    → noted_fill frame.phase ≡ Some o
+    → o ≡ c.opened
+
 -- each event is due after those before it
 abbrev pub AreDue : Script → (asked : ℕ) → (before own : List RingEvent) → Type 0
 AreDue script asked before own = (front rest : List RingEvent) (event : RingEvent)
@@ -68,7 +78,8 @@ pub record TopDoes (script : Script) (before : Lane) (state : CpuState) (top : L
   pub does : Does below (record top { stepped = true }) own next
   pub due : AreDue script state.wish state.events own
   pub few : IsRecordOnTop before.core.frames → length (history_events_of own) ≤ length exchanges
-  pub first : exchanges ≢ []
+  pub first : IsRecordOnTop before.core.frames
+      → exchanges ≢ []
       → top.stepped ≡ false
       → (NeedsPage (situation_after script state.wish state.events) → ⊥)
       → (rest : List RingEvent) × (own ≡ acts reserve ∷ rest)
@@ -80,5 +91,6 @@ TopsDo = (script : Script) (before : Lane) (state : CpuState) (top : LineFrame) 
     (exchanges : List Exchange) (after : Lane)
     → Stands script before state
     → state.frames ≡ top ∷ below
+    → IsFresh before.core
     → FrameRun script.pages script.size (length before.core.frames) before exchanges after
     → TopDoes script before state top below exchanges after
