@@ -23,7 +23,7 @@ use Rattle.world_model.proofs.WorldsKept.{IsWorldKept, new_kept}
 use Rattle.world_model.proofs.WorldsAt.{other_lines, second_world, others_obeyed, world_at, kept_at, world_last}
 use Rattle.line_model.specs.LineParts.{AreForRecords}
 use Rattle.line_model.specs.Accounts.{CpuState, new_cpu, IsLine, IsAccount}
-use Rattle.line_model.proofs.Standing.{FramesStand, Stands, TopsDo}
+use Rattle.line_model.proofs.Standing.{FramesStand, Stands}
 use Rattle.line_model.proofs.RecordsStand.{HasRecords, line_records}
 use Rattle.line_model.proofs.LinesStand.{IsOn, NotOn, no_line, line_stands}
 
@@ -43,7 +43,7 @@ module _ (script : Script) (cpu : ℕ) where
     next : At after
     line : IsLine script cpu command state next.state
 
-module _ (tops_do : TopsDo) (script : Script) (cpu : ℕ) where
+module _ (script : Script) (cpu : ℕ) where
   module _ (w after : World) (here : At script cpu w) where
     -- another ring, or a collector
     elsewhere : (command : Command)
@@ -69,7 +69,7 @@ module _ (tops_do : TopsDo) (script : Script) (cpu : ℕ) where
     ring_goes line command r on within =
         let is : here.lane ≡ r.lane = some_is here.lane r.lane (sym here.at ∙ r.lane_is) in
         let are : HasRecords r.lane = subst HasRecords is here.for_records in
-        let s = line_stands tops_do script cpu r.lane r.next here.state
+        let s = line_stands script cpu r.lane r.next here.state
         (subst (λ (l : Lane). Stands script l here.state) is here.stands) are r.exchanges command on within r.run in
         record {
           next = record {
@@ -200,7 +200,7 @@ new_stands script lane reached new =
       wish = sym new.0.wish;
     }
 
-module _ (tops_do : TopsDo) (script : Script) (w : World) (limits : IsWithinLimits script) (of : WorldOf script w)
+module _ (script : Script) (w : World) (limits : IsWithinLimits script) (of : WorldOf script w)
     (cpu : ℕ) (low : cpu < script.cpus) where
   first_kept : IsWorldKept script of.new
   first_kept = new_kept script of.new limits of.is_new
@@ -228,7 +228,7 @@ module _ (tops_do : TopsDo) (script : Script) (w : World) (limits : IsWithinLimi
   }
 
   abbrev at_behind : (k : ℕ) → At script cpu (world_at script script.commands of.new w of.obeyed k)
-  at_behind k = at_line tops_do script cpu script.commands of.new w limits.each_command of.obeyed first_at k
+  at_behind k = at_line script cpu script.commands of.new w limits.each_command of.obeyed first_at k
 
   -- the CPU after each number of lines
   pub states_behind : ℕ → CpuState
@@ -239,7 +239,7 @@ module _ (tops_do : TopsDo) (script : Script) (w : World) (limits : IsWithinLimi
   account_behind = record {
     first = refl;
     lines = λ k line command at.
-        line_leads tops_do script cpu script.commands of.new w limits.each_command of.obeyed first_at k line command at;
+        line_leads script cpu script.commands of.new w limits.each_command of.obeyed first_at k line command at;
   }
 
   -- the fills that are taken so far are those of the parcels
@@ -265,14 +265,13 @@ module _ (tops_do : TopsDo) (script : Script) (w : World) (limits : IsWithinLimi
     (at_behind (length script.commands)).stands.run,
   )
 
-pub worlds_have_accounts : TopsDo
-    → (script : Script) (w : World) (cpu : ℕ)
+pub worlds_have_accounts : (script : Script) (w : World) (cpu : ℕ)
     → IsWithinLimits script
     → WorldOf script w
     → cpu < script.cpus
     → (states : ℕ → CpuState) × IsAccount script cpu states
     × (lane : Lane) × (slice_get w.lanes cpu ≡ Some lane)
     × AreEventsOfRun script.pages script.start lane.core (states (length script.commands)).events
-worlds_have_accounts tops_do script w cpu limits of low =
-    let (lane, at, are) = last_reported tops_do script w limits of cpu low in
-    (states_behind tops_do script w limits of cpu low, account_behind tops_do script w limits of cpu low, lane, at, are)
+worlds_have_accounts script w cpu limits of low =
+    let (lane, at, are) = last_reported script w limits of cpu low in
+    (states_behind script w limits of cpu low, account_behind script w limits of cpu low, lane, at, are)

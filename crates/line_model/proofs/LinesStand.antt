@@ -9,7 +9,7 @@ use Rattle.text_model.specs.Script.{Command, begin_frame, step_frame, finish_fra
 use Rattle.text_model.specs.ScriptLimits.{IsCommandWithin}
 use Rattle.world_model.specs.Lanes.{Lane, LineRun}
 use Rattle.line_model.specs.Accounts.{CpuState, Adds, IsLine}
-use Rattle.line_model.proofs.Standing.{Stands, AreDue, TopsDo}
+use Rattle.line_model.proofs.Standing.{Stands}
 use Rattle.line_model.proofs.RecordsStand.{HasRecords}
 use Rattle.line_model.proofs.ReaderStands.{PartStands, none_due, reads_stand, takes_stand, asks_stand}
 use Rattle.line_model.proofs.WriterStands.{begins_stand, steps_stand, finish_stands, write_stands, close_stands}
@@ -64,7 +64,7 @@ pub record LineStands (script : Script) (cpu : ℕ) (command : Command) (state :
   pub line : IsLine script cpu command state after
   pub stands : Stands script next after
 
-module _ (tops_do : TopsDo) (script : Script) (cpu : ℕ) (lane next : Lane) (state : CpuState)
+module _ (script : Script) (cpu : ℕ) (lane next : Lane) (state : CpuState)
     (stands : Stands script lane state) (are : HasRecords lane) (xs : List Exchange) where
   -- a part, as that of the line
   as_line : {Part : CpuState → List RingEvent → CpuState → Type 0} (command : Command)
@@ -88,16 +88,16 @@ module _ (tops_do : TopsDo) (script : Script) (cpu : ℕ) (lane next : Lane) (st
   line_stands (step_frame at count) on within run =
       let least = within.1 in
       as_line (step_frame at count) (λ own after part. inl (on, part))
-      (steps_stand script lane state stands tops_do count next xs (omega (arith, least)) are run)
+      (steps_stand script lane state stands count next xs (omega (arith, least)) are run)
   line_stands (finish_frame at) on within run =
       as_line (finish_frame at) (λ own after part. inl (on, part))
-      (finish_stands script lane state stands tops_do next xs run)
+      (finish_stands script lane state stands next xs are run)
   line_stands (write at moment payload) on within run =
       as_line (write at moment payload) (λ own after part. inl (on, part))
-      (write_stands script tops_do lane next state xs moment payload stands run)
+      (write_stands script lane next state xs moment payload stands run)
   line_stands (close at) on within run =
       as_line (close at) (λ own after part. inl (on, part))
-      (close_stands script tops_do lane next state xs stands run)
+      (close_stands script lane next state xs stands run)
   line_stands (step_reader at count) on within run =
       as_line (step_reader at count) (λ own after part. inl (on, part))
       (reads_stand script lane next state stands xs (step_reader at count) run run.0)

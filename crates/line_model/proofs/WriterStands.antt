@@ -3,7 +3,7 @@ use Rattle.std.proofs.Common.{◌≡◌, ◌≢◌, ℕ, zero, suc, ◌+◌, ◌
 use Rattle.trace_model.specs.declared.limits.TheConstants.{MAX_FRAMES}
 use Rattle.trace_model.specs.Words.{padded}
 use Rattle.trace_model.specs.History.{HistoryEvent, push, push_close, open_fill, reserve, leave, wished}
-use Rattle.trace_model.specs.Frames.{Kind, for_record, for_close, Frame, Refusal}
+use Rattle.trace_model.specs.Frames.{Kind, for_record, for_close, idle, noted_fill, Frame, Refusal}
 use Rattle.trace_model.specs.Window.{Window, RingEvent, acts, closes, takes, loses, history_events_of}
 use Rattle.trace_model.specs.Ring.{Core}
 use Rattle.trace_model.specs.Steps.{Event, pushes, pushes_close, Answer, pushed, refused, with_history_event, with_frame, Step, Exchange}
@@ -16,7 +16,8 @@ use Rattle.line_model.specs.Due.{Situation, situation_after, window_at, NeedsPag
 use Rattle.line_model.specs.Accounts.{LineFrame, CpuState, IsThere, IsOwn, frame_after, Does, HasGone, with_own, IsIdle, new_frame, IsRefused, Begins, refuses_frame, pushes_frame, MayGo, stays_on, is_gone, StepsTop, FinishesTop, finishes_it, WritesWhole, refuses_whole, writes_it}
 use Rattle.line_model.specs.CallEvents.{IsRecordOnTop}
 use Rattle.line_model.specs.LineParts.{AreForRecords}
-use Rattle.line_model.proofs.Standing.{FramesStand, Stands, AreDue, StaysOrGoes, TopDoes, TopsDo}
+use Rattle.line_model.proofs.Standing.{FramesStand, Stands, AreDue, IsFresh, StaysOrGoes, TopDoes}
+use Rattle.line_model.proofs.TopsDo.{tops_do}
 use Rattle.line_model.proofs.StandingKept.{frames_many, no_lines, some_lines, frames_count, BeginsNone, run_acts}
 use Rattle.line_model.proofs.PushCases.{PushCases, is_pushed, is_refused, Refuses, record_push, close_push}
 use Rattle.line_model.proofs.RecordsStand.{HasRecords}
@@ -202,115 +203,151 @@ module _ (script : Script) (lane : Lane) (state : CpuState) (stands : Stands scr
 
   -- ---- the frame on top
 
-  module _ (tops_do : TopsDo) where
-    record_on_top : (frames : List Frame) → frames ≢ [] → AreForRecords frames → IsRecordOnTop frames
-    record_on_top [] some are = absurd (some refl)
-    record_on_top (frame ∷ below) some ((moment, len, is), rest) =
-        λ closing. (let both : for_record moment len ≡ for_close = sym is ∙ closing in cc)
+  -- a frame that has made no step, or is a record frame, has noted no fill for a close frame
+  records_fresh : (frames : List Frame) (frame : Frame) (below : List Frame)
+      → AreForRecords frames
+      → frames ≡ frame ∷ below
+      → frame.kind ≢ for_close
+  records_fresh frames frame below are at closing =
+      let ((moment, len, is), rest) = subst AreForRecords at are in
+      let both : for_record moment len ≡ for_close = sym is ∙ closing in cc
 
-    -- `s`
-    pub steps_stand : (count : ℕ) (next : Lane) (xs : List Exchange)
-        → 1 ≤ count
-        → HasRecords lane
-        → StepsFrame script.pages script.size count lane xs next
-        → PartStands script (StepsTop script count) state next
-    steps_stand count next xs least are (lacks_to_step h) =
-        idle_stands (StepsTop script count) next h.stays
-        (λ idle. StepsTop.lacks_to_step (no_lines lane.core.frames lane.payloads state.frames stands.frames h.none) idle)
-    steps_stand count next xs least are (steps_on some run stop) =
-        let (top, below, is) = some_lines lane.core.frames lane.payloads state.frames stands.frames some in
-        by_top top below is (tops_do script lane state top below xs next stands is run)
-      where
-        has_some : xs ≢ []
-        has_some none =
-            let same : lane ≡ next =
-            subst (λ (l : List Exchange). FrameRun script.pages script.size (length lane.core.frames) lane l next) none run in
-            let long = ap (λ (l : Lane). length l.core.frames) same in
-            let made = ap (λ (l : List Exchange). length l) none in
-            ⊎_elim (λ all. (let no : ⊥ = omega (arith, all, made, least) in no))
-            (λ less. (let no : ⊥ = omega (arith, less, long) in no)) stop.1
+  unstepped_idle : (frame : Frame) (under : List Frame) (payloads : List (List ℕ)) (top : LineFrame)
+      (below : List LineFrame)
+      → FramesStand (frame ∷ under) payloads (top ∷ below)
+      → top.stepped ≡ false
+      → frame.phase ≡ idle
+  unstepped_idle frame under [] top below stand none = absurd stand
+  unstepped_idle frame under (payload ∷ payloads) top below stand none = (stand.0.fresh none).1
 
-        by_top : (top : LineFrame) (below : List LineFrame)
-            → state.frames ≡ top ∷ below
-            → TopDoes script lane state top below xs next
-            → PartStands script (StepsTop script count) state next
-        by_top top below is d = by_end d.ends
-          where
-            few : length (history_events_of d.own) ≤ count
-            few = let short = d.few (record_on_top lane.core.frames some are) in
-                let made = stop.0 in omega (arith, short, made)
+  record_fresh : HasRecords lane → IsFresh lane.core
+  record_fresh are = λ frame below o at closing waits noted.
+      absurd (records_fresh lane.core.frames frame below are at closing)
 
-            makes : (after : CpuState)
-                → MayGo (situation_after script state.wish (state.events ++ d.own)) state d.own below d.next after
-                → StepsTop script count state d.own after
-            makes after may = StepsTop.steps_on top d.next below is few (λ fresh spare. d.first has_some fresh spare) d.does may
+  unstepped_fresh : (top : LineFrame) (below : List LineFrame)
+      → state.frames ≡ top ∷ below
+      → top.stepped ≡ false
+      → IsFresh lane.core
+  unstepped_fresh top below is none = λ frame under o at closing waits noted.
+      (let stand : FramesStand (frame ∷ under) lane.payloads (top ∷ below) =
+      subst (λ (frames : List Frame). FramesStand frames lane.payloads (top ∷ below)) at
+      (subst (λ (lines : List LineFrame). FramesStand lane.core.frames lane.payloads lines) is stands.frames) in
+      let phase = unstepped_idle frame under lane.payloads top below stand none in
+      let both : None ≡ Some o = ap noted_fill (sym phase) ∙ noted in cc)
 
-            by_end : StaysOrGoes script lane state d.own d.next below next → PartStands script (StepsTop script count) state next
-            by_end (inl (there, deep, again)) = record {
-              own = d.own;
-              after = with_own state d.own (d.next ∷ below);
-              part = makes _ (stays_on there refl);
-              due = d.due;
-              stands = again;
-            }
-            by_end (inr (gone, less, again)) = record {
-              own = d.own;
-              after = with_own state d.own below;
-              part = makes _ (is_gone gone refl);
-              due = d.due;
-              stands = again;
-            }
+  record_on_top : (frames : List Frame) → frames ≢ [] → AreForRecords frames → IsRecordOnTop frames
+  record_on_top [] some are = absurd (some refl)
+  record_on_top (frame ∷ below) some ((moment, len, is), rest) =
+      λ closing. (let both : for_record moment len ≡ for_close = sym is ∙ closing in cc)
 
-    -- a run until the frame on top is gone
-    record Goes (top : LineFrame) (below : List LineFrame) (next : Lane) : Type 0 where
-      own : List RingEvent
-      last : LineFrame
-      does : Does below top own last
-      due : AreDue script state.wish state.events own
-      gone : HasGone (situation_after script state.wish (state.events ++ own)) below last
-      again : Stands script next (with_own state own below)
+  -- `s`
+  pub steps_stand : (count : ℕ) (next : Lane) (xs : List Exchange)
+      → 1 ≤ count
+      → HasRecords lane
+      → StepsFrame script.pages script.size count lane xs next
+      → PartStands script (StepsTop script count) state next
+  steps_stand count next xs least are (lacks_to_step h) =
+      idle_stands (StepsTop script count) next h.stays
+      (λ idle. StepsTop.lacks_to_step (no_lines lane.core.frames lane.payloads state.frames stands.frames h.none) idle)
+  steps_stand count next xs least are (steps_on some run stop) =
+      let (top, below, is) = some_lines lane.core.frames lane.payloads state.frames stands.frames some in
+      by_top top below is (tops_do script lane state top below xs next stands is (record_fresh are) run)
+    where
+      has_some : xs ≢ []
+      has_some none =
+          let same : lane ≡ next =
+          subst (λ (l : List Exchange). FrameRun script.pages script.size (length lane.core.frames) lane l next) none run in
+          let long = ap (λ (l : Lane). length l.core.frames) same in
+          let made = ap (λ (l : List Exchange). length l) none in
+          ⊎_elim (λ all. (let no : ⊥ = omega (arith, all, made, least) in no))
+          (λ less. (let no : ⊥ = omega (arith, less, long) in no)) stop.1
 
-    goes_away : (top : LineFrame) (below : List LineFrame) (next : Lane) (xs : List Exchange)
-        → state.frames ≡ top ∷ below
-        → FrameRun script.pages script.size (length lane.core.frames) lane xs next
-        → IsGone (length lane.core.frames) next
-        → Goes top below next
-    goes_away top below next xs is run ended = by_end d.ends
-      where
-        d : TopDoes script lane state top below xs next
-        d = tops_do script lane state top below xs next stands is run
+      by_top : (top : LineFrame) (below : List LineFrame)
+          → state.frames ≡ top ∷ below
+          → TopDoes script lane state top below xs next
+          → PartStands script (StepsTop script count) state next
+      by_top top below is d = by_end d.ends
+        where
+          on_top : IsRecordOnTop lane.core.frames
+          on_top = record_on_top lane.core.frames some are
 
-        by_end : StaysOrGoes script lane state d.own d.next below next → Goes top below next
-        by_end (inl (there, deep, again)) = absurd (let no : ⊥ = omega (arith, deep, ended) in no)
-        by_end (inr (gone, less, again)) = record {
-          own = d.own;
-          last = with_stepped below top.stepped d.next;
-          does = does_with below true top.stepped d.own top d.next d.does;
-          due = d.due;
-          gone = gone_with below top.stepped (situation_after script state.wish (state.events ++ d.own)) d.next gone;
-          again = again;
-        }
+          few : length (history_events_of d.own) ≤ count
+          few = let short = d.few on_top in
+              let made = stop.0 in omega (arith, short, made)
 
-    -- `f`
-    pub finish_stands : (next : Lane) (xs : List Exchange)
-        → FinishesFrame script.pages script.size lane xs next
-        → PartStands script (FinishesTop script) state next
-    finish_stands next xs (lacks_to_finish h) =
-        idle_stands (FinishesTop script) next h.stays
-        (λ idle. FinishesTop.lacks_to_finish (no_lines lane.core.frames lane.payloads state.frames stands.frames h.none) idle)
-    finish_stands next xs (finishes some run ended) =
-        let (top, below, is) = some_lines lane.core.frames lane.payloads state.frames stands.frames some in
-        let g = goes_away top below next xs is run ended in record {
-          own = g.own;
-          after = with_own state g.own below;
-          part = finishes_it top g.last below is g.does g.gone refl;
-          due = g.due;
-          stands = g.again;
-        }
+          makes : (after : CpuState)
+              → MayGo (situation_after script state.wish (state.events ++ d.own)) state d.own below d.next after
+              → StepsTop script count state d.own after
+          makes after may = StepsTop.steps_on top d.next below is few (λ fresh spare. d.first on_top has_some fresh spare) d.does may
+
+          by_end : StaysOrGoes script lane state d.own d.next below next → PartStands script (StepsTop script count) state next
+          by_end (inl (there, deep, again)) = record {
+            own = d.own;
+            after = with_own state d.own (d.next ∷ below);
+            part = makes _ (stays_on there refl);
+            due = d.due;
+            stands = again;
+          }
+          by_end (inr (gone, less, again)) = record {
+            own = d.own;
+            after = with_own state d.own below;
+            part = makes _ (is_gone gone refl);
+            due = d.due;
+            stands = again;
+          }
+
+  -- a run until the frame on top is gone
+  record Goes (top : LineFrame) (below : List LineFrame) (next : Lane) : Type 0 where
+    own : List RingEvent
+    last : LineFrame
+    does : Does below top own last
+    due : AreDue script state.wish state.events own
+    gone : HasGone (situation_after script state.wish (state.events ++ own)) below last
+    again : Stands script next (with_own state own below)
+
+  goes_away : (top : LineFrame) (below : List LineFrame) (next : Lane) (xs : List Exchange)
+      → state.frames ≡ top ∷ below
+      → IsFresh lane.core
+      → FrameRun script.pages script.size (length lane.core.frames) lane xs next
+      → IsGone (length lane.core.frames) next
+      → Goes top below next
+  goes_away top below next xs is fresh run ended = by_end d.ends
+    where
+      d : TopDoes script lane state top below xs next
+      d = tops_do script lane state top below xs next stands is fresh run
+
+      by_end : StaysOrGoes script lane state d.own d.next below next → Goes top below next
+      by_end (inl (there, deep, again)) = absurd (let no : ⊥ = omega (arith, deep, ended) in no)
+      by_end (inr (gone, less, again)) = record {
+        own = d.own;
+        last = with_stepped below top.stepped d.next;
+        does = does_with below true top.stepped d.own top d.next d.does;
+        due = d.due;
+        gone = gone_with below top.stepped (situation_after script state.wish (state.events ++ d.own)) d.next gone;
+        again = again;
+      }
+
+  -- `f`
+  pub finish_stands : (next : Lane) (xs : List Exchange)
+      → HasRecords lane
+      → FinishesFrame script.pages script.size lane xs next
+      → PartStands script (FinishesTop script) state next
+  finish_stands next xs are (lacks_to_finish h) =
+      idle_stands (FinishesTop script) next h.stays
+      (λ idle. FinishesTop.lacks_to_finish (no_lines lane.core.frames lane.payloads state.frames stands.frames h.none) idle)
+  finish_stands next xs are (finishes some run ended) =
+      let (top, below, is) = some_lines lane.core.frames lane.payloads state.frames stands.frames some in
+      let g = goes_away top below next xs is (record_fresh are) run ended in record {
+        own = g.own;
+        after = with_own state g.own below;
+        part = finishes_it top g.last below is g.does g.gone refl;
+        due = g.due;
+        stands = g.again;
+      }
 
 -- ---- whole lines
 
-module _ (script : Script) (tops_do : TopsDo) (lane : Lane) (state : CpuState) (stands : Stands script lane state)
+module _ (script : Script) (lane : Lane) (state : CpuState) (stands : Stands script lane state)
     (event : HistoryEvent) (payload : List ℕ) (any : (s : Situation) → IsDue s (acts event)) where
   -- the frame that was pushed is finished
   module _ (between next : Lane) (rest : List Exchange)
@@ -319,7 +356,7 @@ module _ (script : Script) (tops_do : TopsDo) (lane : Lane) (state : CpuState) (
     abbrev pushed_state : CpuState
     pushed_state = with_pushed script lane state stands event payload
 
-    wholly : Goes script between pushed_state pushed_so tops_do (new_frame payload) state.frames next
+    wholly : Goes script between pushed_state pushed_so (new_frame payload) state.frames next
         → PartStands script (WritesWhole script Refused event payload) state next
     wholly g =
         let same : pushed_state.events ++ g.own ≡ state.events ++ acts event ∷ g.own =
@@ -343,8 +380,8 @@ module _ (script : Script) (tops_do : TopsDo) (lane : Lane) (state : CpuState) (
         let none = ap (λ (l : List Frame). length l) h.none in
         absurd (let no : ⊥ = omega (arith, count, none) in no)
     finished (finishes some run ended) =
-        wholly (goes_away script between pushed_state pushed_so tops_do (new_frame payload) state.frames next rest refl run
-        ended)
+        wholly (goes_away script between pushed_state pushed_so (new_frame payload) state.frames next rest refl
+        (unstepped_fresh script between pushed_state pushed_so (new_frame payload) state.frames refl refl) run ended)
 
   writes_stand : (Refused : Type 0) (between next : Lane) (answer : Answer) (rest : List Exchange)
       → PushStands script lane state stands Refused event payload answer between
@@ -359,22 +396,22 @@ module _ (script : Script) (tops_do : TopsDo) (lane : Lane) (state : CpuState) (
       (λ idle. refuses_whole because idle)
 
 -- `w`
-pub write_stands : (script : Script) (tops_do : TopsDo) (lane next : Lane) (state : CpuState) (xs : List Exchange)
+pub write_stands : (script : Script) (lane next : Lane) (state : CpuState) (xs : List Exchange)
     (moment : ℕ) (payload : List ℕ)
     → Stands script lane state
     → WritesFrame script.pages script.size (pushes moment (length payload)) payload lane xs next
     → PartStands script
     (WritesWhole script (IsRefused script.size moment (length payload) state.frames) (push moment (length payload))
     payload) state next
-write_stands script tops_do lane next state xs moment payload stands w =
-    writes_stand script tops_do lane state stands (push moment (length payload)) payload (λ s. tt) _ w.between next
+write_stands script lane next state xs moment payload stands w =
+    writes_stand script lane state stands (push moment (length payload)) payload (λ s. tt) _ w.between next
     w.push.answer w.rest (record_pushes script lane state stands moment payload w.push w.between w.pushes) w.finishes
 
 -- `c`
-pub close_stands : (script : Script) (tops_do : TopsDo) (lane next : Lane) (state : CpuState) (xs : List Exchange)
+pub close_stands : (script : Script) (lane next : Lane) (state : CpuState) (xs : List Exchange)
     → Stands script lane state
     → WritesFrame script.pages script.size pushes_close [] lane xs next
     → PartStands script (WritesWhole script (MAX_FRAMES ≤ length state.frames) push_close []) state next
-close_stands script tops_do lane next state xs stands w =
-    writes_stand script tops_do lane state stands push_close [] (λ s. tt) _ w.between next w.push.answer w.rest
+close_stands script lane next state xs stands w =
+    writes_stand script lane state stands push_close [] (λ s. tt) _ w.between next w.push.answer w.rest
     (close_pushes script lane state stands w.push w.between w.pushes) w.finishes

@@ -30,8 +30,9 @@ use Rattle.world_model.proofs.WorldsAt.{world_at, kept_at}
 use Rattle.world_model.proofs.DeliveredLines.{IsHanded, handed_by_lines, hands_lines}
 use Rattle.world_model.proofs.LostFills.{overwritten_same}
 use Rattle.world_model.proofs.GenuineWorlds.{world_genuine}
-use Rattle.line_model.specs.Accounts.{IsAccount, IsShownOf, IsAccounted}
-use Rattle.line_model.proofs.AccountsOfWorlds.{events_behind, account_behind, taken_behind, last_reported}
+use Rattle.line_model.specs.Accounts.{CpuState, new_cpu, IsAccount}
+use Rattle.line_model.specs.Shown.{IsShownOf, IsAccounted}
+use Rattle.line_model.proofs.AccountsOfWorlds.{states_behind, account_behind, taken_behind, last_reported}
 use Rattle.replay_command.specs.Commands.{AccountGives, IsPrinting, PrintsReplay, PrintsFault, ReplayGives}
 
 -- a parcel's CPU and fill
@@ -51,7 +52,7 @@ same_runs holds other runs both are = record {
 }
 
 module _ (script : Script) (w : World) (limits : IsWithinLimits script) (of : WorldOf script w) (genuine : IsGenuineWorld script w) where
-  -- ---- the events of a CPU
+  -- ---- the states of a CPU
 
   data Known (cpu : ℕ) : Type 0 where
     known : cpu < script.cpus → Known cpu
@@ -60,24 +61,24 @@ module _ (script : Script) (w : World) (limits : IsWithinLimits script) (of : Wo
   known_at : (cpu : ℕ) → Known cpu
   known_at cpu = dite (dec_le (suc cpu) script.cpus) (λ low. known low) (λ high. unknown (omega (arith, high)))
 
-  abbrev events_of : (cpu : ℕ) → Known cpu → ℕ → List RingEvent
-  events_of cpu (known low) k = events_behind script w limits of cpu low k
-  events_of cpu (unknown past) k = []
+  abbrev states_of : (cpu : ℕ) → Known cpu → ℕ → CpuState
+  states_of cpu (known low) k = states_behind script w limits of cpu low k
+  states_of cpu (unknown past) k = new_cpu script.start
 
-  abbrev events : ℕ → ℕ → List RingEvent
-  events cpu k = events_of cpu (known_at cpu) k
+  abbrev states : ℕ → ℕ → CpuState
+  states cpu k = states_of cpu (known_at cpu) k
 
   -- in the end
   abbrev all_lines : ℕ
   all_lines = length script.commands
 
   abbrev all_of : (cpu : ℕ) → Known cpu → List RingEvent
-  all_of cpu known_cpu = events_of cpu known_cpu all_lines
+  all_of cpu known_cpu = (states_of cpu known_cpu all_lines).events
 
   abbrev all_events : ℕ → List RingEvent
-  all_events cpu = events cpu all_lines
+  all_events cpu = (states cpu all_lines).events
 
-  account : (cpu : ℕ) (k : Known cpu) → cpu < script.cpus → IsAccount script cpu (events_of cpu k)
+  account : (cpu : ℕ) (k : Known cpu) → cpu < script.cpus → IsAccount script cpu (states_of cpu k)
   account cpu (known low) below = account_behind script w limits of cpu low
   account cpu (unknown past) low = absurd (let no : ⊥ = omega (arith, past, low) in no)
 
@@ -90,7 +91,7 @@ module _ (script : Script) (w : World) (limits : IsWithinLimits script) (of : Wo
   behind_kept : (k : ℕ) → IsWorldKept script (behind k)
   behind_kept k = kept_at script script.commands of.new w of.obeyed (new_kept script of.new limits of.is_new) k
 
-  was_taken : (cpu : ℕ) (is_known : Known cpu) (k : ℕ) (parcel : Parcel) → parcel.cpu ≡ cpu → Contains (behind k).taken parcel → Contains (fills_taken script.start (events_of cpu is_known k)) parcel.fill
+  was_taken : (cpu : ℕ) (is_known : Known cpu) (k : ℕ) (parcel : Parcel) → parcel.cpu ≡ cpu → Contains (behind k).taken parcel → Contains (fills_taken script.start (states_of cpu is_known k).events) parcel.fill
   was_taken cpu (known low) k parcel is has =
       let (i, there) = element_at (behind k).taken parcel has in
       let (j, place) = kept_by (λ p. p.cpu == cpu) (behind k).taken i parcel there (eq-eqb parcel.cpu cpu is) in
@@ -105,7 +106,7 @@ module _ (script : Script) (w : World) (limits : IsWithinLimits script) (of : Wo
   IsTaken : (cpu fill k : ℕ) → Type 0
   IsTaken cpu fill k = (parcel : Parcel) × Contains (behind k).taken parcel × IsFill cpu fill parcel
 
-  taken_from : (cpu : ℕ) (is_known : Known cpu) (fill k : ℕ) → Contains (fills_taken script.start (events_of cpu is_known k)) fill → IsTaken cpu fill k
+  taken_from : (cpu : ℕ) (is_known : Known cpu) (fill k : ℕ) → Contains (fills_taken script.start (states_of cpu is_known k).events) fill → IsTaken cpu fill k
   unfolding IsTaken
   taken_from cpu (known low) fill k has =
       let (j, at) = element_at (map (λ p. p.fill) (parcels_from cpu (behind k).taken)) fill (subst (λ (l : List ℕ). Contains l fill) (taken_behind script w limits of cpu low k) has) in
@@ -118,7 +119,7 @@ module _ (script : Script) (w : World) (limits : IsWithinLimits script) (of : Wo
   abbrev IsHandedOver : (collector cpu fill : ℕ) → Type 0
   IsHandedOver collector cpu fill = (k line : ℕ)
       × (slice_get script.commands k ≡ Some (line, deliver collector cpu fill))
-      × Contains (fills_taken script.start (events cpu k)) fill
+      × Contains (fills_taken script.start (states cpu k).events) fill
 
   handed : (collector : ℕ) (parcel : Parcel) → IsHanded script script.commands of.new w of.obeyed collector parcel → IsHandedOver collector parcel.cpu parcel.fill
   handed collector parcel (k, line, at, taken) = (k, line, at, was_taken parcel.cpu (known_at parcel.cpu) k parcel refl taken)
@@ -183,7 +184,7 @@ module _ (script : Script) (w : World) (limits : IsWithinLimits script) (of : Wo
     is_of cpu (known below) =
         let (lane, at, reported) = last_reported script w limits of cpu below in
         let cut = genuine.cut cpu lane at in
-        let here : List RingEvent = events_behind script w limits of cpu below all_lines in
+        let here : List RingEvent = (states_behind script w limits of cpu below all_lines).events in
         let h : List HistoryEvent = history_events_of here in
         let e : IsExact h script.start cut.events cpu parcels parcels =
         subst (λ (l : List HistoryEvent). IsExact l script.start cut.events cpu parcels parcels) (sym reported.history_events) (genuine.exact collector cpu parcels lane at_parcels at) in
@@ -243,7 +244,7 @@ accounted script asked bytes limits p =
     let w : World = p.world in
     let of : WorldOf script w = p.of_script in
     let genuine : IsGenuineWorld script w = world_genuine script script.commands w limits of in record {
-      events = events script w limits of genuine;
+      states = states script w limits of genuine;
       accounts = λ cpu low. account script w limits of genuine cpu (known_at script w limits of genuine cpu) low;
       fills = map keys_of w.delivered;
       collectors = length-map w.delivered keys_of ∙ genuine.collectors;

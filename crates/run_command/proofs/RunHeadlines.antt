@@ -20,7 +20,7 @@ use Rattle.world_model.proofs.Lookups.{element_at, contains_at, get_map, get_fro
 use Rattle.world_model.proofs.LostFills.{overwritten_same}
 use Rattle.world_model.proofs.Cuts.{is_cut}
 use Rattle.line_model.specs.WriterCalls.{exchanges_to}
-use Rattle.line_model.specs.Accounts.{IsShownOf}
+use Rattle.line_model.specs.Shown.{IsShownOf}
 use Rattle.ring_steps.specs.Views.{Writing}
 use Rattle.ring_shared.specs.Settling.{WasTaken}
 use Rattle.collector.specs.Runs.{AreRuns}
