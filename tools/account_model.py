@@ -1,20 +1,20 @@
 """What may be printed of a script, by histories alone: crates/line_model/specs/{Due,Accounts,Shown}.antt as a program.
 
-Read it beside them: the functions are in the order of the definitions, and have their names. Where a definition relates
-what is before a line to what is after it, the function here gives all that may be after it. A list of events is a `Ring`
-of plain_history.py, which has all that is asked of the list.
+Read it beside them: the functions have the names of the definitions, and are in their order. Where a definition relates
+what is before a line to what is after it, the function here gives all that may be after it. A list of events is a
+`Ring` of plain_history.py, which has what is asked of the list.
 
-The parts of a definition stand in `clause` or `choice`, under names by which tools/account-test leaves out one at a time.
+Each clause of a definition has a name, in `clause` or `choice`, by which tools/account-test leaves it out.
 """
 
 from typing import NamedTuple, Optional
 
-from plain_history import CLOSES, LOSES, OPEN_FILL, PUSH_CLOSE, RESERVE, TAKES, WISHED, CloseFrame, History, Ring, Window
-from plain_history import LINK_FILLS, MAX_FRAMES, MOMENT_LIMIT, encoded_len, fill_len, first_of_fill, history_events_of
-from plain_history import leave, new_ring, padded, push, reservation_for, tail_of
+from plain_history import CLOSES, LINK_FILLS, LOSES, MAX_FRAMES, MOMENT_LIMIT, OPEN_FILL, PUSH_CLOSE, RESERVE, TAKES
+from plain_history import WISHED, CloseFrame, History, Ring, Window, encoded_len, fill_len, first_of_fill
+from plain_history import history_events_of, leave, new_ring, padded, push, reservation_for, tail_of
 
 # How many lists of events a line may add, and how many states there may be after it, before the search is given up; and
-# how many of both are looked at if a part is left out, since then there may be no end of them.
+# how many of both are looked at if a clause is left out, since there may be no end of them then.
 MOST_LISTS, MOST_STATES, FEW = 200, 2_000, 24
 
 
@@ -23,29 +23,29 @@ class TooMany(Exception):
 
 
 class Dropped:
-    """The name of the part that is left out, if one is, and whether less was looked at then than there is."""
+    """The name of the clause that is left out, if one is, and whether some were not looked at then."""
 
     name: Optional[str] = None
     is_cut = False
 
 
-def is_enough(found, most):
-    """Whether no more is looked for."""
-    if Dropped.name is None and len(found) > most:
-        raise TooMany
-    is_cut = Dropped.name is not None and len(found) >= FEW
-    Dropped.is_cut = Dropped.is_cut or is_cut
-    return is_cut
-
-
 def clause(name, holds):
-    """A condition that has to hold beside others; where it is dropped, it counts as held."""
+    """A condition beside others that have to hold too: if it is left out, it counts as one that holds."""
     return holds or name == Dropped.name
 
 
 def choice(name, holds):
-    """A condition that may hold instead of others; where it is dropped, it counts as not held."""
+    """A condition beside others that may hold instead: if it is left out, it counts as one that doesn't."""
     return holds and name != Dropped.name
+
+
+def is_enough(found, most):
+    """No more are looked for than were found."""
+    if Dropped.name is None and len(found) >= most:
+        raise TooMany
+    is_cut = Dropped.name is not None and len(found) >= FEW
+    Dropped.is_cut = Dropped.is_cut or is_cut
+    return is_cut
 
 
 # ---- Due.antt
@@ -63,10 +63,16 @@ def situation_after(script, asked, ring):
     return Situation(script.pages, script.size, ring.history, ring.window, asked)
 
 
+def pushed_in(s):
+    return s.history.stack
+
+
 def needs(s, stack):
     tail = tail_of(s.history)
     if not stack:
-        return clause("needs: a wish is found", s.history.is_wished) and clause("needs: a wished tail has a record", tail != ())
+        return clause("needs: a wish is found", s.history.is_wished) and clause(
+            "needs: a wished tail has a record", tail != ()
+        )
     top = stack[0]
     if isinstance(top, CloseFrame):
         return clause("needs: a tail to close has a record", tail != ())
@@ -77,7 +83,7 @@ def needs(s, stack):
 
 
 def needs_page(s):
-    return needs(s, s.history.stack)
+    return needs(s, pushed_in(s))
 
 
 def has_no_page(s):
@@ -108,7 +114,7 @@ def leaves(s, stack, payload):
         return clause("leaves: a frame", False)
     top = stack[0]
     if isinstance(top, CloseFrame) and payload is None:
-        return clause("leaves: a close frame, if it needs no page or none can be had", not needs_page(s) or has_no_page(s))
+        return clause("leaves: a close frame that needs no page or has none", not needs_page(s) or has_no_page(s))
     if isinstance(top, CloseFrame):
         return clause("leaves: a close frame has no payload", False)
     if top.number is None and payload is None:
@@ -131,17 +137,17 @@ def is_due(s, event):
             and clause("open_fill is due: not full", opened < head + s.pages)
         )
     if event == RESERVE:
-        return clause("reserve is due: has no record", has_no_record(s.history.stack)) and clause(
+        return clause("reserve is due: has no record", has_no_record(pushed_in(s))) and clause(
             "reserve is due: needs no page", not needs_page(s)
         )
     if event.name == "leave":
-        return clause("leave is due: leaves", leaves(s, s.history.stack, event.payload))
+        return clause("leave is due: leaves", leaves(s, pushed_in(s), event.payload))
     if event == WISHED:
-        return clause("wished is due: all have left", s.history.stack == ()) and clause(
+        return clause("wished is due: all have left", pushed_in(s) == ()) and clause(
             "wished is due: is granted", is_granted(s)
         )
     if event == CLOSES:
-        return clause("closes is due: all have left", s.history.stack == ()) and clause(
+        return clause("closes is due: all have left", pushed_in(s) == ()) and clause(
             "closes is due: not the tail", done + 1 < opened
         )
     if event == TAKES:
@@ -323,7 +329,9 @@ def takes_page(before):
         in_move = clause("takes page: sees none if it takes none", own == ()) and clause(
             "takes page: sees none if a frame moves", moving
         )
-        why_unseen = choice("takes page: had looked", before.in_take) or choice("takes page: sees none in a move", in_move)
+        why_unseen = choice("takes page: had looked", before.in_take) or choice(
+            "takes page: sees none in a move", in_move
+        )
         for seen in (window.done, before.seen):
             seen_is = choice("takes page: sees", seen == window.done) or (
                 seen == before.seen and clause("takes page: sees none for a reason", why_unseen)

@@ -1,5 +1,5 @@
-"""Scripts made at random, by a seed: of few small pages, so that rings are often full, with nested frames of all lines, and
-now and then with a first fill near the last one that may be begun.
+"""Scripts made at random, by a seed: with few small pages, so that rings are often full, and with nested frames; now and
+then the first fill is near the last one that may be begun.
 """
 
 import random
@@ -59,4 +59,7 @@ class Source:
         lines = self.begin() + [self.line() for _ in range(self.random.choice(LENGTHS))]
         for cpu in range(self.cpus):
             lines += [f"d 0 c{cpu} {fill}" for fill in range(self.start, self.start + DELIVERED)]
-        return "\n".join(lines) + "\n"
+        return "\n".join(lines).encode() + b"\n"
+
+    def scripts(self, count):
+        return (self.script() for _ in range(count))

@@ -1,5 +1,5 @@
-"""Histories of a CPU's frames and its ring, and what they leave: of crates/trace_model/specs what account_model.py asks,
-from Words, History, Window and Packing, in whole lists.
+"""Histories of a CPU's frames and its ring, and what they leave: what account_model.py needs of the definitions in
+crates/trace_model/specs/{Words,History,Window,Packing}.antt, by their names.
 """
 
 from typing import NamedTuple, Optional
