@@ -15,7 +15,7 @@ from plain_history import history_events_of, leave, new_ring, padded, push, rese
 
 # How many lists of events a line may add, and how many states there may be after it, before the search is given up; and
 # how many of both are looked at if a clause is left out, since there may be no end of them then.
-MOST_LISTS, MOST_STATES, FEW = 200, 2_000, 24
+MOST, FEW = 2_000, 24
 
 
 class TooMany(Exception):
@@ -39,9 +39,9 @@ def choice(name, holds):
     return holds and name != Dropped.name
 
 
-def is_enough(found, most):
+def is_enough(found):
     """No more are looked for than were found."""
-    if Dropped.name is None and len(found) >= most:
+    if Dropped.name is None and len(found) >= MOST:
         raise TooMany
     is_cut = Dropped.name is not None and len(found) >= FEW
     Dropped.is_cut = Dropped.is_cut or is_cut
@@ -230,7 +230,7 @@ def does(script, before, first, below, frame):
         yield own, after
         s = situation_after(script, before.wish, ring)
         for event in events_for(after):
-            if is_own(below, after, event) and is_due(s, event) and not is_enough(found, MOST_LISTS):
+            if is_own(below, after, event) and is_due(s, event) and not is_enough(found):
                 found.append(((*own, event), ring.then(event), frame_after(after, event)))
 
 
@@ -416,7 +416,7 @@ def is_account(script, cpu):
             before = account.states[-1]
             delivered = account.delivered + delivers(cpu, command, before)
             for after in is_line(script, cpu, command, before):
-                if is_enough(found, MOST_STATES):
+                if is_enough(found):
                     break
                 others = found[after, delivered].count if (after, delivered) in found else 0
                 found[after, delivered] = Account(account.count + others, (*account.states, after), delivered)
