@@ -1,5 +1,6 @@
-"""Scripts made at random, by a seed: with few small pages, so that rings are often full, and with nested frames; now and
-then the first fill is near the last one that may be begun.
+"""Scripts made at random, by a seed: with few small pages, so that rings are often full, and with nested frames.
+
+Now and then the first fill is near the last one that may be begun.
 """
 
 import random
