@@ -1,0 +1,4 @@
+pub mod Rings
+pub mod Pages
+pub mod Parcels
+pub mod Collectors
