@@ -2,3 +2,5 @@ pub mod Rings
 pub mod Pages
 pub mod Parcels
 pub mod Collectors
+pub mod Streams
+pub mod Fleets

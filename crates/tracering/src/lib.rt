@@ -4,6 +4,8 @@
 //! - `pages`: what a reader takes, with its records; page images.
 //! - `parcels`: pages that were taken, shared, each under its CPU and its records' numbers.
 //! - `collectors`: what several parcels have and miss together, and its listing by time.
+//! - `streams`: parcels and marks as bytes, one after the other, and what is known of one stream.
+//! - `fleets`: what is known of many streams, and its listing by time.
 //! - Here: the plain numbers of all of these, their limits, and `NoMemory`.
 //!
 //! Each item is that of the crate which has its code, under the same name. So a page is recorded, taken, collected and
@@ -42,9 +44,11 @@
 #![tactic(auto)]
 
 pub mod collectors;
+pub mod fleets;
 pub mod pages;
 pub mod parcels;
 pub mod rings;
+pub mod streams;
 
 pub use trace_model::{
     CpuId, FillNo, MAX_CPUS, MAX_FRAMES, MAX_IMAGE, MAX_PAGES, MAX_SIZE, MIN_PAGES, MIN_SIZE,
