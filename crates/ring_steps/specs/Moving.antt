@@ -16,7 +16,8 @@ pub record StaysWriting (shape : Shape) (after : SeatState) : Type 0 where
 
 -- The rule of the ring's table allows the seat to make f of this word, with what the step then shows; and by that the
 -- seat stays the writer's.
-pub record IsWriterMove (shape : Shape) (me : SeatState) (word : ℕ) (f : ℕ → ℕ) (reports : ℕ → SeatState → Type 0) : Type 0 where
+pub record IsWriterMove (shape : Shape) (me : SeatState) (word : ℕ) (f : ℕ → ℕ) (reports : ℕ → SeatState → Type 0)
+    : Type 0 where
   pub allowed : (slots id : ℕ) → Allows (Shows shape.pages shape.size shape.start) slots id me word f reports
   pub stays : (found : ℕ) (after : SeatState) → reports found after → StaysWriting shape after
 

@@ -79,7 +79,8 @@ pub record IsReaderStep (shape : Shape) (before : Reading) (sees : Core → Type
 
 -- what a step of the reader by which it neither takes nor gives back a slot shows of its seat: a store of the wish
 -- (those of a take: Taking)
-pub record ReaderReported (shape : Shape) (sees : Core → Type 0) (event : Event) (answer : Answer) (before after : SeatState)
+pub record ReaderReported (shape : Shape) (sees : Core → Type 0) (event : Event) (answer : Answer)
+    (before after : SeatState)
     : Type 0 where
   pub seat : IsSeatOfReader after
   pub within : IsReaderWithin shape (reading after.0)

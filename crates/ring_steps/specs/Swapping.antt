@@ -60,7 +60,8 @@ head_to_take (swapping page fill) = spot fill page
 
 -- What the compare and exchange shows of the seat, by the word that was found: if that was the head's, the head's
 -- page is in the slot that the seat has.
-pub record SwapReported (shape : Shape) (before : SeatState) (head : Spot) (found : ℕ) (after : SeatState) : Type 0 where
+pub record SwapReported (shape : Shape) (before : SeatState) (head : Spot) (found : ℕ) (after : SeatState)
+    : Type 0 where
   pub read : ReadReported shape (λ _. ⊤) true before after
   pub took : found ≡ word_of (header_link head.page head.fill)
       → (taken : Contents)
