@@ -80,7 +80,7 @@ fn close_late(rt: &impl Abort, stack: &mut WriterStack)
     assert!(rt; stack.end() == Err(WriteFault::NotReserved));
 }
 
-/// A stack of 4 pages with such a frame.
+/// A stack of 4 pages with a close frame that needs no page until a record came.
 fn late_to_close(rt: &(impl Abort + AllocGlobal)) -> Result<WriterStack, NoMemory>
     ensures { IfOk result (λ stack. IsReachedStack stack) }
 {

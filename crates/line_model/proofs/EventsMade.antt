@@ -255,7 +255,7 @@ module _ (n size depth : ℕ) (c : Core) (frame : Frame) (below : List Frame) (d
           few = λ is_record. omega arith;
         }
 
-  -- ---- a frame that has no leave yet
+  -- ---- a frame that hasn't left yet
 
   module _ (top : OpenFrame) (rest : List OpenFrame) (others : List (List ℕ)) (l : Bool) (held : frame.state ≢ left)
       (more : AreOpenFrames below others rest l) where

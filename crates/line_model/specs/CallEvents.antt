@@ -106,7 +106,7 @@ pub record IsFinishing (frame : Frame) (below : List Frame) (payloads : List (Li
   pub finishing_is : finishing ≡ true
   pub one : length payloads ≡ 1
 
--- the frame has no leave yet: it is the top open one of the state, and it waits and is idle if it has made no step
+-- the frame hasn't left yet: it is the top open one of the state, and it waits and is idle if it has made no step
 pub record IsTop (frame : Frame) (payloads : List (List ℕ)) (frames_open : List OpenFrame)
     (top : OpenFrame) (rest : List OpenFrame) (others : List (List ℕ))
     : Type 0 where

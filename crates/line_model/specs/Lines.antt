@@ -11,8 +11,8 @@ use Rattle.text_model.specs.Script.{Command, begin_frame, step_frame, finish_fra
 
 -- ---- the state of a writer between lines
 
--- An open frame: its push has no leave yet. It has the payload of its line, which is empty for a close frame, and
--- whether it has made a step.
+-- An open frame: one that was pushed and hasn't left yet. It has the payload of its line, which is empty for a close
+-- frame, and whether it has made a step.
 pub record OpenFrame : Type 0 where
   pub payload : List ℕ
   pub stepped : Bool

@@ -26,7 +26,7 @@ pub record IsInNeed (n size : ℕ) (c : Core) : Type 0 where
   pub about : top.phase ≡ idle
   pub needs : NeedsPage size c top.kind
 
--- such a frame is refused as crowded if all pages have fills that aren't closed; else as worn if the tail is the
+-- a frame in need is refused as crowded if all pages have fills that aren't closed; else as worn if the tail is the
 -- last fill that may be begun: the one a round after the next has no number
 abbrev pub RefusalsAreDue : Type 0
 RefusalsAreDue = (n size : ℕ) (c : Core) (answer : Answer) (after : Core)

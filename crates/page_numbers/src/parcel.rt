@@ -10,8 +10,8 @@ use std::marker::Model;
 use std::sync::Arc;
 use trace_model::{CpuId, FillNo, MAX_CPUS, NoMemory, RecordNo};
 
-/// A taken page, shared: the records of one fill of a CPU under their numbers, and how many numbers are missing in
-/// front of them, those between the last record taken before and the first one of this page.
+/// A taken page, shared: the records of one fill of a CPU under their numbers, and how many numbers are missing before
+/// them, those between the last record taken before and the first one of this page.
 ///
 /// ```
 /// let parcel = Parcel::of(rt.alloc(), CpuId(0), page, 1)?;

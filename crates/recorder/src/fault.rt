@@ -1,10 +1,10 @@
 //! Why nothing was recorded, or what was recorded isn't printed.
-use collector::AddFault;
-use nested_writer::WriteFault;
-use page_numbers::ParcelFault;
 use std::io;
 use thiserror::Error;
-use trace_model::NoMemory;
+use tracering::NoMemory;
+use tracering::collectors::AddFault;
+use tracering::parcels::ParcelFault;
+use tracering::rings::WriteFault;
 
 /// Why nothing was recorded, or what was recorded isn't printed.
 #[derive(Debug, Drop, Error)]

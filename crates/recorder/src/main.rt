@@ -6,8 +6,7 @@
 #![tactic(auto)]
 
 ghost use Rattle.std.specs.Prelude.{◌≡◌, IfOk};
-ghost use Rattle.ring_shared.specs.Calls.{IsWriter};
-ghost use Rattle.ring_shared.specs.Takes.{IsReader};
+ghost use Rattle.tracering.specs.Rings.{IsWriter, IsReader};
 
 mod fault;
 mod recording;
@@ -16,14 +15,13 @@ mod taking;
 use crate::fault::Fault;
 use crate::recording::record;
 use crate::taking::{take_beside, take_rest};
-use collector::Collector;
-use ring_shared::{Reader, Writer, ring};
 use std::alloc::Global;
 use std::process::ExitCode;
 use std::thread::Threads;
 use std::{str, thread};
-use time_merge::listing;
-use trace_model::CpuId;
+use tracering::CpuId;
+use tracering::collectors::{Collector, listing};
+use tracering::rings::{Reader, Writer, ring};
 
 /// The CPU with the smaller ring, which nobody reads before its writer is done.
 const SMALL: CpuId = CpuId(0);

@@ -1,9 +1,8 @@
 //! A thread records events; and the page that it wrote last is closed.
 ghost use Rattle.std.specs.Prelude.{IfOk};
-ghost use Rattle.ring_shared.specs.Calls.{IsWriter};
+ghost use Rattle.tracering.specs.Rings.{IsWriter};
 
-use nested_writer::WriteFault;
-use ring_shared::Writer;
+use tracering::rings::{WriteFault, Writer};
 
 /// How often each thread records its event.
 const TIMES: u64 = 30;

@@ -1,18 +1,17 @@
 //! Pages are taken: beside the thread that records, and after it.
 ghost use Rattle.std.specs.Prelude.{◌≡◌, IfOk};
-ghost use Rattle.ring_shared.specs.Calls.{IsWriter};
-ghost use Rattle.ring_shared.specs.Takes.{IsReader};
+ghost use Rattle.tracering.specs.Rings.{IsWriter, IsReader};
 
 use crate::SIZE;
 use crate::fault::Fault;
 use crate::recording::close;
-use collector::Collector;
-use page_image::Body;
-use page_numbers::Parcel;
-use ring_shared::{Reader, Take, Writer};
 use std::alloc::Global;
 use std::thread;
-use trace_model::CpuId;
+use tracering::CpuId;
+use tracering::collectors::Collector;
+use tracering::pages::Body;
+use tracering::parcels::Parcel;
+use tracering::rings::{Reader, Take, Writer};
 
 /// How often each loop here goes round at most: more than what is recorded here needs.
 const TAKES: usize = 1_000;

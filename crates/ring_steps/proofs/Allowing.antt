@@ -13,7 +13,7 @@ use Rattle.ring_steps.specs.declared.rule.Shape.{Shape}
 use Rattle.ring_steps.specs.Made.{WriterMade, writer_made_of, reader_made_of, privately_made}
 use Rattle.ring_steps.specs.Views.{Writing, writing_of, Reading, SeatView, writes, reads, writing, passed, reading, AreSeated}
 use Rattle.ring_steps.specs.Shown.{Homes, AreHomes, IsReading, IsShown, Shows}
-use Rattle.ring_steps.specs.Seats.{Sat, Leads}
+use Rattle.ring_steps.specs.Seats.{SeatState, Leads}
 use Rattle.ring_steps.proofs.Placed.{writer_at, reader_at, writer_placed, reader_placed, not_laid_writer, not_laid_reader}
 use Rattle.ring_steps.proofs.Private.{private_shown, private_open_pages, private_head, made_shown}
 
@@ -27,7 +27,7 @@ module _ (shape : Shape) where
 
   -- the writer's step of the word i, to f of what it finds there; after it the writer knows all fills below a number
   -- to be passed
-  pub record WriterMoves (r : Reading) (me : Sat) (words : List ℕ) (homes : Homes) (i : ℕ) (f : ℕ → ℕ) (reports : ℕ → Sat → Type 0) : Type 0 where
+  pub record WriterMoves (r : Reading) (me : SeatState) (words : List ℕ) (homes : Homes) (i : ℕ) (f : ℕ → ℕ) (reports : ℕ → SeatState → Type 0) : Type 0 where
     pub next : Core
     pub knows : ℕ
     pub low : knows ≤ next.head
@@ -38,7 +38,7 @@ module _ (shape : Shape) where
     pub made_is : writer_made_of shown.reached ≡ made
     pub reported : reports (slice_index words i) (writes (writing_of made next) knows, carried_after me.1 act)
 
-  pub writer_allows : (slots id : ℕ) (me : Sat) (now : Writing) (i : ℕ) (f : ℕ → ℕ) (reports : ℕ → Sat → Type 0)
+  pub writer_allows : (slots id : ℕ) (me : SeatState) (now : Writing) (i : ℕ) (f : ℕ → ℕ) (reports : ℕ → SeatState → Type 0)
       → me.0 ≡ writes (writing me.0) (passed me.0)
       → Leads shape (writing me.0) now
       → ((c : Core) (r : Reading) (words : List ℕ) (homes : Homes) (s : IsShownBy c r words homes) → writing_of (writer_made_of s.reached) c ≡ now → c.open_pages ≡ (writing me.0).open_pages → passed me.0 ≤ c.head → WriterMoves r me words homes i f reports)
@@ -66,7 +66,7 @@ module _ (shape : Shape) where
       )
 
   -- the reader's step of the word i, to f of what it finds there
-  pub record ReaderMoves (c : Core) (made : List WriterMade) (me : Sat) (words : List ℕ) (homes : Homes) (i : ℕ) (f : ℕ → ℕ) (reports : ℕ → Sat → Type 0) : Type 0 where
+  pub record ReaderMoves (c : Core) (made : List WriterMade) (me : SeatState) (words : List ℕ) (homes : Homes) (i : ℕ) (f : ℕ → ℕ) (reports : ℕ → SeatState → Type 0) : Type 0 where
     pub next : Core
     pub after : Reading
     pub act : Act (Option Contents)
@@ -87,7 +87,7 @@ module _ (shape : Shape) where
     reader_made_is = subst (λ (x : Reading). x.made ≡ reader_made_of s.reached) same s.reader_made_is;
   }
 
-  pub reader_allows : (slots id : ℕ) (me : Sat) (i : ℕ) (f : ℕ → ℕ) (reports : ℕ → Sat → Type 0)
+  pub reader_allows : (slots id : ℕ) (me : SeatState) (i : ℕ) (f : ℕ → ℕ) (reports : ℕ → SeatState → Type 0)
       → me.0 ≡ reads (reading me.0)
       → ((c : Core) (words : List ℕ) (homes : Homes) (s : IsShownBy c (reading me.0) words homes) → ReaderMoves c (writer_made_of s.reached) me words homes i f reports)
       → Allows (Shows shape.pages shape.size shape.start) slots id me i f reports

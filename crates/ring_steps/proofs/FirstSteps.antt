@@ -13,7 +13,7 @@ use Rattle.ring_steps.specs.declared.rule.Shape.{Shape}
 use Rattle.ring_steps.specs.Made.{writer_made_of}
 use Rattle.ring_steps.specs.Views.{Writing, writing_of, Reading, SeatView, laid, whole, writes, reads, writing, passed, reading, AreSeated, made, running}
 use Rattle.ring_steps.specs.Shown.{Homes, AreHomes, Shows}
-use Rattle.ring_steps.specs.Seats.{Sat}
+use Rattle.ring_steps.specs.Seats.{SeatState}
 use Rattle.ring_steps.proofs.Placed.{laid_at, whole_at}
 
 -- the page of the oldest open fill is none of a closed fill, none that may be begun, and not the spare
@@ -40,10 +40,10 @@ oldest_taken n size start c r homes page k spare is a =
         pages_differ n c.order c.spare c.done f c.done (omega arith) k.links.apart (omega arith) high (omega arith) (omega arith) (λ same. omega arith) e
 
 module _ (shape : Shape) (first_w : Writing) (first_r : Reading) where
-  pub tail_taken : (slots id : ℕ) (me : Sat) → me ≡ (laid first_w first_r, [])
+  pub tail_taken : (slots id : ℕ) (me : SeatState) → me ≡ (laid first_w first_r, [])
       → Allows (Shows shape.pages shape.size shape.start) slots id me 0 (λ n. n) (λ _ after. (after.0 ≡ whole first_w first_r) × (after.1 ≡ (get_or first_w.open_pages 0 0, None) ∷ []))
   tail_taken slots id me is s h deep at range =
-      let (views, first, w_is, r_is) = laid_at (writing_of (writer_made_of h.shown.reached) h.core) h.reader h.core.head s.views id first_w first_r h.seats (at ∙ ap (λ (m : Sat). some m.0) is) in
+      let (views, first, w_is, r_is) = laid_at (writing_of (writer_made_of h.shown.reached) h.core) h.reader h.core.head s.views id first_w first_r h.seats (at ∙ ap (λ (m : SeatState). some m.0) is) in
       let page : ℕ = get_or first_w.open_pages 0 0 in
       let k = reached_kept shape.pages shape.size shape.start h.core h.shown.reached in
       let home = h.tail first_w first_r (views ∙ (λ i. laid (sym w_is i) (sym r_is i) ∷ [])) in (
@@ -64,7 +64,7 @@ module _ (shape : Shape) (first_w : Writing) (first_r : Reading) where
           seats = subst (AreSeated (writing_of (writer_made_of h.shown.reached) h.core) h.reader h.core.head) (λ i. set (sym views i) (sym first i) (whole (sym w_is i) (sym r_is i))) made;
           tail = λ u v e. let there : whole first_w first_r ∷ [] ≡ laid u v ∷ [] = sym (λ i. set (views i) (first i) (whole first_w first_r)) ∙ e in absurd (cc);
         },
-        (refl, ap (λ (m : Sat). (page, None) ∷ m.1) is),
+        (refl, ap (λ (m : SeatState). (page, None) ∷ m.1) is),
       )
 
 pub cut : (n size start id : ℕ) (view : SeatView) → view ≡ whole (writing view) (reading view) → Splits (Shows n size start) id view (writes (writing view) (passed view)) (reads (reading view))

@@ -8,7 +8,7 @@ use Rattle.ring_steps.specs.declared.rule.Shape.{Shape}
 use Rattle.ring_steps.specs.Made.{writer_made_of}
 use Rattle.ring_steps.specs.Views.{Writing, writing_of, Reading, SeatView, laid, writes, reads, joined, spent, writing, passed, reading, AreSeated, settled}
 use Rattle.ring_steps.specs.Shown.{AreWords, IsReading, Shows}
-use Rattle.ring_steps.specs.Seats.{Sat, AreParts}
+use Rattle.ring_steps.specs.Seats.{SeatState, AreParts}
 use Rattle.ring_steps.proofs.Placed.{writer_at, joined_at}
 
 -- the other seat of two is the second
@@ -32,7 +32,7 @@ joins n size start id view other with is its s h at ne there =
       tail = λ u v e. let there : joined w r ∷ spent ∷ [] ≡ laid u v ∷ [] = sym whole ∙ e in absurd (cc);
     }
 
-pub looks : (shape : Shape) (slots id : ℕ) (me : Sat) → me.0 ≡ joined (writing me.0) (reading me.0)
+pub looks : (shape : Shape) (slots id : ℕ) (me : SeatState) → me.0 ≡ joined (writing me.0) (reading me.0)
     → Allows (Shows shape.pages shape.size shape.start) slots id me 1 (λ n. n) (λ _ after. (after.0 ≡ me.0) × AreParts shape (writing me.0) (reading me.0))
 looks shape slots id me is s h deep at range =
     let (views, first, w_is, r_is) = joined_at (writing_of (writer_made_of h.shown.reached) h.core) h.reader h.core.head s.views id (writing me.0) (reading me.0) h.seats (at ∙ ap some is) in

@@ -30,7 +30,7 @@ use Rattle.ring_steps.specs.declared.rule.Shape.{Shape}
 use Rattle.ring_steps.specs.Made.{writer_made, writer_made_of}
 use Rattle.ring_steps.specs.Views.{Writing, writing_of, Reading, writing, passed}
 use Rattle.ring_steps.specs.Shown.{page_word, page_before, AreWords, Homes}
-use Rattle.ring_steps.specs.Seats.{Sat, emptied, IsWriting, WriterReported}
+use Rattle.ring_steps.specs.Seats.{SeatState, emptied, IsWriting, WriterReported}
 use Rattle.ring_steps.specs.Paging.{IsTopIn}
 use Rattle.ring_steps.specs.Linking.{tail_in, LooksNext, MarksNext, number_or_zero, noted_on_top, role_in, role_on_top, after_lost_in, SeesLink, LinkReported, ClaimReported, WishReported}
 use Rattle.ring_steps.proofs.Made.{reached_on, writer_then, reader_same}
@@ -104,7 +104,7 @@ not_done_at found from to ne = subst (λ (b : Bool). either b to found ≡ found
 abbrev moved : Core → List Frame → List Link → ℕ → Core
 moved c frames links head = record c { frames = frames; links = links; head = head }
 
-module _ (shape : Shape) (me : Sat) (is : IsWriting me) (now : Writing) (c : Core) (r : Reading) (ws : List ℕ) (homes : Homes) (s : IsShownBy shape c r ws homes) (now_is : writing_of (writer_made_of s.reached) c ≡ now) (pages : c.open_pages ≡ (writing me.0).open_pages) (known : passed me.0 ≤ c.head) where
+module _ (shape : Shape) (me : SeatState) (is : IsWriting me) (now : Writing) (c : Core) (r : Reading) (ws : List ℕ) (homes : Homes) (s : IsShownBy shape c r ws homes) (now_is : writing_of (writer_made_of s.reached) c ≡ now) (pages : c.open_pages ≡ (writing me.0).open_pages) (known : passed me.0 ≤ c.head) where
   kept : IsRingKept shape.pages shape.size shape.start c
   kept = reached_kept shape.pages shape.size shape.start c s.reached
 

@@ -30,7 +30,7 @@ use Rattle.ring_steps.specs.declared.rule.Shape.{Shape}
 use Rattle.ring_steps.specs.Made.{writer_made, writer_made_of, reader_made_of}
 use Rattle.ring_steps.specs.Views.{Writing, writing_of, Reading, writing, passed}
 use Rattle.ring_steps.specs.Shown.{Homes, IsHome, HasBody, AreWords, AreHomes, IsReading, Shows}
-use Rattle.ring_steps.specs.Seats.{Sat, emptied, IsWriting, Leads, WriterReported}
+use Rattle.ring_steps.specs.Seats.{SeatState, emptied, IsWriting, Leads, WriterReported}
 use Rattle.ring_steps.specs.Paging.{IsTopIn, begun_answer, OpenReported}
 use Rattle.ring_steps.proofs.Made.{reached_on, writer_then, reader_same}
 use Rattle.ring_steps.proofs.Words as words
@@ -48,7 +48,7 @@ first_emptied [] number filled is = absurd (omega arith)
 first_emptied (page ∷ pages) number filled is = ap (λ (p : ℕ). let slots : List (ℕ × Option Contents) = (p, None) ∷ emptied pages in slots) (sym is)
 
 -- the slot of its oldest page is the first of the writer's
-pub first_slot : (me : Sat) (number : ℕ) → IsWriting me → 0 < length (writing me.0).open_pages → number ≡ slice_index_or (writing me.0).open_pages 0 0 → me.1 ≡ (number, None) ∷ rest me.1
+pub first_slot : (me : SeatState) (number : ℕ) → IsWriting me → 0 < length (writing me.0).open_pages → number ≡ slice_index_or (writing me.0).open_pages 0 0 → me.1 ≡ (number, None) ∷ rest me.1
 first_slot me number is filled first =
     subst (λ (slots : List (ℕ × Option Contents)). slots ≡ (number, None) ∷ rest slots) (sym is.hand) (first_emptied (writing me.0).open_pages number filled first)
 
@@ -246,7 +246,7 @@ module _ (shape : Shape) (c : Core) (r : Reading) (ws : List ℕ) (homes : Homes
 
 -- ---- the steps
 
-module _ (shape : Shape) (me : Sat) (now : Writing) (c : Core) (r : Reading) (ws : List ℕ) (homes : Homes) (s : IsShownBy shape c r ws homes) (now_is : writing_of (writer_made_of s.reached) c ≡ now) (low : passed me.0 ≤ c.head) where
+module _ (shape : Shape) (me : SeatState) (now : Writing) (c : Core) (r : Reading) (ws : List ℕ) (homes : Homes) (s : IsShownBy shape c r ws homes) (now_is : writing_of (writer_made_of s.reached) c ≡ now) (low : passed me.0 ≤ c.head) where
   made_is : (answer : Answer) (after : Core) (step : Step shape.pages shape.size c steps answer after)
       → writer_made_of (reached_on shape.pages shape.size shape.start c steps answer after s.reached step) ≡ now.made ++ writer_made record { event = steps; answer = answer } after ∷ []
   made_is answer after step = writer_then shape.pages shape.size shape.start c steps answer after s.reached step now refl now_is
@@ -315,17 +315,17 @@ module _ (shape : Shape) (me : Sat) (now : Writing) (c : Core) (r : Reading) (ws
 
 -- ---- what the table allows
 
-pub release_allowed : (shape : Shape) (slots id : ℕ) (me mid : Sat) (now : Writing) (number fill : ℕ) (page : Contents)
+pub release_allowed : (shape : Shape) (slots id : ℕ) (me mid : SeatState) (now : Writing) (number fill : ℕ) (page : Contents)
     → IsWriting me → mid ≡ (me.0, (number, Some page) ∷ rest me.1) → Leads shape (writing me.0) now → IsTopIn now.frames releasing → number ≡ slice_index_or now.open_pages 0 0
     → IsWrittenPage shape.size now.done (fill_of now.history shape.start now.done) page → fill ≡ now.done
     → Allows (Shows shape.pages shape.size shape.start) slots id mid 1 (λ _. fill + 1) (λ _. WriterReported shape now (passed mid.0) (λ _. ⊤) going)
 release_allowed shape slots id me mid now number fill page is mid_is leads phase oldest written fill_is =
-    subst (λ (m : Sat). Allows (Shows shape.pages shape.size shape.start) slots id m 1 (λ _. fill + 1) (λ _. WriterReported shape now (passed m.0) (λ _. ⊤) going)) (sym mid_is)
+    subst (λ (m : SeatState). Allows (Shows shape.pages shape.size shape.start) slots id m 1 (λ _. fill + 1) (λ _. WriterReported shape now (passed m.0) (λ _. ⊤) going)) (sym mid_is)
     (writer_allows shape slots id (me.0, (number, Some page) ∷ rest me.1) now 1 (λ _. fill + 1) (λ _. WriterReported shape now (passed me.0) (λ _. ⊤) going) is.view leads
     (λ c r ws homes s now_is pages low. release_moves shape me now c r ws homes s now_is low number fill page
     (ap rest is.hand ∙ (rest_emptied (writing me.0).open_pages ∙ ap (λ (ps : List ℕ). emptied (drop 1 ps)) (sym pages))) phase oldest written fill_is))
 
-pub open_allowed : (shape : Shape) (slots id : ℕ) (me : Sat) (now : Writing) (number fill : ℕ)
+pub open_allowed : (shape : Shape) (slots id : ℕ) (me : SeatState) (now : Writing) (number fill : ℕ)
     → IsWriting me → Leads shape (writing me.0) now → IsTopIn now.frames (opening fill number) → fill ≡ now.opened
     → Allows (Shows shape.pages shape.size shape.start) slots id me 0 (λ _. fill + 1) (λ _. OpenReported shape now (passed me.0))
 open_allowed shape slots id me now number fill is leads phase fill_is =
@@ -348,7 +348,7 @@ body_of (slot ∷ slots) = slot.1
 pub same_body : (a b : Contents) → Some a ≡ Some b → a ≡ b
 same_body a b e = cc
 
-module _ (shape : Shape) (now : Writing) (known : ℕ) (mid : Sat) (reported : OpenReported shape now known mid) (number fill : ℕ) (phase : IsTopIn now.frames (opening fill number)) where
+module _ (shape : Shape) (now : Writing) (known : ℕ) (mid : SeatState) (reported : OpenReported shape now known mid) (number fill : ℕ) (phase : IsTopIn now.frames (opening fill number)) where
   page_is : reported.page ≡ number
   page_is = one_opening now.frames now.opened fill reported.page number reported.position phase
 
@@ -364,8 +364,8 @@ module _ (shape : Shape) (now : Writing) (known : ℕ) (mid : Sat) (reported : O
   opened_size found page at is = ap (λ (body : Contents). body.size) (same_body page reported.body (sym is ∙ opened_body found at)) ∙ reported.size_is
 
   -- the slot that is emptied goes after the others
-  pub opened_seat : (after end : Sat) → after ≡ (mid.0, (number, None) ∷ rest mid.1) → end ≡ (after.0, turned after.1) → WriterReported shape now known (λ _. ⊤) (begun_answer now.frames) end
-  opened_seat after end after_is end_is = subst (WriterReported shape now known (λ _. ⊤) (begun_answer now.frames)) (sym (end_is ∙ ap (λ (m : Sat). let seat : Sat = (m.0, turned m.1) in seat) after_is)) record {
+  pub opened_seat : (after end : SeatState) → after ≡ (mid.0, (number, None) ∷ rest mid.1) → end ≡ (after.0, turned after.1) → WriterReported shape now known (λ _. ⊤) (begun_answer now.frames) end
+  opened_seat after end after_is end_is = subst (WriterReported shape now known (λ _. ⊤) (begun_answer now.frames)) (sym (end_is ∙ ap (λ (m : SeatState). let seat : SeatState = (m.0, turned m.1) in seat) after_is)) record {
     seat = record {
       view = reported.view;
       hand = ap (λ (slots : List (ℕ × Option Contents)). rest slots ++ (number, None) ∷ []) reported.hand

@@ -13,7 +13,7 @@ use Rattle.ring_steps.specs.declared.rule.Shape.{Shape}
 use Rattle.ring_steps.specs.Made.{WriterMade, writer_made_of, reader_made_of}
 use Rattle.ring_steps.specs.Views.{writing_of, Reading, reading_after, reading}
 use Rattle.ring_steps.specs.Shown.{Homes, IsReading}
-use Rattle.ring_steps.specs.Seats.{Sat, IsSeatOfReader, IsReaderWithin, IsReaderStep, ReaderReported}
+use Rattle.ring_steps.specs.Seats.{SeatState, IsSeatOfReader, IsReaderWithin, IsReaderStep, ReaderReported}
 use Rattle.ring_steps.proofs.Made.{of_reader, reached_on, writer_same, reader_then}
 use Rattle.ring_steps.proofs.Words as words
 use Rattle.ring_steps.proofs.Allowing.{IsShownBy, ReaderMoves}
@@ -41,7 +41,7 @@ pub step_read : (shape : Shape) (before : Reading) (sees : Core → Type 0) (eve
 step_read shape before sees event answer after r =
     r.one_more ∙ reader_then shape.pages shape.size shape.start r.core event answer r.next r.reached r.step before after (of_reader event r.of_reader).0 r.made_is r.after_is
 
-module _ (shape : Shape) (me : Sat) (is : IsSeatOfReader me) (c : Core) (ws : List ℕ) (homes : Homes) (s : IsShownBy shape c (reading me.0) ws homes) where
+module _ (shape : Shape) (me : SeatState) (is : IsSeatOfReader me) (c : Core) (ws : List ℕ) (homes : Homes) (s : IsShownBy shape c (reading me.0) ws homes) where
   -- the wish is stored
   pub wish_moves : (fill : ℕ) → fill ≡ (reading me.0).reader.seen → ReaderMoves shape c (writer_made_of s.reached) me ws homes 2 (λ _. fill + 1) (λ _ after. ReaderReported shape (λ _. ⊤) wishes (wished_for (reading me.0).reader.seen) me after)
   wish_moves fill due =

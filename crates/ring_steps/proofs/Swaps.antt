@@ -29,7 +29,7 @@ use Rattle.ring_steps.specs.declared.rule.Shape.{Shape}
 use Rattle.ring_steps.specs.Made.{writer_made_of}
 use Rattle.ring_steps.specs.Views.{Reading, reading_after, reading}
 use Rattle.ring_steps.specs.Shown.{page_before, AreWords, Homes, AreHomes, Shows}
-use Rattle.ring_steps.specs.Seats.{Sat, kept_slots, IsSeatOfReader, IsReaderStep}
+use Rattle.ring_steps.specs.Seats.{SeatState, kept_slots, IsSeatOfReader, IsReaderStep}
 use Rattle.ring_steps.specs.Swapping.{HeadTaken, HeadGone, head_to_take, SwapReported}
 use Rattle.ring_steps.proofs.Allowing.{IsShownBy, ReaderMoves, reader_allows}
 use Rattle.ring_steps.proofs.Observed.{first_records}
@@ -40,7 +40,7 @@ use Rattle.ring_steps.proofs.Taking.{reading_of, reading_on, gone_on, words_on, 
 
 -- ---- one swap
 
-module _ (shape : Shape) (me : Sat) (c : Core) (ws : List ℕ) (homes : Homes) (s : IsShownBy shape c (reading me.0) ws homes) (page fill front from to : ℕ) (blank : Contents)
+module _ (shape : Shape) (me : SeatState) (c : Core) (ws : List ℕ) (homes : Homes) (s : IsShownBy shape c (reading me.0) ws homes) (page fill front from to : ℕ) (blank : Contents)
     (at : (reading me.0).reader.phase ≡ swapping page fill) (keeps_slot : (reading me.0).keeps_spare ≡ true) (hand : me.1 ≡ ((reading me.0).spare, Some blank) ∷ [])
     (sized : blank.size ≡ shape.size) (front_is : front ≡ page_before shape.pages (reading me.0).order fill) (fits : FitsWord (header_link page fill))
     (from_is : from ≡ word_of (header_link page fill)) (to_is : to ≡ word_of (normal_link (reading me.0).spare (fill + shape.pages))) where
@@ -222,10 +222,10 @@ module _ (shape : Shape) (me : Sat) (c : Core) (ws : List ℕ) (homes : Homes) (
 -- ---- what the table allows
 
 -- the reader's seat, with this page in the spare's slot
-abbrev pub laid_into : Sat → Contents → Sat
+abbrev pub laid_into : SeatState → Contents → SeatState
 laid_into me blank = (me.0, ((reading me.0).spare, Some blank) ∷ [])
 
-module _ (shape : Shape) (me mid : Sat) (page fill spare : ℕ) (blank : Contents) (is : IsSeatOfReader me) (at : (reading me.0).reader.phase ≡ swapping page fill) (keeps_slot : (reading me.0).keeps_spare ≡ true)
+module _ (shape : Shape) (me mid : SeatState) (page fill spare : ℕ) (blank : Contents) (is : IsSeatOfReader me) (at : (reading me.0).reader.phase ≡ swapping page fill) (keeps_slot : (reading me.0).keeps_spare ≡ true)
     (spare_is : spare ≡ (reading me.0).spare) (mid_is : mid ≡ (me.0, (spare, Some blank) ∷ rest me.1)) where
   pub laid_is : mid ≡ laid_into me blank
   laid_is = let alone : rest me.1 ≡ [] = ap rest (is.hand ∙ ap (λ (b : Bool). kept_slots b (reading me.0).spare) keeps_slot) in
@@ -235,20 +235,20 @@ module _ (shape : Shape) (me mid : Sat) (page fill spare : ℕ) (blank : Content
       → from ≡ word_of (header_link page fill) → to ≡ word_of (normal_link spare (fill + shape.pages))
       → Allows (Shows shape.pages shape.size shape.start) slots id mid (front + 3) (λ k. either (k == from) to k) (SwapReported shape mid (head_to_take (reading mid.0).reader.phase))
   swap_allowed slots id front from to sized front_is fits from_is to_is =
-      subst (λ (m : Sat). Allows (Shows shape.pages shape.size shape.start) slots id m (front + 3) (λ k. either (k == from) to k) (SwapReported shape m (head_to_take (reading m.0).reader.phase))) (sym laid_is)
+      subst (λ (m : SeatState). Allows (Shows shape.pages shape.size shape.start) slots id m (front + 3) (λ k. either (k == from) to k) (SwapReported shape m (head_to_take (reading m.0).reader.phase))) (sym laid_is)
       (subst (λ (head : Spot). Allows (Shows shape.pages shape.size shape.start) slots id (laid_into me blank) (front + 3) (λ k. either (k == from) to k) (SwapReported shape (laid_into me blank) head)) (sym (ap head_to_take at))
       (reader_allows shape slots id (laid_into me blank) (front + 3) (λ k. either (k == from) to k) (SwapReported shape (laid_into me blank) (spot fill page)) is.view
       (λ core ws homes s. swap_moves shape (laid_into me blank) core ws homes s page fill front from to blank at keeps_slot refl sized front_is fits from_is
       (to_is ∙ ap (λ (p : ℕ). word_of (normal_link p (fill + shape.pages))) spare_is))))
 
   -- what is known of the swap, said of the seat before
-  pub reported_before : (found : ℕ) (after : Sat) → SwapReported shape mid (head_to_take (reading mid.0).reader.phase) found after → SwapReported shape (laid_into me blank) (spot fill page) found after
+  pub reported_before : (found : ℕ) (after : SeatState) → SwapReported shape mid (head_to_take (reading mid.0).reader.phase) found after → SwapReported shape (laid_into me blank) (spot fill page) found after
   reported_before found after t = subst (λ (head : Spot). SwapReported shape (laid_into me blank) head found after) (ap head_to_take at)
-      (subst (λ (m : Sat). SwapReported shape m (head_to_take (reading m.0).reader.phase) found after) laid_is t)
+      (subst (λ (m : SeatState). SwapReported shape m (head_to_take (reading m.0).reader.phase) found after) laid_is t)
 
 -- ---- what comes out of the slot
 
-module _ (shape : Shape) (me after end : Sat) (page fill found : ℕ) (blank : Contents) (t : SwapReported shape (laid_into me blank) (spot fill page) found after) where
+module _ (shape : Shape) (me after end : SeatState) (page fill found : ℕ) (blank : Contents) (t : SwapReported shape (laid_into me blank) (spot fill page) found after) where
   -- the seat, once the page of the spare is out of its slot
   emptied_seat : (number : ℕ) → number ≡ (reading after.0).spare → rest after.1 ≡ [] → end ≡ (after.0, (number, None) ∷ rest after.1) → IsSeatOfReader end
   emptied_seat number is alone end_is = subst IsSeatOfReader (sym end_is) record {
@@ -266,7 +266,7 @@ module _ (shape : Shape) (me after end : Sat) (page fill found : ℕ) (blank : C
 
       pub taken_reported : (result : Contents) → after.1 ≡ (page, Some result) ∷ rest after.1 → HeadTaken shape (reading me.0) page fill result (reading end.0)
       taken_reported result at = let (body, hand, taken) = t.took met in
-          subst (λ (m : Sat). HeadTaken shape (reading me.0) page fill result (reading m.0)) (sym end_is)
+          subst (λ (m : SeatState). HeadTaken shape (reading me.0) page fill result (reading m.0)) (sym end_is)
           (subst (λ (b : Contents). HeadTaken shape (reading me.0) page fill b (reading after.0)) (same_body body result (ap body_of (sym hand ∙ at))) taken)
 
   module _ (unmet : found ≢ word_of (header_link page fill)) (spare : ℕ) (spare_is : spare ≡ (reading me.0).spare) where
@@ -284,4 +284,4 @@ module _ (shape : Shape) (me after end : Sat) (page fill found : ℕ) (blank : C
       missed_seat = emptied_seat spare (spare_is ∙ sym (ap (λ (r : Reading). r.spare) (t.missed unmet).1.after_is)) (ap rest still_there) end_is
 
       pub missed_reported : HeadGone shape (reading me.0) page fill (reading end.0)
-      missed_reported = subst (λ (m : Sat). HeadGone shape (reading me.0) page fill (reading m.0)) (sym end_is) (t.missed unmet).1
+      missed_reported = subst (λ (m : SeatState). HeadGone shape (reading me.0) page fill (reading m.0)) (sym end_is) (t.missed unmet).1

@@ -31,7 +31,7 @@ use Rattle.ring_steps.specs.declared.rule.Shape.{Shape}
 use Rattle.ring_steps.specs.Made.{writer_made_of}
 use Rattle.ring_steps.specs.Views.{Reading, reading_after, reading, reads}
 use Rattle.ring_steps.specs.Shown.{page_word, page_before, AreWords, Homes, AreHomes, IsReading}
-use Rattle.ring_steps.specs.Seats.{Sat, kept_slots, IsSeatOfReader}
+use Rattle.ring_steps.specs.Seats.{SeatState, kept_slots, IsSeatOfReader}
 use Rattle.ring_steps.specs.Taking.{ReadReported, SeatReported, IsWordInto}
 use Rattle.ring_steps.proofs.Made.{reached_on, writer_same, reader_then}
 use Rattle.ring_steps.proofs.Allowing.{IsShownBy, ReaderMoves}
@@ -140,7 +140,7 @@ link_fits n size start c f few k =
 
 -- ---- one step
 
-module _ (shape : Shape) (me : Sat) (c : Core) (ws : List ℕ) (homes : Homes) (s : IsShownBy shape c (reading me.0) ws homes) where
+module _ (shape : Shape) (me : SeatState) (c : Core) (ws : List ℕ) (homes : Homes) (s : IsShownBy shape c (reading me.0) ws homes) where
   pub kept : IsRingKept shape.pages shape.size shape.start c
   kept = reached_kept shape.pages shape.size shape.start c s.reached
 
@@ -157,8 +157,8 @@ module _ (shape : Shape) (me : Sat) (c : Core) (ws : List ℕ) (homes : Homes) (
   pub word_into : (page fill : ℕ) → page ≡ page_before shape.pages (reading me.0).order fill → slice_index ws (page + 3) ≡ word_of (link_into shape.pages c.links fill)
   word_into page fill is = ap (λ (p : ℕ). get_or ws (p + 3) 0) (is ∙ ap (λ (order : List ℕ). page_before shape.pages order fill) s.is_reading.order_is) ∙ s.are_words.links fill
 
-module _ (shape : Shape) (me : Sat) (c : Core) (ws : List ℕ) (homes : Homes) (s : IsShownBy shape c (reading me.0) ws homes) where
-  pub reads_on : (i : ℕ) (f : ℕ → ℕ) (reports : ℕ → Sat → Type 0) (sees : Core → Type 0) (b : Bool) (answer : model.Answer) (next : Core) (act : Act (Option Contents))
+module _ (shape : Shape) (me : SeatState) (c : Core) (ws : List ℕ) (homes : Homes) (s : IsShownBy shape c (reading me.0) ws homes) where
+  pub reads_on : (i : ℕ) (f : ℕ → ℕ) (reports : ℕ → SeatState → Type 0) (sees : Core → Type 0) (b : Bool) (answer : model.Answer) (next : Core) (act : Act (Option Contents))
       → model.Step shape.pages shape.size c model.reads answer next
       → c.head ≤ next.head
       → sees c
@@ -193,7 +193,7 @@ module _ (shape : Shape) (me : Sat) (c : Core) (ws : List ℕ) (homes : Homes) (
         };
       }
 
-module _ (shape : Shape) (me : Sat) (is : IsSeatOfReader me) (c : Core) (ws : List ℕ) (homes : Homes) (s : IsShownBy shape c (reading me.0) ws homes) where
+module _ (shape : Shape) (me : SeatState) (is : IsSeatOfReader me) (c : Core) (ws : List ℕ) (homes : Homes) (s : IsShownBy shape c (reading me.0) ws homes) where
   -- a load, and nothing else
   loads_on : (i : ℕ) (sees : ℕ → Core → Type 0) (answer : model.Answer) (reader : Reader)
       → model.Step shape.pages shape.size c model.reads answer (gone_on c reader c.spare_link)

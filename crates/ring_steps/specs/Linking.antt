@@ -6,7 +6,7 @@ use Rattle.trace_model.specs.Ring.{link_into, Core}
 use Rattle.trace_model.specs.Steps.{MayContinue, after_next, steps, going, Answer}
 use Rattle.ring_steps.specs.declared.rule.Shape.{Shape}
 use Rattle.ring_steps.specs.Views.{Writing, writing_after, writing, passed}
-use Rattle.ring_steps.specs.Seats.{Sat, IsWriting, IsWriterStep, WriterReported}
+use Rattle.ring_steps.specs.Seats.{SeatState, IsWriting, IsWriterStep, WriterReported}
 use Rattle.ring_steps.specs.Paging.{IsTopIn}
 
 -- the tail page, whose word is the link into the position of the fill to open
@@ -56,17 +56,17 @@ SeesLink shape known fill found core =
     (known ≤ core.head) × (word_of (link_into shape.pages core.links fill) ≡ found)
 
 -- what a step on that word shows
-abbrev pub LinkReported : Shape → Writing → (known fill found : ℕ) → Sat → Type 0
+abbrev pub LinkReported : Shape → Writing → (known fill found : ℕ) → SeatState → Type 0
 LinkReported shape now known fill found after =
     WriterReported shape now known (SeesLink shape known fill found) going after
 
 -- What a claim of the head shows besides: the fill that is lost for the next one is passed, by this claim or before.
-pub record ClaimReported (shape : Shape) (now : Writing) (known found : ℕ) (after : Sat) : Type 0 where
+pub record ClaimReported (shape : Shape) (now : Writing) (known found : ℕ) (after : SeatState) : Type 0 where
   pub reported : LinkReported shape now known now.opened found after
   pub lost : now.opened < passed after.0 + shape.pages
 
 -- what a load of the reader's wish shows
-pub record WishReported (shape : Shape) (now : Writing) (known found : ℕ) (after : Sat) : Type 0 where
+pub record WishReported (shape : Shape) (now : Writing) (known found : ℕ) (after : SeatState) : Type 0 where
   pub seat : IsWriting after
   pub knows : known ≤ passed after.0
   pub answer : Answer

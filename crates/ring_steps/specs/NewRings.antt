@@ -9,7 +9,7 @@ use Rattle.ring_steps.specs.declared.rule.Shape.{Shape}
 use Rattle.ring_steps.specs.declared.ends.WriterSeat.{WriterSeat}
 use Rattle.ring_steps.specs.declared.ends.ReaderSeat.{ReaderSeat}
 use Rattle.ring_steps.specs.Views.{Writing, Reading, whole}
-use Rattle.ring_steps.specs.Seats.{Sat}
+use Rattle.ring_steps.specs.Seats.{SeatState}
 use Rattle.ring_steps.specs.Ends.{writing_in, passed_in, reading_in, writer_table, reader_table}
 
 -- a ring may have this shape
@@ -76,7 +76,7 @@ abbrev pub AreFirstSlots : Shape → List (Option Contents) → Type 0
 AreFirstSlots shape slots = (length slots ≡ shape.pages + 1) × EachAt (IsFirstSlot shape) slots
 
 -- the first seat, once it has the tail's slot
-abbrev pub IsWholeSeat : Shape → Sat → Type 0
+abbrev pub IsWholeSeat : Shape → SeatState → Type 0
 IsWholeSeat shape me =
     (me.0 ≡ whole (first_writing shape) (first_reading shape))
     × (me.1 ≡ (shape.start % shape.pages, None) ∷ [])

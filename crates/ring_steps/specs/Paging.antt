@@ -8,7 +8,7 @@ use Rattle.page_image.specs.Contents.{Contents}
 use Rattle.ring_steps.specs.declared.rule.Shape.{Shape}
 use Rattle.ring_steps.specs.Made.{writer_made_of}
 use Rattle.ring_steps.specs.Views.{Writing, writing_of, writes, writing, passed}
-use Rattle.ring_steps.specs.Seats.{Sat, emptied, IsWriterStep}
+use Rattle.ring_steps.specs.Seats.{SeatState, emptied, IsWriterStep}
 
 -- the writer's part is that of a state which steps reach
 pub record IsWriterReached (shape : Shape) (w : Writing) : Type 0 where
@@ -27,7 +27,7 @@ begun_answer [] = refused no_frame
 begun_answer (frame ∷ below) = begin_answer frame.kind frame.state below
 
 -- What the store that begins a fill shows: the writer has the page at its position, of the ring's size.
-pub record OpenReported (shape : Shape) (now : Writing) (known : ℕ) (after : Sat) : Type 0 where
+pub record OpenReported (shape : Shape) (now : Writing) (known : ℕ) (after : SeatState) : Type 0 where
   pub view : after.0 ≡ writes (writing after.0) (passed after.0)
   pub knows : known ≤ passed after.0
   pub page : ℕ

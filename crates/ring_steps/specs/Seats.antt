@@ -13,9 +13,9 @@ use Rattle.ring_steps.specs.Made.{writer_made_of, reader_made_of, privately_made
 use Rattle.ring_steps.specs.Views.{Writing, writing_of, writing_after, Reading, reading_made, SeatView, writes, reads, writing, passed, reading}
 use Rattle.ring_steps.specs.Shown.{IsReading}
 
--- a seat's view, and the slots that are out with it
-abbrev pub Sat : Type 0
-Sat = Me (Option Contents) SeatView
+-- what a seat has: its view, and the slots that are out with it
+abbrev pub SeatState : Type 0
+SeatState = Me (Option Contents) SeatView
 
 -- ---- the table
 
@@ -37,7 +37,7 @@ abbrev pub emptied : List ℕ → List (ℕ × Option Contents)
 emptied pages = map (λ page. (page, None)) pages
 
 -- the writer's seat has the slots of the open pages, the oldest first, whose pages it keeps elsewhere
-pub record IsWriting (me : Sat) : Type 0 where
+pub record IsWriting (me : SeatState) : Type 0 where
   pub view : me.0 ≡ writes (writing me.0) (passed me.0)
   pub hand : me.1 ≡ emptied (writing me.0).open_pages
 
@@ -46,7 +46,7 @@ abbrev pub kept_slots : Bool → ℕ → List (ℕ × Option Contents)
 kept_slots true spare = (spare, None) ∷ []
 kept_slots false spare = []
 
-pub record IsSeatOfReader (me : Sat) : Type 0 where
+pub record IsSeatOfReader (me : SeatState) : Type 0 where
   pub view : me.0 ≡ reads (reading me.0)
   pub hand : me.1 ≡ kept_slots (reading me.0).keeps_spare (reading me.0).spare
 
@@ -79,7 +79,8 @@ pub record IsReaderStep (shape : Shape) (before : Reading) (sees : Core → Type
 
 -- what a step of the reader by which it neither takes nor gives back a slot shows of its seat: a store of the wish
 -- (those of a take: Taking)
-pub record ReaderReported (shape : Shape) (sees : Core → Type 0) (event : Event) (answer : Answer) (before after : Sat)
+pub record ReaderReported (shape : Shape) (sees : Core → Type 0) (event : Event) (answer : Answer)
+    (before after : SeatState)
     : Type 0 where
   pub seat : IsSeatOfReader after
   pub within : IsReaderWithin shape (reading after.0)
@@ -111,7 +112,7 @@ pub record IsWriterStep (shape : Shape) (before : Writing) (sees : Core → Type
 -- What each step of the writer shows of its seat; by now its part is this, and below the known number it knows all
 -- fills to be passed, as it does after the step.
 pub record WriterReported (shape : Shape) (now : Writing) (known : ℕ) (sees : Core → Type 0) (answer : Answer)
-    (after : Sat)
+    (after : SeatState)
     : Type 0 where
   pub seat : IsWriting after
   pub knows : known ≤ passed after.0

@@ -10,7 +10,7 @@ use Rattle.page_image.specs.Contents.{Contents, records_of_page}
 use Rattle.nested_writer.specs.Released.{IsWrittenPage}
 use Rattle.ring_steps.specs.declared.rule.Shape.{Shape}
 use Rattle.ring_steps.specs.Views.{Reading, reading_after, reading}
-use Rattle.ring_steps.specs.Seats.{Sat, IsReaderStep}
+use Rattle.ring_steps.specs.Seats.{SeatState, IsReaderStep}
 use Rattle.ring_steps.specs.Taking.{ReadReported}
 
 -- The swap was done: this page as this fill was the head, and what was in its slot is the fill with all that it holds,
@@ -60,7 +60,8 @@ head_to_take (swapping page fill) = spot fill page
 
 -- What the compare and exchange shows of the seat, by the word that was found: if that was the head's, the head's
 -- page is in the slot that the seat has.
-pub record SwapReported (shape : Shape) (before : Sat) (head : Spot) (found : ℕ) (after : Sat) : Type 0 where
+pub record SwapReported (shape : Shape) (before : SeatState) (head : Spot) (found : ℕ) (after : SeatState)
+    : Type 0 where
   pub read : ReadReported shape (λ _. ⊤) true before after
   pub took : found ≡ word_of (header_link head.page head.fill)
       → (taken : Contents)

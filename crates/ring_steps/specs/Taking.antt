@@ -5,21 +5,21 @@ use Rattle.trace_model.specs.Ring.{ReaderPhase, loading_head, loading_done, stor
 use Rattle.trace_model.specs.Steps as model
 use Rattle.ring_steps.specs.declared.rule.Shape.{Shape}
 use Rattle.ring_steps.specs.Views.{Reading, reading_after, reads, reading}
-use Rattle.ring_steps.specs.Seats.{Sat, IsSeatOfReader, IsReaderWithin, IsReaderStep}
+use Rattle.ring_steps.specs.Seats.{SeatState, IsSeatOfReader, IsReaderWithin, IsReaderStep}
 
 -- A step of the reader's take, with the model's answer to it.
 abbrev pub IsReadStep : Shape → Reading → (Core → Type 0) → Reading → Type 0
 IsReadStep shape before sees after = (answer : model.Answer) × IsReaderStep shape before sees model.reads answer after
 
 -- what each step of a take shows of the seat's view, after which the reader keeps the spare's slot, or doesn't
-pub record ReadReported (shape : Shape) (sees : Core → Type 0) (keeps : Bool) (before after : Sat) : Type 0 where
+pub record ReadReported (shape : Shape) (sees : Core → Type 0) (keeps : Bool) (before after : SeatState) : Type 0 where
   pub view : after.0 ≡ reads (reading after.0)
   pub within : IsReaderWithin shape (reading after.0)
   pub keeps_is : (reading after.0).keeps_spare ≡ keeps
   pub step : IsReadStep shape (reading before.0) sees (reading after.0)
 
 -- and that it has no more slots than that
-abbrev pub SeatReported : Shape → (Core → Type 0) → Bool → Sat → Sat → Type 0
+abbrev pub SeatReported : Shape → (Core → Type 0) → Bool → SeatState → SeatState → Type 0
 SeatReported shape sees keeps before after = IsSeatOfReader after × ReadReported shape sees keeps before after
 
 -- the word of the link into the position of this fill

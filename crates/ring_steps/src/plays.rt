@@ -17,9 +17,9 @@ pub(crate) type TableSeat = Seat<Option<Page>, View>;
 /// What a step shows: of its seat before, of what it found (or stored), and of its seat after.
 pub(crate) trait StepReport {
     ghost use Rattle.std.specs.Prelude.{ℕ};
-    ghost use Rattle.ring_steps.specs.Seats.{Sat};
+    ghost use Rattle.ring_steps.specs.Seats.{SeatState};
 
-    ghost reports: { Sat → ℕ → Sat → Type 0 };
+    ghost reports: { SeatState → ℕ → SeatState → Type 0 };
 }
 
 impl StepReport for Brand {

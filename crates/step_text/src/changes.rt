@@ -57,7 +57,7 @@ fn put_spare_link_change(out: &mut Vec<u8>, old: Link, new: Link) -> Result<(), 
     put_spare_link_line(out, new)
 }
 
-/// The pages whose places are new.
+/// The positions whose pages are new.
 fn put_page_changes(out: &mut Vec<u8>, olds: &[u16], news: &[u16]) -> Result<(), NoMemory>
     ensures { OnOk result (out.new.items
         ≡ out.old.items ++ flat_map change_text (page_changes 0 olds.now news.now)) }

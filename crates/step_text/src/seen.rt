@@ -59,7 +59,7 @@ pub(crate) struct Counts {
     pub(crate) committed: u64,
 }
 
-/// What is seen of a ring beside its links and the places of its pages.
+/// What is seen of a ring beside its links and the positions of its pages.
 #[derive(Clone, Copy, Debug)]
 pub(crate) struct Parts {
     pub(crate) spare_link: Link,

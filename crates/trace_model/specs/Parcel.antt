@@ -1,5 +1,5 @@
--- A parcel: the records of a taken page under their CPU and numbers, and the numbers that are missing in
--- front of them.
+-- A parcel: the records of a taken page under their CPU and numbers, and the numbers that are missing before
+-- them.
 use Rattle.std.specs.Prelude.{◌≡◌, ℕ, ◌+◌, ◌<◌, ◌≤◌, List, Some}
 use Rattle.std.specs.List.{slice_get}
 use Rattle.trace_model.specs.Record.{Record}

@@ -133,7 +133,7 @@ impl Top {
     }
 
     /// What the frame was pushed with, if it is a record frame that tried nothing yet, for a payload of 1 to
-    /// `SHORT_LIMIT` bytes; `None` may be the answer for such a frame too.
+    /// `SHORT_LIMIT` bytes; `None` may be answered even then.
     #[inline(always)]
     pub(crate) fn waiting(&self) -> Option<Pushed>
         ensures frame { IfSome result (λ pushed. self.now
@@ -160,7 +160,7 @@ impl Top {
         None
     }
 
-    /// Whether it is a record frame whose record is reserved; `false` may stand for such a frame too.
+    /// Whether it is a record frame whose record is reserved; `false` may be answered even then.
     #[inline(always)]
     pub(crate) fn holds_record(&self) -> bool
         ensures { IsTrue result → (moment : ℕ) × (len : ℕ) × (slot : Slot) × (self.now
@@ -227,7 +227,7 @@ impl Top {
     }
 
     /// What the frame was pushed with, and what it noted, if it is a record frame whose record isn't reserved yet;
-    /// `None` may be the answer for such a frame too.
+    /// `None` may be answered even then.
     #[inline(always)]
     pub(crate) fn trying(&self) -> Option<(Pushed, Option<u64>)>
         ensures { IfSome result (λ tries. self.now

@@ -1,4 +1,4 @@
-use Rattle.ring_shared.specs.Calls.{IsWriter}
+use Rattle.tracering.specs.Rings.{IsWriter}
 use Rattle.recorder.proofs.recording.record.Given as goal
 
 abbrev pub invariant-loop-moment : goal.invariant-loop-moment

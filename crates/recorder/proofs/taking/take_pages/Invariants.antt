@@ -1,5 +1,5 @@
 use Rattle.std.specs.Prelude.{◌≡◌, length}
-use Rattle.ring_shared.specs.Takes.{IsReader}
+use Rattle.tracering.specs.Rings.{IsReader}
 use Rattle.recorder.specs.declared.TheConstants.{SIZE}
 use Rattle.recorder.proofs.taking.take_pages.Given as goal
 

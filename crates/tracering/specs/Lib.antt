@@ -1,0 +1,6 @@
+pub mod Rings
+pub mod Pages
+pub mod Parcels
+pub mod Collectors
+pub mod Streams
+pub mod Fleets

@@ -1,0 +1,2 @@
+//! Parcels: pages that were taken, shared, each under its CPU and its records' numbers.
+pub use page_numbers::{Parcel, ParcelFault};
