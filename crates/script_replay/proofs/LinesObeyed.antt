@@ -29,8 +29,7 @@ use Rattle.page_numbers.specs.Parcels.{as_parcels}
 use Rattle.script_replay.specs.declared.replaying.ReplayState.{ReplayState}
 use Rattle.replay_log.specs.LogTypes.{shown_log, shown_log_line}
 use Rattle.script_replay.specs.Value.{LaneValue}
-use Rattle.script_replay.specs.declared.lane.command.LaneCommand.{LaneCommand}
-use Rattle.script_replay.specs.LaneCommands.{command_for}
+use Rattle.script_replay.specs.RingCommands.{IsOfRing, cpu_of}
 use Rattle.script_replay.specs.Lanes.{IsReportedLane, HasLine}
 use Rattle.script_replay.specs.LanesByCpu.{lane_at, AreSameBut, IsLaneFrom, IsLaneAt}
 use Rattle.deliveries.specs.Deliveries.{AreRising, Adds}
@@ -127,15 +126,17 @@ module _ (script : Script) (lines : List (ℕ × Command)) (state : ReplayState)
 
 -- ---- a line of a ring
 
-module _ (script : Script) (line cpu : ℕ) (command : LaneCommand) (old new : ReplayState) (v after : LaneValue)
+module _ (script : Script) (line cpu : ℕ) (command : Command) (old new : ReplayState) (v after : LaneValue)
+    (ring : IsOfRing command)
+    (is : cpu_of command ≡ cpu)
     (limits : IsWithinLimits script)
     (low : cpu < script.cpus)
     (from : IsLaneFrom script (lane_at old.lanes.items cpu) v)
-    (has : HasLine (command_for cpu command) line cpu v old.reports after new.reports)
+    (has : HasLine command line cpu v old.reports after new.reports)
     (placed : lane_at new.lanes.items cpu ≡ Some after)
     (others : AreSameBut cpu new.lanes.items old.lanes.items)
     (collectors : new.collectors.items ≡ old.collectors.items) where
-  pub ring_leads : LeadsOn script (line, command_for cpu command) old new
+  pub ring_leads : LeadsOn script (line, command) old new
   ring_leads = λ lines part_way.
       let kept : IsWorldKept script part_way.world = world_kept script lines part_way.world limits part_way.behind in
       let (lane, at) = lane_of script part_way.world kept cpu low in
@@ -148,12 +149,12 @@ module _ (script : Script) (line cpu : ℕ) (command : LaneCommand) (old new : R
         delivered = part_way.world.delivered;
         log = part_way.world.log ++ log_of line cpu h.exchanges;
       } in
-      let runs : RunsLine script line (command_for cpu command) cpu part_way.world w = record { lane = lane; lane_is = at; exchanges = h.exchanges; next = h.after; run = h.happened; after_is = refl } in
+      let runs : RunsLine script line command cpu part_way.world w = record { lane = lane; lane_is = at; exchanges = h.exchanges; next = h.after; run = h.happened; after_is = refl } in
       let here : IsLaneAt script cpu (lane_at new.lanes.items cpu) h.after = subst (λ (p : Option LaneValue). IsLaneAt script cpu p h.after) (sym placed) h.is_lane in (
         record {
           world = w;
-          behind = behind_next script lines line (command_for cpu command) part_way.world w part_way.behind
-              (obeys_ring script line cpu command part_way.world w runs);
+          behind = behind_next script lines line command part_way.world w part_way.behind
+              (obeys_ring script line cpu command part_way.world w ring is runs);
           lanes_are = λ other next next_at. dite (ℕ_discrete other cpu)
               (λ e. subst (λ (j : ℕ). IsLaneAt script j (lane_at new.lanes.items j) next) (sym e)
               (subst (IsLaneAt script cpu (lane_at new.lanes.items cpu))
@@ -163,7 +164,7 @@ module _ (script : Script) (line cpu : ℕ) (command : LaneCommand) (old new : R
               (part_way.lanes_are other next (sym (get_set_other part_way.world.lanes cpu other h.after apart) ∙ next_at)));
           collectors_are = subst (λ (l : List (List Parcel)). AreCollected l part_way.world.delivered) (sym collectors) part_way.collectors_are;
           log_is = h.reported.log ∙ ap (λ (l : List model.LogLine). l ++ log_of line cpu h.exchanges) part_way.log_is;
-          steps_are = told_ring script lines line cpu command part_way.world w runs old.reports.steps new.reports.steps
+          steps_are = told_ring script lines line cpu command part_way.world w ring is runs old.reports.steps new.reports.steps
               h.reported.steps part_way.steps_are;
         },
         still_told script.pages script.size line cpu lane.core h.after.core h.exchanges old.reports.steps

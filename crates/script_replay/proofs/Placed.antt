@@ -9,7 +9,7 @@ use Rattle.std.proofs.lemmas.List.{length-replicate}
 use Rattle.std.proofs.lemmas.List.Elements.{All-contains, All-contains_itself, All-filter, All-map, All-replicate, Contains-get_or}
 use Rattle.trace_model.specs.Ring.{Reader}
 use Rattle.trace_model.specs.Parcel.{Parcel}
-use Rattle.text_model.specs.Script.{Script}
+use Rattle.text_model.specs.Script.{Script, Command, begin_frame, step_frame, finish_frame, write, close, step_reader, take_page, wish, deliver}
 use Rattle.text_model.specs.ScriptLimits.{IsWithinLimits, IsCommandWithin}
 use Rattle.link_marks.proofs.partition.OneNewRing.{new_ring_is_one}
 use Rattle.link_marks.proofs.partition.RingsKept.{reached_kept}
@@ -24,9 +24,7 @@ use Rattle.script_replay.specs.Lanes.{IsLane}
 use Rattle.script_replay.specs.LanesByCpu.{IsLaneFrom, IsLaneAt}
 use Rattle.deliveries.specs.Deliveries.{AreRising}
 use Rattle.script_replay.specs.Collected.{HasParcel}
-use Rattle.script_replay.specs.declared.lane.command.LaneCommand.{LaneCommand}
-use Rattle.script_replay.specs.declared.lane.command.LaneCommand.TheVariants.{Begin, Step, Finish, Write, Close, StepReader, Take, Wish}
-use Rattle.script_replay.specs.LaneCommands.{command_for}
+use Rattle.script_replay.specs.RingCommands.{IsOfRing, cpu_of}
 
 -- ---- new lanes
 
@@ -65,29 +63,38 @@ new_at script w new cpu lane at = subst (IsNewLane script.pages script.start) (g
 
 -- ---- a line of a ring
 
-pub obeys_ring : (script : Script) (line cpu : ℕ) (command : LaneCommand) (before after : World)
-    → RunsLine script line (command_for cpu command) cpu before after
-    → Obeys script line (command_for cpu command) before after
-obeys_ring script line cpu (Begin moment payload) before after r = r
-obeys_ring script line cpu (Step count) before after r = r
-obeys_ring script line cpu Finish before after r = r
-obeys_ring script line cpu (Write moment payload) before after r = r
-obeys_ring script line cpu Close before after r = r
-obeys_ring script line cpu (StepReader count) before after r = r
-obeys_ring script line cpu Take before after r = r
-obeys_ring script line cpu Wish before after r = r
+pub obeys_ring : (script : Script) (line cpu : ℕ) (command : Command) (before after : World)
+    → IsOfRing command
+    → cpu_of command ≡ cpu
+    → RunsLine script line command cpu before after
+    → Obeys script line command before after
+obeys_ring script line cpu command before after ring is r =
+    obeys command ring (subst (λ (k : ℕ). RunsLine script line command k before after) (sym is) r)
+  where
+    obeys : (command : Command)
+        → IsOfRing command
+        → RunsLine script line command (cpu_of command) before after
+        → Obeys script line command before after
+    obeys (begin_frame own moment payload) ring r = r
+    obeys (step_frame own count) ring r = r
+    obeys (finish_frame own) ring r = r
+    obeys (write own moment payload) ring r = r
+    obeys (close own) ring r = r
+    obeys (step_reader own count) ring r = r
+    obeys (take_page own) ring r = r
+    obeys (wish own) ring r = r
+    obeys (deliver collector own fill) ring r = absurd ring
 
-pub ring_within : (cpus collectors cpu : ℕ) (command : LaneCommand)
-    → IsCommandWithin cpus collectors (command_for cpu command)
-    → cpu < cpus
-ring_within cpus collectors cpu (Begin moment payload) within = within.0
-ring_within cpus collectors cpu (Step count) within = within.0
-ring_within cpus collectors cpu Finish within = within
-ring_within cpus collectors cpu (Write moment payload) within = within.0
-ring_within cpus collectors cpu Close within = within
-ring_within cpus collectors cpu (StepReader count) within = within.0
-ring_within cpus collectors cpu Take within = within
-ring_within cpus collectors cpu Wish within = within
+pub ring_within : (cpus collectors : ℕ) (command : Command) → IsCommandWithin cpus collectors command → cpu_of command < cpus
+ring_within cpus collectors (begin_frame cpu moment payload) within = within.0
+ring_within cpus collectors (step_frame cpu count) within = within.0
+ring_within cpus collectors (finish_frame cpu) within = within
+ring_within cpus collectors (write cpu moment payload) within = within.0
+ring_within cpus collectors (close cpu) within = within
+ring_within cpus collectors (step_reader cpu count) within = within.0
+ring_within cpus collectors (take_page cpu) within = within
+ring_within cpus collectors (wish cpu) within = within
+ring_within cpus collectors (deliver collector cpu fill) within = within.1
 
 -- ---- what was taken
 

@@ -11,7 +11,7 @@ use Rattle.trace_model.specs.Parcel.{Parcel}
 use Rattle.trace_model.proofs.collections.Elements.{some_is}
 use Rattle.text_model.specs.Log.{new_page, known_page, no_page, delivery_line}
 use Rattle.text_model.specs.Printing.{printed_log_line}
-use Rattle.text_model.specs.Script.{Command, deliver, Script}
+use Rattle.text_model.specs.Script.{Command, begin_frame, step_frame, finish_frame, write, close, step_reader, take_page, wish, deliver, Script}
 use Rattle.world_model.specs.Lanes.{Lane, IsNewLane}
 use Rattle.world_model.specs.World.{World, IsNewWorld, RunsLine, DeliversTaken, DeliversNothing}
 use Rattle.world_model.proofs.Lookups.{get_set_here, get_set_other}
@@ -19,9 +19,7 @@ use Rattle.collector.specs.declared.added.Added.{Added}
 use Rattle.collector.specs.declared.added.Added.TheVariants.{New, Known}
 use Rattle.step_model.specs.RunTexts.{gain_text, gains_of, delivery_step_text, tells_page, tells_none, TellsRing, TellsLine, TellsAll, trace_line, new_rings_text}
 use Rattle.step_text.specs.Known.{StepTextValue, Knows}
-use Rattle.script_replay.specs.declared.lane.command.LaneCommand.{LaneCommand}
-use Rattle.script_replay.specs.declared.lane.command.LaneCommand.TheVariants.{Begin, Step, Finish, Write, Close, StepReader, Take, Wish}
-use Rattle.script_replay.specs.LaneCommands.{command_for}
+use Rattle.script_replay.specs.RingCommands.{IsOfRing, cpu_of}
 use Rattle.script_replay.specs.Collected.{delivery_of}
 use Rattle.script_replay.specs.Reports.{AreTold, IsTextTold}
 use Rattle.script_replay.specs.Replay.{IsNewText, IsToldSoFar}
@@ -104,20 +102,31 @@ pub known_lane : (script : Script) (lines : List (ℕ × Command)) (w : World) (
 known_lane script lines w None cpu lane so_far at = tt
 known_lane script lines w (Some s) cpu lane so_far at = so_far.knows cpu lane at
 
-tells_ring : (script : Script) (line cpu : ℕ) (command : LaneCommand) (before after : World) (text : List ℕ)
-    → TellsRing script line (command_for cpu command) cpu before after text
-    → TellsLine script line (command_for cpu command) before after text
-tells_ring script line cpu (Begin moment payload) before after text t = t
-tells_ring script line cpu (Step count) before after text t = t
-tells_ring script line cpu Finish before after text t = t
-tells_ring script line cpu (Write moment payload) before after text t = t
-tells_ring script line cpu Close before after text t = t
-tells_ring script line cpu (StepReader count) before after text t = t
-tells_ring script line cpu Take before after text t = t
-tells_ring script line cpu Wish before after text t = t
+tells_ring : (script : Script) (line cpu : ℕ) (command : Command) (before after : World) (text : List ℕ)
+    → IsOfRing command
+    → cpu_of command ≡ cpu
+    → TellsRing script line command cpu before after text
+    → TellsLine script line command before after text
+tells_ring script line cpu command before after text ring is t =
+    tells command ring (subst (λ (k : ℕ). TellsRing script line command k before after text) (sym is) t)
+  where
+    tells : (command : Command)
+        → IsOfRing command
+        → TellsRing script line command (cpu_of command) before after text
+        → TellsLine script line command before after text
+    tells (begin_frame own moment payload) ring t = t
+    tells (step_frame own count) ring t = t
+    tells (finish_frame own) ring t = t
+    tells (write own moment payload) ring t = t
+    tells (close own) ring t = t
+    tells (step_reader own count) ring t = t
+    tells (take_page own) ring t = t
+    tells (wish own) ring t = t
+    tells (deliver collector own fill) ring t = absurd ring
 
-module _ (script : Script) (lines : List (ℕ × Command)) (line cpu : ℕ) (command : LaneCommand) (w after : World)
-    (runs : RunsLine script line (command_for cpu command) cpu w after) where
+module _ (script : Script) (lines : List (ℕ × Command)) (line cpu : ℕ) (command : Command) (w after : World)
+    (ring : IsOfRing command) (is : cpu_of command ≡ cpu)
+    (runs : RunsLine script line command cpu w after) where
   lanes_known : (old new : StepTextValue)
       → ((other : ℕ) → other ≢ cpu → slice_get new.rings other ≡ slice_get old.rings other)
       → Knows new cpu runs.next.core
@@ -140,13 +149,13 @@ module _ (script : Script) (lines : List (ℕ × Command)) (line cpu : ℕ) (com
   pub told_ring : (old new : Option StepTextValue)
       → AreTold script.pages script.size line cpu runs.lane.core runs.exchanges runs.next.core old new
       → IfSome old (λ s. IsToldSoFar script lines w s)
-      → IfSome new (λ s. IsToldSoFar script (lines ++ (line, command_for cpu command) ∷ []) after s)
+      → IfSome new (λ s. IsToldSoFar script (lines ++ (line, command) ∷ []) after s)
   told_ring None None told so_far = tt
   told_ring None (Some new) told so_far = absurd told
   told_ring (Some old) None told so_far = absurd told
   told_ring (Some old) (Some new) told so_far =
-      so_far_more script lines line (command_for cpu command) w after told.text old new so_far
-      (tells_ring script line cpu command w after told.text record { runs = runs; tells = told.tells })
+      so_far_more script lines line command w after told.text old new so_far
+      (tells_ring script line cpu command w after told.text ring is record { runs = runs; tells = told.tells })
       told.text_is
       (lanes_known old new told.others told.knows so_far.knows)
 

@@ -1,6 +1,6 @@
 pub mod Value
 pub mod Reports
-pub mod LaneCommands
+pub mod RingCommands
 pub mod Lanes
 pub mod Frames
 pub mod Takes

@@ -4,7 +4,6 @@ mod frames;
 mod pushes;
 mod reader;
 
-pub(crate) use command::LaneCommand;
 use page_image::Body;
 use page_numbers::Parcel;
 use ring_core::Core;

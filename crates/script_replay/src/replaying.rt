@@ -7,20 +7,20 @@ ghost use Rattle.text_model.specs.Script.{deliver as delivers};
 ghost use Rattle.text_model.specs.ScriptLimits.{IsWithinLimits};
 ghost use Rattle.trace_script.specs.ScriptTypes.{shown_command, shown_line};
 ghost use Rattle.replay_log.specs.LogTypes.{shown_log_line};
-ghost use Rattle.script_replay.specs.LaneCommands.{command_for};
+ghost use Rattle.script_replay.specs.RingCommands.{IsOfRing, cpu_of};
 ghost use Rattle.script_replay.specs.Collected.{delivery_of};
 ghost use Rattle.step_model.specs.RunTexts.{IsStepText};
 ghost use Rattle.script_replay.specs.Replay.{IsStateAfter, IsReady, LeadsOn, IsHeadline};
 ghost use Rattle.trace_script.specs.declared.replay_fault.ReplayFault.TheVariants.{NoMemory as no_memory};
 
 use crate::delivery::taken_page;
-use crate::lane::{Lane, LaneCommand};
+use crate::lane::Lane;
 use crate::lanes::make_lane;
 use crate::reports::Reports;
 use crate::world::World;
 use collector::{Added, Collector};
 use deliveries::collect;
-use replay_log::{At, LogLine};
+use replay_log::LogLine;
 use std::alloc::Global;
 use step_text::StepText;
 use trace_model::{CpuId, FillNo, NoMemory};
@@ -34,7 +34,7 @@ pub(crate) struct ReplayState<'a> {
     reports: Reports,
 }
 
-/// Obeys a line of the ring of this CPU.
+/// Obeys a line of the ring of this CPU, which is the command's.
 #[inline(always)]
 fn obey_ring<'a>(
     alloc: Global,
@@ -42,14 +42,16 @@ fn obey_ring<'a>(
     state: &mut ReplayState<'a>,
     line: u64,
     cpu: CpuId,
-    command: LaneCommand<'a>,
+    command: Command<'a>,
 ) -> Result<(), NoMemory>
-    requires { IsReady script.now (command_for cpu.0 command) state.old }
-    ensures { OnOk result (LeadsOn script.now (line, command_for cpu.0 command.entry) state.old state.new) }
+    requires ready { IsReady script.now (shown_command command) state.old }
+    requires ring { IsOfRing (shown_command command) }
+    requires cpu { cpu_of (shown_command command) ≡ cpu.0 }
+    ensures { OnOk result (LeadsOn script.now (line, shown_command command.entry) state.old state.new) }
 {
     make_lane(alloc, script, &mut state.lanes, cpu)?;
     match &mut state.lanes[cpu.0 as usize] {
-        Some(lane) => lane.obey(alloc, At { line, cpu }, command, &mut state.reports),
+        Some(lane) => lane.obey(alloc, line, command, &mut state.reports),
         None => unreachable!(),
     }
 }
@@ -117,64 +119,21 @@ fn obey<'a>(
     requires { IsReady script.now (shown_command line.command) state.old }
     ensures { OnOk result (LeadsOn script.now (shown_line line.entry) state.old state.new) }
 {
-    let number = line.number;
-    match line.command {
+    let ScriptLine { number, command } = line;
+    match command {
         Command::Deliver {
             collector,
             cpu,
             fill,
         } => deliver(state, number, collector, cpu, fill),
-        Command::Begin {
-            cpu,
-            moment,
-            payload,
-        } => obey_ring(
-            alloc,
-            script,
-            state,
-            number,
-            cpu,
-            LaneCommand::Begin(moment, payload),
-        ),
-        Command::Step { cpu, count } => obey_ring(
-            alloc,
-            script,
-            state,
-            number,
-            cpu,
-            LaneCommand::Step(count),
-        ),
-        Command::Finish { cpu } => obey_ring(
-            alloc,
-            script,
-            state,
-            number,
-            cpu,
-            LaneCommand::Finish,
-        ),
-        Command::Write {
-            cpu,
-            moment,
-            payload,
-        } => obey_ring(
-            alloc,
-            script,
-            state,
-            number,
-            cpu,
-            LaneCommand::Write(moment, payload),
-        ),
-        Command::Close { cpu } => obey_ring(alloc, script, state, number, cpu, LaneCommand::Close),
-        Command::StepReader { cpu, count } => obey_ring(
-            alloc,
-            script,
-            state,
-            number,
-            cpu,
-            LaneCommand::StepReader(count),
-        ),
-        Command::Take { cpu } => obey_ring(alloc, script, state, number, cpu, LaneCommand::Take),
-        Command::Wish { cpu } => obey_ring(alloc, script, state, number, cpu, LaneCommand::Wish),
+        Command::Begin { cpu, .. } => obey_ring(alloc, script, state, number, cpu, command),
+        Command::Step { cpu, .. } => obey_ring(alloc, script, state, number, cpu, command),
+        Command::Finish { cpu } => obey_ring(alloc, script, state, number, cpu, command),
+        Command::Write { cpu, .. } => obey_ring(alloc, script, state, number, cpu, command),
+        Command::Close { cpu } => obey_ring(alloc, script, state, number, cpu, command),
+        Command::StepReader { cpu, .. } => obey_ring(alloc, script, state, number, cpu, command),
+        Command::Take { cpu } => obey_ring(alloc, script, state, number, cpu, command),
+        Command::Wish { cpu } => obey_ring(alloc, script, state, number, cpu, command),
     }
 }
 

@@ -6,4 +6,3 @@ pub mod KeptLemmas
 pub mod OrderLemmas
 pub mod UsualLemmas
 pub mod ScriptLemmas
-pub mod ShortLineLemmas

@@ -15,10 +15,9 @@ use Rattle.text_model.specs.Script.{Command, begin_frame, step_frame, finish_fra
 use Rattle.text_model.proofs.Readings.{bind_ok, ok_is_no_err, chosen}
 use Rattle.text_model.proofs.CommandTable.{command_spelled}
 use Rattle.trace_script.specs.declared.fault.LineFault as line
-use Rattle.trace_script.specs.declared.order.Order.{Order}
 use Rattle.trace_script.specs.declared.fields.Fields.{Fields}
 use Rattle.trace_script.specs.declared.fields.Fields.TheVariants.{One, Two, Three, More}
-use Rattle.trace_script.specs.Kept.{shown_order}
+use Rattle.trace_script.specs.Kept.{Asked, shown}
 use Rattle.trace_script.specs.ScriptFaults.{Fails}
 use Rattle.trace_script.specs.ScriptFields.{fields_seen, AreFields, HasNoFifth}
 use Rattle.trace_script.proofs.TextParts.{parts_behind, one_part}
@@ -151,11 +150,11 @@ stands cpus collectors text (More a b d rest) command are solid h =
     let alone : fields_of rest.now ≡ rest.now ∷ [] = slice_split_none (λ b. b == 32) rest.now solid.1.1.1.0.solid in
     command_in_form cpus collectors text (a.now ∷ b.now ∷ d.now ∷ rest.now ∷ []) (are ∙ ap (λ (fs : List (List ℕ)). a.now ∷ b.now ∷ d.now ∷ fs) alone) (solid_spaced (a.now ∷ b.now ∷ d.now ∷ rest.now ∷ []) solid) ∙ h
 
-pub order_stands : (cpus collectors : ℕ) (text : List ℕ) (fields : Fields) (order : Order) (old new : List ℕ) → AreFields fields (fields_of text)
-    → (payload : List ℕ) × (new ≡ old ++ payload) × (command_of cpus collectors (fields_seen fields) ≡ Ok (shown_order payload order))
-    → (payload : List ℕ) × (new ≡ old ++ payload) × (command_in cpus collectors text ≡ Ok (shown_order payload order))
+pub order_stands : (cpus collectors : ℕ) (text : List ℕ) (fields : Fields) (order : Asked) (old new : List ℕ) → AreFields fields (fields_of text)
+    → (payload : List ℕ) × (new ≡ old ++ payload) × (command_of cpus collectors (fields_seen fields) ≡ Ok (shown payload order))
+    → (payload : List ℕ) × (new ≡ old ++ payload) × (command_in cpus collectors text ≡ Ok (shown payload order))
 order_stands cpus collectors text fields order old new are puts =
-    let command = shown_order puts.0 order in
+    let command = shown puts.0 order in
     let solid = spelled_solid cpus collectors command (fields_seen fields) (command_spelled cpus collectors (fields_seen fields) command puts.2) in
     (puts.0, puts.1, stands cpus collectors text fields command are solid puts.2)
 

@@ -13,9 +13,10 @@ use Rattle.text_model.specs.Script.{Command, begin_frame, step_frame, finish_fra
 use Rattle.text_model.specs.declared.script_limits.TheConstants.{MIN_LINE_STEPS, MAX_LINE_STEPS}
 use Rattle.text_model.proofs.CommandTable.{spelled_command}
 use Rattle.text_model.proofs.Readings.{ok_is_no_err, chosen}
+use Rattle.trace_script.specs.declared.kept.Kind.{Kind}
 use Rattle.trace_script.specs.declared.usual.UsualLine.{UsualLine}
 use Rattle.trace_script.specs.declared.values.NumberCut.{NumberCut}
-use Rattle.trace_script.specs.Kept.{shown_order, PutsNext}
+use Rattle.trace_script.specs.Kept.{Asked, command_shown, shown, PutsNext}
 use Rattle.trace_script.specs.UsualLines.{IsCpuCut, BeginsWith, BeginsBehindCpu, IsUsual, IsUsualBehindCpu}
 use Rattle.trace_script.proofs.OrderLemmas.{AreSolid, spelled_solid, solid_spaced, command_in_form}
 use Rattle.trace_script.proofs.TextParts.{first_line, significant_turn}
@@ -76,6 +77,16 @@ begins_with cpus collectors text rest command fields spells are =
       shorter = omega (arith, ap (λ (bs : List ℕ). length bs) are, length-append (line_of fields) (10 ∷ rest));
     }
 
+-- the same of what was asked
+pub begins_asked : (cpus collectors : ℕ) (text rest bytes : List ℕ) (kind : Kind) (cpu value : ℕ) (order : Asked) (fields : List (List ℕ))
+    → order ≡ record { kind = kind; cpu = cpu; above = tt; end = tt; value = value }
+    → SpellsCommand cpus collectors (command_shown kind cpu value bytes) fields
+    → text ≡ line_of fields ++ 10 ∷ rest
+    → BeginsWith cpus collectors text rest (shown bytes order)
+begins_asked cpus collectors text rest bytes kind cpu value order fields is spells are =
+    subst (λ (o : Asked). BeginsWith cpus collectors text rest (shown bytes o)) (sym is)
+    (begins_with cpus collectors text rest (command_shown kind cpu value bytes) fields spells are)
+
 -- ---- the fields of a text, after the name of a CPU
 pub count_read : (field : List ℕ) (n : ℕ) → decimal_in field ≡ Ok n → MIN_LINE_STEPS ≤ n → n ≤ MAX_LINE_STEPS → count_in field ≡ Ok n
 unfolding count_in
@@ -101,13 +112,13 @@ delivery_joined k x f text given named filled rest is given_is named_is filled_i
 
 -- ---- a line after the name of a CPU
 pub steps_behind : (cpu : ℕ) (text front old : List ℕ) (o : Option UsualLine)
-    → IfSome o (λ line. (cpus collectors : ℕ) → BeginsBehindCpu cpus collectors cpu front line.rest.now (shown_order [] line.order)) → text ≡ front
+    → IfSome o (λ line. (cpus collectors : ℕ) → BeginsBehindCpu cpus collectors cpu front line.rest.now (shown [] line.order)) → text ≡ front
     → MatchOption o (old ≡ old) (λ line. (cpus collectors : ℕ) → IsUsualBehindCpu cpus collectors cpu text old old line)
 steps_behind cpu text front old None h is = refl
 steps_behind cpu text front old (Some line) h is = λ cpus collectors. (
   [],
   sym (append-nil old),
-  subst (λ (t : List ℕ). BeginsBehindCpu cpus collectors cpu t line.rest.now (shown_order [] line.order)) (sym is) (h cpus collectors),
+  subst (λ (t : List ℕ). BeginsBehindCpu cpus collectors cpu t line.rest.now (shown [] line.order)) (sym is) (h cpus collectors),
 )
 
 pub record_behind : (cpu : ℕ) (text front old new : List ℕ) (o : Option UsualLine)
@@ -125,7 +136,7 @@ usual_of_cpu cpus collectors text old new cpu (Some line) cut h =
     let behind = h cpus collectors in (
       behind.0,
       behind.1,
-      subst (λ (t : List ℕ). BeginsWith cpus collectors t line.rest.now (shown_order behind.0 line.order)) (sym cut.are) (behind.2 cut.field cut.spells),
+      subst (λ (t : List ℕ). BeginsWith cpus collectors t line.rest.now (shown behind.0 line.order)) (sym cut.are) (behind.2 cut.field cut.spells),
     )
 
 -- ---- a usual line is the next one

@@ -1,46 +1,62 @@
--- The commands of a script as they are kept: an order each, and the payloads one after the other.
-use Rattle.std.specs.Prelude.{◌≡◌, ℕ, zero, suc, ◌-◌, ◌<◌, ◌≤◌, ⊤, List, [], ◌∷◌, ◌++◌, length, take, drop, Option, Some, None, Result, Ok, Err}
+-- The commands of a script as they are kept: their numbers each, and their bytes one after the other.
+use Rattle.std.specs.Prelude.{◌≡◌, ℕ, zero, suc, ◌+◌, ◌-◌, ◌^◌, ◌<◌, ◌≤◌, ⊤, List, [], ◌∷◌, ◌++◌, length, take, drop, Option, Some, None, Result, Ok, Err}
 use Rattle.text_model.specs.ScriptLines as text
 use Rattle.text_model.specs.ScriptLines.{NumberedLine}
 use Rattle.text_model.specs.HeaderReading.{numbered_reading}
 use Rattle.text_model.specs.Script as model
 use Rattle.text_model.specs.Script.{command_in, SpellCommands, begin_frame, step_frame, finish_frame, write, close, step_reader, take_page, wish, deliver}
 use Rattle.trace_script.specs.declared.fault.LineFault.{LineFault}
-use Rattle.trace_script.specs.declared.order.Order.{Order}
-use Rattle.trace_script.specs.declared.order.Order.TheVariants.{Begin, Step, Finish, Write, Close, StepReader, Take, Wish, Deliver}
+use Rattle.trace_script.specs.declared.kept.Kind.{Kind}
+use Rattle.trace_script.specs.declared.kept.Kind.TheVariants.{Begin, Step, Finish, Write, Close, StepReader, Take, Wish, Deliver}
 use Rattle.trace_script.specs.declared.kept.KeptLine.{KeptLine}
 use Rattle.trace_script.specs.declared.fault.ScriptFault.{ScriptFault}
 use Rattle.trace_script.specs.ScriptFaults.{Fails, FailsAtLine}
 
--- the command of an order, with these bytes as its payload, if it has one
-abbrev pub shown_order : List ℕ → Order → model.Command
-shown_order payload (Begin cpu moment) = begin_frame cpu.0 moment.0 payload
-shown_order payload (Step cpu count) = step_frame cpu.0 count
-shown_order payload (Finish cpu) = finish_frame cpu.0
-shown_order payload (Write cpu moment) = write cpu.0 moment.0 payload
-shown_order payload (Close cpu) = close cpu.0
-shown_order payload (StepReader cpu count) = step_reader cpu.0 count
-shown_order payload (Take cpu) = take_page cpu.0
-shown_order payload (Wish cpu) = wish cpu.0
-shown_order payload (Deliver collector cpu fill) = deliver collector cpu.0 fill.0
+-- a command that was read, and has no place yet; and a kept one
+abbrev pub Asked : Type 0
+Asked = KeptLine ℕ (Unit {0}) (Unit {0})
+
+abbrev pub Kept : Type 0
+Kept = KeptLine ℕ ℕ ℕ
+
+abbrev pub first_or_zero : List ℕ → ℕ
+first_or_zero [] = 0
+first_or_zero (byte ∷ bytes) = byte
+
+-- the command of this kind, CPU and value, with these bytes as its payload, or of which the first is its collector
+abbrev pub command_shown : Kind → (cpu value : ℕ) → List ℕ → model.Command
+command_shown Begin cpu value bytes = begin_frame cpu value bytes
+command_shown Step cpu value bytes = step_frame cpu value
+command_shown Finish cpu value bytes = finish_frame cpu
+command_shown Write cpu value bytes = write cpu value bytes
+command_shown Close cpu value bytes = close cpu
+command_shown StepReader cpu value bytes = step_reader cpu value
+command_shown Take cpu value bytes = take_page cpu
+command_shown Wish cpu value bytes = wish cpu
+command_shown Deliver cpu value bytes = deliver (first_or_zero bytes) cpu value
+
+-- the command of a line, with these bytes
+abbrev pub shown : {A E : Type 0} → List ℕ → KeptLine ℕ A E → model.Command
+shown bytes line = command_shown line.kind line.cpu line.value bytes
 
 -- the bytes from one place to another
 abbrev pub part : List ℕ → ℕ → ℕ → List ℕ
 part bytes start end = take (end - start) (drop start bytes)
 
--- The commands of kept lines, if the first one's payload begins at start among these bytes.
-abbrev pub commands_kept : List ℕ → ℕ → List KeptLine → List (ℕ × model.Command)
-commands_kept bytes start [] = []
-commands_kept bytes start (line ∷ lines) =
-    (line.number, shown_order (part bytes start line.end) line.order) ∷ commands_kept bytes line.end lines
+-- The commands of kept lines, the first of which has this index and its bytes from start on among these bytes.
+abbrev pub commands_kept : List ℕ → (index start : ℕ) → List Kept → List (ℕ × model.Command)
+commands_kept bytes index start [] = []
+commands_kept bytes index start (line ∷ lines) =
+    (index + line.above, shown (part bytes start line.end) line) ∷ commands_kept bytes (suc index) line.end lines
 
--- Each payload ends at or after its start, and the last one ends at len.
-abbrev pub AreKept : ℕ → ℕ → List KeptLine → Type 0
-AreKept start len [] = start ≡ len
-AreKept start len (line ∷ lines) = (start ≤ line.end) × AreKept line.end len lines
+-- Each line's bytes end at or after their start, the last one's end at len, and the lines' numbers have 64 bits.
+abbrev pub AreKept : (index start len : ℕ) → List Kept → Type 0
+AreKept index start len [] = start ≡ len
+AreKept index start len (line ∷ lines) =
+    (start ≤ line.end) × (index + line.above < 2 ^ 64) × AreKept (suc index) line.end len lines
 
--- where the payload of the line at an index begins, if that of the first one does so at start
-abbrev pub start_of : ℕ → List KeptLine → ℕ → ℕ
+-- where the bytes of the line at an index begin, if those of the first one do so at start
+abbrev pub start_of : ℕ → List Kept → ℕ → ℕ
 start_of start lines zero = start
 start_of start [] (suc i) = start
 start_of start (line ∷ lines) (suc i) = start_of line.end lines i
@@ -52,20 +68,20 @@ PutsPayload (Ok _) old new read = (payload : List ℕ) × (new ≡ old ++ payloa
 PutsPayload (Err fault) old new read = Fails fault read
 
 -- the same of a whole command
-abbrev pub PutsCommand : Result Order LineFault → List ℕ → List ℕ → Result model.Command text.LineFault → Type 0
+abbrev pub PutsCommand : Result Asked LineFault → List ℕ → List ℕ → Result model.Command text.LineFault → Type 0
 PutsCommand (Ok order) old new read =
-    (payload : List ℕ) × (new ≡ old ++ payload) × (read ≡ Ok (shown_order payload order))
+    (payload : List ℕ) × (new ≡ old ++ payload) × (read ≡ Ok (shown payload order))
 PutsCommand (Err fault) old new read = Fails fault read
 
 -- the same, with the number of the line
-abbrev pub PutsCommandAt : Result Order ScriptFault → List ℕ → List ℕ
+abbrev pub PutsCommandAt : Result Asked ScriptFault → List ℕ → List ℕ
     → Result model.Command (ℕ × text.LineFault) → Type 0
 PutsCommandAt (Ok order) old new read =
-    (payload : List ℕ) × (new ≡ old ++ payload) × (read ≡ Ok (shown_order payload order))
+    (payload : List ℕ) × (new ≡ old ++ payload) × (read ≡ Ok (shown payload order))
 PutsCommandAt (Err fault) old new read = FailsAtLine fault read
 
 -- the same of the first of these lines, if there is one, with its number and the lines after it
-abbrev pub PutsNext : ℕ → ℕ → Result (Option Order) ScriptFault → List ℕ → List ℕ
+abbrev pub PutsNext : ℕ → ℕ → Result (Option Asked) ScriptFault → List ℕ → List ℕ
     → List NumberedLine → ℕ → List NumberedLine → Type 0
 PutsNext cpus collectors (Ok None) old new lines number behind = (lines ≡ []) × (new ≡ old)
 PutsNext cpus collectors (Ok (Some order)) old new lines number behind = (line : List ℕ)
@@ -89,7 +105,7 @@ BeginAsCommands cpus collectors lines = (commands : List (ℕ × model.Command))
     × ReadAs cpus collectors lines commands behind
     × (0 < length commands)
 
--- a command that was read leaves less than there was
-abbrev pub LeavesLess : Result (Option Order) ScriptFault → ℕ → ℕ → Type 0
-LeavesLess (Ok (Some order)) old new = new < old
-LeavesLess _ old new = ⊤
+-- this holds, if a command was read
+abbrev pub IfNext : Result (Option Asked) ScriptFault → Type 0 → Type 0
+IfNext (Ok (Some order)) holds = holds
+IfNext _ holds = ⊤

@@ -5,7 +5,7 @@ use Rattle.text_model.specs.ScriptLines.{decimal_in, payload_in, cpu_in, is_sign
 use Rattle.text_model.specs.Script.{Command, command_in}
 use Rattle.trace_script.specs.declared.values.NumberCut.{NumberCut}
 use Rattle.trace_script.specs.declared.usual.UsualLine.{UsualLine}
-use Rattle.trace_script.specs.Kept.{shown_order}
+use Rattle.trace_script.specs.Kept.{shown}
 
 -- the text begins with a field that spells this number; the byte end follows it, then the rest
 pub record IsNumberCut (text : List ℕ) (end : ℕ) (cut : NumberCut) : Type 0 where
@@ -45,10 +45,10 @@ BeginsBehindCpu cpus collectors cpu text rest command = (field : List ℕ) → c
 abbrev pub IsUsual : ℕ → ℕ → (text old new : List ℕ) → UsualLine → Type 0
 IsUsual cpus collectors text old new line = (payload : List ℕ)
     × (new ≡ old ++ payload)
-    × BeginsWith cpus collectors text line.rest.now (shown_order payload line.order)
+    × BeginsWith cpus collectors text line.rest.now (shown payload line.order)
 
 -- the same after the name of a CPU and a space
 abbrev pub IsUsualBehindCpu : ℕ → ℕ → ℕ → (text old new : List ℕ) → UsualLine → Type 0
 IsUsualBehindCpu cpus collectors cpu text old new line = (payload : List ℕ)
     × (new ≡ old ++ payload)
-    × BeginsBehindCpu cpus collectors cpu text line.rest.now (shown_order payload line.order)
+    × BeginsBehindCpu cpus collectors cpu text line.rest.now (shown payload line.order)

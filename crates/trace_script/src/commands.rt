@@ -4,6 +4,7 @@ ghost use Rattle.std.specs.Prelude.{◌≡◌, ◌≤◌, length};
 ghost use Rattle.trace_script.specs.Kept.{part};
 
 use crate::command::ScriptLine;
+use crate::kept::lent;
 use crate::kept_lines::KeptLines;
 use std::fmt;
 use std::marker::Model;
@@ -31,9 +32,9 @@ impl Model for Commands {
 
     ghost Value = { List (ℕ × CommandSeen) };
 
-    ghost view = { λ c. commands_kept c.payloads.items 0 c.lines };
+    ghost view = { λ c. commands_kept c.payloads.items 0 0 c.lines };
 
-    ghost invariant = { λ c. AreKept 0 (length c.payloads.items) c.lines };
+    ghost invariant = { λ c. AreKept 0 0 (length c.payloads.items) c.lines };
 }
 
 impl Commands {
@@ -43,8 +44,8 @@ impl Commands {
 
     /// The commands of these lines, whose payloads are these bytes.
     pub(crate) fn of(lines: KeptLines, payloads: Vec<u8>) -> Commands
-        requires { AreKept 0 (length payloads.items) lines }
-        ensures { result ≡ commands_kept payloads.items 0 lines }
+        requires { AreKept 0 0 (length payloads.items) lines }
+        ensures { result ≡ commands_kept payloads.items 0 0 lines }
     {
         Commands { lines, payloads }
     }
@@ -70,10 +71,10 @@ impl Commands {
     {
         let line = self.lines.line(index);
         let start = self.lines.start(index);
-        let payload = part_of(self.payloads.as_slice(), start, line.end);
+        let bytes = part_of(self.payloads.as_slice(), start, line.end);
         ScriptLine {
-            number: line.number,
-            command: line.order.with_payload(payload),
+            number: index as u64 + line.above,
+            command: lent(line, bytes),
         }
     }
 }

@@ -26,7 +26,7 @@ pub(crate) struct Header {
     /// How many CPUs there are.
     pub(crate) cpus: u32,
     /// How many collectors there are, at most 16.
-    pub(crate) collectors: u16,
+    pub(crate) collectors: u8,
 }
 
 /// A line of the header, or the start line after it.
@@ -181,7 +181,7 @@ pub(crate) fn read_header(lines: &mut Lines) -> Result<Header, ScriptFault>
         pages: pages as usize,
         size: size as usize,
         cpus: cpus as u32,
-        collectors: collectors as u16,
+        collectors: collectors as u8,
     })
 }
 

@@ -1,14 +1,152 @@
 //! A command of a script as it is kept.
+ghost use Rattle.std.specs.Prelude.{◌≡◌, IfSome};
+ghost use Rattle.trace_script.specs.Kept.{first_or_zero, shown};
+ghost use Rattle.trace_script.specs.ScriptTypes.{shown_command};
 
-use crate::order::Order;
+use crate::command::Command;
+use std::mem::size_of;
+use trace_model::{CpuId, FillNo, Moment};
 
-/// A command as it is kept, without its payload.
+/// What a line asks for.
 #[derive(Clone, Copy)]
-pub(crate) struct KeptLine {
-    /// The number of its line among all lines of the text, from 1.
-    pub(crate) number: u64,
-    /// Where its payload ends among the bytes of all payloads. It begins where that of the command before ends.
-    pub(crate) end: usize,
+pub(crate) enum Kind {
+    Begin,
+    Step,
+    Finish,
+    Write,
+    Close,
+    StepReader,
+    Take,
+    Wish,
+    Deliver,
+}
+
+/// A command as it is kept, in numbers of some widths. The bytes of its payload are kept elsewhere. A delivery has one
+/// such byte: its collector's number.
+#[derive(Clone, Copy)]
+pub(crate) struct KeptLine<C, A, E> {
     /// What it asks for.
-    pub(crate) order: Order,
+    pub(crate) kind: Kind,
+    /// Its CPU.
+    pub(crate) cpu: C,
+    /// By how much the number of its line is above its index among the commands.
+    pub(crate) above: A,
+    /// Where its bytes end among those of all commands. They begin where those of the command before end.
+    pub(crate) end: E,
+    /// Its moment, count or fill; or 0, if it has none.
+    pub(crate) value: u64,
+}
+
+/// A command that was read, and has no place among the others yet.
+pub(crate) type Asked = KeptLine<u32, (), ()>;
+/// A command in 16 bytes.
+pub(crate) type Narrow = KeptLine<u8, u16, u32>;
+/// A command whose numbers may be as large as any.
+pub(crate) type Wide = KeptLine<u32, u64, usize>;
+
+// A script of many lines takes this much for each.
+const _: () = prove!(size_of::<Narrow>() == 16);
+
+/// What a line asks for, of these numbers.
+#[inline(always)]
+pub(crate) fn asked(kind: Kind, cpu: CpuId, value: u64) -> Asked
+    ensures { result ≡ record { kind = kind; cpu = cpu.0; above = tt; end = tt; value = value } }
+{
+    KeptLine {
+        kind,
+        cpu: cpu.0,
+        above: (),
+        end: (),
+        value,
+    }
+}
+
+/// A command at its place.
+#[inline(always)]
+pub(crate) fn placed(line: Asked, above: u64, end: usize) -> Wide
+    ensures { result ≡ record { kind = line.kind; cpu = line.cpu; above = above; end = end; value = line.value } }
+{
+    KeptLine {
+        kind: line.kind,
+        cpu: line.cpu,
+        above,
+        end,
+        value: line.value,
+    }
+}
+
+/// The command in 16 bytes, if its numbers fit.
+#[inline(always)]
+pub(crate) fn narrowed(line: Wide) -> Option<Narrow>
+    ensures { IfSome result (λ narrow. narrow ≡ line) }
+{
+    if line.cpu > u32::from(u8::MAX)
+        || line.above > u64::from(u16::MAX)
+        || line.end > u32::MAX as usize
+    {
+        return None;
+    }
+    Some(KeptLine {
+        kind: line.kind,
+        cpu: line.cpu as u8,
+        above: line.above as u16,
+        end: line.end as u32,
+        value: line.value,
+    })
+}
+
+/// The same command in wide numbers.
+#[inline(always)]
+pub(crate) fn widened(line: Narrow) -> Wide
+    ensures { result ≡ line }
+{
+    KeptLine {
+        kind: line.kind,
+        cpu: u32::from(line.cpu),
+        above: u64::from(line.above),
+        end: line.end as usize,
+        value: line.value,
+    }
+}
+
+/// The first of these bytes, or 0 if there is none.
+fn first_of(bytes: &[u8]) -> u8
+    ensures { result ≡ first_or_zero bytes.now }
+{
+    match bytes {
+        [] => 0,
+        [first, ..] => *first,
+    }
+}
+
+/// The command of these bytes, as it is lent.
+#[inline(always)]
+pub(crate) fn lent(line: Wide, bytes: &[u8]) -> Command<'_>
+    ensures { shown_command result ≡ shown bytes.now line }
+{
+    let cpu = CpuId(line.cpu);
+    let value = line.value;
+    match line.kind {
+        Kind::Begin => Command::Begin {
+            cpu,
+            moment: Moment(value),
+            payload: bytes,
+        },
+        Kind::Step => Command::Step { cpu, count: value },
+        Kind::Finish => Command::Finish { cpu },
+        Kind::Write => Command::Write {
+            cpu,
+            moment: Moment(value),
+            payload: bytes,
+        },
+        Kind::Close => Command::Close { cpu },
+        Kind::StepReader => Command::StepReader { cpu, count: value },
+        Kind::Take => Command::Take { cpu },
+        Kind::Wish => Command::Wish { cpu },
+        Kind::Deliver => Command::Deliver {
+            collector: usize::from(first_of(bytes)),
+            cpu,
+            fill: FillNo(value),
+        },
+    }
 }

@@ -12,7 +12,6 @@ mod header;
 mod kept;
 mod kept_lines;
 mod lines;
-mod order;
 mod orders;
 mod payload;
 mod read;

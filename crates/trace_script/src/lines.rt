@@ -131,6 +131,7 @@ impl<'a> Lines<'a> {
         ensures end { end_line_after self.new.passed self.new.rest.now
             ≡ end_line_after self.old.passed self.old.rest.now }
         ensures number { MatchOption result ⊤ (λ line. line.number ≡ self.new.passed) }
+        ensures later { MatchOption result ⊤ (λ line. self.old.passed < self.new.passed) }
         ensures passed { MatchOption result
             (end_line_after self.new.passed self.new.rest.now ≡ self.new.passed + 1) (λ line. ⊤) }
         ensures shorter { MatchOption result ⊤ (λ line.

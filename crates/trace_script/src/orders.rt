@@ -3,62 +3,60 @@ ghost use Rattle.std.specs.Prelude.{◌≡◌, ◌≢◌, ℕ, false, [], ◌∷
 ghost use Rattle.text_model.specs.Text.{fields_of};
 ghost use Rattle.text_model.specs.Script.{command_of, command_in};
 ghost use Rattle.text_model.specs.CommandReading.{deliver_in};
-ghost use Rattle.trace_script.specs.Kept.{shown_order, PutsCommand};
+ghost use Rattle.trace_script.specs.Kept.{shown, PutsCommand};
 ghost use Rattle.trace_script.specs.ScriptFaults.{Fails, Gives};
 ghost use Rattle.trace_script.specs.ScriptFields.{AreFields, fields_seen};
 
 use crate::fault::LineFault;
 use crate::fields::{Fields, fields_of, is_letter, is_well_spaced, is_whole};
-use crate::order::Order;
+use crate::kept::{Asked, Kind, asked};
 use crate::payload::put_payload;
 use crate::values::{count_of, cpu_of, number_below, number_of};
-use trace_model::{FillNo, Moment};
 
 /// `d K cX F`
 #[tactic(auto, unfolding(text_model::specs::CommandReading::deliver_in))]
 fn deliver_in(
     cpus: u32,
-    collectors: u16,
+    collectors: u8,
     collector: &[u8],
     cpu: &[u8],
     fill: &[u8],
-) -> Result<Order, LineFault>
-    ensures gives { Gives (shown_order []) result
+    payloads: &mut Vec<u8>,
+) -> Result<Asked, LineFault>
+    ensures { PutsCommand result payloads.old.items payloads.new.items
         (deliver_in cpus collectors collector.now cpu.now fill.now) }
-    ensures never_out_of_memory { result ≢ Err LineFault.NoMemory }
 {
     let collector = number_below(u64::from(collectors), collector)?;
     let cpu = cpu_of(cpus, cpu)?;
     let fill = number_of(fill)?;
-    Ok(Order::Deliver {
-        collector: collector as u16,
-        cpu,
-        fill: FillNo(fill),
-    })
+    let Ok(()) = payloads.push(collector as u8) else {
+        return Err(LineFault::NoMemory);
+    };
+    Ok(asked(Kind::Deliver, cpu, fill))
 }
 
 /// The command of two fields.
 #[tactic(auto, unfolding(text_model::specs::Script::command_of))]
-fn order_of_two(cpus: u32, collectors: u16, first: &[u8], second: &[u8]) -> Result<Order, LineFault>
-    ensures gives { Gives (shown_order []) result
+fn order_of_two(cpus: u32, collectors: u8, first: &[u8], second: &[u8]) -> Result<Asked, LineFault>
+    ensures gives { Gives (shown []) result
         (command_of cpus collectors (first.now ∷ second.now ∷ [])) }
     ensures never_out_of_memory { result ≢ Err LineFault.NoMemory }
 {
     if is_letter(second, b'f') {
         let cpu = cpu_of(cpus, first)?;
-        return Ok(Order::Finish { cpu });
+        return Ok(asked(Kind::Finish, cpu, 0));
     }
     if is_letter(second, b'c') {
         let cpu = cpu_of(cpus, first)?;
-        return Ok(Order::Close { cpu });
+        return Ok(asked(Kind::Close, cpu, 0));
     }
     if is_letter(second, b't') {
         let cpu = cpu_of(cpus, first)?;
-        return Ok(Order::Take { cpu });
+        return Ok(asked(Kind::Take, cpu, 0));
     }
     if is_letter(second, b'a') {
         let cpu = cpu_of(cpus, first)?;
-        return Ok(Order::Wish { cpu });
+        return Ok(asked(Kind::Wish, cpu, 0));
     }
     Err(LineFault::BadLine)
 }
@@ -67,24 +65,24 @@ fn order_of_two(cpus: u32, collectors: u16, first: &[u8], second: &[u8]) -> Resu
 #[tactic(auto, unfolding(text_model::specs::Script::command_of))]
 fn order_of_three(
     cpus: u32,
-    collectors: u16,
+    collectors: u8,
     first: &[u8],
     second: &[u8],
     third: &[u8],
-) -> Result<Order, LineFault>
-    ensures gives { Gives (shown_order []) result
+) -> Result<Asked, LineFault>
+    ensures gives { Gives (shown []) result
         (command_of cpus collectors (first.now ∷ second.now ∷ third.now ∷ [])) }
     ensures never_out_of_memory { result ≢ Err LineFault.NoMemory }
 {
     if is_letter(second, b's') {
         let cpu = cpu_of(cpus, first)?;
         let count = count_of(third)?;
-        return Ok(Order::Step { cpu, count });
+        return Ok(asked(Kind::Step, cpu, count));
     }
     if is_letter(second, b'r') {
         let cpu = cpu_of(cpus, first)?;
         let count = count_of(third)?;
-        return Ok(Order::StepReader { cpu, count });
+        return Ok(asked(Kind::StepReader, cpu, count));
     }
     Err(LineFault::BadLine)
 }
@@ -100,7 +98,7 @@ fn record_of_four(
     third: &[u8],
     fourth: &[u8],
     payloads: &mut Vec<u8>,
-) -> Result<Order, LineFault>
+) -> Result<Asked, LineFault>
     requires no_delivery { bytes_eq first.now (codes "d") ≡ false }
     ensures { (collectors : ℕ) → PutsCommand result payloads.old.items payloads.new.items
         (command_of cpus collectors (first.now ∷ second.now ∷ third.now ∷ fourth.now ∷ [])) }
@@ -110,30 +108,30 @@ fn record_of_four(
         return Err(LineFault::BadLine);
     }
     let cpu = cpu_of(cpus, first)?;
-    let moment = Moment(number_of(third)?);
+    let moment = number_of(third)?;
     put_payload(payloads, fourth)?;
     if is_write {
-        return Ok(Order::Write { cpu, moment });
+        return Ok(asked(Kind::Write, cpu, moment));
     }
-    Ok(Order::Begin { cpu, moment })
+    Ok(asked(Kind::Begin, cpu, moment))
 }
 
 /// The command of four fields.
 #[tactic(auto, unfolding(text_model::specs::Script::command_of, text_model::specs::CommandReading::deliver_in))]
 fn order_of_four(
     cpus: u32,
-    collectors: u16,
+    collectors: u8,
     first: &[u8],
     second: &[u8],
     third: &[u8],
     fourth: &[u8],
     payloads: &mut Vec<u8>,
-) -> Result<Order, LineFault>
+) -> Result<Asked, LineFault>
     ensures { PutsCommand result payloads.old.items payloads.new.items
         (command_of cpus collectors (first.now ∷ second.now ∷ third.now ∷ fourth.now ∷ [])) }
 {
     if is_letter(first, b'd') {
-        return deliver_in(cpus, collectors, second, third, fourth);
+        return deliver_in(cpus, collectors, second, third, fourth, payloads);
     }
     record_of_four(cpus, first, second, third, fourth, payloads)
 }
@@ -141,10 +139,10 @@ fn order_of_four(
 /// The command of a line's fields, with all that follows the third one as one field.
 fn order_of(
     cpus: u32,
-    collectors: u16,
+    collectors: u8,
     fields: Fields,
     payloads: &mut Vec<u8>,
-) -> Result<Order, LineFault>
+) -> Result<Asked, LineFault>
     ensures { PutsCommand result payloads.old.items payloads.new.items
         (command_of cpus collectors (fields_seen fields.entry)) }
 {
@@ -182,10 +180,10 @@ fn fault_of(line: &[u8], fields: Fields, fault: LineFault) -> LineFault
 /// A line whose fields spell a command is of the right form, so that the form is looked at only if they don't.
 pub(crate) fn order_in(
     cpus: u32,
-    collectors: u16,
+    collectors: u8,
     line: &[u8],
     payloads: &mut Vec<u8>,
-) -> Result<Order, LineFault>
+) -> Result<Asked, LineFault>
     ensures { PutsCommand result payloads.old.items payloads.new.items
         (command_in cpus collectors line.now) }
 {

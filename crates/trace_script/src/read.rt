@@ -1,18 +1,17 @@
 //! The reader of a script's text: line by line, in one pass.
-ghost use Rattle.std.specs.Prelude.{◌≡◌, [], length, IfOk, IfErr};
+ghost use Rattle.std.specs.Prelude.{◌≡◌, ◌<◌, [], length, IfOk, IfErr};
 ghost use Rattle.text_model.specs.HeaderReading.{numbered_reading, significant_lines_after, end_line_after};
 ghost use Rattle.text_model.specs.Script.{ParsesScript, command_in};
 ghost use Rattle.text_model.specs.ScriptReading.{commands_from, script_from, script_in};
-ghost use Rattle.trace_script.specs.Kept.{PutsCommandAt, PutsNext, BeginAsCommands, LeavesLess};
+ghost use Rattle.trace_script.specs.Kept.{PutsCommandAt, PutsNext, BeginAsCommands, IfNext};
 ghost use Rattle.trace_script.specs.ScriptFaults.{GivesAt, BeginsAsScript, ReportsFirstFault};
 
 use crate::commands::Commands;
 use crate::fault::{ScriptFault, reading_at};
 use crate::header::{read_header, read_start};
-use crate::kept::KeptLine;
+use crate::kept::{Asked, placed};
 use crate::kept_lines::KeptLines;
 use crate::lines::{Lines, NumberedLine};
-use crate::order::Order;
 use crate::orders::order_in;
 use crate::script::Script;
 use crate::usual::usual_line;
@@ -22,10 +21,10 @@ use trace_model::FillNo;
 /// The command of a line, whose payload is appended to those that are there.
 fn order_at(
     cpus: u32,
-    collectors: u16,
+    collectors: u8,
     line: NumberedLine,
     payloads: &mut Vec<u8>,
-) -> Result<Order, ScriptFault>
+) -> Result<Asked, ScriptFault>
     ensures { PutsCommandAt result payloads.old.items payloads.new.items
         (numbered_reading line.entry.number (command_in cpus collectors line.entry.text.now)) }
 {
@@ -37,14 +36,15 @@ fn order_at(
 #[inline(never)]
 fn next_of_any_form(
     cpus: u32,
-    collectors: u16,
+    collectors: u8,
     lines: &mut Lines,
     payloads: &mut Vec<u8>,
-) -> Result<Option<Order>, ScriptFault>
+) -> Result<Option<Asked>, ScriptFault>
     ensures next { PutsNext cpus collectors result payloads.old.items payloads.new.items
         (significant_lines_after lines.old.passed lines.old.rest.now) lines.new.passed
         (significant_lines_after lines.new.passed lines.new.rest.now) }
-    ensures shorter { LeavesLess result (length lines.old.rest.now) (length lines.new.rest.now) }
+    ensures later { IfNext result (lines.old.passed < lines.new.passed) }
+    ensures shorter { IfNext result (length lines.new.rest.now < length lines.old.rest.now) }
 {
     let Some(line) = lines.next_significant() else {
         return Ok(None);
@@ -57,14 +57,15 @@ fn next_of_any_form(
 #[inline(always)]
 fn next_order(
     cpus: u32,
-    collectors: u16,
+    collectors: u8,
     lines: &mut Lines,
     payloads: &mut Vec<u8>,
-) -> Result<Option<Order>, ScriptFault>
+) -> Result<Option<Asked>, ScriptFault>
     ensures next { PutsNext cpus collectors result payloads.old.items payloads.new.items
         (significant_lines_after lines.old.passed lines.old.rest.now) lines.new.passed
         (significant_lines_after lines.new.passed lines.new.rest.now) }
-    ensures shorter { LeavesLess result (length lines.old.rest.now) (length lines.new.rest.now) }
+    ensures later { IfNext result (lines.old.passed < lines.new.passed) }
+    ensures shorter { IfNext result (length lines.new.rest.now < length lines.old.rest.now) }
 {
     if let Some(line) = usual_line(cpus, collectors, lines.rest, payloads) {
         lines.pass_to(line.rest);
@@ -88,7 +89,7 @@ fn room_for(alloc: Global, bytes: usize) -> Vec<u8>
 fn read_commands(
     alloc: Global,
     cpus: u32,
-    collectors: u16,
+    collectors: u8,
     lines: &mut Lines,
 ) -> Result<Commands, ScriptFault>
     ensures gives { GivesAt (λ commands. commands) result
@@ -100,11 +101,8 @@ fn read_commands(
     // Two digits spell a byte of a payload.
     let mut payloads = room_for(alloc, lines.rest.len() / 2);
     while let Some(order) = next_order(cpus, collectors, lines, &mut payloads)? {
-        let line = KeptLine {
-            number: lines.passed,
-            end: payloads.len(),
-            order,
-        };
+        let above = lines.passed - kept.len() as u64;
+        let line = placed(order, above, payloads.len());
         let Ok(()) = kept.push(line) else {
             return Err(ScriptFault::NoMemory);
         };

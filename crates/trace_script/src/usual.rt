@@ -3,64 +3,65 @@
 ghost use Rattle.std.specs.Prelude.{◌≡◌, ℕ, List, [], ◌∷◌, Ok, IfSome, MatchOption};
 ghost use Rattle.text_model.specs.ScriptLines.{decimal_in, payload_in, cpu_in};
 ghost use Rattle.text_model.specs.Script.{count_in, SpellsCommand};
-ghost use Rattle.trace_script.specs.Kept.{shown_order};
+ghost use Rattle.trace_script.specs.Kept.{command_shown, shown};
 ghost use Rattle.trace_script.specs.UsualLines.{BeginsWith, BeginsBehindCpu, IsUsual, IsUsualBehindCpu};
 
-use crate::order::Order;
+use crate::kept::{Asked, Kind, asked};
 use crate::payload::payload_cut;
 use crate::values::{cpu_cut, number_cut};
 use text_model::{MAX_LINE_STEPS, MIN_LINE_STEPS};
-use trace_model::{CpuId, FillNo, Moment};
+use trace_model::CpuId;
 
 /// What a line asks for, without its payload, and the text after the line.
 #[derive(Clone, Copy)]
 pub(crate) struct UsualLine<'a> {
     /// What it asks for.
-    pub(crate) order: Order,
+    pub(crate) order: Asked,
     /// The text after its line feed.
     pub(crate) rest: &'a [u8],
 }
 
-/// The order of a word alone with a CPU.
+/// What a word alone with a CPU asks for.
 #[inline(always)]
-fn order_alone(word: u8, cpu: CpuId) -> Option<Order>
-    ensures { IfSome result (λ order. (cpus collectors : ℕ) (x : List ℕ) → cpu_in cpus x ≡ Ok cpu.0
-        → SpellsCommand cpus collectors (shown_order [] order) (x ∷ (word ∷ []) ∷ [])) }
+fn kind_alone(word: u8) -> Option<Kind>
+    ensures { IfSome result (λ kind. (cpus collectors cpu : ℕ) (x : List ℕ) → cpu_in cpus x ≡ Ok cpu
+        → SpellsCommand cpus collectors (command_shown kind cpu 0 []) (x ∷ (word ∷ []) ∷ [])) }
 {
     match word {
-        b'f' => Some(Order::Finish { cpu }),
-        b'c' => Some(Order::Close { cpu }),
-        b't' => Some(Order::Take { cpu }),
-        b'a' => Some(Order::Wish { cpu }),
+        b'f' => Some(Kind::Finish),
+        b'c' => Some(Kind::Close),
+        b't' => Some(Kind::Take),
+        b'a' => Some(Kind::Wish),
         _ => None,
     }
 }
 
-/// The order of a word with a CPU and a number of steps.
+/// What a word with a CPU and a number of steps asks for.
 #[inline(always)]
-fn steps_order(word: u8, cpu: CpuId, count: u64) -> Option<Order>
-    ensures { IfSome result (λ order. (cpus collectors : ℕ) (x k : List ℕ) → cpu_in cpus x ≡ Ok cpu.0
+fn kind_of_steps(word: u8) -> Option<Kind>
+    ensures { IfSome result (λ kind. (cpus collectors cpu count : ℕ) (x k : List ℕ) → cpu_in cpus x ≡ Ok cpu
         → count_in k ≡ Ok count
-        → SpellsCommand cpus collectors (shown_order [] order) (x ∷ (word ∷ []) ∷ k ∷ [])) }
+        → SpellsCommand cpus collectors (command_shown kind cpu count []) (x ∷ (word ∷ []) ∷ k ∷ [])) }
 {
     match word {
-        b's' => Some(Order::Step { cpu, count }),
-        b'r' => Some(Order::StepReader { cpu, count }),
+        b's' => Some(Kind::Step),
+        b'r' => Some(Kind::StepReader),
         _ => None,
     }
 }
 
-/// The order of a word with a CPU, a moment and a payload.
+/// What a word with a CPU, a moment and a payload asks for.
 #[inline(always)]
-fn record_order(word: u8, cpu: CpuId, moment: Moment) -> Option<Order>
-    ensures { IfSome result (λ order. (cpus collectors : ℕ) (x t hex payload : List ℕ) → cpu_in cpus x ≡ Ok cpu.0
-        → decimal_in t ≡ Ok moment.0
+fn kind_of_record(word: u8) -> Option<Kind>
+    ensures { IfSome result (λ kind. (cpus collectors cpu moment : ℕ) (x t hex payload : List ℕ)
+        → cpu_in cpus x ≡ Ok cpu
+        → decimal_in t ≡ Ok moment
         → payload_in hex ≡ Ok payload
-        → SpellsCommand cpus collectors (shown_order payload order) (x ∷ (word ∷ []) ∷ t ∷ hex ∷ [])) }
+        → SpellsCommand cpus collectors (command_shown kind cpu moment payload) (x ∷ (word ∷ []) ∷ t ∷ hex ∷ [])) }
 {
     match word {
-        b'w' => Some(Order::Write { cpu, moment }),
-        b'b' => Some(Order::Begin { cpu, moment }),
+        b'w' => Some(Kind::Write),
+        b'b' => Some(Kind::Begin),
         _ => None,
     }
 }
@@ -69,15 +70,15 @@ fn record_order(word: u8, cpu: CpuId, moment: Moment) -> Option<Order>
 #[inline(always)]
 fn steps_line(word: u8, cpu: CpuId, text: &[u8]) -> Option<UsualLine<'_>>
     ensures { IfSome result (λ line. (cpus collectors : ℕ)
-        → BeginsBehindCpu cpus collectors cpu.0 (word ∷ 32 ∷ text.now) line.rest.now (shown_order [] line.order)) }
+        → BeginsBehindCpu cpus collectors cpu.0 (word ∷ 32 ∷ text.now) line.rest.now (shown [] line.order)) }
 {
     let count = number_cut(text, b'\n')?;
     if count.number < MIN_LINE_STEPS || count.number > MAX_LINE_STEPS {
         return None;
     }
-    let order = steps_order(word, cpu, count.number)?;
+    let kind = kind_of_steps(word)?;
     Some(UsualLine {
-        order,
+        order: asked(kind, cpu, count.number),
         rest: count.rest,
     })
 }
@@ -94,9 +95,12 @@ fn record_line<'a>(
         → IsUsualBehindCpu cpus collectors cpu.0 (word ∷ 32 ∷ text.now) payloads.old.items payloads.new.items line) }
 {
     let moment = number_cut(text, b' ')?;
-    let order = record_order(word, cpu, Moment(moment.number))?;
+    let kind = kind_of_record(word)?;
     let rest = payload_cut(payloads, moment.rest)?;
-    Some(UsualLine { order, rest })
+    Some(UsualLine {
+        order: asked(kind, cpu, moment.number),
+        rest,
+    })
 }
 
 /// The same from what follows `cX `.
@@ -109,8 +113,11 @@ fn line_of_cpu<'a>(cpu: CpuId, text: &'a [u8], payloads: &mut Vec<u8>) -> Option
         return None;
     };
     if *end == b'\n' {
-        let order = order_alone(*word, cpu)?;
-        return Some(UsualLine { order, rest });
+        let kind = kind_alone(*word)?;
+        return Some(UsualLine {
+            order: asked(kind, cpu, 0),
+            rest,
+        });
     }
     if *end != b' ' {
         return None;
@@ -122,9 +129,14 @@ fn line_of_cpu<'a>(cpu: CpuId, text: &'a [u8], payloads: &mut Vec<u8>) -> Option
 }
 
 /// A line of the form `d K cX F`.
-fn delivery_line(cpus: u32, collectors: u16, text: &[u8]) -> Option<UsualLine<'_>>
-    ensures { IfSome result (λ line.
-        BeginsWith cpus collectors text.now line.rest.now (shown_order [] line.order)) }
+fn delivery_line<'a>(
+    cpus: u32,
+    collectors: u8,
+    text: &'a [u8],
+    payloads: &mut Vec<u8>,
+) -> Option<UsualLine<'a>>
+    ensures { MatchOption result (payloads.new.items ≡ payloads.old.items) (λ line.
+        IsUsual cpus collectors text.now payloads.old.items payloads.new.items line) }
 {
     let [word, space, given @ ..] = text else {
         return None;
@@ -138,12 +150,11 @@ fn delivery_line(cpus: u32, collectors: u16, text: &[u8]) -> Option<UsualLine<'_
     }
     let cpu = cpu_cut(cpus, collector.rest)?;
     let fill = number_cut(cpu.rest, b'\n')?;
+    let Ok(()) = payloads.push(collector.number as u8) else {
+        return None;
+    };
     Some(UsualLine {
-        order: Order::Deliver {
-            collector: collector.number as u16,
-            cpu: CpuId(cpu.number as u32),
-            fill: FillNo(fill.number),
-        },
+        order: asked(Kind::Deliver, CpuId(cpu.number as u32), fill.number),
         rest: fill.rest,
     })
 }
@@ -153,7 +164,7 @@ fn delivery_line(cpus: u32, collectors: u16, text: &[u8]) -> Option<UsualLine<'_
 #[inline(always)]
 pub(crate) fn usual_line<'a>(
     cpus: u32,
-    collectors: u16,
+    collectors: u8,
     text: &'a [u8],
     payloads: &mut Vec<u8>,
 ) -> Option<UsualLine<'a>>
@@ -163,5 +174,5 @@ pub(crate) fn usual_line<'a>(
     if let Some(cpu) = cpu_cut(cpus, text) {
         return line_of_cpu(CpuId(cpu.number as u32), cpu.rest, payloads);
     }
-    delivery_line(cpus, collectors, text)
+    delivery_line(cpus, collectors, text, payloads)
 }

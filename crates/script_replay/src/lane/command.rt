@@ -3,56 +3,49 @@ use crate::lane::Lane;
 use crate::reports::Reports;
 use replay_log::At;
 use std::alloc::Global;
-use trace_model::{Moment, NoMemory};
-
-/// What a line asks of a lane: each command of a script but a delivery.
-#[derive(Clone, Copy)]
-pub(crate) enum LaneCommand<'a> {
-    /// Push a record frame of this moment and payload.
-    Begin(Moment, &'a [u8]),
-    /// Let the frame on top make this many steps, or fewer if it is gone before.
-    Step(u64),
-    /// Let the frame on top make steps until it is gone.
-    Finish,
-    /// Push a record frame of this moment and payload, and let it make steps until it is gone.
-    Write(Moment, &'a [u8]),
-    /// Push a close frame, and let it make steps until it is gone.
-    Close,
-    /// Let the reader make this many steps, or fewer if its take ends before.
-    StepReader(u64),
-    /// Let the reader make steps until it answers.
-    Take,
-    /// Let the reader ask for the tail.
-    Wish,
-}
+use trace_model::NoMemory;
+use trace_script::Command;
 
 impl<'a> Lane<'a> {
     ghost use Rattle.std.specs.Prelude.{OnOk};
+    ghost use Rattle.trace_script.specs.ScriptTypes.{shown_command};
     ghost use Rattle.script_replay.specs.Lanes.{IsReportedLane, HasLine};
-    ghost use Rattle.script_replay.specs.LaneCommands.{command_for};
+    ghost use Rattle.script_replay.specs.RingCommands.{IsOfRing, cpu_of};
 
-    /// Does what a line asks.
+    /// Does what the line of this number asks, which is no delivery.
     #[inline(always)]
     pub(crate) fn obey(
         &mut self,
         alloc: Global,
-        at: At,
-        command: LaneCommand<'a>,
+        line: u64,
+        command: Command<'a>,
         reports: &mut Reports,
     ) -> Result<(), NoMemory>
-        requires { IsReportedLane at.cpu.0 self.old reports.old }
-        ensures { OnOk result (HasLine (command_for at.cpu.0 command.entry) at.line at.cpu.0
+        requires ring { IsOfRing (shown_command command) }
+        requires lane { IsReportedLane (cpu_of (shown_command command)) self.old reports.old }
+        ensures { OnOk result (HasLine (shown_command command.entry) line (cpu_of (shown_command command.entry))
             self.old reports.old self.new reports.new) }
     {
         match command {
-            LaneCommand::Begin(moment, payload) => self.begin(at, moment.0, payload, reports),
-            LaneCommand::Step(count) => self.step(at, count, reports),
-            LaneCommand::Finish => self.finish(at, reports),
-            LaneCommand::Write(moment, payload) => self.write(at, moment.0, payload, reports),
-            LaneCommand::Close => self.close(at, reports),
-            LaneCommand::StepReader(count) => self.step_reader(alloc, at, count, reports),
-            LaneCommand::Take => self.take(alloc, at, reports),
-            LaneCommand::Wish => self.wish(at, reports),
+            Command::Begin {
+                cpu,
+                moment,
+                payload,
+            } => self.begin(At { line, cpu }, moment.0, payload, reports),
+            Command::Step { cpu, count } => self.step(At { line, cpu }, count, reports),
+            Command::Finish { cpu } => self.finish(At { line, cpu }, reports),
+            Command::Write {
+                cpu,
+                moment,
+                payload,
+            } => self.write(At { line, cpu }, moment.0, payload, reports),
+            Command::Close { cpu } => self.close(At { line, cpu }, reports),
+            Command::StepReader { cpu, count } => {
+                self.step_reader(alloc, At { line, cpu }, count, reports)
+            }
+            Command::Take { cpu } => self.take(alloc, At { line, cpu }, reports),
+            Command::Wish { cpu } => self.wish(At { line, cpu }, reports),
+            Command::Deliver { .. } => unreachable!(),
         }
     }
 }

@@ -1,41 +1,38 @@
-use Rattle.std.proofs.Common.{◌≡◌, ℕ, ◌+◌, ◌-◌, ◌<◌, List, length, Some, refl, sym, ap, ◌∙◌, arith}
+use Rattle.std.proofs.Common.{◌≡◌, ℕ, ◌+◌, ◌-◌, ◌<◌, List, length, length-append, Some, refl, sym, ap, ◌∙◌, arith}
 use Rattle.std.specs.List.{slice_get}
 use Rattle.std.proofs.lemmas.Option.{slice_get_read}
-use Rattle.trace_script.specs.declared.kept.KeptLine.{KeptLine}
-use Rattle.trace_script.specs.ShortLines.{widened}
-use Rattle.trace_script.proofs.ShortLineLemmas.{length-all, short_at, long_at}
+use Rattle.trace_script.specs.Kept.{Kept}
+use Rattle.trace_script.proofs.KeptLemmas.{front_at, behind_at}
 use Rattle.trace_script.proofs.kept_lines.KeptLines.line.Goals as goal
 
 pub returns-then-index-len : goal.returns-then-index-len
 returns-then-index-len c =
-    let short = c.self.inside.short in
+    let narrow = c.self.inside.narrow in
     let low = c.if-index-len.true in
-    let at = slice_get_read short.items (length short.items) c.args.index c.index.result.now refl
-    (omega (arith, low, c.len.ensures, short.ok.0)) c.index.ensures in
-    let here : 0 + c.args.index ≡ c.args.index = omega arith in
-    ap (λ (l : List KeptLine). slice_get l c.args.index) (sym c.self.view_is)
-    ∙ short_at 0 c.args.index short.items c.self.inside.long.items c.index.result.now at
-    ∙ ap (λ (n : ℕ). Some (widened n c.index.result.now)) here
-    ∙ ap (λ (l : KeptLine). Some l) (sym c.widened.ensures)
+    let at = slice_get_read narrow.items (length narrow.items) c.args.index c.index.result.now refl
+    (omega (arith, low, c.len.ensures, narrow.ok.0)) c.index.ensures in
+    ap (λ (l : List Kept). slice_get l c.args.index) (sym c.self.view_is)
+    ∙ front_at narrow.items c.self.inside.wide.items c.args.index c.index.result.now at
+    ∙ ap (λ (l : Kept). Some l) (sym c.widened.ensures)
 
 pub index-requires-2 : goal.index-requires-2
 index-requires-2 c =
-    let short = c.self.inside.short in
-    let long = c.self.inside.long in
-    let all = length-all short.items long.items in
-    let seen = ap (λ (l : List KeptLine). length l) c.self.view_is in
-    omega (arith, c.requires, c.if-index-len.false, c.len.ensures, c.len-2.ensures, short.ok.0, long.ok.0, all, seen)
+    let narrow = c.self.inside.narrow in
+    let wide = c.self.inside.wide in
+    let all = length-append narrow.items wide.items in
+    let seen = ap (λ (l : List Kept). length l) c.self.view_is in
+    omega (arith, c.requires, c.if-index-len.false, c.len.ensures, c.len-2.ensures, narrow.ok.0, wide.ok.0, all, seen)
 
 pub returns : goal.returns
 returns c =
-    let short = c.self.inside.short in
-    let long = c.self.inside.long in
-    let all = length-all short.items long.items in
-    let seen = ap (λ (l : List KeptLine). length l) c.self.view_is in
+    let narrow = c.self.inside.narrow in
+    let wide = c.self.inside.wide in
+    let all = length-append narrow.items wide.items in
+    let seen = ap (λ (l : List Kept). length l) c.self.view_is in
     let behind : ℕ = c.args.index - c.len-2.result in
-    let low : behind < length long.items =
-    omega (arith, c.requires, c.if-index-len.false, c.len.ensures, c.len-2.ensures, short.ok.0, long.ok.0, all, seen) in
-    let at = slice_get_read long.items (length long.items) behind c.index-2.result.now refl low c.index-2.ensures in
-    ap (λ (l : List KeptLine). slice_get l c.args.index) (sym c.self.view_is)
-    ∙ long_at short.items long.items c.args.index behind c.index-2.result.now
-    (omega (arith, c.if-index-len.false, c.len.ensures, c.len-2.ensures, short.ok.0)) at
+    let low : behind < length wide.items =
+    omega (arith, c.requires, c.if-index-len.false, c.len.ensures, c.len-2.ensures, narrow.ok.0, wide.ok.0, all, seen) in
+    let at = slice_get_read wide.items (length wide.items) behind c.index-2.result.now refl low c.index-2.ensures in
+    ap (λ (l : List Kept). slice_get l c.args.index) (sym c.self.view_is)
+    ∙ behind_at narrow.items wide.items c.args.index behind c.index-2.result.now
+    (omega (arith, c.if-index-len.false, c.len.ensures, c.len-2.ensures, narrow.ok.0)) at

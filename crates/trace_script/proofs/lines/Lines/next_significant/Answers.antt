@@ -13,9 +13,11 @@ returns-then-is_significant-clause-end c =
 pub loop-line-preserved : goal.loop-line-preserved
 loop-line-preserved c =
     let shorter = c.in-Some.ensures.shorter in
+    let number = c.in-Some.ensures.number in
     record {
       same_left = skipped_turn c.loop-line.self.passed _ _ _ _ _ _ c.in-Some.ensures.lines c.in-Some.ensures.number (sym c.is_significant.ensures ∙ c.if-is_significant.false) c.loop-line.invariant.same_left;
       same_end = end_turn c.loop-line.self.passed _ _ _ _ _ _ c.in-Some.ensures.lines c.in-Some.ensures.number c.loop-line.invariant.same_end;
+      later = omega arith;
       shorter = omega arith;
     }
 
