@@ -1,11 +1,9 @@
 -- The commands of a script as they are kept, one more and one of them.
-use Rattle.std.proofs.Common.{◌≡◌, ℕ, suc, zero, ◌+◌, ◌-◌, ◌^◌, ◌<◌, ◌≤◌, List, [], ◌∷◌, ◌++◌, length, take, drop, Option, Some, refl, sym, ◌∙◌, ap, subst, arith, length-append, length-drop, append-nil}
+use Rattle.std.proofs.Common.{◌≡◌, ℕ, suc, zero, ◌+◌, ◌-◌, ◌^◌, ◌<◌, ◌≤◌, List, [], ◌∷◌, ◌++◌, length, take, drop, Some, refl, sym, ◌∙◌, ap, subst, arith, length-append, length-drop, append-nil}
 use Rattle.std.specs.List.{slice_get}
-use Rattle.std.specs.Option.{option_map, unwrap_or}
 use Rattle.std.proofs.Math.Seq.{drop-append_seam}
 use Rattle.std.proofs.lemmas.List.{take-append-le, take_all, drop-append-le}
 use Rattle.trace_model.proofs.collections.Elements.{some_is}
-use Rattle.text_model.specs.Script.{Command}
 use Rattle.trace_script.specs.Kept.{Kept, part, shown, commands_kept, AreKept, start_of}
 
 -- ---- one more
@@ -67,9 +65,9 @@ line_kept bytes after more lines all line number put is end numbered fits kept =
     let there : line.end ≡ length (bytes ++ more) = end ∙ ap (λ (bs : List ℕ). length bs) put in
     let same : (0 + length lines) + line.above ≡ number = omega (arith, numbered) in (
       ap (λ (bs : List ℕ). commands_kept bs 0 0 all) put
-      ∙ ap (commands_kept (bytes ++ more) 0 0) is
-      ∙ commands_push bytes more 0 0 lines line kept there
-      ∙ ap (λ (n : ℕ). commands_kept bytes 0 0 lines ++ (n, shown more line) ∷ []) same,
+          ∙ ap (commands_kept (bytes ++ more) 0 0) is
+          ∙ commands_push bytes more 0 0 lines line kept there
+          ∙ ap (λ (n : ℕ). commands_kept bytes 0 0 lines ++ (n, shown more line) ∷ []) same,
       subst (λ (ls : List Kept). AreKept 0 0 (length after) ls) (sym is)
           (subst (λ (n : ℕ). AreKept 0 0 n (lines ++ line ∷ [])) end
           (kept_push 0 0 (length bytes) lines line kept (omega (arith, there, length-append bytes more))

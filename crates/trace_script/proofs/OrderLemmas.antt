@@ -17,7 +17,7 @@ use Rattle.text_model.proofs.CommandTable.{command_spelled}
 use Rattle.trace_script.specs.declared.fault.LineFault as line
 use Rattle.trace_script.specs.declared.fields.Fields.{Fields}
 use Rattle.trace_script.specs.declared.fields.Fields.TheVariants.{One, Two, Three, More}
-use Rattle.trace_script.specs.Kept.{Asked, shown}
+use Rattle.trace_script.specs.Kept.{Kept, shown}
 use Rattle.trace_script.specs.ScriptFaults.{Fails}
 use Rattle.trace_script.specs.ScriptFields.{fields_seen, AreFields, HasNoFifth}
 use Rattle.trace_script.proofs.TextParts.{parts_behind, one_part}
@@ -150,7 +150,7 @@ stands cpus collectors text (More a b d rest) command are solid h =
     let alone : fields_of rest.now ≡ rest.now ∷ [] = slice_split_none (λ b. b == 32) rest.now solid.1.1.1.0.solid in
     command_in_form cpus collectors text (a.now ∷ b.now ∷ d.now ∷ rest.now ∷ []) (are ∙ ap (λ (fs : List (List ℕ)). a.now ∷ b.now ∷ d.now ∷ fs) alone) (solid_spaced (a.now ∷ b.now ∷ d.now ∷ rest.now ∷ []) solid) ∙ h
 
-pub order_stands : (cpus collectors : ℕ) (text : List ℕ) (fields : Fields) (order : Asked) (old new : List ℕ) → AreFields fields (fields_of text)
+pub order_stands : (cpus collectors : ℕ) (text : List ℕ) (fields : Fields) (order : Kept) (old new : List ℕ) → AreFields fields (fields_of text)
     → (payload : List ℕ) × (new ≡ old ++ payload) × (command_of cpus collectors (fields_seen fields) ≡ Ok (shown payload order))
     → (payload : List ℕ) × (new ≡ old ++ payload) × (command_in cpus collectors text ≡ Ok (shown payload order))
 order_stands cpus collectors text fields order old new are puts =

@@ -23,7 +23,7 @@ use Rattle.trace_script.specs.declared.fault.ScriptFault.TheVariants as scripts
 use Rattle.trace_script.specs.declared.fields.Fields.{Fields}
 use Rattle.trace_script.specs.declared.fields.Fields.TheVariants.{One, Two, Three, More}
 use Rattle.trace_script.specs.declared.header.Header.{Header}
-use Rattle.trace_script.specs.Kept.{Asked, PutsCommand, PutsCommandAt, ReadAs, BeginAsCommands}
+use Rattle.trace_script.specs.Kept.{Kept, PutsCommand, PutsCommandAt, ReadAs, BeginAsCommands}
 use Rattle.trace_script.specs.ScriptFaults.{Fails, Gives, FailsAt, FailsAtLine, GivesAt, BeginsAsScript, ReportsFirstFault, fault_at, reading_at}
 use Rattle.trace_script.specs.ScriptFields.{AreFields}
 use Rattle.trace_script.specs.ScriptTypes.{values_of, script_of}
@@ -141,12 +141,12 @@ unfolding start_from
 no_line_to_start pages left h = ap (start_from pages) h ∙ ap (λ (ls : List NumberedLine). let r : Read (ℕ × List NumberedLine) = Ok (START_FILL, ls) in r) (sym h)
 
 -- ---- a command with its number
-pub puts_numbered : (number : ℕ) (q : Result Asked line.LineFault) (r : Result Asked script.ScriptFault) (old new : List ℕ) (read : Result Command LineFault) → PutsCommand q old new read → r ≡ reading_at number q
+pub puts_numbered : (number : ℕ) (q : Result Kept line.LineFault) (r : Result Kept script.ScriptFault) (old new : List ℕ) (read : Result Command LineFault) → PutsCommand q old new read → r ≡ reading_at number q
     → PutsCommandAt r old new (numbered_reading number read)
 puts_numbered number q r old new read h is =
-    subst (λ (r : Result Asked script.ScriptFault). PutsCommandAt r old new (numbered_reading number read)) (sym is) (by q h)
+    subst (λ (r : Result Kept script.ScriptFault). PutsCommandAt r old new (numbered_reading number read)) (sym is) (by q h)
   where
-    by : (q : Result Asked line.LineFault) → PutsCommand q old new read → PutsCommandAt (reading_at number q) old new (numbered_reading number read)
+    by : (q : Result Kept line.LineFault) → PutsCommand q old new read → PutsCommandAt (reading_at number q) old new (numbered_reading number read)
     by (Ok order) h = (h.0, h.1, ap (numbered_reading number) h.2)
     by (Err fault) h = fails_numbered number fault read h
 

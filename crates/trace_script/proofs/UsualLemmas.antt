@@ -16,7 +16,7 @@ use Rattle.text_model.proofs.Readings.{ok_is_no_err, chosen}
 use Rattle.trace_script.specs.declared.kept.Kind.{Kind}
 use Rattle.trace_script.specs.declared.usual.UsualLine.{UsualLine}
 use Rattle.trace_script.specs.declared.values.NumberCut.{NumberCut}
-use Rattle.trace_script.specs.Kept.{Asked, command_shown, shown, PutsNext}
+use Rattle.trace_script.specs.Kept.{Kept, command_shown, shown, PutsNext}
 use Rattle.trace_script.specs.UsualLines.{IsCpuCut, BeginsWith, BeginsBehindCpu, IsUsual, IsUsualBehindCpu}
 use Rattle.trace_script.proofs.OrderLemmas.{AreSolid, spelled_solid, solid_spaced, command_in_form}
 use Rattle.trace_script.proofs.TextParts.{first_line, significant_turn}
@@ -78,13 +78,13 @@ begins_with cpus collectors text rest command fields spells are =
     }
 
 -- the same of what was asked
-pub begins_asked : (cpus collectors : ℕ) (text rest bytes : List ℕ) (kind : Kind) (cpu value : ℕ) (order : Asked) (fields : List (List ℕ))
-    → order ≡ record { kind = kind; cpu = cpu; above = tt; end = tt; value = value }
+pub begins_asked : (cpus collectors : ℕ) (text rest bytes : List ℕ) (kind : Kind) (cpu value : ℕ) (order : Kept) (fields : List (List ℕ))
+    → order ≡ record { kind = kind; cpu = cpu; above = 0; end = 0; value = value }
     → SpellsCommand cpus collectors (command_shown kind cpu value bytes) fields
     → text ≡ line_of fields ++ 10 ∷ rest
     → BeginsWith cpus collectors text rest (shown bytes order)
 begins_asked cpus collectors text rest bytes kind cpu value order fields is spells are =
-    subst (λ (o : Asked). BeginsWith cpus collectors text rest (shown bytes o)) (sym is)
+    subst (λ (o : Kept). BeginsWith cpus collectors text rest (shown bytes o)) (sym is)
     (begins_with cpus collectors text rest (command_shown kind cpu value bytes) fields spells are)
 
 -- ---- the fields of a text, after the name of a CPU

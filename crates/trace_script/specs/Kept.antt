@@ -12,12 +12,9 @@ use Rattle.trace_script.specs.declared.kept.KeptLine.{KeptLine}
 use Rattle.trace_script.specs.declared.fault.ScriptFault.{ScriptFault}
 use Rattle.trace_script.specs.ScriptFaults.{Fails, FailsAtLine}
 
--- a command that was read, and has no place yet; and a kept one
-abbrev pub Asked : Type 0
-Asked = KeptLine ℕ (Unit {0}) (Unit {0})
-
+-- a line of numbers of any widths
 abbrev pub Kept : Type 0
-Kept = KeptLine ℕ ℕ ℕ
+Kept = KeptLine ℕ ℕ
 
 abbrev pub first_or_zero : List ℕ → ℕ
 first_or_zero [] = 0
@@ -36,7 +33,7 @@ command_shown Wish cpu value bytes = wish cpu
 command_shown Deliver cpu value bytes = deliver (first_or_zero bytes) cpu value
 
 -- the command of a line, with these bytes
-abbrev pub shown : {A E : Type 0} → List ℕ → KeptLine ℕ A E → model.Command
+abbrev pub shown : List ℕ → Kept → model.Command
 shown bytes line = command_shown line.kind line.cpu line.value bytes
 
 -- the bytes from one place to another
@@ -68,20 +65,20 @@ PutsPayload (Ok _) old new read = (payload : List ℕ) × (new ≡ old ++ payloa
 PutsPayload (Err fault) old new read = Fails fault read
 
 -- the same of a whole command
-abbrev pub PutsCommand : Result Asked LineFault → List ℕ → List ℕ → Result model.Command text.LineFault → Type 0
+abbrev pub PutsCommand : Result Kept LineFault → List ℕ → List ℕ → Result model.Command text.LineFault → Type 0
 PutsCommand (Ok order) old new read =
     (payload : List ℕ) × (new ≡ old ++ payload) × (read ≡ Ok (shown payload order))
 PutsCommand (Err fault) old new read = Fails fault read
 
 -- the same, with the number of the line
-abbrev pub PutsCommandAt : Result Asked ScriptFault → List ℕ → List ℕ
+abbrev pub PutsCommandAt : Result Kept ScriptFault → List ℕ → List ℕ
     → Result model.Command (ℕ × text.LineFault) → Type 0
 PutsCommandAt (Ok order) old new read =
     (payload : List ℕ) × (new ≡ old ++ payload) × (read ≡ Ok (shown payload order))
 PutsCommandAt (Err fault) old new read = FailsAtLine fault read
 
 -- the same of the first of these lines, if there is one, with its number and the lines after it
-abbrev pub PutsNext : ℕ → ℕ → Result (Option Asked) ScriptFault → List ℕ → List ℕ
+abbrev pub PutsNext : ℕ → ℕ → Result (Option Kept) ScriptFault → List ℕ → List ℕ
     → List NumberedLine → ℕ → List NumberedLine → Type 0
 PutsNext cpus collectors (Ok None) old new lines number behind = (lines ≡ []) × (new ≡ old)
 PutsNext cpus collectors (Ok (Some order)) old new lines number behind = (line : List ℕ)
@@ -106,6 +103,6 @@ BeginAsCommands cpus collectors lines = (commands : List (ℕ × model.Command))
     × (0 < length commands)
 
 -- this holds, if a command was read
-abbrev pub IfNext : Result (Option Asked) ScriptFault → Type 0 → Type 0
+abbrev pub IfNext : Result (Option Kept) ScriptFault → Type 0 → Type 0
 IfNext (Ok (Some order)) holds = holds
 IfNext _ holds = ⊤

@@ -172,6 +172,7 @@ pub(crate) fn read_header(lines: &mut Lines) -> Result<Header, ScriptFault>
         (settings_from (end_line_after lines.old.passed lines.old.rest.now) header_settings
         (significant_lines_after lines.old.passed lines.old.rest.now)) }
     ensures never_out_of_memory { result ≢ Err ScriptFault.NoMemory }
+    ensures cpus { IfOk result (λ header. header.cpus ≤ 256) }
 {
     let pages = read_setting(lines, Setting::Pages)?;
     let size = read_setting(lines, Setting::Size)?;

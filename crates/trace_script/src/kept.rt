@@ -1,5 +1,5 @@
 //! A command of a script as it is kept.
-ghost use Rattle.std.specs.Prelude.{◌≡◌, IfSome};
+ghost use Rattle.std.specs.Prelude.{◌≡◌, ◌<◌, IfSome};
 ghost use Rattle.trace_script.specs.Kept.{first_or_zero, shown};
 ghost use Rattle.trace_script.specs.ScriptTypes.{shown_command};
 
@@ -24,11 +24,11 @@ pub(crate) enum Kind {
 /// A command as it is kept, in numbers of some widths. The bytes of its payload are kept elsewhere. A delivery has one
 /// such byte: its collector's number.
 #[derive(Clone, Copy)]
-pub(crate) struct KeptLine<C, A, E> {
+pub(crate) struct KeptLine<A, E> {
     /// What it asks for.
     pub(crate) kind: Kind,
     /// Its CPU.
-    pub(crate) cpu: C,
+    pub(crate) cpu: u8,
     /// By how much the number of its line is above its index among the commands.
     pub(crate) above: A,
     /// Where its bytes end among those of all commands. They begin where those of the command before end.
@@ -37,33 +37,32 @@ pub(crate) struct KeptLine<C, A, E> {
     pub(crate) value: u64,
 }
 
-/// A command that was read, and has no place among the others yet.
-pub(crate) type Asked = KeptLine<u32, (), ()>;
-/// A command in 16 bytes.
-pub(crate) type Narrow = KeptLine<u8, u16, u32>;
+/// A command in 16 bytes. One that was read has its place only when it is kept: until then that is 0.
+pub(crate) type Narrow = KeptLine<u16, u32>;
 /// A command whose numbers may be as large as any.
-pub(crate) type Wide = KeptLine<u32, u64, usize>;
+pub(crate) type Wide = KeptLine<u64, usize>;
 
 // A script of many lines takes this much for each.
 const _: () = prove!(size_of::<Narrow>() == 16);
 
 /// What a line asks for, of these numbers.
 #[inline(always)]
-pub(crate) fn asked(kind: Kind, cpu: CpuId, value: u64) -> Asked
-    ensures { result ≡ record { kind = kind; cpu = cpu.0; above = tt; end = tt; value = value } }
+pub(crate) fn asked(kind: Kind, cpu: CpuId, value: u64) -> Narrow
+    requires { cpu.0 < 256 }
+    ensures { result ≡ record { kind = kind; cpu = cpu.0; above = 0; end = 0; value = value } }
 {
     KeptLine {
         kind,
-        cpu: cpu.0,
-        above: (),
-        end: (),
+        cpu: cpu.0 as u8,
+        above: 0,
+        end: 0,
         value,
     }
 }
 
 /// A command at its place.
 #[inline(always)]
-pub(crate) fn placed(line: Asked, above: u64, end: usize) -> Wide
+pub(crate) fn placed(line: Narrow, above: u64, end: usize) -> Wide
     ensures { result ≡ record { kind = line.kind; cpu = line.cpu; above = above; end = end; value = line.value } }
 {
     KeptLine {
@@ -80,15 +79,12 @@ pub(crate) fn placed(line: Asked, above: u64, end: usize) -> Wide
 pub(crate) fn narrowed(line: Wide) -> Option<Narrow>
     ensures { IfSome result (λ narrow. narrow ≡ line) }
 {
-    if line.cpu > u32::from(u8::MAX)
-        || line.above > u64::from(u16::MAX)
-        || line.end > u32::MAX as usize
-    {
+    if line.above > u64::from(u16::MAX) || line.end > u32::MAX as usize {
         return None;
     }
     Some(KeptLine {
         kind: line.kind,
-        cpu: line.cpu as u8,
+        cpu: line.cpu,
         above: line.above as u16,
         end: line.end as u32,
         value: line.value,
@@ -102,7 +98,7 @@ pub(crate) fn widened(line: Narrow) -> Wide
 {
     KeptLine {
         kind: line.kind,
-        cpu: u32::from(line.cpu),
+        cpu: line.cpu,
         above: u64::from(line.above),
         end: line.end as usize,
         value: line.value,
@@ -124,7 +120,7 @@ fn first_of(bytes: &[u8]) -> u8
 pub(crate) fn lent(line: Wide, bytes: &[u8]) -> Command<'_>
     ensures { shown_command result ≡ shown bytes.now line }
 {
-    let cpu = CpuId(line.cpu);
+    let cpu = CpuId(u32::from(line.cpu));
     let value = line.value;
     match line.kind {
         Kind::Begin => Command::Begin {

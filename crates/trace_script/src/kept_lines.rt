@@ -18,7 +18,7 @@ impl Model for KeptLines {
     ghost use Rattle.std.specs.Prelude.{ℕ, List, ◌++◌};
     ghost use Rattle.trace_script.specs.declared.kept.KeptLine.{KeptLine as KeptLineSeen};
 
-    ghost Value = { List (KeptLineSeen ℕ ℕ ℕ) };
+    ghost Value = { List (KeptLineSeen ℕ ℕ) };
 
     ghost view = { λ lines. lines.narrow.items ++ lines.wide.items };
 }

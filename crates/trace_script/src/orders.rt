@@ -1,5 +1,5 @@
 //! The command that a line spells.
-ghost use Rattle.std.specs.Prelude.{◌≡◌, ◌≢◌, ℕ, false, [], ◌∷◌, bytes_eq, codes};
+ghost use Rattle.std.specs.Prelude.{◌≡◌, ◌≢◌, ◌≤◌, ℕ, false, [], ◌∷◌, bytes_eq, codes};
 ghost use Rattle.text_model.specs.Text.{fields_of};
 ghost use Rattle.text_model.specs.Script.{command_of, command_in};
 ghost use Rattle.text_model.specs.CommandReading.{deliver_in};
@@ -9,7 +9,7 @@ ghost use Rattle.trace_script.specs.ScriptFields.{AreFields, fields_seen};
 
 use crate::fault::LineFault;
 use crate::fields::{Fields, fields_of, is_letter, is_well_spaced, is_whole};
-use crate::kept::{Asked, Kind, asked};
+use crate::kept::{Kind, Narrow, asked};
 use crate::payload::put_payload;
 use crate::values::{count_of, cpu_of, number_below, number_of};
 
@@ -22,7 +22,8 @@ fn deliver_in(
     cpu: &[u8],
     fill: &[u8],
     payloads: &mut Vec<u8>,
-) -> Result<Asked, LineFault>
+) -> Result<Narrow, LineFault>
+    requires { cpus ≤ 256 }
     ensures { PutsCommand result payloads.old.items payloads.new.items
         (deliver_in cpus collectors collector.now cpu.now fill.now) }
 {
@@ -37,7 +38,8 @@ fn deliver_in(
 
 /// The command of two fields.
 #[tactic(auto, unfolding(text_model::specs::Script::command_of))]
-fn order_of_two(cpus: u32, collectors: u8, first: &[u8], second: &[u8]) -> Result<Asked, LineFault>
+fn order_of_two(cpus: u32, collectors: u8, first: &[u8], second: &[u8]) -> Result<Narrow, LineFault>
+    requires { cpus ≤ 256 }
     ensures gives { Gives (shown []) result
         (command_of cpus collectors (first.now ∷ second.now ∷ [])) }
     ensures never_out_of_memory { result ≢ Err LineFault.NoMemory }
@@ -69,7 +71,8 @@ fn order_of_three(
     first: &[u8],
     second: &[u8],
     third: &[u8],
-) -> Result<Asked, LineFault>
+) -> Result<Narrow, LineFault>
+    requires { cpus ≤ 256 }
     ensures gives { Gives (shown []) result
         (command_of cpus collectors (first.now ∷ second.now ∷ third.now ∷ [])) }
     ensures never_out_of_memory { result ≢ Err LineFault.NoMemory }
@@ -98,7 +101,8 @@ fn record_of_four(
     third: &[u8],
     fourth: &[u8],
     payloads: &mut Vec<u8>,
-) -> Result<Asked, LineFault>
+) -> Result<Narrow, LineFault>
+    requires cpus { cpus ≤ 256 }
     requires no_delivery { bytes_eq first.now (codes "d") ≡ false }
     ensures { (collectors : ℕ) → PutsCommand result payloads.old.items payloads.new.items
         (command_of cpus collectors (first.now ∷ second.now ∷ third.now ∷ fourth.now ∷ [])) }
@@ -126,7 +130,8 @@ fn order_of_four(
     third: &[u8],
     fourth: &[u8],
     payloads: &mut Vec<u8>,
-) -> Result<Asked, LineFault>
+) -> Result<Narrow, LineFault>
+    requires { cpus ≤ 256 }
     ensures { PutsCommand result payloads.old.items payloads.new.items
         (command_of cpus collectors (first.now ∷ second.now ∷ third.now ∷ fourth.now ∷ [])) }
 {
@@ -142,7 +147,8 @@ fn order_of(
     collectors: u8,
     fields: Fields,
     payloads: &mut Vec<u8>,
-) -> Result<Asked, LineFault>
+) -> Result<Narrow, LineFault>
+    requires { cpus ≤ 256 }
     ensures { PutsCommand result payloads.old.items payloads.new.items
         (command_of cpus collectors (fields_seen fields.entry)) }
 {
@@ -183,7 +189,8 @@ pub(crate) fn order_in(
     collectors: u8,
     line: &[u8],
     payloads: &mut Vec<u8>,
-) -> Result<Asked, LineFault>
+) -> Result<Narrow, LineFault>
+    requires { cpus ≤ 256 }
     ensures { PutsCommand result payloads.old.items payloads.new.items
         (command_in cpus collectors line.now) }
 {

@@ -1,5 +1,5 @@
 //! The reader of a script's text: line by line, in one pass.
-ghost use Rattle.std.specs.Prelude.{◌≡◌, ◌<◌, [], length, IfOk, IfErr};
+ghost use Rattle.std.specs.Prelude.{◌≡◌, ◌≤◌, ◌<◌, [], length, IfOk, IfErr};
 ghost use Rattle.text_model.specs.HeaderReading.{numbered_reading, significant_lines_after, end_line_after};
 ghost use Rattle.text_model.specs.Script.{ParsesScript, command_in};
 ghost use Rattle.text_model.specs.ScriptReading.{commands_from, script_from, script_in};
@@ -9,7 +9,7 @@ ghost use Rattle.trace_script.specs.ScriptFaults.{GivesAt, BeginsAsScript, Repor
 use crate::commands::Commands;
 use crate::fault::{ScriptFault, reading_at};
 use crate::header::{read_header, read_start};
-use crate::kept::{Asked, placed};
+use crate::kept::{Narrow, placed};
 use crate::kept_lines::KeptLines;
 use crate::lines::{Lines, NumberedLine};
 use crate::orders::order_in;
@@ -24,7 +24,8 @@ fn order_at(
     collectors: u8,
     line: NumberedLine,
     payloads: &mut Vec<u8>,
-) -> Result<Asked, ScriptFault>
+) -> Result<Narrow, ScriptFault>
+    requires { cpus ≤ 256 }
     ensures { PutsCommandAt result payloads.old.items payloads.new.items
         (numbered_reading line.entry.number (command_in cpus collectors line.entry.text.now)) }
 {
@@ -39,7 +40,8 @@ fn next_of_any_form(
     collectors: u8,
     lines: &mut Lines,
     payloads: &mut Vec<u8>,
-) -> Result<Option<Asked>, ScriptFault>
+) -> Result<Option<Narrow>, ScriptFault>
+    requires { cpus ≤ 256 }
     ensures next { PutsNext cpus collectors result payloads.old.items payloads.new.items
         (significant_lines_after lines.old.passed lines.old.rest.now) lines.new.passed
         (significant_lines_after lines.new.passed lines.new.rest.now) }
@@ -60,7 +62,8 @@ fn next_order(
     collectors: u8,
     lines: &mut Lines,
     payloads: &mut Vec<u8>,
-) -> Result<Option<Asked>, ScriptFault>
+) -> Result<Option<Narrow>, ScriptFault>
+    requires { cpus ≤ 256 }
     ensures next { PutsNext cpus collectors result payloads.old.items payloads.new.items
         (significant_lines_after lines.old.passed lines.old.rest.now) lines.new.passed
         (significant_lines_after lines.new.passed lines.new.rest.now) }
@@ -92,6 +95,7 @@ fn read_commands(
     collectors: u8,
     lines: &mut Lines,
 ) -> Result<Commands, ScriptFault>
+    requires { cpus ≤ 256 }
     ensures gives { GivesAt (λ commands. commands) result
         (commands_from cpus collectors (significant_lines_after lines.old.passed lines.old.rest.now)) }
     ensures memory { result ≡ Err ScriptFault.NoMemory

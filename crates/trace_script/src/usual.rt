@@ -1,12 +1,12 @@
 //! The forms that nearly all lines of a long script have, each read in one pass up to its line feed. A line of another
 //! form, and one with a number of many digits or outside its limits, is left to the reader of any line.
-ghost use Rattle.std.specs.Prelude.{◌≡◌, ℕ, List, [], ◌∷◌, Ok, IfSome, MatchOption};
+ghost use Rattle.std.specs.Prelude.{◌≡◌, ◌<◌, ◌≤◌, ℕ, List, [], ◌∷◌, Ok, IfSome, MatchOption};
 ghost use Rattle.text_model.specs.ScriptLines.{decimal_in, payload_in, cpu_in};
 ghost use Rattle.text_model.specs.Script.{count_in, SpellsCommand};
 ghost use Rattle.trace_script.specs.Kept.{command_shown, shown};
 ghost use Rattle.trace_script.specs.UsualLines.{BeginsWith, BeginsBehindCpu, IsUsual, IsUsualBehindCpu};
 
-use crate::kept::{Asked, Kind, asked};
+use crate::kept::{Kind, Narrow, asked};
 use crate::payload::payload_cut;
 use crate::values::{cpu_cut, number_cut};
 use text_model::{MAX_LINE_STEPS, MIN_LINE_STEPS};
@@ -16,7 +16,7 @@ use trace_model::CpuId;
 #[derive(Clone, Copy)]
 pub(crate) struct UsualLine<'a> {
     /// What it asks for.
-    pub(crate) order: Asked,
+    pub(crate) order: Narrow,
     /// The text after its line feed.
     pub(crate) rest: &'a [u8],
 }
@@ -69,6 +69,7 @@ fn kind_of_record(word: u8) -> Option<Kind>
 /// The line's order and the text after it, from what follows `cX s ` or `cX r `.
 #[inline(always)]
 fn steps_line(word: u8, cpu: CpuId, text: &[u8]) -> Option<UsualLine<'_>>
+    requires { cpu.0 < 256 }
     ensures { IfSome result (λ line. (cpus collectors : ℕ)
         → BeginsBehindCpu cpus collectors cpu.0 (word ∷ 32 ∷ text.now) line.rest.now (shown [] line.order)) }
 {
@@ -91,6 +92,7 @@ fn record_line<'a>(
     text: &'a [u8],
     payloads: &mut Vec<u8>,
 ) -> Option<UsualLine<'a>>
+    requires { cpu.0 < 256 }
     ensures { MatchOption result (payloads.new.items ≡ payloads.old.items) (λ line. (cpus collectors : ℕ)
         → IsUsualBehindCpu cpus collectors cpu.0 (word ∷ 32 ∷ text.now) payloads.old.items payloads.new.items line) }
 {
@@ -106,6 +108,7 @@ fn record_line<'a>(
 /// The same from what follows `cX `.
 #[inline(always)]
 fn line_of_cpu<'a>(cpu: CpuId, text: &'a [u8], payloads: &mut Vec<u8>) -> Option<UsualLine<'a>>
+    requires { cpu.0 < 256 }
     ensures { MatchOption result (payloads.new.items ≡ payloads.old.items) (λ line. (cpus collectors : ℕ)
         → IsUsualBehindCpu cpus collectors cpu.0 text.now payloads.old.items payloads.new.items line) }
 {
@@ -135,6 +138,7 @@ fn delivery_line<'a>(
     text: &'a [u8],
     payloads: &mut Vec<u8>,
 ) -> Option<UsualLine<'a>>
+    requires { cpus ≤ 256 }
     ensures { MatchOption result (payloads.new.items ≡ payloads.old.items) (λ line.
         IsUsual cpus collectors text.now payloads.old.items payloads.new.items line) }
 {
@@ -168,6 +172,7 @@ pub(crate) fn usual_line<'a>(
     text: &'a [u8],
     payloads: &mut Vec<u8>,
 ) -> Option<UsualLine<'a>>
+    requires { cpus ≤ 256 }
     ensures { MatchOption result (payloads.new.items ≡ payloads.old.items) (λ line.
         IsUsual cpus collectors text.now payloads.old.items payloads.new.items line) }
 {

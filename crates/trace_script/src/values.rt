@@ -162,6 +162,7 @@ fn cpu_digits(field: &[u8]) -> Option<&[u8]>
 #[tactic(auto, unfolding(text_model::specs::ScriptLines::cpu_in))]
 pub(crate) fn cpu_of(cpus: u32, field: &[u8]) -> Result<CpuId, LineFault>
     ensures gives { Gives (λ cpu. cpu.0) result (cpu_in cpus field.now) }
+    ensures small { IfOk result (λ cpu. cpu.0 < cpus) }
     ensures never_out_of_memory { result ≢ Err LineFault.NoMemory }
 {
     let Some(digits) = cpu_digits(field) else {
