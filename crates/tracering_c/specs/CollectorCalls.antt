@@ -4,16 +4,16 @@ use Rattle.trace_model.specs.Parcel.{Parcel}
 use Rattle.trace_model.specs.Listing.{IsListing}
 use Rattle.page_image.specs.Contents.{Contents}
 use Rattle.page_numbers.specs.Parcels.{parcel_of_page}
-use Rattle.parcel_buffer.specs.Used.{used_size}
+use Rattle.library_values.specs.Used.{used_size}
 use Rattle.collector.specs.declared.added.Added.{Added}
 use Rattle.collector.specs.declared.fault.AddFault.{AddFault}
-use Rattle.listed_collector.specs.declared.adding.AddRefusal.{AddRefusal}
-use Rattle.listed_collector.specs.declared.listed.Given.{Given}
-use Rattle.listed_collector.specs.declared.listed.ListedCollector.{ListedCollector}
-use Rattle.listed_collector.specs.declared.missing.Run.{Run}
-use Rattle.listed_collector.specs.Adding.{AddsSo, AddsPage}
-use Rattle.listed_collector.specs.Giving.{GivesSo}
-use Rattle.listed_collector.specs.Missing.{PutsRuns}
+use Rattle.library_values.specs.declared.listed_collector.adding.AddRefusal.{AddRefusal}
+use Rattle.library_values.specs.declared.listed_collector.listed.Given.{Given}
+use Rattle.library_values.specs.declared.listed_collector.listed.ListedCollector.{ListedCollector}
+use Rattle.library_values.specs.declared.listed_collector.missing.Run.{Run}
+use Rattle.library_values.specs.CollectorAdding.{AddsSo, AddsPage}
+use Rattle.library_values.specs.CollectorGiving.{GivesSo}
+use Rattle.library_values.specs.Missing.{PutsRuns}
 use Rattle.tracering_c.specs.declared.collected.FaultAt.{FaultAt}
 use Rattle.tracering_c.specs.declared.collected.Listed.{Listed}
 use Rattle.tracering_c.specs.declared.taken.Taken.{Taken}

@@ -13,7 +13,7 @@ use crate::codes::{
 use crate::collected::{FaultAt, Listed};
 use crate::ends::HeldCollector;
 use crate::handle::CollectorHandle;
-use listed_collector::{ListedCollector, Run};
+use library_values::listed_collector::{ListedCollector, Run};
 use std::alloc::Global;
 use trace_model::CpuId;
 
