@@ -4,5 +4,5 @@ pub mod LooseValues
 pub mod PutRuns
 pub mod ReadParts
 pub mod LinePlaces
-pub mod FleetLinePlaces
+pub mod KeptLines
 pub mod LeastFrom

@@ -6,8 +6,8 @@ use Rattle.std.proofs.lemmas.List.{drop_more, drop_all, take_all, take-append-le
 use Rattle.std.proofs.lemmas.Option.{slice_get_within, slice_get-get_or}
 use Rattle.trace_model.specs.declared.numbers.RecordNo.{RecordNo}
 use Rattle.collector.specs.Runs.{AreRuns, run_numbers}
-use Rattle.library_values.specs.declared.listed_collector.missing.Run.{Run}
-use Rattle.library_values.specs.Missing.{run_of}
+use Rattle.library_values.specs.declared.runs.Run.{Run}
+use Rattle.library_values.specs.Runs.{run_of}
 
 -- these runs are at the front of the array, as far as it has room
 abbrev pub ArePut : List Run → List (ℕ × ℕ) → List Run → Type 0

@@ -1,7 +1,7 @@
 -- What a buffer has after bytes were put to its front, or weren't.
 use Rattle.std.specs.Prelude.{◌≡◌, ℕ, ◌<◌, List, ◌++◌, drop, length}
-use Rattle.library_values.specs.declared.listed_fleet.buffer.Put.{Put}
-use Rattle.library_values.specs.declared.listed_fleet.buffer.Put.TheVariants.{Done, NoRoom}
+use Rattle.library_values.specs.declared.buffer.Put.{Put}
+use Rattle.library_values.specs.declared.buffer.Put.TheVariants.{Done, NoRoom}
 
 -- The bytes are at the front of the buffer, and the rest of that stays; or it is shorter than they are, and stays as it
 -- was. Their number is told.

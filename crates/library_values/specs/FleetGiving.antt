@@ -2,10 +2,12 @@
 use Rattle.std.specs.Prelude.{◌≡◌, ℕ, ◌+◌, ◌<◌, List, ◌++◌, drop, length, Some, None}
 use Rattle.std.specs.List.{slice_get}
 use Rattle.fleet_collector.specs.Listing.{Line}
+use Rattle.library_values.specs.declared.listed_fleet.listed.LineHead.{LineHead}
 use Rattle.library_values.specs.declared.listed_fleet.listed.LineNumbers.{LineNumbers}
 use Rattle.library_values.specs.declared.listed_fleet.listed.Given.{Given}
 use Rattle.library_values.specs.declared.listed_fleet.listed.Given.TheVariants.{Line as IsLine, NoRoom, End}
 use Rattle.library_values.specs.declared.listed_fleet.listed.ListedFleet.{ListedFleet}
+use Rattle.library_values.specs.FleetLines.{line_of}
 
 -- these are the line's numbers, and how many bytes it has
 pub record AreNumbersOf (line : Line) (numbers : LineNumbers) : Type 0 where
@@ -18,19 +20,19 @@ pub record AreNumbersOf (line : Line) (numbers : LineNumbers) : Type 0 where
 -- The line that is next is given: its bytes are at the front of the buffer, and the one after it is next.
 pub record IsGiven (old : ListedFleet) (out : List ℕ) (numbers : LineNumbers) (left : List ℕ)
     (new : ListedFleet) : Type 0 where
-  pub line : Line
-  pub is_next : slice_get old.lines old.given ≡ Some line
-  pub numbers_are : AreNumbersOf line numbers
-  pub bytes : left ≡ line.bytes ++ drop (length line.bytes) out
+  pub kept : LineHead × List ℕ
+  pub is_next : slice_get old.lines old.given ≡ Some kept
+  pub numbers_are : AreNumbersOf (line_of kept) numbers
+  pub bytes : left ≡ kept.1 ++ drop (length kept.1) out
   pub new_is : new ≡ record old { given = old.given + 1 }
 
 -- The line that is next has more bytes than the buffer; nothing changes.
 pub record LacksRoom (old : ListedFleet) (out : List ℕ) (numbers : LineNumbers) (left : List ℕ)
     (new : ListedFleet) : Type 0 where
-  pub line : Line
-  pub is_next : slice_get old.lines old.given ≡ Some line
-  pub numbers_are : AreNumbersOf line numbers
-  pub short : length out < length line.bytes
+  pub kept : LineHead × List ℕ
+  pub is_next : slice_get old.lines old.given ≡ Some kept
+  pub numbers_are : AreNumbersOf (line_of kept) numbers
+  pub short : length out < length kept.1
   pub left_is : left ≡ out
   pub new_is : new ≡ old
 

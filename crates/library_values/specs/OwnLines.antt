@@ -1,17 +1,12 @@
 -- Lines whose bytes are in one buffer.
 use Rattle.std.specs.Prelude.{ℕ, ◌+◌, ◌≤◌, List, take, drop}
-use Rattle.trace_model.specs.Listing.{Line}
-use Rattle.library_values.specs.declared.listed_collector.own_lines.LinePlace.{LinePlace}
+use Rattle.library_values.specs.declared.own_lines.LinePlace.{LinePlace}
 
--- the line whose bytes are at this place of the buffer
-abbrev pub line_in : List ℕ → LinePlace → Line
-line_in bytes place = record {
-  moment = place.moment.0;
-  cpu = place.cpu.0;
-  number = place.number.0;
-  bytes = take place.len (drop place.start bytes);
-}
+module _ {H : Type 0} where
+  -- the head of a line, and its bytes, which are at this place of the buffer
+  abbrev pub line_in : List ℕ → LinePlace H → H × List ℕ
+  line_in bytes place = (place.head, take place.len (drop place.start bytes))
 
--- the place is within so many bytes
-abbrev pub StandsIn : ℕ → LinePlace → Type 0
-StandsIn count place = place.start + place.len ≤ count
+  -- the place is within so many bytes
+  abbrev pub StandsIn : ℕ → LinePlace H → Type 0
+  StandsIn count place = place.start + place.len ≤ count

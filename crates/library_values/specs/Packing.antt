@@ -5,7 +5,7 @@ use Rattle.trace_model.specs.ParcelBytes.{DecodesParcel}
 use Rattle.parcel_streams.specs.Pieces.{parcel_piece, bytes_of_piece, IsPiece}
 use Rattle.stream_collector.specs.Stream.{Stream}
 use Rattle.fleet_collector.specs.Snapshot.{IsSnapshot}
-use Rattle.library_values.specs.declared.listed_fleet.buffer.Put.{Put}
+use Rattle.library_values.specs.declared.buffer.Put.{Put}
 use Rattle.library_values.specs.Buffer.{PutsSo}
 
 -- The bytes read as a parcel, and a piece of this stream that has it is put into the buffer, or has no room there.

@@ -5,9 +5,6 @@
 mod adding;
 mod listed;
 mod missing;
-mod own_lines;
 
 pub use adding::AddRefusal;
-pub use listed::{Given, LineNumbers, ListedCollector};
-pub use missing::Run;
-pub use own_lines::OwnLines;
+pub use listed::{Given, LineHead, LineNumbers, ListedCollector};

@@ -1,7 +1,7 @@
 -- What the calls of C make of a fleet.
 use Rattle.std.specs.Prelude.{◌≡◌, ℕ, ℤ, pos, List, length, ltb, cond, [], Option, IfSome, IfNone, unwrap_or, Result, Ok, OnErr}
 use Rattle.trace_model.specs.declared.numbers.Moment.{Moment}
-use Rattle.library_values.specs.declared.listed_collector.missing.Run.{Run}
+use Rattle.library_values.specs.declared.runs.Run.{Run}
 use Rattle.stream_collector.specs.declared.added.Marked.{Marked}
 use Rattle.stream_collector.specs.declared.added.Marked.TheVariants.{Known}
 use Rattle.stream_collector.specs.declared.fault.MarkFault.{MarkFault}
@@ -17,6 +17,7 @@ use Rattle.library_values.specs.declared.listed_fleet.listed.ListedFleet.{Listed
 use Rattle.library_values.specs.FleetAdding.{AddsSo}
 use Rattle.library_values.specs.Cpus.{IsLeastFrom, HasNoneFrom}
 use Rattle.library_values.specs.FleetGiving.{GivesSo}
+use Rattle.library_values.specs.FleetLines.{lines_of}
 use Rattle.library_values.specs.Merging as merging
 use Rattle.library_values.specs.Runs.{PutsRuns}
 use Rattle.tracering_c.specs.declared.fleet_codes.StreamFault.{StreamFault}
@@ -79,14 +80,14 @@ pub record RunsSo (holds : ℕ → Type 0) (out : List Run) (code : ℤ) (left :
 
 -- The fleet is listed: its listing's lines are to be given, from the first on.
 pub record IsListed (old : ListedFleet) (count : ℕ) (new : ListedFleet) : Type 0 where
-  pub listing : IsListing old.fleet new.lines
+  pub listing : IsListing old.fleet (lines_of new.lines)
   pub count_is : count ≡ length new.lines
   pub first : new.given ≡ 0
   pub fleet : new.fleet ≡ old.fleet
 
 -- The same of what is before the cuts of the CPUs at a moment.
 pub record IsListedBefore (old : ListedFleet) (moment count : ℕ) (new : ListedFleet) : Type 0 where
-  pub listing : IsListingBefore old.fleet moment new.lines
+  pub listing : IsListingBefore old.fleet moment (lines_of new.lines)
   pub count_is : count ≡ length new.lines
   pub first : new.given ≡ 0
   pub fleet : new.fleet ≡ old.fleet

@@ -20,8 +20,8 @@ use Rattle.fleet_collector.specs.declared.refusal.PieceRefusal.{PieceRefusal}
 use Rattle.fleet_collector.specs.declared.refusal.PieceRefusal.TheVariants.{Parcel, Mark}
 use Rattle.library_values.specs.declared.listed_fleet.adding.AddAnswer.{AddAnswer}
 use Rattle.library_values.specs.declared.listed_fleet.adding.AddAnswer.TheVariants.{Added as IsAdded, Refused as IsRefused, NoPiece}
-use Rattle.library_values.specs.declared.listed_fleet.buffer.Put.{Put}
-use Rattle.library_values.specs.declared.listed_fleet.buffer.Put.TheVariants.{Done, NoRoom}
+use Rattle.library_values.specs.declared.buffer.Put.{Put}
+use Rattle.library_values.specs.declared.buffer.Put.TheVariants.{Done, NoRoom}
 use Rattle.library_values.specs.declared.listed_fleet.listed.LineNumbers.{LineNumbers}
 use Rattle.library_values.specs.declared.listed_fleet.listed.Given.{Given}
 use Rattle.library_values.specs.declared.listed_fleet.listed.Given.TheVariants.{Line as IsLine, NoRoom as LacksRoom, End as AtEnd}

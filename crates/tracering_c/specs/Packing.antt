@@ -7,7 +7,7 @@ use Rattle.parcel_streams.specs.Pieces.{mark_piece, bytes_of_piece, IsPiece}
 use Rattle.parcel_streams.specs.declared.piece.Mark.TheVariants.{End}
 use Rattle.library_values.specs.CollectorAdding.{IsNoParcel}
 use Rattle.fleet_collector.specs.Fleet.{stream_at}
-use Rattle.library_values.specs.declared.listed_fleet.buffer.Put.{Put}
+use Rattle.library_values.specs.declared.buffer.Put.{Put}
 use Rattle.library_values.specs.declared.listed_fleet.listed.ListedFleet.{ListedFleet}
 use Rattle.library_values.specs.Buffer.{PutsSo}
 use Rattle.library_values.specs.Packing as piece

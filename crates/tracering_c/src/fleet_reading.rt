@@ -14,8 +14,8 @@ use crate::fleet_codes::{
     FleetLine, code_of_found, code_of_found_cpu, code_of_given, next_line_of,
 };
 use crate::handle::FleetHandle;
-use library_values::listed_collector::Run;
 use library_values::listed_fleet::{CpuState, ListedFleet};
+use library_values::runs::Run;
 use parcel_streams::StreamId;
 use std::alloc::Global;
 use trace_model::CpuId;

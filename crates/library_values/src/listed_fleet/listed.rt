@@ -1,28 +1,68 @@
 //! The listing, as a copy.
 ghost use Rattle.std.specs.Prelude.{◌≡◌, map, IfOk};
 ghost use Rattle.fleet_collector.specs.Listing.{IsListing, IsListingBefore};
+ghost use Rattle.library_values.specs.FleetLines.{kept_line, lines_of};
 
-use crate::listed_fleet::buffer::{Put, put_front};
-use crate::listed_fleet::own_lines::OwnLines;
-use fleet_collector::Fleet;
+use crate::buffer::{Put, put_front};
+use crate::own_lines::OwnLines;
+use fleet_collector::{Fleet, FleetLine};
 use parcel_streams::StreamId;
 use std::alloc::Global;
 use trace_model::{CpuId, Moment, NoMemory, RecordNo};
 
+/// What a line of a fleet is besides its bytes.
+#[derive(Clone, Copy)]
+pub struct LineHead {
+    moment: Moment,
+    stream: StreamId,
+    cpu: CpuId,
+    number: RecordNo,
+}
+
 /// A copy of the fleet's listing.
-fn copied_listing(alloc: Global, fleet: &Fleet) -> Result<OwnLines, NoMemory>
-    ensures { IfOk result (λ copies. IsListing fleet.now copies) }
+fn copied_listing(alloc: Global, fleet: &Fleet) -> Result<OwnLines<LineHead>, NoMemory>
+    ensures { IfOk result (λ copies. IsListing fleet.now (lines_of copies)) }
 {
     let lines = fleet.listing(alloc)?;
-    OwnLines::of(alloc, &lines)
+    copied(alloc, &lines)
 }
 
 /// A copy of the listing of what is before a moment.
-fn copied_listing_before(alloc: Global, fleet: &Fleet, moment: Moment) -> Result<OwnLines, NoMemory>
-    ensures { IfOk result (λ copies. IsListingBefore fleet.now moment.0 copies) }
+fn copied_listing_before(
+    alloc: Global,
+    fleet: &Fleet,
+    moment: Moment,
+) -> Result<OwnLines<LineHead>, NoMemory>
+    ensures { IfOk result (λ copies. IsListingBefore fleet.now moment.0 (lines_of copies)) }
 {
     let lines = fleet.lines_before(alloc, moment)?;
-    OwnLines::of(alloc, &lines)
+    copied(alloc, &lines)
+}
+
+/// A copy of each of these lines. Memory is taken twice, however many there are.
+fn copied(alloc: Global, lines: &[FleetLine<'_>]) -> Result<OwnLines<LineHead>, NoMemory>
+    ensures { IfOk result (λ copies. copies ≡ map kept_line lines.now) }
+{
+    let mut copies = OwnLines::with_room(alloc, lines.len(), byte_count(lines))?;
+    for line in lines {
+        let head = LineHead {
+            moment: line.moment,
+            stream: line.stream,
+            cpu: line.cpu,
+            number: line.number,
+        };
+        copies.push(head, line.bytes)?;
+    }
+    Ok(copies)
+}
+
+/// How many bytes the lines have in all.
+fn byte_count(lines: &[FleetLine<'_>]) -> usize {
+    let mut count = 0usize;
+    for line in lines {
+        count = count.saturating_add(line.bytes.len());
+    }
+    count
 }
 
 /// The numbers of a line that is listed, and how many bytes it has.
@@ -57,7 +97,7 @@ pub struct ListedFleet {
     /// The fleet.
     pub fleet: Fleet,
     /// The listing; no line, before one was made.
-    pub lines: OwnLines,
+    pub lines: OwnLines<LineHead>,
     /// How many of its lines were given.
     pub given: usize,
 }
@@ -66,6 +106,7 @@ impl ListedFleet {
     ghost use Rattle.std.specs.Prelude.{◌≡◌, [], length, IfOk, OnOk, OnErr};
     ghost use Rattle.fleet_collector.specs.Listing.{IsListing, IsListingBefore};
     ghost use Rattle.library_values.specs.FleetGiving.{GivesSo};
+    ghost use Rattle.library_values.specs.FleetLines.{lines_of};
 
     /// A fleet of which no stream is there, and no listing. No memory is taken.
     pub fn new(alloc: Global) -> ListedFleet
@@ -83,7 +124,7 @@ impl ListedFleet {
     /// Lists what the fleet has now: the lines are given from the first on. The answer is how many there are. If memory
     /// is refused, nothing has changed.
     pub fn list(&mut self, alloc: Global) -> Result<usize, NoMemory>
-        ensures listing { OnOk result (IsListing self.old.fleet self.new.lines) }
+        ensures listing { OnOk result (IsListing self.old.fleet (lines_of self.new.lines)) }
         ensures count { IfOk result (λ count. count ≡ length self.new.lines) }
         ensures first { OnOk result (self.new.given ≡ 0) }
         ensures fleet { self.new.fleet ≡ self.old.fleet }
@@ -98,7 +139,7 @@ impl ListedFleet {
 
     /// The same of what is before the cuts of the CPUs at a moment.
     pub fn list_before(&mut self, alloc: Global, moment: Moment) -> Result<usize, NoMemory>
-        ensures listing { OnOk result (IsListingBefore self.old.fleet moment.0 self.new.lines) }
+        ensures listing { OnOk result (IsListingBefore self.old.fleet moment.0 (lines_of self.new.lines)) }
         ensures count { IfOk result (λ count. count ≡ length self.new.lines) }
         ensures first { OnOk result (self.new.given ≡ 0) }
         ensures fleet { self.new.fleet ≡ self.old.fleet }
@@ -115,17 +156,17 @@ impl ListedFleet {
     pub fn give(&mut self, out: &mut [u8]) -> Given
         ensures { GivesSo self.old out.old result out.new self.new }
     {
-        let Some(line) = self.lines.get(self.given) else {
+        let Some((head, bytes)) = self.lines.get(self.given) else {
             return Given::End;
         };
         let numbers = LineNumbers {
-            moment: line.moment,
-            stream: line.stream,
-            cpu: line.cpu,
-            number: line.number,
-            len: line.bytes.len(),
+            moment: head.moment,
+            stream: head.stream,
+            cpu: head.cpu,
+            number: head.number,
+            len: bytes.len(),
         };
-        match put_front(out, line.bytes) {
+        match put_front(out, bytes) {
             Put::NoRoom(_) => Given::NoRoom(numbers),
             Put::Done(_) => {
                 self.given += 1;

@@ -6,7 +6,7 @@ ghost use Rattle.library_values.specs.CollectorAdding.{IsNoParcel};
 ghost use Rattle.library_values.specs.Buffer.{PutsSo};
 ghost use Rattle.library_values.specs.Packing.{PacksSo};
 
-use crate::listed_fleet::buffer::{Put, put_front};
+use crate::buffer::{Put, put_front};
 use crate::listed_fleet::listed::ListedFleet;
 use page_numbers::{Parcel, ParcelFault};
 use parcel_streams::{Mark, StreamId, pack_mark, pack_parcel};

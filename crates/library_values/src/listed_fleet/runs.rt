@@ -1,11 +1,10 @@
 //! The missing, unknown and undelivered numbers of a CPU of a stream, into an array.
-ghost use Rattle.std.specs.Prelude.{◌≡◌, ◌≤◌, ◌<◌, length, slice_set};
 ghost use Rattle.trace_model.specs.Runs.{InRun, AreRuns};
 ghost use Rattle.library_values.specs.Runs.{ArePut};
 
 use crate::listed_fleet::listed::ListedFleet;
 use crate::listed_fleet::state::known_of;
-use crate::listed_collector::Run;
+use crate::runs::{Run, put_run};
 use parcel_streams::StreamId;
 use std::alloc::Global;
 use stream_collector::{StreamCollector, StreamRuns};
@@ -63,14 +62,4 @@ fn put_runs(runs: StreamRuns<'_>, out: &mut [Run]) -> usize
         count += 1;
     }
     count
-}
-
-/// Puts a run to this place, if there is one.
-fn put_run(out: &mut [Run], at: usize, run: Run)
-    ensures put { at < length out.old → out.new ≡ slice_set out.old at run }
-    ensures past { length out.old ≤ at → out.new ≡ out.old }
-{
-    if at < out.len() {
-        out[at] = run;
-    }
 }

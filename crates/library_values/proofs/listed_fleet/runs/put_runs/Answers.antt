@@ -2,7 +2,7 @@ use Rattle.std.proofs.Common.{ℕ, ◌++◌, ◌∙◌, sym, ap, arith, length, 
 use Rattle.std.proofs.lemmas.Iterator.Consumers.{YieldsList-from_first, YieldsList-turn, YieldsList-end}
 use Rattle.trace_model.specs.Runs.{InRun}
 use Rattle.collector.specs.Runs.{run_numbers}
-use Rattle.library_values.specs.Missing.{run_of}
+use Rattle.library_values.specs.Runs.{run_of}
 use Rattle.library_values.proofs.PutRuns.{is_far_at, put_next}
 use Rattle.library_values.proofs.listed_fleet.runs.put_runs.Goals as goal
 

@@ -1,7 +1,7 @@
 use Rattle.std.proofs.Common.{ℕ, ◌++◌, ◌∙◌, sym, ap, arith, length, map, take, drop}
 use Rattle.std.proofs.lemmas.Iterator.Consumers.{YieldsList-from_first, YieldsList-turn, YieldsList-end}
 use Rattle.collector.specs.Runs.{run_numbers}
-use Rattle.library_values.specs.Missing.{run_of}
+use Rattle.library_values.specs.Runs.{run_of}
 use Rattle.library_values.proofs.PutRuns.{is_far_at, put_next}
 use Rattle.library_values.proofs.listed_collector.listed.ListedCollector.put_missing.Goals as goal
 
@@ -32,8 +32,10 @@ returns c =
     record {
       runs = runs;
       are_runs = c.missing-first-items.ensures;
-      count_is = count_is;
-      put = c.loop-first.invariant.1
-          ∙ (λ i. take (length out) (map run_of (all.0 i)) ++ drop (length (all.0 i)) out)
-          ∙ ap (λ (k : ℕ). take (length out) (map run_of runs) ++ drop k out) (sym count_is);
+      are_put = record {
+        count_is = count_is;
+        put = c.loop-first.invariant.1
+            ∙ (λ i. take (length out) (map run_of (all.0 i)) ++ drop (length (all.0 i)) out)
+            ∙ ap (λ (k : ℕ). take (length out) (map run_of runs) ++ drop k out) (sym count_is);
+      };
     }
