@@ -9,27 +9,15 @@ ghost use Rattle.command_io.specs.CommandRun.{IsCommandRun, WritesOutput, source
 ghost use Rattle.command_io.specs.Output.{bytes_of, status_of};
 ghost use Rattle.trace_script.specs.ScriptFaults.{GivesAt, ReportsFirstFault, script_fault_text};
 ghost use Rattle.replay_log.specs.LogTypes.{shown_log};
-ghost use Rattle.script_replay.specs.Replay.{IsHeadline};
 ghost use Rattle.replay_command.specs.Commands.{AccountGives, IsPrinting, ReplayGives};
 
 use collector_text::put_collectors;
 use command_io::{Command, DONE, Output, Sink, Source, carry_out};
 use replay_log::put_log;
-use script_replay::{World, replay};
+use script_replay::{World, world_of};
 use std::alloc::Global;
 use trace_model::NoMemory;
-use trace_script::{ReplayFault, Script, ScriptFault, put_fault, read_script};
-
-/// The world of a script.
-fn replayed(alloc: Global, script: &Script) -> Result<World, NoMemory>
-    ensures { IfOk result (λ world. IsHeadline script.now world.collectors.items world.log.items) }
-{
-    match replay(alloc, script) {
-        Ok(world) => Ok(world),
-        Err(ReplayFault::NoMemory) => Err(NoMemory),
-        Err(ReplayFault::GateShut | ReplayFault::NoThread) => unreachable!(),
-    }
-}
+use trace_script::{Script, ScriptFault, put_fault, read_script};
 
 /// The printing of a world: the log, if it is asked for, and the collectors. The log is given back before the
 /// collectors are printed.
@@ -54,7 +42,7 @@ fn print_world(alloc: Global, world: World, log: bool) -> Result<Vec<u8>, NoMemo
 fn print_replay(alloc: Global, script: Script, log: bool) -> Result<Vec<u8>, NoMemory>
     ensures { IfOk result (λ text. IsPrinting script log text.items) }
 {
-    let world = replayed(alloc, &script)?;
+    let world = world_of(alloc, &script)?;
     drop(script);
     let text = print_world(alloc, world, log)?;
     Ok(text)

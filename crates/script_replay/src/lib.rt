@@ -13,5 +13,5 @@ mod reports;
 mod world;
 
 pub use replay_log::LogLine;
-pub use replaying::{replay, steps_of};
+pub use replaying::{replay, steps_of, world_of};
 pub use world::World;

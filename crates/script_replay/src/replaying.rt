@@ -179,11 +179,9 @@ fn obey_all<'a>(
     Ok(state)
 }
 
-/// Replays a script over rings, one for each CPU of whose ring its lines ask anything. It answers no fault but
-/// `NoMemory`.
-pub fn replay(alloc: Global, script: &Script) -> Result<World, ReplayFault>
-    ensures headline { IfOk result (λ world. IsHeadline script.now world.collectors.items world.log.items) }
-    ensures memory { IsOkUnless result no_memory }
+/// The world of a script: its lines are replayed over rings, one for each CPU of whose ring they ask anything.
+pub fn world_of(alloc: Global, script: &Script) -> Result<World, NoMemory>
+    ensures { IfOk result (λ world. IsHeadline script.now world.collectors.items world.log.items) }
 {
     let ReplayState {
         lanes,
@@ -193,6 +191,14 @@ pub fn replay(alloc: Global, script: &Script) -> Result<World, ReplayFault>
     drop(lanes);
     let log = reports.log;
     Ok(World { collectors, log })
+}
+
+/// The same with the fault type of `run`: it answers no fault but `NoMemory`.
+pub fn replay(alloc: Global, script: &Script) -> Result<World, ReplayFault>
+    ensures headline { IfOk result (λ world. IsHeadline script.now world.collectors.items world.log.items) }
+    ensures memory { IsOkUnless result no_memory }
+{
+    Ok(world_of(alloc, script)?)
 }
 
 /// The text of the steps of a script's replay: what each one did to its ring, and what each delivery brought.

@@ -12,7 +12,7 @@ use Rattle.collector.specs.declared.added.Added.{Added}
 use Rattle.collector.specs.declared.added.Added.TheVariants.{New, Known}
 use Rattle.collector.specs.declared.fault.AddFault.{AddFault}
 use Rattle.collector.specs.declared.fault.AddFault.TheVariants.{Clash, TakenAndMissing, NoMemory}
-use Rattle.listed_collector.specs.declared.listed.ListedCollector.{ListedCollector}
+use Rattle.library_values.specs.declared.listed_collector.listed.ListedCollector.{ListedCollector}
 use Rattle.tracering_c.specs.declared.collected.FaultAt.{FaultAt}
 use Rattle.tracering_c.specs.Codes.{fault_code, add_code, page_answer}
 use Rattle.tracering_c.specs.Calls.{WritesSo, TakesSo, is_page, is_none, has_no_room, HasNoNext, is_empty, is_moving}

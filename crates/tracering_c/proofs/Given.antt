@@ -2,8 +2,8 @@
 use Rattle.std.proofs.Common.{◌≡◌, ℕ, ◌+◌, List, take, ap, ◌∙◌, subst}
 use Rattle.page_image.specs.Contents.{Contents}
 use Rattle.page_numbers.specs.Written.{bytes_of_page}
-use Rattle.parcel_buffer.specs.Fronts.{HasAtFront}
-use Rattle.parcel_buffer.specs.Used.{used_size, used_page}
+use Rattle.library_values.specs.Fronts.{HasAtFront}
+use Rattle.library_values.specs.Used.{used_size, used_page}
 use Rattle.tracering_c.specs.declared.taken.Taken.{Taken}
 use Rattle.tracering_c.specs.Calls.{AreNumbersOf, IsGiven}
 

@@ -35,8 +35,8 @@ use Rattle.core.proofs.alloc.Shapes.{after}
 use Rattle.std_heap.specs.contracts.Global as Heap
 use Rattle.std_heap.specs.contracts.GlobalAllocator.TheImpl.{ghosts}
 use Rattle.std_heap.proofs.Global.TheLaws as heap
-use Rattle.loose_box.proofs.Values as loose
-use Rattle.loose_box.proofs.Values.{both, loose_good, loose_in, loose_out}
+use Rattle.library_values.proofs.LooseValues as loose
+use Rattle.library_values.proofs.LooseValues.{both, loose_good, loose_in, loose_out}
 use Rattle.tracering_c.specs.contracts.held.Held as handle
 use Rattle.tracering_c.specs.Held.{heap as the_heap}
 use Rattle.tracering_c.specs.Lending.{LendsEnd}

@@ -6,7 +6,7 @@ use Rattle.trace_model.specs.History.{committed_records}
 use Rattle.page_image.specs.Contents.{Contents, records_of_page, IsPage}
 use Rattle.page_numbers.specs.Parcels.{parcel_of_page}
 use Rattle.page_numbers.specs.Written.{bytes_of_page}
-use Rattle.parcel_buffer.specs.Used.{used_page}
+use Rattle.library_values.specs.Used.{used_page}
 use Rattle.ring_shared.specs.Value.{WriterValue}
 use Rattle.tracering_c.specs.Calls.{ReadsAs}
 use Rattle.tracering_c.specs.Peeks.{IsTailOf, newest_records, newest_parcel}

@@ -15,8 +15,8 @@ use Rattle.nested_writer.specs.declared.stack.leave.Ended.TheVariants.{Pending}
 use Rattle.ring_frames.specs.Answers.{top_bytes, KeepsPayloads, EndsPayload}
 use Rattle.ring_frames.specs.Lens.{IsOneMore}
 use Rattle.page_image.specs.Contents.{Contents}
-use Rattle.parcel_buffer.specs.Fronts.{HasAtFront}
-use Rattle.parcel_buffer.specs.Used.{used_size, used_page}
+use Rattle.library_values.specs.Fronts.{HasAtFront}
+use Rattle.library_values.specs.Used.{used_size, used_page}
 use Rattle.page_numbers.specs.Written.{bytes_of_page}
 use Rattle.page_numbers.specs.Parcels.{parcel_of_page}
 use Rattle.trace_model.specs.declared.limits.TheConstants.{MAX_CPUS}

@@ -10,11 +10,11 @@ use Rattle.collector.specs.declared.added.Added.{Added}
 use Rattle.collector.specs.declared.added.Added.TheVariants.{New, Known}
 use Rattle.collector.specs.declared.fault.AddFault.{AddFault}
 use Rattle.collector.specs.declared.fault.AddFault.TheVariants.{Clash, TakenAndMissing, NoMemory as NoMemoryToAdd}
-use Rattle.listed_collector.specs.declared.adding.AddRefusal.{AddRefusal}
-use Rattle.listed_collector.specs.declared.adding.AddRefusal.TheVariants.{Parcel as NoParcel, Add as NotAdded}
-use Rattle.listed_collector.specs.declared.listed.LineNumbers.{LineNumbers}
-use Rattle.listed_collector.specs.declared.listed.Given.{Given}
-use Rattle.listed_collector.specs.declared.listed.Given.TheVariants.{Line as IsLine, NoRoom, End}
+use Rattle.library_values.specs.declared.listed_collector.adding.AddRefusal.{AddRefusal}
+use Rattle.library_values.specs.declared.listed_collector.adding.AddRefusal.TheVariants.{Parcel as NoParcel, Add as NotAdded}
+use Rattle.library_values.specs.declared.listed_collector.listed.LineNumbers.{LineNumbers}
+use Rattle.library_values.specs.declared.listed_collector.listed.Given.{Given}
+use Rattle.library_values.specs.declared.listed_collector.listed.Given.TheVariants.{Line as IsLine, NoRoom, End}
 use Rattle.tracering_c.specs.declared.collected.FaultAt.{FaultAt}
 use Rattle.tracering_c.specs.declared.collected.Listed.{Listed}
 use Rattle.nested_writer.specs.declared.fault.WriteFault.{WriteFault}

@@ -1,19 +1,21 @@
 -- What the calls of C make of a collector.
 use Rattle.std.specs.Prelude.{◌≡◌, ℕ, ◌+◌, ℤ, pos, List, length, ltb, cond, [], Option, Some, None, Result, Ok, Err}
 use Rattle.trace_model.specs.Parcel.{Parcel}
+use Rattle.trace_model.specs.Collection.{Misses}
 use Rattle.trace_model.specs.Listing.{IsListing}
 use Rattle.page_image.specs.Contents.{Contents}
 use Rattle.page_numbers.specs.Parcels.{parcel_of_page}
-use Rattle.parcel_buffer.specs.Used.{used_size}
+use Rattle.library_values.specs.Used.{used_size}
 use Rattle.collector.specs.declared.added.Added.{Added}
 use Rattle.collector.specs.declared.fault.AddFault.{AddFault}
-use Rattle.listed_collector.specs.declared.adding.AddRefusal.{AddRefusal}
-use Rattle.listed_collector.specs.declared.listed.Given.{Given}
-use Rattle.listed_collector.specs.declared.listed.ListedCollector.{ListedCollector}
-use Rattle.listed_collector.specs.declared.missing.Run.{Run}
-use Rattle.listed_collector.specs.Adding.{AddsSo, AddsPage}
-use Rattle.listed_collector.specs.Giving.{GivesSo}
-use Rattle.listed_collector.specs.Missing.{PutsRuns}
+use Rattle.library_values.specs.declared.listed_collector.adding.AddRefusal.{AddRefusal}
+use Rattle.library_values.specs.declared.listed_collector.listed.Given.{Given}
+use Rattle.library_values.specs.declared.listed_collector.listed.ListedCollector.{ListedCollector}
+use Rattle.library_values.specs.declared.runs.Run.{Run}
+use Rattle.library_values.specs.CollectorAdding.{AddsSo, AddsPage}
+use Rattle.library_values.specs.CollectorGiving.{GivesSo}
+use Rattle.library_values.specs.CollectorLines.{lines_of}
+use Rattle.library_values.specs.Runs.{PutsRuns}
 use Rattle.tracering_c.specs.declared.collected.FaultAt.{FaultAt}
 use Rattle.tracering_c.specs.declared.collected.Listed.{Listed}
 use Rattle.tracering_c.specs.declared.taken.Taken.{Taken}
@@ -67,12 +69,12 @@ pub data CollectsSo (old : HeldReader) (listed : ListedCollector) (was : Taken) 
 -- Runs are put as far as there is room, and all are counted: 17 if there is too little room.
 pub record MissesSo (parcels : List Parcel) (cpu : ℕ) (out : List Run) (code : ℤ) (left : List Run) (count : ℕ)
     : Type 0 where
-  pub puts : PutsRuns parcels cpu out count left
+  pub puts : PutsRuns (Misses parcels cpu) out count left
   pub code_is : code ≡ cond (ltb (length out) count) (pos 17) (pos 0)
 
 -- The collector is listed: its listing's lines are to be given, from the first on.
 pub record IsListed (old : ListedCollector) (count : ℕ) (new : ListedCollector) : Type 0 where
-  pub listing : IsListing old.collector new.lines
+  pub listing : IsListing old.collector (lines_of new.lines)
   pub count_is : count ≡ length new.lines
   pub first : new.given ≡ 0
   pub collector : new.collector ≡ old.collector

@@ -1,7 +1,7 @@
 -- What the calls of C make of a fleet.
 use Rattle.std.specs.Prelude.{◌≡◌, ℕ, ℤ, pos, List, length, ltb, cond, [], Option, IfSome, IfNone, unwrap_or, Result, Ok, OnErr}
 use Rattle.trace_model.specs.declared.numbers.Moment.{Moment}
-use Rattle.listed_collector.specs.declared.missing.Run.{Run}
+use Rattle.library_values.specs.declared.runs.Run.{Run}
 use Rattle.stream_collector.specs.declared.added.Marked.{Marked}
 use Rattle.stream_collector.specs.declared.added.Marked.TheVariants.{Known}
 use Rattle.stream_collector.specs.declared.fault.MarkFault.{MarkFault}
@@ -11,14 +11,15 @@ use Rattle.fleet_collector.specs.Listing.{IsListing, IsListingBefore}
 use Rattle.fleet_collector.specs.Frontier.{IsFleetFrontier, AllForgottenBefore, SomeForgottenBefore}
 use Rattle.fleet_collector.specs.Changes.{ForgetsBelow, LosesBelow}
 use Rattle.fleet_collector.specs.declared.merge_fault.FleetMergeFault.{FleetMergeFault}
-use Rattle.listed_fleet.specs.declared.adding.AddAnswer.{AddAnswer}
-use Rattle.listed_fleet.specs.declared.listed.Given.{Given}
-use Rattle.listed_fleet.specs.declared.listed.ListedFleet.{ListedFleet}
-use Rattle.listed_fleet.specs.Adding.{AddsSo}
-use Rattle.listed_fleet.specs.Cpus.{IsLeastFrom, HasNoneFrom}
-use Rattle.listed_fleet.specs.Giving.{GivesSo}
-use Rattle.listed_fleet.specs.Merging as merging
-use Rattle.listed_fleet.specs.Runs.{PutsRuns}
+use Rattle.library_values.specs.declared.listed_fleet.adding.AddAnswer.{AddAnswer}
+use Rattle.library_values.specs.declared.listed_fleet.listed.Given.{Given}
+use Rattle.library_values.specs.declared.listed_fleet.listed.ListedFleet.{ListedFleet}
+use Rattle.library_values.specs.FleetAdding.{AddsSo}
+use Rattle.library_values.specs.Cpus.{IsLeastFrom, HasNoneFrom}
+use Rattle.library_values.specs.FleetGiving.{GivesSo}
+use Rattle.library_values.specs.FleetLines.{lines_of}
+use Rattle.library_values.specs.Merging as merging
+use Rattle.library_values.specs.Runs.{PutsRuns}
 use Rattle.tracering_c.specs.declared.fleet_codes.StreamFault.{StreamFault}
 use Rattle.tracering_c.specs.declared.fleet_codes.FleetLine.{FleetLine}
 use Rattle.tracering_c.specs.FleetCodes.{answer_code, answer_used, answer_at, marked_code, marked_at, merged_code, merged_at, found_code, frontier_code, frontier_moment, given_code, next_line}
@@ -79,14 +80,14 @@ pub record RunsSo (holds : ℕ → Type 0) (out : List Run) (code : ℤ) (left :
 
 -- The fleet is listed: its listing's lines are to be given, from the first on.
 pub record IsListed (old : ListedFleet) (count : ℕ) (new : ListedFleet) : Type 0 where
-  pub listing : IsListing old.fleet new.lines
+  pub listing : IsListing old.fleet (lines_of new.lines)
   pub count_is : count ≡ length new.lines
   pub first : new.given ≡ 0
   pub fleet : new.fleet ≡ old.fleet
 
 -- The same of what is before the cuts of the CPUs at a moment.
 pub record IsListedBefore (old : ListedFleet) (moment count : ℕ) (new : ListedFleet) : Type 0 where
-  pub listing : IsListingBefore old.fleet moment new.lines
+  pub listing : IsListingBefore old.fleet moment (lines_of new.lines)
   pub count_is : count ≡ length new.lines
   pub first : new.given ≡ 0
   pub fleet : new.fleet ≡ old.fleet

@@ -18,13 +18,13 @@ use Rattle.stream_collector.specs.declared.fault.MergeFault.TheVariants.{OtherEn
 use Rattle.fleet_collector.specs.declared.merge_fault.FleetMergeFault.{FleetMergeFault}
 use Rattle.fleet_collector.specs.declared.refusal.PieceRefusal.{PieceRefusal}
 use Rattle.fleet_collector.specs.declared.refusal.PieceRefusal.TheVariants.{Parcel, Mark}
-use Rattle.listed_fleet.specs.declared.adding.AddAnswer.{AddAnswer}
-use Rattle.listed_fleet.specs.declared.adding.AddAnswer.TheVariants.{Added as IsAdded, Refused as IsRefused, NoPiece}
-use Rattle.listed_fleet.specs.declared.buffer.Put.{Put}
-use Rattle.listed_fleet.specs.declared.buffer.Put.TheVariants.{Done, NoRoom}
-use Rattle.listed_fleet.specs.declared.listed.LineNumbers.{LineNumbers}
-use Rattle.listed_fleet.specs.declared.listed.Given.{Given}
-use Rattle.listed_fleet.specs.declared.listed.Given.TheVariants.{Line as IsLine, NoRoom as LacksRoom, End as AtEnd}
+use Rattle.library_values.specs.declared.listed_fleet.adding.AddAnswer.{AddAnswer}
+use Rattle.library_values.specs.declared.listed_fleet.adding.AddAnswer.TheVariants.{Added as IsAdded, Refused as IsRefused, NoPiece}
+use Rattle.library_values.specs.declared.buffer.Put.{Put}
+use Rattle.library_values.specs.declared.buffer.Put.TheVariants.{Done, NoRoom}
+use Rattle.library_values.specs.declared.listed_fleet.listed.LineNumbers.{LineNumbers}
+use Rattle.library_values.specs.declared.listed_fleet.listed.Given.{Given}
+use Rattle.library_values.specs.declared.listed_fleet.listed.Given.TheVariants.{Line as IsLine, NoRoom as LacksRoom, End as AtEnd}
 use Rattle.tracering_c.specs.declared.fleet_codes.StreamFault.{StreamFault}
 use Rattle.tracering_c.specs.declared.fleet_codes.FleetLine.{FleetLine}
 use Rattle.tracering_c.specs.Codes.{parcel_code}

@@ -3,8 +3,8 @@ use Rattle.std.specs.Prelude.{◌≡◌, ℤ, pos, Option, Some, None, IfSome, I
 use Rattle.ring_shared.specs.Value.{WriterValue, SameWriter}
 use Rattle.ring_shared.specs.Calls.{IsWriter}
 use Rattle.ring_shared.specs.Takes.{SameRing}
-use Rattle.listed_collector.specs.declared.listed.ListedCollector.{ListedCollector}
-use Rattle.listed_fleet.specs.declared.listed.ListedFleet.{ListedFleet}
+use Rattle.library_values.specs.declared.listed_collector.listed.ListedCollector.{ListedCollector}
+use Rattle.library_values.specs.declared.listed_fleet.listed.ListedFleet.{ListedFleet}
 use Rattle.tracering_c.specs.declared.ends.HeldReader.{HeldReader}
 use Rattle.tracering_c.specs.declared.handle.WriterHandle.{WriterHandle}
 use Rattle.tracering_c.specs.declared.handle.ReaderHandle.{ReaderHandle}

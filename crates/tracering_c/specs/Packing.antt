@@ -5,12 +5,12 @@ use Rattle.page_numbers.specs.declared.fault.ParcelFault.{ParcelFault}
 use Rattle.page_numbers.specs.declared.fault.ParcelFault.TheVariants.{BadCpu, NoMemory}
 use Rattle.parcel_streams.specs.Pieces.{mark_piece, bytes_of_piece, IsPiece}
 use Rattle.parcel_streams.specs.declared.piece.Mark.TheVariants.{End}
-use Rattle.listed_collector.specs.Adding.{IsNoParcel}
+use Rattle.library_values.specs.CollectorAdding.{IsNoParcel}
 use Rattle.fleet_collector.specs.Fleet.{stream_at}
-use Rattle.listed_fleet.specs.declared.buffer.Put.{Put}
-use Rattle.listed_fleet.specs.declared.listed.ListedFleet.{ListedFleet}
-use Rattle.listed_fleet.specs.Buffer.{PutsSo}
-use Rattle.listed_fleet.specs.Packing as piece
+use Rattle.library_values.specs.declared.buffer.Put.{Put}
+use Rattle.library_values.specs.declared.listed_fleet.listed.ListedFleet.{ListedFleet}
+use Rattle.library_values.specs.Buffer.{PutsSo}
+use Rattle.library_values.specs.Packing as piece
 use Rattle.tracering_c.specs.FleetCodes.{packed_code, packed_len}
 
 -- The bytes are packed as a parcel, and its piece is put to the buffer, or has no room there; or they are no parcel, or

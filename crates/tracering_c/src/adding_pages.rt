@@ -16,9 +16,9 @@ use crate::ends::{HeldReader, Next, Unadded};
 use crate::handle::{CollectorHandle, ReaderHandle};
 use crate::taken::Taken;
 use collector::{AddFault, Added};
-use listed_collector::{AddRefusal, ListedCollector};
+use library_values::listed_collector::{AddRefusal, ListedCollector};
+use library_values::parcel_buffer::parcel_len;
 use page_image::Page;
-use parcel_buffer::parcel_len;
 use std::alloc::Global;
 
 /// Takes the next page of a ring, and adds it to a collector. If it isn't added, the reader keeps it, and gives it

@@ -1,7 +1,7 @@
 //! The numbers by which C is answered: 0 and below if the call did what it says, else a positive one: why it didn't;
 //! what is changed all the same, each call says.
 use collector::{AddFault, Added};
-use listed_collector::{AddRefusal, Given};
+use library_values::listed_collector::{AddRefusal, Given};
 use nested_writer::WriteFault;
 use page_image::ImageFault;
 use page_numbers::ParcelFault;

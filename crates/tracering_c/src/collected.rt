@@ -1,6 +1,6 @@
 //! What is reported of a collector's parcels and lines, as C keeps it.
 use collector::{AddFault, Added};
-use listed_collector::{AddRefusal, Given, LineNumbers};
+use library_values::listed_collector::{AddRefusal, Given, LineNumbers};
 use page_image::ImageFault;
 use page_numbers::ParcelFault;
 use record_words::WordFault;

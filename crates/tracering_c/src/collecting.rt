@@ -13,7 +13,8 @@ use crate::codes::{
 use crate::collected::{FaultAt, Listed};
 use crate::ends::HeldCollector;
 use crate::handle::CollectorHandle;
-use listed_collector::{ListedCollector, Run};
+use library_values::listed_collector::ListedCollector;
+use library_values::runs::Run;
 use std::alloc::Global;
 use trace_model::CpuId;
 

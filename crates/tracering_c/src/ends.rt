@@ -2,8 +2,8 @@
 ghost use Rattle.std.specs.Prelude.{◌<◌};
 ghost use Rattle.trace_model.specs.declared.limits.TheConstants.{MAX_CPUS};
 
-use listed_collector::ListedCollector;
-use listed_fleet::ListedFleet;
+use library_values::listed_collector::ListedCollector;
+use library_values::listed_fleet::ListedFleet;
 use page_image::{Body, Page};
 use ring_shared::{Reader, Take, Writer};
 use trace_model::CpuId;

@@ -11,7 +11,7 @@ use crate::codes::{ABSENT, BAD_CPU, DONE, IN_USE, NO_MEMORY};
 use crate::ends::HeldFleet;
 use crate::fleet_codes::{StreamFault, code_of_answer, code_of_marked, used_of};
 use crate::handle::FleetHandle;
-use listed_fleet::ListedFleet;
+use library_values::listed_fleet::ListedFleet;
 use parcel_streams::StreamId;
 use std::alloc::Global;
 use trace_model::{CpuId, MAX_CPUS, RecordNo};

@@ -3,7 +3,8 @@ use crate::codes::{
     CLASH, DONE, END, KNOWN, NO_MEMORY, NO_ROOM, TAKEN_AND_MISSING, code_of_parcel,
 };
 use fleet_collector::{FleetMergeFault, PieceRefusal};
-use listed_fleet::{AddAnswer, Given, LineNumbers, Put, RefusedPiece};
+use library_values::buffer::Put;
+use library_values::listed_fleet::{AddAnswer, Given, LineNumbers, RefusedPiece};
 use page_numbers::ParcelFault;
 use parcel_streams::PieceFault;
 use stream_collector::{AddFault, Added, MarkFault, Marked, MergeFault};

@@ -8,7 +8,7 @@ ghost use Rattle.tracering_c.specs.FleetCalls.{FrontierSo, IsListedBefore, HasFo
 use crate::codes::{ABSENT, DONE, NO_MEMORY};
 use crate::fleet_codes::{code_of_frontier, moment_of_frontier};
 use crate::handle::FleetHandle;
-use listed_fleet::ListedFleet;
+use library_values::listed_fleet::ListedFleet;
 use std::alloc::Global;
 use trace_model::Moment;
 

@@ -8,7 +8,7 @@ ghost use Rattle.tracering_c.specs.FleetCalls.{MergesSo};
 use crate::codes::{ABSENT, DIFFERENT, DONE};
 use crate::fleet_codes::{StreamFault, code_of_merged};
 use crate::handle::FleetHandle;
-use listed_fleet::ListedFleet;
+use library_values::listed_fleet::ListedFleet;
 
 /// Adds all that another fleet knows.
 #[unsafe(no_mangle)]

@@ -2,8 +2,8 @@
 ghost use Rattle.std.specs.Prelude.{◌≡◌, ◌≢◌, Some, None, IsSome, pos};
 ghost use Rattle.stream_collector.specs.Stream.{IsMissing, IsUndelivered, IsUnknownYet};
 ghost use Rattle.fleet_collector.specs.Fleet.{known_of, stream_at};
-ghost use Rattle.listed_fleet.specs.Cpus.{IsToldOf};
-ghost use Rattle.listed_fleet.specs.State.{IsStateOf};
+ghost use Rattle.library_values.specs.Cpus.{IsToldOf};
+ghost use Rattle.library_values.specs.State.{IsStateOf};
 ghost use Rattle.tracering_c.specs.declared.ends.HeldFleet.{HeldFleet as EndValue};
 ghost use Rattle.tracering_c.specs.Held.{fleet_of};
 ghost use Rattle.tracering_c.specs.Handles.{SaysAbsent, OnFleet};
@@ -14,8 +14,8 @@ use crate::fleet_codes::{
     FleetLine, code_of_found, code_of_found_cpu, code_of_given, next_line_of,
 };
 use crate::handle::FleetHandle;
-use listed_collector::Run;
-use listed_fleet::{CpuState, ListedFleet};
+use library_values::listed_fleet::{CpuState, ListedFleet};
+use library_values::runs::Run;
 use parcel_streams::StreamId;
 use std::alloc::Global;
 use trace_model::CpuId;

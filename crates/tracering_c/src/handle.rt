@@ -9,7 +9,7 @@ ghost use Rattle.tracering_c.specs.Zeros.{AreZeros};
 
 use crate::ends::{HeldCollector, HeldFleet, HeldReader, HeldWriter};
 use crate::held::Held;
-use loose_box::Loose;
+use library_values::loose_box::Loose;
 use std::alloc::Global;
 use std::mem::replace;
 

@@ -5,7 +5,7 @@ ghost use Rattle.std.specs.Prelude.{◌≡◌, Some, None, Option, is_some, true
 ghost use Rattle.tracering_c.specs.Held.{End, held, writer_of, reader_of, collector_of, fleet_of};
 
 use crate::ends::{HeldCollector, HeldFleet, HeldReader, HeldWriter};
-use loose_box::Loose;
+use library_values::loose_box::Loose;
 use std::alloc::Global;
 use std::marker::Model;
 

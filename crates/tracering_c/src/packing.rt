@@ -7,7 +7,7 @@ ghost use Rattle.tracering_c.specs.Packing.{PacksSo, PacksEnd, PacksStream};
 use crate::codes::ABSENT;
 use crate::fleet_codes::{code_of_packed, len_of_packed};
 use crate::handle::FleetHandle;
-use listed_fleet::{ListedFleet, pack_bytes, pack_end};
+use library_values::listed_fleet::{ListedFleet, pack_bytes, pack_end};
 use parcel_streams::StreamId;
 use std::alloc::Global;
 use trace_model::CpuId;

@@ -10,7 +10,7 @@ use crate::codes::{ABSENT, DONE, EMPTY, NO_ROOM, NOT_AT_REST};
 use crate::ends::HeldWriter;
 use crate::handle::WriterHandle;
 use crate::taken::Taken;
-use parcel_buffer::{PARCEL_HEADER, put_parcel};
+use library_values::parcel_buffer::{PARCEL_HEADER, put_parcel};
 
 /// Puts the parcel of the page that is written to the front of `out`, if nothing is begun and the page has a record.
 /// Nothing of the ring changes.

@@ -10,7 +10,7 @@ use crate::codes::{ABSENT, DONE, EMPTY, MOVING, NO_ROOM};
 use crate::ends::{HeldReader, Next};
 use crate::handle::ReaderHandle;
 use crate::taken::Taken;
-use parcel_buffer::{PARCEL_HEADER, put_parcel};
+use library_values::parcel_buffer::{PARCEL_HEADER, put_parcel};
 
 /// Takes the next page, and puts its parcel to the front of `out`.
 #[unsafe(no_mangle)]

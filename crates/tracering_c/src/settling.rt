@@ -13,7 +13,7 @@ use crate::codes::{ABSENT, DONE, NO_ROOM, NOT_AT_REST, UNREAD};
 use crate::ends::{HeldReader, HeldWriter};
 use crate::handle::{ReaderHandle, WriterHandle};
 use crate::taken::Taken;
-use parcel_buffer::{PARCEL_HEADER, put_parcel};
+use library_values::parcel_buffer::{PARCEL_HEADER, put_parcel};
 use ring_shared::{SettleFault, settle};
 use std::alloc::Global;
 

@@ -1,6 +1,6 @@
 use Rattle.std.proofs.Common.{ℤ, Result, refl, ap, ◌∙◌, w32, to_z, of_z}
 use Rattle.collector.specs.declared.added.Added.{Added}
-use Rattle.listed_collector.specs.declared.adding.AddRefusal.{AddRefusal}
+use Rattle.library_values.specs.declared.listed_collector.adding.AddRefusal.{AddRefusal}
 use Rattle.tracering_c.specs.Codes.{add_code, fault_at}
 use Rattle.tracering_c.specs.CollectorCalls.{adds_page, adds_none}
 use Rattle.tracering_c.proofs.CallAnswers.{add_fits}

@@ -1,0 +1,15 @@
+pub mod Buffer
+pub mod CollectorAdding
+pub mod CollectorGiving
+pub mod CollectorLines
+pub mod Cpus
+pub mod FleetAdding
+pub mod FleetGiving
+pub mod FleetLines
+pub mod Fronts
+pub mod Merging
+pub mod OwnLines
+pub mod Packing
+pub mod Runs
+pub mod State
+pub mod Used

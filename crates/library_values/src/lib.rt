@@ -1,0 +1,11 @@
+//! What is behind the handles of the library for C: a box as its pointer, pages as bytes in a caller's buffer, and
+//! collectors and fleets for callers that have numbers and buffers alone.
+#![tactic(auto)]
+
+pub mod buffer;
+pub mod listed_collector;
+pub mod listed_fleet;
+pub mod loose_box;
+pub mod own_lines;
+pub mod parcel_buffer;
+pub mod runs;

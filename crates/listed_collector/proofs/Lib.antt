@@ -1,3 +1,0 @@
-pub mod PutRuns
-pub mod ReadParts
-pub mod LinePlaces

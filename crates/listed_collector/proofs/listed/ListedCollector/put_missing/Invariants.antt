@@ -1,7 +1,0 @@
-use Rattle.std.proofs.Common.{◌≡◌, length, map}
-use Rattle.collector.specs.Runs.{run_numbers}
-use Rattle.listed_collector.proofs.PutRuns.{ArePut}
-use Rattle.listed_collector.proofs.listed.ListedCollector.put_missing.Given as goal
-
-abbrev pub invariant-loop-first : goal.invariant-loop-first
-invariant-loop-first l = (l.count ≡ length l.yielded) × ArePut l.initial.out (map run_numbers l.yielded) l.out

@@ -1,4 +1,0 @@
-pub mod Adding
-pub mod Giving
-pub mod Missing
-pub mod OwnLines

@@ -1,2 +1,0 @@
-pub mod LinePlaces
-pub mod LeastFrom

@@ -1,6 +1,0 @@
-use Rattle.std.proofs.Common.{length}
-use Rattle.listed_fleet.proofs.LeastFrom.{AreBelow}
-use Rattle.listed_fleet.proofs.cpus.least_known.Given as goal
-
-abbrev pub invariant-loop-cpu : goal.invariant-loop-cpu
-invariant-loop-cpu l = AreBelow l.fn.cpus (length l.yielded) l.from

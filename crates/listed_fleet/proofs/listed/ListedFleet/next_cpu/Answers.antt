@@ -1,8 +1,0 @@
-use Rattle.std.proofs.Common.{IfNone, subst}
-use Rattle.stream_collector.specs.Stream.{Stream}
-use Rattle.listed_fleet.specs.Cpus.{IsToldOf, HasNoneFrom}
-use Rattle.listed_fleet.proofs.listed.ListedFleet.next_cpu.Goals as goal
-
-pub returns-clause-none : goal.returns-clause-none
-returns-clause-none c =
-    subst (λ (s : Stream). IfNone c.next_cpu_of.result (HasNoneFrom (IsToldOf s) c.args.from)) c.known_of.ensures c.next_cpu_of.ensures.none

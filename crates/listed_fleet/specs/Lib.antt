@@ -1,9 +1,0 @@
-pub mod Adding
-pub mod Buffer
-pub mod Cpus
-pub mod Giving
-pub mod Merging
-pub mod OwnLines
-pub mod Packing
-pub mod Runs
-pub mod State

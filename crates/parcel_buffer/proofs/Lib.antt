@@ -1,2 +1,0 @@
-pub mod Fronts
-mod Used
