@@ -12,8 +12,8 @@ use Rattle.trace_model.specs.Parcel.{Parcel}
 use Rattle.trace_model.proofs.collections.Elements.{some_is}
 use Rattle.text_model.specs.Script.{Command, begin_frame, step_frame, finish_frame, write, close, step_reader, take_page, wish, deliver, Script}
 use Rattle.text_model.specs.ScriptLimits.{IsCommandWithin, IsWithinLimits}
-use Rattle.link_marks.specs.Reached.{IsReached}
-use Rattle.link_marks.specs.RunsAsEvents.{fills_taken, numbers_of, AreEventsOfRun}
+use Rattle.ring_model.specs.Reached.{IsReached}
+use Rattle.ring_model.specs.RunsAsEvents.{fills_taken, numbers_of, AreEventsOfRun}
 use Rattle.world_model.specs.Lanes.{Lane, IsNewLane}
 use Rattle.world_model.specs.World.{World, parcel_of, RunsLine, DeliversFill, delivers, lacks, Obeys, ObeysAll, WorldOf}
 use Rattle.world_model.specs.GenuineWorlds.{parcels_from}

@@ -11,10 +11,10 @@ use Rattle.trace_model.specs.Steps.{Event, pushes, pushes_close, steps, ends, re
 use Rattle.trace_model.proofs.steps.StepCases.{StepCases, push_step, push_refused, close_step, close_refused, frame_step, frame_lacks, end_step, end_lacks, end_early, read_step, store_wish_step}
 use Rattle.trace_model.proofs.histories.NextEvent.{settled_at_rest}
 use Rattle.trace_model.proofs.steps.StepSound.{cases_of}
-use Rattle.link_marks.specs.RingKept.{IsRingKept}
-use Rattle.link_marks.specs.WindowLaws.{MovesWindow, WindowStays}
-use Rattle.link_marks.proofs.histories.HistorySteps.{step_owed}
-use Rattle.link_marks.proofs.partition.RingsKept.{reached_kept}
+use Rattle.ring_model.specs.RingKept.{IsRingKept}
+use Rattle.ring_model.specs.WindowLaws.{MovesWindow, WindowStays}
+use Rattle.ring_model.proofs.histories.HistorySteps.{step_owed}
+use Rattle.ring_model.proofs.partition.RingsKept.{reached_kept}
 use Rattle.world_model.specs.Lanes.{event_in, event_on_top, payloads_left}
 use Rattle.line_model.specs.Lines.{LineState, OpenFrame, with_top_stepped, TopRun, ReservesFirst}
 use Rattle.line_model.specs.WriterCalls.{LineWriting, writer_of}

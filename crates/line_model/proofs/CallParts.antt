@@ -5,7 +5,7 @@ use Rattle.trace_model.specs.Window.{RingEvent, acts, closes, takes, loses, hist
 use Rattle.trace_model.specs.Frames.{for_record, for_close, Frame}
 use Rattle.trace_model.specs.Steps.{Exchange}
 use Rattle.trace_model.proofs.steps.StepSound.{cases_of}
-use Rattle.link_marks.proofs.histories.WindowRuns.{history_events-append}
+use Rattle.ring_model.proofs.histories.WindowRuns.{history_events-append}
 use Rattle.world_model.specs.Lanes.{event_on_top, payloads_left}
 use Rattle.world_model.proofs.FramesMove.{Moves, stays, changes, pops, PushesNone, step_moves}
 use Rattle.world_model.proofs.LanePayloads.{pushes_none}

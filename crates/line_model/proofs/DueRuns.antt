@@ -6,8 +6,8 @@ use Rattle.trace_model.specs.History.{HistoryEvent, push, push_close, open_fill,
 use Rattle.trace_model.specs.Window.{Window, first_window, closes, takes, loses, window_after, RingEvent, acts, history_events_of, WindowRunFrom}
 use Rattle.trace_model.specs.Ring.{Core, window_of}
 use Rattle.text_model.specs.Script.{Script}
-use Rattle.link_marks.specs.RunsAsEvents.{fills_taken, AreEventsOfRun}
-use Rattle.link_marks.proofs.histories.WindowRuns.{history_events-append, run-append, taken-append}
+use Rattle.ring_model.specs.RunsAsEvents.{fills_taken, AreEventsOfRun}
+use Rattle.ring_model.proofs.histories.WindowRuns.{history_events-append, run-append, taken-append}
 use Rattle.world_model.specs.RunEvents.{AreEventsOf}
 use Rattle.line_model.specs.Due.{Situation, situation_after, IsDue}
 use Rattle.line_model.proofs.Standing.{AreDue}

@@ -8,7 +8,7 @@ use Rattle.trace_model.specs.Window.{Window, RingEvent, acts, closes, takes, los
 use Rattle.trace_model.proofs.packing.FillCuts.{opens_of-push, opens_of-push_close, opens_of-reserve, opens_of-leave, opens_of-wished}
 use Rattle.trace_model.proofs.histories.NextRecords.{records_snoc}
 use Rattle.trace_model.proofs.packing.PackedHistories.{plain, plain-finished, cut-plain, plain_nil, tail_is}
-use Rattle.link_marks.proofs.seats.FrameEnds.{opened_tail}
+use Rattle.ring_model.proofs.seats.FrameEnds.{opened_tail}
 use Rattle.line_model.specs.WrittenRecords.{FillsAreFew}
 
 pub record IsFew (start : ℕ) (h : List HistoryEvent) (opened : ℕ) : Type 0 where

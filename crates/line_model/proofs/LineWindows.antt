@@ -3,7 +3,7 @@ use Rattle.std.proofs.Common.{◌≡◌, ℕ, zero, suc, List, [], ◌∷◌, �
 use Rattle.trace_model.specs.History.{HistoryEvent, push_close}
 use Rattle.trace_model.specs.Window.{Window, RingEvent, acts, closes, takes, loses, history_events_of, window_after, WindowRunFrom, WindowRun}
 use Rattle.text_model.specs.Script.{Command, begin_frame, step_frame, finish_frame, write, close, step_reader, take_page, wish, deliver}
-use Rattle.link_marks.proofs.histories.WindowRuns.{history_events-append, run-append}
+use Rattle.ring_model.proofs.histories.WindowRuns.{history_events-append, run-append}
 use Rattle.line_model.specs.Lines.{LineState, first_state, state_after, state_moved, IsQuiet, IsPush, TopRun, MayGo, stays_on, goes, TopPart, BeginPart, begins, begins_none, WholePart, writes, writes_none, LinePart, LineParts, FinishParts, IsMadeByLines}
 
 -- events that lead from one state to another, as the window and the history say

@@ -9,7 +9,7 @@ use Rattle.trace_model.specs.History.{HistoryEvent, push, push_close, open_fill,
 use Rattle.trace_model.specs.Packing.{is_wished}
 use Rattle.trace_model.specs.Window.{Window, first_window, RingEvent, acts, closes, takes, loses, history_events_of, window_after}
 use Rattle.trace_model.proofs.packing.PackedHistories.{is_wished-push, is_wished-push_close, is_wished-open_fill, is_wished-reserve, is_wished-leave, is_wished-wished}
-use Rattle.link_marks.proofs.histories.WindowRuns.{history_events-append}
+use Rattle.ring_model.proofs.histories.WindowRuns.{history_events-append}
 use Rattle.text_model.specs.Script.{Command, begin_frame, step_frame, finish_frame, write, close, step_reader, take_page, wish, deliver, Script}
 use Rattle.line_model.specs.Due.{window_at, Situation, situation_after, pushed_in, Needs, NeedsPage, HasNoPage, HasNoRecord, Leaves, IsDue}
 use Rattle.line_model.specs.Accounts.{LineFrame, CpuState, new_cpu, IsOwn, frame_after, Does, HasGone, with_own, IsIdle, new_frame, Begins, refuses_frame, pushes_frame, FinishesTop, lacks_to_finish, finishes_it, WritesWhole, refuses_whole, writes_it, IsMoving, TakesPage, Asks, Adds, IsLine, IsAccount}

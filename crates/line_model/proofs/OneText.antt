@@ -8,7 +8,7 @@ use Rattle.trace_model.specs.Window.{RingEvent, history_events_of}
 use Rattle.trace_model.specs.Listing.{Line, IsTimeOrdered}
 use Rattle.trace_model.proofs.collections.Elements.{some_is}
 use Rattle.trace_model.proofs.collections.Listings.{Stands, same_lines}
-use Rattle.link_marks.specs.RunsAsEvents.{fills_taken}
+use Rattle.ring_model.specs.RunsAsEvents.{fills_taken}
 use Rattle.text_model.specs.Script.{Command, deliver, Script}
 use Rattle.text_model.specs.ScriptLimits.{IsCommandWithin, IsWithinLimits}
 use Rattle.world_model.specs.GenuineWorlds.{StandsIn, IsOverwrittenBefore}

@@ -7,11 +7,11 @@ use Rattle.trace_model.specs.ReaderSteps.{with_wish}
 use Rattle.trace_model.specs.Steps.{Event, pushes, pushes_close, steps, ends, reads, wishes, Answer, reading, empty, moving, page_taken, Step, Exchange}
 use Rattle.trace_model.proofs.steps.StepCases.{StepCases, ReadStep, loads_header, loads_update, loads_owed, loads_passed, finds_none, finds_closed, swaps, swap_fails, push_step, push_refused, close_step, close_refused, frame_step, frame_lacks, end_step, end_lacks, end_early, read_step, store_wish_step}
 use Rattle.trace_model.proofs.steps.StepSound.{cases_of}
-use Rattle.link_marks.specs.RingKept.{IsRingKept}
-use Rattle.link_marks.specs.Reached.{IsReached}
-use Rattle.link_marks.proofs.frames.AnswersRight.{empty_right, moving_right, swapped_right}
-use Rattle.link_marks.proofs.partition.RingsKept.{reached_kept, reached_further}
-use Rattle.link_marks.proofs.seats.SeatSteps.{reader_leaves_writer}
+use Rattle.ring_model.specs.RingKept.{IsRingKept}
+use Rattle.ring_model.specs.Reached.{IsReached}
+use Rattle.ring_model.proofs.frames.AnswersRight.{empty_right, moving_right, swapped_right}
+use Rattle.ring_model.proofs.partition.RingsKept.{reached_kept, reached_further}
+use Rattle.ring_model.proofs.seats.SeatSteps.{reader_leaves_writer}
 use Rattle.world_model.specs.Lanes.{Lane, lane_behind, ReaderRun, HasTakeAnswer}
 use Rattle.line_model.proofs.StandingKept.{all_left}
 

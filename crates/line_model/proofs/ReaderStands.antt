@@ -7,8 +7,8 @@ use Rattle.trace_model.specs.Ring.{ReaderPhase, loading_head, TakenFill, Core, w
 use Rattle.trace_model.specs.ReaderSteps.{with_wish}
 use Rattle.trace_model.specs.Steps.{Exchange}
 use Rattle.trace_model.proofs.steps.StepSound.{cases_of}
-use Rattle.link_marks.specs.Reached.{IsReached}
-use Rattle.link_marks.specs.RunsAsEvents.{AreEventsOfRun}
+use Rattle.ring_model.specs.Reached.{IsReached}
+use Rattle.ring_model.specs.RunsAsEvents.{AreEventsOfRun}
 use Rattle.text_model.specs.Script.{Command, step_reader, take_page, wish, Script}
 use Rattle.world_model.specs.Lanes.{Lane, HasPayloads, ReaderRun, HasTakeAnswer, Wishes, LineRun}
 use Rattle.world_model.proofs.LanePayloads.{line_fits}

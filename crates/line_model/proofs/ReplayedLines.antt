@@ -22,8 +22,8 @@ use Rattle.line_model.specs.LineParts.{IsBetweenLines}
 use Rattle.line_model.specs.ReplayedLines.{commands_of, ReplayMakesLines, ReplayCommitsWholeLines, WorldsMakeLines}
 use Rattle.line_model.proofs.PartsJoined.{start_between}
 use Rattle.line_model.proofs.LineCallsMade.{none_counted, line_calls_make}
-use Rattle.link_marks.proofs.partition.RingsKept.{reached_kept}
-use Rattle.link_marks.proofs.contents.PackedRuns.{runs_packed}
+use Rattle.ring_model.proofs.partition.RingsKept.{reached_kept}
+use Rattle.ring_model.proofs.contents.PackedRuns.{runs_packed}
 use Rattle.line_model.proofs.WrittenLines.{whole_lines_have_committed}
 use Rattle.line_model.proofs.RunCalls.{line_runs_are_calls}
 

@@ -5,10 +5,10 @@ use Rattle.trace_model.specs.Ring.{Core}
 use Rattle.trace_model.specs.Steps.{Event, pushes, pushes_close, reads, wishes, Answer, pushed, refused, Step, Exchange}
 use Rattle.trace_model.proofs.steps.StepSound.{cases_of}
 use Rattle.text_model.specs.Script.{begin_frame, step_frame, finish_frame, write, close, step_reader, take_page, wish, deliver}
-use Rattle.link_marks.specs.Reached.{IsReached}
-use Rattle.link_marks.specs.Seats.{IsOfReader}
-use Rattle.link_marks.proofs.partition.RingsKept.{reached_further}
-use Rattle.link_marks.proofs.seats.SeatSteps.{reader_leaves_writer}
+use Rattle.ring_model.specs.Reached.{IsReached}
+use Rattle.ring_model.specs.Seats.{IsOfReader}
+use Rattle.ring_model.proofs.partition.RingsKept.{reached_further}
+use Rattle.ring_model.proofs.seats.SeatSteps.{reader_leaves_writer}
 use Rattle.world_model.specs.Lanes.{Lane, lane_behind, payloads_left, payloads_with, FrameRun, StepsFrame, lacks_to_step, steps_on, FinishesFrame, lacks_to_finish, finishes, PushesFrame, FinishesPushed, ReaderRun, Wishes}
 use Rattle.world_model.proofs.LanePayloads.{as_many}
 use Rattle.line_model.specs.WriterCalls.{LineWriting, writer_of, IsWriterCall, TopCalls, StepsCalls, none_to_step, steps_top, FinishCalls, none_to_finish, finishes_top, BeginCalls, begins_frame, begins_none, WholeCalls, writes_frame, writes_none, NoCalls}

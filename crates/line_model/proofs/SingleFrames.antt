@@ -7,15 +7,15 @@ use Rattle.trace_model.specs.Frames.{Kind, for_record, for_close, FrameState, wa
 use Rattle.trace_model.specs.Ring.{Core}
 use Rattle.trace_model.specs.Steps.{Event, Answer, steps, ends, pushed, refused, Exchange, Step}
 use Rattle.trace_model.proofs.histories.NextRecords.{records_snoc}
-use Rattle.link_marks.specs.RingKept.{IsRingKept}
-use Rattle.link_marks.specs.Reached.{IsReached}
-use Rattle.link_marks.specs.AnswerLaws.{IsInNeed}
-use Rattle.link_marks.proofs.frames.AnswersRight.{crowded_right, worn_right}
-use Rattle.link_marks.proofs.seats.FrameEnds.{opened_tail, needs_tail}
-use Rattle.link_marks.proofs.contents.PackedRuns.{runs_packed}
-use Rattle.link_marks.proofs.partition.RingsKept.{reached_kept}
-use Rattle.link_marks.proofs.frames.StackSteps.{closed_at_rest}
-use Rattle.link_marks.proofs.histories.StepsAsEvents.{run_reported}
+use Rattle.ring_model.specs.RingKept.{IsRingKept}
+use Rattle.ring_model.specs.Reached.{IsReached}
+use Rattle.ring_model.specs.AnswerLaws.{IsInNeed}
+use Rattle.ring_model.proofs.frames.AnswersRight.{crowded_right, worn_right}
+use Rattle.ring_model.proofs.seats.FrameEnds.{opened_tail, needs_tail}
+use Rattle.ring_model.proofs.contents.PackedRuns.{runs_packed}
+use Rattle.ring_model.proofs.partition.RingsKept.{reached_kept}
+use Rattle.ring_model.proofs.frames.StackSteps.{closed_at_rest}
+use Rattle.ring_model.proofs.histories.StepsAsEvents.{run_reported}
 use Rattle.world_model.specs.Lanes.{event_in, event_on_top, payloads_left}
 use Rattle.line_model.specs.WriterCalls.{LineWriting, writer_of, IsWriterCall, TopCalls}
 use Rattle.line_model.specs.CallEvents.{CallMakes, goes_on, begins, has_reserved, leaves, leaves_fill, closes_one, finds_wish, is_gone}

@@ -8,8 +8,8 @@ use Rattle.trace_model.specs.Frames.{for_close, waiting, left, idle, noted_fill,
 use Rattle.trace_model.specs.Ring.{loading_head, Core}
 use Rattle.trace_model.specs.Steps.{Exchange}
 use Rattle.text_model.specs.Script.{Script}
-use Rattle.link_marks.specs.RunsAsEvents.{AreEventsOfRun}
-use Rattle.link_marks.specs.Reached.{IsReached}
+use Rattle.ring_model.specs.RunsAsEvents.{AreEventsOfRun}
+use Rattle.ring_model.specs.Reached.{IsReached}
 use Rattle.world_model.specs.Lanes.{Lane, HasPayloads, FrameRun}
 use Rattle.line_model.specs.Due.{situation_after, NeedsPage, IsDue}
 use Rattle.line_model.specs.Accounts.{LineFrame, CpuState, IsThere, Does, HasGone, with_own}

@@ -8,8 +8,8 @@ use Rattle.trace_model.specs.Window.{Window, first_window, RingEvent, acts, take
 use Rattle.trace_model.specs.Frames.{owned_update, Frame}
 use Rattle.trace_model.specs.Ring.{TakenFill, Core, Moves, IsMoved, window_of}
 use Rattle.trace_model.proofs.collections.Elements.{some_is}
-use Rattle.link_marks.specs.RunsAsEvents.{fills_taken, numbers_of, AreEventsOfRun}
-use Rattle.link_marks.proofs.histories.WindowRuns.{history_events-append, run-append, taken-append, numbers-push}
+use Rattle.ring_model.specs.RunsAsEvents.{fills_taken, numbers_of, AreEventsOfRun}
+use Rattle.ring_model.proofs.histories.WindowRuns.{history_events-append, run-append, taken-append, numbers-push}
 use Rattle.text_model.specs.Script.{Script}
 use Rattle.world_model.specs.Lanes.{Lane, payloads_left, lane_behind}
 use Rattle.line_model.specs.Due.{window_at}

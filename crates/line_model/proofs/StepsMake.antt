@@ -9,9 +9,9 @@ use Rattle.trace_model.specs.Steps.{steps, Answer, NeedsPage, new_reservation, c
 use Rattle.trace_model.proofs.steps.StepCases.{BeginsAgain, IdleStep, reserves, finds_nothing, is_crowded, is_worn, notes, FrameStep, load_link_late, sees_free, sees_header, sees_update, claim_late, claims, claim_fails, load_next_late, sees_normal, sees_other, mark_late, marks, mark_fails, clears, open_late, opens, releases, releases_last, grants, closes_more, goes_away}
 use Rattle.trace_model.proofs.histories.NextEvent.{opened_stack}
 use Rattle.trace_model.proofs.packing.PackedHistories.{wanted_record, wanted_close}
-use Rattle.link_marks.specs.RingKept.{IsRingKept}
-use Rattle.link_marks.proofs.frames.StackSteps.{top_agrees, releasing_left, wishing_left}
-use Rattle.link_marks.proofs.frames.TopSteps.{top_stepped}
+use Rattle.ring_model.specs.RingKept.{IsRingKept}
+use Rattle.ring_model.proofs.frames.StackSteps.{top_agrees, releasing_left, wishing_left}
+use Rattle.ring_model.proofs.frames.TopSteps.{top_stepped}
 use Rattle.line_model.specs.WriterCalls.{writer_of}
 use Rattle.line_model.specs.CallEvents.{LeavesNone, DoesntFit, CallMakes, goes_on, begins, has_reserved, leaves, leaves_fill, closes_one, finds_wish, is_gone}
 

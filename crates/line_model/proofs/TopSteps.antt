@@ -18,18 +18,18 @@ use Rattle.trace_model.proofs.steps.StepCases.{BeginsAgain, IdleStep, reserves, 
 use Rattle.trace_model.proofs.steps.StepSound.{cases_of}
 use Rattle.trace_model.proofs.steps.EventSteps.{top_step, top_ends}
 use Rattle.text_model.specs.Script.{Script}
-use Rattle.link_marks.specs.KeptLinks.{PhaseKept}
-use Rattle.link_marks.specs.KeptStack.{MayBeIn}
-use Rattle.link_marks.specs.KeptPacking.{FramesNeed}
-use Rattle.link_marks.specs.RingKept.{IsRingKept}
-use Rattle.link_marks.specs.RunsAsEvents.{fills_taken, numbers_of}
-use Rattle.link_marks.specs.Seats.{IsOfReader, ReaderStays}
-use Rattle.link_marks.proofs.histories.HistorySteps.{top_agrees, releasing_left, wishing_left, stack_waiting, stack_reserved, stack_empty, top_stack}
-use Rattle.link_marks.proofs.links.FrameChanges.{top_kept}
-use Rattle.link_marks.proofs.links.LinkFills.{header_inside}
-use Rattle.link_marks.proofs.partition.RingsKept.{reached_kept, reached_further}
-use Rattle.link_marks.proofs.seats.FrameEnds.{opened_tail}
-use Rattle.link_marks.proofs.seats.SeatSteps.{writer_leaves_reader}
+use Rattle.ring_model.specs.KeptLinks.{PhaseKept}
+use Rattle.ring_model.specs.KeptStack.{MayBeIn}
+use Rattle.ring_model.specs.KeptPacking.{FramesNeed}
+use Rattle.ring_model.specs.RingKept.{IsRingKept}
+use Rattle.ring_model.specs.RunsAsEvents.{fills_taken, numbers_of}
+use Rattle.ring_model.specs.Seats.{IsOfReader, ReaderStays}
+use Rattle.ring_model.proofs.histories.HistorySteps.{top_agrees, releasing_left, wishing_left, stack_waiting, stack_reserved, stack_empty, top_stack}
+use Rattle.ring_model.proofs.links.FrameChanges.{top_kept}
+use Rattle.ring_model.proofs.links.LinkFills.{header_inside}
+use Rattle.ring_model.proofs.partition.RingsKept.{reached_kept, reached_further}
+use Rattle.ring_model.proofs.seats.FrameEnds.{opened_tail}
+use Rattle.ring_model.proofs.seats.SeatSteps.{writer_leaves_reader}
 use Rattle.world_model.specs.Lanes.{Lane, lane_behind, payloads_left, event_in, event_on_top}
 use Rattle.world_model.specs.RunEvents.{AreEventsOf}
 use Rattle.world_model.proofs.FramesMove.{PushesNone, step_moves}

@@ -6,8 +6,8 @@ use Rattle.trace_model.specs.Frames.{Kind, FrameState, waiting, reserved, left, 
 use Rattle.trace_model.specs.Ring.{Core}
 use Rattle.trace_model.specs.Steps.{Exchange}
 use Rattle.text_model.specs.Script.{Script}
-use Rattle.link_marks.specs.Seats.{IsOfReader}
-use Rattle.link_marks.proofs.histories.WindowRuns.{history_events-append}
+use Rattle.ring_model.specs.Seats.{IsOfReader}
+use Rattle.ring_model.proofs.histories.WindowRuns.{history_events-append}
 use Rattle.world_model.specs.Lanes.{Lane, lane_behind, event_in, event_on_top, FrameRun}
 use Rattle.world_model.proofs.FramesMove.{PushesNone}
 use Rattle.world_model.proofs.LanePayloads.{pushes_none}

@@ -10,11 +10,11 @@ use Rattle.trace_model.specs.Steps.{Event, Answer, closing_phase, frames_after_l
 use Rattle.trace_model.proofs.packing.PackedHistories.{is_wished-push, is_wished-push_close, is_wished-open_fill, is_wished-reserve, is_wished-leave}
 use Rattle.trace_model.proofs.steps.StepCases.{StepCases, BeginsAgain, IdleStep, reserves, finds_nothing, is_crowded, is_worn, notes, FrameStep, load_link_late, sees_free, sees_header, sees_update, claim_late, claims, claim_fails, load_next_late, sees_normal, sees_other, mark_late, marks, mark_fails, clears, open_late, opens, releases, releases_last, grants, closes_more, goes_away, ReadStep, loads_header, loads_update, loads_owed, loads_passed, finds_none, finds_closed, swaps, swap_fails, push_step, push_refused, close_step, close_refused, frame_step, frame_lacks, end_step, end_lacks, end_early, read_step, store_wish_step}
 use Rattle.trace_model.proofs.steps.StepSound.{cases_of}
-use Rattle.link_marks.specs.RingKept.{IsRingKept}
-use Rattle.link_marks.specs.Reached.{IsReached}
-use Rattle.link_marks.proofs.frames.StackSteps.{wishing_left}
-use Rattle.link_marks.proofs.histories.HistorySteps.{top_agrees}
-use Rattle.link_marks.proofs.partition.RingsKept.{ring_start, ring_step}
+use Rattle.ring_model.specs.RingKept.{IsRingKept}
+use Rattle.ring_model.specs.Reached.{IsReached}
+use Rattle.ring_model.proofs.frames.StackSteps.{wishing_left}
+use Rattle.ring_model.proofs.histories.HistorySteps.{top_agrees}
+use Rattle.ring_model.proofs.partition.RingsKept.{ring_start, ring_step}
 
 -- ---- the bottom frame
 

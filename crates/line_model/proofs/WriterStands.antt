@@ -8,8 +8,8 @@ use Rattle.trace_model.specs.Window.{Window, RingEvent, acts, closes, takes, los
 use Rattle.trace_model.specs.Ring.{Core}
 use Rattle.trace_model.specs.Steps.{Event, pushes, pushes_close, Answer, pushed, refused, with_history_event, with_frame, Step, Exchange}
 use Rattle.trace_model.proofs.steps.StepSound.{cases_of}
-use Rattle.link_marks.specs.Reached.{IsReached}
-use Rattle.link_marks.proofs.partition.RingsKept.{reached_further}
+use Rattle.ring_model.specs.Reached.{IsReached}
+use Rattle.ring_model.proofs.partition.RingsKept.{reached_further}
 use Rattle.text_model.specs.Script.{Script}
 use Rattle.world_model.specs.Lanes.{Lane, HasPayloads, FitsKind, payloads_with, lane_with, FrameRun, IsGone, IsStepped, StepsFrame, lacks_to_step, steps_on, FinishesFrame, lacks_to_finish, finishes, PushesFrame, FinishesPushed, WritesFrame}
 use Rattle.line_model.specs.Due.{Situation, situation_after, window_at, NeedsPage, IsDue}

@@ -15,7 +15,7 @@ use Rattle.trace_model.proofs.histories.NextEvent.{writer_snoc, settled_at_rest}
 use Rattle.trace_model.proofs.histories.HistoryPrefixes.{none_stands}
 use Rattle.trace_model.proofs.histories.Committed.{whole_front}
 use Rattle.trace_model.proofs.words.Lengths.{length-padded, padded_whole, slot_len-slot_len}
-use Rattle.link_marks.proofs.histories.WindowRuns.{history_events-append}
+use Rattle.ring_model.proofs.histories.WindowRuns.{history_events-append}
 use Rattle.line_model.specs.Lines.{LineState, OpenFrame, first_state, frame_count, with_top_stepped, IsQuiet, MayGo, stays_on, goes, TopRun, FinishPart, writes, writes_none, LinePart, LineParts, FinishParts}
 use Rattle.line_model.specs.WrittenRecords.{is_recorded, record_of, records_of_line, records_of_lines, WritesOrCloses, AllWriteOrClose, IsAtRest, LinesFromRestCommit, WholeLinesCommit, WholeLinesHaveCommitted}
 use Rattle.line_model.proofs.LineWindows.{Leads, leads_line, leads_lines, leads_rest}

@@ -11,7 +11,7 @@ use Rattle.trace_model.proofs.histories.NextEvent.{writer_snoc}
 use Rattle.trace_model.proofs.histories.HistoryPrefixes.{none_stands}
 use Rattle.trace_model.proofs.packing.PackedHistories.{wanted_record}
 use Rattle.trace_model.proofs.words.Lengths.{slot_len-slot_len}
-use Rattle.link_marks.proofs.seats.FrameEnds.{opened_tail}
+use Rattle.ring_model.proofs.seats.FrameEnds.{opened_tail}
 use Rattle.line_model.specs.Lines.{LineState, OpenFrame, frame_count, IsOfTop, MayLeaveTop, open_after, finishing_after, state_after, state_moved, TopRun}
 use Rattle.line_model.proofs.FewFills.{IsFew, few_act}
 

@@ -6,7 +6,7 @@ use Rattle.trace_model.specs.History.{committed_records}
 use Rattle.trace_model.specs.Steps.{Exchange}
 use Rattle.text_model.specs.Script.{Command, Script}
 use Rattle.text_model.specs.ScriptLimits.{IsCommandWithin, IsWithinLimits}
-use Rattle.link_marks.specs.Reached.{IsReached}
+use Rattle.ring_model.specs.Reached.{IsReached}
 use Rattle.world_model.specs.Lanes.{Lane, HasPayloads, LineRun}
 use Rattle.world_model.specs.World.{World, WorldBehind, WorldOf}
 use Rattle.line_model.specs.Lines.{writer_lines, IsBegunByLines, IsMadeByLines}

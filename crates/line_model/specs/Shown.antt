@@ -6,7 +6,7 @@ use Rattle.trace_model.specs.History.{committed_records}
 use Rattle.trace_model.specs.Window.{RingEvent, history_events_of}
 use Rattle.trace_model.specs.Runs.{AreRuns}
 use Rattle.trace_model.specs.Listing.{Line, IsTimeOrdered}
-use Rattle.link_marks.specs.RunsAsEvents.{fills_taken}
+use Rattle.ring_model.specs.RunsAsEvents.{fills_taken}
 use Rattle.text_model.specs.Log.{LogLine}
 use Rattle.text_model.specs.Script.{deliver, Script}
 use Rattle.world_model.specs.GenuineWorlds.{StandsIn, IsOverwrittenBefore}

@@ -5,7 +5,7 @@ use Rattle.trace_model.specs.History.{reserved_records}
 use Rattle.trace_model.specs.Frames.{Kind, for_record, for_close, crowded, worn}
 use Rattle.trace_model.specs.Ring.{Core}
 use Rattle.trace_model.specs.Steps.{Event, pushes, pushes_close, Answer, pushed, refused, Step, Exchange}
-use Rattle.link_marks.specs.AnswerLaws.{IsInNeed}
+use Rattle.ring_model.specs.AnswerLaws.{IsInNeed}
 use Rattle.line_model.specs.WriterCalls.{LineWriting, IsWriterCall, TopCalls}
 
 -- A frame is refused as crowded or as worn only if it is about to reserve and needs a page.

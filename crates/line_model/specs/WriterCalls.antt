@@ -6,7 +6,7 @@ use Rattle.trace_model.specs.Frames.{Frame, Refusal}
 use Rattle.trace_model.specs.Ring.{Core}
 use Rattle.trace_model.specs.Steps.{Event, pushes, pushes_close, pushed, refused, Step, Exchange}
 use Rattle.text_model.specs.Script.{Command, begin_frame, step_frame, finish_frame, write, close}
-use Rattle.link_marks.specs.Reached.{IsReached}
+use Rattle.ring_model.specs.Reached.{IsReached}
 use Rattle.world_model.specs.Lanes.{event_on_top, payloads_left}
 
 -- The part of a ring that its writer alone changes, as far as lines are concerned: its frames, its history, and the

@@ -5,8 +5,8 @@ use mathlib.Core.Logic.{dite}
 use native.Mathlib.Decide.{dec_le}
 use Rattle.trace_model.specs.declared.numbers.FillNo.{FillNo}
 use Rattle.trace_model.specs.Steps.{Event, Exchange}
-use Rattle.link_marks.proofs.histories.StepsAsEvents.{counts_rise}
-use Rattle.link_marks.proofs.partition.RingsKept.{reached_kept}
+use Rattle.ring_model.proofs.histories.StepsAsEvents.{counts_rise}
+use Rattle.ring_model.proofs.partition.RingsKept.{reached_kept}
 use Rattle.line_model.specs.WriterCalls.{LineWriting, IsWriterCall, TopCalls, FinishCalls, none_to_finish, finishes_top, WholeCalls, writes_frame, writes_none}
 use Rattle.ring_shared.specs.Value.{WriterValue}
 use Rattle.line_writer.specs.declared.gate.Who.{Who}

@@ -8,13 +8,13 @@ use Rattle.trace_model.specs.Ring.{Core}
 use Rattle.trace_model.specs.Steps.{Event, steps, ends, Exchange, frames_after_leave}
 use Rattle.trace_model.proofs.words.Lengths.{slot_len_ge, length-padded}
 use Rattle.trace_model.proofs.steps.StepSound.{cases_of}
-use Rattle.link_marks.specs.FrameOutcomes.{IsLeaving, Leaving, leaves_on, is_gone}
-use Rattle.link_marks.specs.KeptStack.{IsForRecord, MayBeIn, FramesAgree}
-use Rattle.link_marks.specs.Ranks.{frame_limit}
-use Rattle.link_marks.specs.WriterRanks.{writer_rank}
-use Rattle.link_marks.proofs.frames.FrameOutcomes.{frames_leave}
-use Rattle.link_marks.proofs.partition.RingsKept.{reached_kept}
-use Rattle.link_marks.proofs.seats.WriterEnds.{writers_near}
+use Rattle.ring_model.specs.FrameOutcomes.{IsLeaving, Leaving, leaves_on, is_gone}
+use Rattle.ring_model.specs.KeptStack.{IsForRecord, MayBeIn, FramesAgree}
+use Rattle.ring_model.specs.Ranks.{frame_limit}
+use Rattle.ring_model.specs.WriterRanks.{writer_rank}
+use Rattle.ring_model.proofs.frames.FrameOutcomes.{frames_leave}
+use Rattle.ring_model.proofs.partition.RingsKept.{reached_kept}
+use Rattle.ring_model.proofs.seats.WriterEnds.{writers_near}
 use Rattle.world_model.specs.Lanes.{FitsKind, FitFrames, event_in, event_on_top, payloads_left}
 use Rattle.world_model.proofs.FramesMove.{Moves, stays, changes, pops}
 use Rattle.world_model.proofs.LanePayloads.{fit_moved}

@@ -5,7 +5,7 @@ use Rattle.trace_model.specs.Words.{padded}
 use Rattle.trace_model.specs.Frames.{Kind, for_record, FrameState, waiting, reserved, left, Frame}
 use Rattle.trace_model.specs.Steps.{Event, pushes, steps, ends, Exchange}
 use Rattle.trace_model.specs.Steps as model
-use Rattle.link_marks.specs.FrameOutcomes.{IsReserving, IsLeaving}
+use Rattle.ring_model.specs.FrameOutcomes.{IsReserving, IsLeaving}
 use Rattle.world_model.specs.Lanes.{FitFrames, event_in, event_on_top, payloads_left}
 use Rattle.world_model.proofs.LanePayloads.{as_many}
 use Rattle.line_model.specs.WriterCalls.{IsWriterCall, TopCalls, finishes_top, writes_frame}

@@ -1,7 +1,7 @@
 -- How far the frame on top is from being popped, the end of its record included.
 use Rattle.std.specs.Prelude.{ℕ, ◌+◌, ◌*◌, List, [], ◌∷◌}
 use Rattle.trace_model.specs.Frames.{Kind, for_record, for_close, FrameState, waiting, reserved, left, Frame}
-use Rattle.link_marks.specs.Ranks.{frame_limit}
+use Rattle.ring_model.specs.Ranks.{frame_limit}
 use Rattle.ring_shared.specs.Value.{WriterValue}
 use Rattle.ring_shared.specs.Nearer.{rank_of}
 

@@ -1,9 +1,1 @@
-pub mod links
-pub mod histories
-pub mod contents
-pub mod partition
-pub mod frames
-pub mod steps
-pub mod wishes
-pub mod seats
-pub mod examples
+pub mod FirstLinks

@@ -7,8 +7,8 @@ use Rattle.trace_model.specs.Steps as model
 use Rattle.trace_model.specs.Steps.{Exchange}
 use Rattle.page_image.specs.Contents.{Contents}
 use Rattle.trace_model.specs.declared.numbers.FillNo.{FillNo}
-use Rattle.link_marks.proofs.frames.AnswersRight.{swapped_right}
-use Rattle.link_marks.proofs.partition.RingsKept.{reached_kept}
+use Rattle.ring_model.proofs.frames.AnswersRight.{swapped_right}
+use Rattle.ring_model.proofs.partition.RingsKept.{reached_kept}
 use Rattle.ring_steps.specs.declared.rule.Shape.{Shape}
 use Rattle.ring_steps.specs.Views.{Reading, reading_made}
 use Rattle.ring_steps.specs.Seats.{IsReaderStep}

@@ -12,7 +12,7 @@ use Rattle.trace_model.specs.Window.{RingEvent, history_events_of}
 use Rattle.trace_model.specs.Parcel.{Parcel}
 use Rattle.trace_model.specs.Collection.{Has, Misses}
 use Rattle.trace_model.proofs.collections.Elements.{some_is}
-use Rattle.link_marks.specs.RunsAsEvents.{fills_taken}
+use Rattle.ring_model.specs.RunsAsEvents.{fills_taken}
 use Rattle.text_model.specs.Script.{deliver, Script}
 use Rattle.text_model.specs.ScriptLimits.{IsWithinLimits}
 use Rattle.replay_command.proofs.OneOutput.{script_in-within, cases_given}

@@ -11,11 +11,11 @@ use Rattle.trace_model.specs.Ring.{Core, PageRecords, page_at, empty_page}
 use Rattle.trace_model.specs.Steps as model
 use Rattle.trace_model.proofs.steps.StepCases as cases
 use Rattle.trace_model.proofs.steps.StepIs.{step_by}
-use Rattle.link_marks.specs.KeptLinks.{PhaseKept}
-use Rattle.link_marks.specs.RingKept.{IsRingKept}
-use Rattle.link_marks.proofs.links.FrameChanges.{top_kept}
-use Rattle.link_marks.proofs.contents.PageChanges.{pages_differ}
-use Rattle.link_marks.proofs.seats.PrivateSteps.{private_state, PrivateResult, goes_on, leaves, changes_privately}
+use Rattle.ring_model.specs.KeptLinks.{PhaseKept}
+use Rattle.ring_model.specs.RingKept.{IsRingKept}
+use Rattle.ring_model.proofs.links.FrameChanges.{top_kept}
+use Rattle.ring_model.proofs.contents.PageChanges.{pages_differ}
+use Rattle.ring_model.proofs.seats.PrivateSteps.{private_state, PrivateResult, goes_on, leaves, changes_privately}
 use Rattle.page_image.specs.Contents.{Contents}
 use Rattle.nested_writer.specs.Stack.{opened}
 use Rattle.nested_writer.specs.Released.{IsWrittenPage}

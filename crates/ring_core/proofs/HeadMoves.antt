@@ -12,13 +12,13 @@ use Rattle.trace_model.specs.Steps.{MayContinue}
 use Rattle.link_marks.specs.declared.link.Mark.{Mark}
 use Rattle.link_marks.specs.declared.link.Mark.TheVariants.{Normal, Header, Update}
 use Rattle.link_marks.specs.ModelLinks.{mark_of}
-use Rattle.link_marks.specs.KeptLinks.{PhaseKept, LinksKept}
-use Rattle.link_marks.specs.KeptProgress.{FramesAdvance, PhaseAdvances, ProgressKept}
-use Rattle.link_marks.specs.RingKept.{IsRingKept}
-use Rattle.link_marks.specs.Seats.{PhaseIsPrivate}
-use Rattle.link_marks.proofs.links.Positions.{link_round}
-use Rattle.link_marks.proofs.links.LinkFills.{normal_reports, header_reports, update_reports, owned_by}
-use Rattle.link_marks.proofs.links.FrameChanges.{top_kept}
+use Rattle.ring_model.specs.KeptLinks.{PhaseKept, LinksKept}
+use Rattle.ring_model.specs.KeptProgress.{FramesAdvance, PhaseAdvances, ProgressKept}
+use Rattle.ring_model.specs.RingKept.{IsRingKept}
+use Rattle.ring_model.specs.Seats.{PhaseIsPrivate}
+use Rattle.trace_model.proofs.Positions.{link_round}
+use Rattle.ring_model.proofs.links.LinkFills.{normal_reports, header_reports, update_reports, owned_by}
+use Rattle.ring_model.proofs.links.FrameChanges.{top_kept}
 use Rattle.nested_writer.specs.Stack.{opened}
 use Rattle.ring_frames.specs.declared.answer.Answer.TheVariants.{Going}
 use Rattle.ring_frames.specs.declared.phase.Role.{Role}

@@ -5,7 +5,7 @@ use Rattle.std.specs.List.{slice_get}
 use Rattle.std.proofs.lemmas.List.{length-map}
 use Rattle.trace_model.specs.Ring.{Core, page_at}
 use Rattle.link_marks.specs.ModelLinks.{link_of}
-use Rattle.link_marks.proofs.contents.PageChanges.{page_below}
+use Rattle.ring_model.proofs.contents.PageChanges.{page_below}
 use Rattle.ring_core.specs.declared.ring.Core.TheInside.{Inside}
 use Rattle.ring_core.specs.Value.{CoreValue}
 use Rattle.ring_core.specs.Inside.{core_of, IsInside}

@@ -9,7 +9,7 @@ use Rattle.trace_model.specs.Ring.{empty_page, Core, IsStart, first_reader, link
 use Rattle.link_marks.specs.declared.link.Link as code
 use Rattle.link_marks.specs.declared.link.Mark.TheVariants.{Normal}
 use Rattle.link_marks.specs.ModelLinks.{link_of}
-use Rattle.link_marks.proofs.links.Positions.{apart}
+use Rattle.trace_model.proofs.Positions.{apart}
 use Rattle.ring_frames.specs.declared.reader.TakeState.{TakeState}
 use Rattle.ring_frames.specs.declared.reader.ReaderPhase.TheVariants.{LoadingHead}
 use Rattle.ring_frames.specs.FirstPages.{AreFirstPages}

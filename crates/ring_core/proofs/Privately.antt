@@ -7,10 +7,10 @@ use Rattle.trace_model.specs.Ring.{PageRecords, Core, page_at}
 use Rattle.trace_model.specs.Steps as model
 use Rattle.trace_model.specs.Steps.{contents_of}
 use Rattle.trace_model.proofs.steps.StepSound.{cases_of}
-use Rattle.link_marks.specs.RingKept.{IsRingKept}
-use Rattle.link_marks.proofs.contents.PageChanges.{pages_differ}
-use Rattle.link_marks.proofs.seats.PrivateSteps.{private_state, private_result, changes_privately}
-use Rattle.link_marks.proofs.seats.SeatPages.{private_leaves_other_pages}
+use Rattle.ring_model.specs.RingKept.{IsRingKept}
+use Rattle.ring_model.proofs.contents.PageChanges.{pages_differ}
+use Rattle.ring_model.proofs.seats.PrivateSteps.{private_state, private_result, changes_privately}
+use Rattle.ring_model.proofs.seats.SeatPages.{private_leaves_other_pages}
 use Rattle.ring_frames.specs.declared.answer.Answer.{Answer}
 use Rattle.ring_frames.specs.Value.{FramesValue}
 use Rattle.ring_frames.specs.AreFrames.{AreFrames}

@@ -12,9 +12,9 @@ use Rattle.link_marks.specs.declared.link.Link.{Link as FoundLink}
 use Rattle.link_marks.specs.declared.link.Mark.{Mark}
 use Rattle.link_marks.specs.declared.link.Mark.TheVariants.{Normal, Header, Update}
 use Rattle.link_marks.specs.ModelLinks.{link_of}
-use Rattle.link_marks.specs.KeptLinks.{ReaderKept, LinkKept, is_normal, is_header, is_update, LinksKept}
-use Rattle.link_marks.proofs.links.LinkFills.{fill_at, normal_reports}
-use Rattle.link_marks.proofs.links.Positions.{at_position}
+use Rattle.ring_model.specs.KeptLinks.{ReaderKept, LinkKept, is_normal, is_header, is_update, LinksKept}
+use Rattle.ring_model.proofs.links.LinkFills.{fill_at, normal_reports}
+use Rattle.trace_model.proofs.Positions.{at_position}
 use Rattle.ring_frames.specs.declared.answer.Answer.{Answer}
 use Rattle.ring_frames.specs.declared.answer.Answer.TheVariants.{Looking, Empty, Moving, Wished}
 use Rattle.ring_frames.specs.declared.looking.HeadSeen.{HeadSeen}

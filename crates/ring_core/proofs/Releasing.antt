@@ -6,9 +6,9 @@ use mathlib.Core.Logic.{dite}
 use native.Mathlib.Decide.{ℕ_discrete}
 use Rattle.trace_model.specs.Ring.{Core, page_at}
 use Rattle.trace_model.specs.Steps as model
-use Rattle.link_marks.specs.RingKept.{IsRingKept}
-use Rattle.link_marks.proofs.links.Positions.{page_turn}
-use Rattle.link_marks.proofs.contents.PageChanges.{pages_differ, page_below}
+use Rattle.ring_model.specs.RingKept.{IsRingKept}
+use Rattle.trace_model.proofs.Positions.{page_turn}
+use Rattle.ring_model.proofs.contents.PageChanges.{pages_differ, page_below}
 use Rattle.page_image.specs.Contents.{Contents}
 use Rattle.ring_frames.specs.declared.answer.Answer.TheVariants.{Going}
 use Rattle.ring_frames.specs.Value.{FramesValue}

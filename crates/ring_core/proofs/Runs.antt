@@ -1,7 +1,7 @@
 -- Lists of events on a ring are runs of the model.
 use Rattle.std.proofs.Common.{[], ◌∷◌, refl, sym, ◌∙◌, subst, arith}
 use Rattle.trace_model.specs.Steps as model
-use Rattle.link_marks.proofs.partition.OneNewRing.{new_ring_is_one}
+use Rattle.ring_model.proofs.partition.OneNewRing.{new_ring_is_one}
 use Rattle.ring_core.specs.Value.{CoreValue}
 use Rattle.ring_core.specs.IsCore.{IsCore}
 use Rattle.ring_core.specs.Answers.{event_of}

@@ -14,12 +14,12 @@ use Rattle.trace_model.specs.Steps as model
 use Rattle.trace_model.proofs.steps.StepCases as cases
 use Rattle.trace_model.proofs.histories.HistoryPrefixes.{settled_records_prefix}
 use Rattle.trace_model.proofs.steps.StepIs.{step_by}
-use Rattle.link_marks.specs.KeptLinks.{ReaderKept}
-use Rattle.link_marks.specs.RingKept.{IsRingKept}
-use Rattle.link_marks.proofs.links.Positions.{apart, link_else, page_turn, page_here, page_else}
-use Rattle.link_marks.proofs.contents.PageChanges.{pages_differ}
-use Rattle.link_marks.proofs.contents.RecordCounts.{numbers_fit}
-use Rattle.link_marks.proofs.seats.SeatPages.{IsHeadTaken, head_taken, open_not_head}
+use Rattle.ring_model.specs.KeptLinks.{ReaderKept}
+use Rattle.ring_model.specs.RingKept.{IsRingKept}
+use Rattle.trace_model.proofs.Positions.{apart, link_else, page_turn, page_here, page_else}
+use Rattle.ring_model.proofs.contents.PageChanges.{pages_differ}
+use Rattle.ring_model.proofs.contents.RecordCounts.{numbers_fit}
+use Rattle.ring_model.proofs.seats.SeatPages.{IsHeadTaken, head_taken, open_not_head}
 use Rattle.page_image.specs.Contents.{Contents}
 use Rattle.nested_writer.specs.Stack.{blank_page}
 use Rattle.nested_writer.specs.Released.{IsWrittenPage}

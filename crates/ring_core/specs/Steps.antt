@@ -3,7 +3,7 @@ use Rattle.std.specs.Prelude.{◌≡◌, ◌≢◌, ℕ, List, length, Some}
 use Rattle.trace_model.specs.Frames.{noted_fill}
 use Rattle.trace_model.specs.Ring.{IsStart, Core}
 use Rattle.trace_model.specs.Steps as model
-use Rattle.link_marks.specs.Seats.{PhaseIsPrivate}
+use Rattle.ring_model.specs.Seats.{PhaseIsPrivate}
 use Rattle.nested_writer.specs.Stack.{opened}
 use Rattle.ring_frames.specs.Value.{phase_of}
 use Rattle.ring_frames.specs.Answers.{IsAnswerOf, ZerosSlot}

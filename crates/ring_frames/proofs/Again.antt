@@ -3,7 +3,7 @@ use Rattle.std.proofs.Common.{◌≡◌, ℕ, List, [], ◌∷◌, Option, Some,
 use Rattle.trace_model.specs.Frames.{Kind, for_record, for_close, FrameState, waiting, left, Phase as ModelPhase, idle, Frame as ModelFrame}
 use Rattle.trace_model.specs.Ring.{Core}
 use Rattle.trace_model.specs.Steps as model
-use Rattle.link_marks.proofs.links.FramePhases.{none_some}
+use Rattle.ring_model.proofs.links.FramePhases.{none_some}
 use Rattle.nested_writer.specs.declared.frame.Purpose.{Purpose}
 use Rattle.nested_writer.specs.declared.frame.Purpose.TheVariants.{Record, Close}
 use Rattle.nested_writer.specs.declared.frame.Progress.{Progress}

@@ -5,8 +5,8 @@ use Rattle.trace_model.specs.Words.{slot_len}
 use Rattle.trace_model.specs.Frames.{for_record, Frame as ModelFrame}
 use Rattle.trace_model.specs.Ring.{Core}
 use Rattle.trace_model.specs.Steps as model
-use Rattle.link_marks.specs.RingLaws.{MayAsk}
-use Rattle.link_marks.specs.Seats.{PhaseIsPrivate, TopIsPrivate, IsPrivate}
+use Rattle.ring_model.specs.RingLaws.{MayAsk}
+use Rattle.ring_model.specs.Seats.{PhaseIsPrivate, TopIsPrivate, IsPrivate}
 use Rattle.nested_writer.specs.declared.frame.Progress.{Progress}
 use Rattle.nested_writer.specs.declared.frame.Progress.TheVariants.{Waiting, Through, Reserved, Left}
 use Rattle.nested_writer.specs.declared.frame.Frame.{Frame}

@@ -5,8 +5,8 @@ use Rattle.trace_model.specs.History.{open_fill}
 use Rattle.trace_model.specs.Frames.{opening, noted_fill}
 use Rattle.trace_model.specs.Ring.{Core}
 use Rattle.trace_model.specs.Steps as model
-use Rattle.link_marks.specs.KeptLinks.{PhaseKept}
-use Rattle.link_marks.proofs.links.FrameChanges.{top_kept}
+use Rattle.ring_model.specs.KeptLinks.{PhaseKept}
+use Rattle.ring_model.proofs.links.FrameChanges.{top_kept}
 use Rattle.nested_writer.specs.declared.frame.Frame as stack
 use Rattle.nested_writer.specs.Stack.{Stack, opened, blank_page}
 use Rattle.nested_writer.specs.Calls.{with_tail}

@@ -2,8 +2,8 @@
 use Rattle.std.proofs.Common.{◌≡◌, ◌≢◌, ℕ, List, [], ◌∷◌, length, Option, refl, ap, ◌∙◌, subst, arith}
 use Rattle.trace_model.specs.Frames.{Kind, FrameState, waiting, reserved, left}
 use Rattle.trace_model.specs.Ring.{Core}
-use Rattle.link_marks.specs.KeptStack.{MayBeIn, FramesAgree}
-use Rattle.link_marks.specs.RingKept.{IsRingKept}
+use Rattle.ring_model.specs.KeptStack.{MayBeIn, FramesAgree}
+use Rattle.ring_model.specs.RingKept.{IsRingKept}
 use Rattle.nested_writer.specs.declared.frame.Purpose.{Purpose}
 use Rattle.nested_writer.specs.declared.frame.Progress.{Progress}
 use Rattle.nested_writer.specs.declared.frame.Progress.TheVariants.{Waiting, Through, Reserved, Left}

@@ -5,8 +5,8 @@ use Rattle.trace_model.specs.Ring.{Core}
 use Rattle.trace_model.specs.Steps as model
 use Rattle.trace_model.proofs.steps.StepCases as cases
 use Rattle.trace_model.proofs.steps.StepIs.{step_by}
-use Rattle.link_marks.specs.Seats.{PhaseIsPrivate}
-use Rattle.link_marks.proofs.links.FramePhases.{none_some}
+use Rattle.ring_model.specs.Seats.{PhaseIsPrivate}
+use Rattle.ring_model.proofs.links.FramePhases.{none_some}
 use Rattle.nested_writer.specs.Stack.{opened}
 use Rattle.ring_frames.specs.declared.answer.Answer.{Answer}
 use Rattle.ring_frames.specs.Value.{FramesValue, phase_of}

@@ -4,7 +4,7 @@ use Rattle.trace_model.specs.History.{leave}
 use Rattle.trace_model.specs.Frames.{left, releasing, wishing, noted_fill, Frame as ModelFrame}
 use Rattle.trace_model.specs.Ring.{Core}
 use Rattle.trace_model.specs.Steps as model
-use Rattle.link_marks.proofs.links.FramePhases.{none_some}
+use Rattle.ring_model.proofs.links.FramePhases.{none_some}
 use Rattle.nested_writer.specs.declared.frame.Purpose.{Purpose}
 use Rattle.nested_writer.specs.declared.frame.Purpose.TheVariants.{Record, Close}
 use Rattle.nested_writer.specs.declared.frame.Progress.TheVariants.{Left}

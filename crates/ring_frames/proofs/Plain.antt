@@ -2,9 +2,9 @@
 use Rattle.std.proofs.Common.{◌≡◌, ℕ, List, ◌∷◌, Option, Some, None, refl, ap, subst}
 use Rattle.trace_model.specs.Frames.{for_record, waiting, left, noted_fill}
 use Rattle.trace_model.specs.Ring.{Core}
-use Rattle.link_marks.specs.KeptStack.{FramesAgree}
-use Rattle.link_marks.proofs.links.FramePhases.{none_some}
-use Rattle.link_marks.proofs.frames.StackSteps.{releasing_left, wishing_left}
+use Rattle.ring_model.specs.KeptStack.{FramesAgree}
+use Rattle.ring_model.proofs.links.FramePhases.{none_some}
+use Rattle.ring_model.proofs.frames.StackSteps.{releasing_left, wishing_left}
 use Rattle.nested_writer.specs.declared.frame.Purpose.TheVariants.{Record}
 use Rattle.nested_writer.specs.declared.frame.Progress.TheVariants.{Waiting}
 use Rattle.nested_writer.specs.declared.frame.Pushed.{Pushed}

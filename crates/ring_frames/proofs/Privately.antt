@@ -3,9 +3,9 @@ use Rattle.std.proofs.Common.{◌≡◌, ℕ, List, ◌∷◌, sym, subst}
 use Rattle.trace_model.specs.Frames.{Frame}
 use Rattle.trace_model.specs.Ring.{Core}
 use Rattle.trace_model.specs.Steps as model
-use Rattle.link_marks.specs.RingKept.{IsRingKept}
-use Rattle.link_marks.specs.Seats.{PhaseIsPrivate, TopIsPrivate, IsPrivate}
-use Rattle.link_marks.proofs.partition.RingsKept.{reached_kept}
+use Rattle.ring_model.specs.RingKept.{IsRingKept}
+use Rattle.ring_model.specs.Seats.{PhaseIsPrivate, TopIsPrivate, IsPrivate}
+use Rattle.ring_model.proofs.partition.RingsKept.{reached_kept}
 use Rattle.ring_frames.specs.declared.answer.Answer.{Answer}
 use Rattle.ring_frames.specs.Value.{FramesValue}
 use Rattle.ring_frames.specs.AreFrames.{AreFrames, HasFrames}

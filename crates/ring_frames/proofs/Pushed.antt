@@ -7,7 +7,7 @@ use Rattle.trace_model.specs.Frames.{Frame as model, waiting, idle}
 use Rattle.trace_model.specs.Ring.{Core}
 use Rattle.trace_model.specs.Steps.{with_history_event, with_frame as with_model_frame}
 use Rattle.trace_model.proofs.steps.StepCases.{HasRoom}
-use Rattle.link_marks.proofs.links.FramePhases.{none_some}
+use Rattle.ring_model.proofs.links.FramePhases.{none_some}
 use Rattle.nested_writer.specs.declared.frame.Purpose.{Purpose}
 use Rattle.nested_writer.specs.declared.frame.Purpose.TheVariants.{Record, Close}
 use Rattle.nested_writer.specs.declared.frame.Progress.TheVariants.{Waiting}

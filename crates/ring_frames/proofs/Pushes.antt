@@ -10,7 +10,7 @@ use Rattle.trace_model.specs.Ring.{Core}
 use Rattle.trace_model.specs.Steps as model
 use Rattle.trace_model.proofs.steps.StepCases as cases
 use Rattle.trace_model.proofs.steps.StepIs.{step_by}
-use Rattle.link_marks.specs.Seats.{IsPrivate}
+use Rattle.ring_model.specs.Seats.{IsPrivate}
 use Rattle.nested_writer.specs.declared.fault.WriteFault.{WriteFault}
 use Rattle.nested_writer.specs.declared.fault.WriteFault.TheVariants.{TooDeep, TooLong, LateMoment}
 use Rattle.nested_writer.specs.declared.frame.Purpose.{Purpose}

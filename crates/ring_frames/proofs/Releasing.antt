@@ -7,10 +7,10 @@ use Rattle.trace_model.specs.Ring.{Core, PageRecords, page_at, fill_of}
 use Rattle.trace_model.specs.Steps as model
 use Rattle.trace_model.proofs.steps.StepCases as cases
 use Rattle.trace_model.proofs.steps.StepIs.{step_by}
-use Rattle.link_marks.specs.RingKept.{IsRingKept}
-use Rattle.link_marks.proofs.frames.StackSteps.{releasing_left}
-use Rattle.link_marks.proofs.links.FrameChanges.{top_kept}
-use Rattle.link_marks.proofs.links.FramePhases.{none_some}
+use Rattle.ring_model.specs.RingKept.{IsRingKept}
+use Rattle.ring_model.proofs.frames.StackSteps.{releasing_left}
+use Rattle.ring_model.proofs.links.FrameChanges.{top_kept}
+use Rattle.ring_model.proofs.links.FramePhases.{none_some}
 use Rattle.page_image.specs.Contents.{Contents}
 use Rattle.nested_writer.specs.declared.frame.Progress.TheVariants.{Left}
 use Rattle.nested_writer.specs.declared.frame.Frame as stack

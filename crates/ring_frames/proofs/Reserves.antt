@@ -10,8 +10,8 @@ use Rattle.trace_model.specs.Ring.{PageRecords, Core}
 use Rattle.trace_model.specs.Steps as model
 use Rattle.trace_model.proofs.steps.StepCases as cases
 use Rattle.trace_model.proofs.steps.StepIs.{step_by}
-use Rattle.link_marks.proofs.frames.StackSteps.{top_agrees}
-use Rattle.link_marks.specs.Seats.{IsPrivate}
+use Rattle.ring_model.proofs.frames.StackSteps.{top_agrees}
+use Rattle.ring_model.specs.Seats.{IsPrivate}
 use Rattle.record_words.specs.declared.put.Place.{Place}
 use Rattle.nested_writer.specs.declared.fault.WriteFault.{WriteFault}
 use Rattle.nested_writer.specs.declared.fault.WriteFault.TheVariants.{TooDeep, TooLong, LateMoment, Crowded, Worn, NoFrame, NotReserved}
@@ -79,8 +79,8 @@ module _ (n size start : ℕ) (v : FramesValue) (c : Core) (core : HasFrames n s
   stays : state_of top.progress ≡ left → ⊥
   stays is = left_rests is (top_agrees c frame below model_is (kept_of n size start v c core).stack).0
     where
-      left_rests : state_of top.progress ≡ left → Rattle.link_marks.specs.KeptStack.MayBeIn (kind_of top.purpose) (state_of top.progress) idle → ⊥
-      left_rests is may = subst (λ (st : FrameState). Rattle.link_marks.specs.KeptStack.MayBeIn (kind_of top.purpose) st idle) is may refl
+      left_rests : state_of top.progress ≡ left → Rattle.ring_model.specs.KeptStack.MayBeIn (kind_of top.purpose) (state_of top.progress) idle → ⊥
+      left_rests is may = subst (λ (st : FrameState). Rattle.ring_model.specs.KeptStack.MayBeIn (kind_of top.purpose) st idle) is may refl
 
   -- a step of a frame that rests touches no word
   own_step : IsPrivate c model.steps

@@ -9,8 +9,8 @@ use Rattle.trace_model.specs.Ring.{Core}
 use Rattle.trace_model.specs.Steps as model
 use Rattle.trace_model.proofs.steps.StepCases as cases
 use Rattle.trace_model.proofs.steps.StepIs.{step_by}
-use Rattle.link_marks.proofs.frames.StackSteps.{wishing_left}
-use Rattle.link_marks.proofs.links.FramePhases.{none_some}
+use Rattle.ring_model.proofs.frames.StackSteps.{wishing_left}
+use Rattle.ring_model.proofs.links.FramePhases.{none_some}
 use Rattle.nested_writer.specs.declared.frame.Progress.TheVariants.{Left}
 use Rattle.nested_writer.specs.declared.frame.Frame as stack
 use Rattle.nested_writer.specs.Stack.{Stack, opened, kind_of}

@@ -5,8 +5,8 @@ use Rattle.trace_model.specs.Words.{padded}
 use Rattle.trace_model.specs.History.{reserved_records}
 use Rattle.trace_model.specs.Ring.{Core}
 use Rattle.trace_model.specs.Steps as model
-use Rattle.link_marks.specs.Reached.{IsReached}
-use Rattle.link_marks.specs.Seats.{IsPrivate}
+use Rattle.ring_model.specs.Reached.{IsReached}
+use Rattle.ring_model.specs.Seats.{IsPrivate}
 use Rattle.nested_writer.specs.Stack.{next_number}
 use Rattle.nested_writer.specs.AtOnce.{with_written, with_left}
 use Rattle.ring_frames.specs.declared.phase.Phase.TheVariants.{Wishing}

@@ -3,8 +3,8 @@ use Rattle.std.specs.Prelude.{◌≡◌, ℕ, List, ◌∷◌, Some, None}
 use Rattle.trace_model.specs.Frames.{Frame, noted_fill}
 use Rattle.trace_model.specs.Ring.{IsStart, Core}
 use Rattle.trace_model.specs.Steps as model
-use Rattle.link_marks.specs.Reached.{IsReached}
-use Rattle.link_marks.specs.Seats.{IsPrivate}
+use Rattle.ring_model.specs.Reached.{IsReached}
+use Rattle.ring_model.specs.Seats.{IsPrivate}
 use Rattle.nested_writer.specs.declared.frame.Purpose.TheVariants.{Close}
 use Rattle.nested_writer.specs.declared.frame.Progress.TheVariants.{Waiting}
 use Rattle.nested_writer.specs.declared.frame.Frame as stack

@@ -7,11 +7,11 @@ use Rattle.trace_model.specs.Ring.{Core}
 use Rattle.trace_model.specs.Steps as model
 use Rattle.trace_model.proofs.steps.StepCases as cases
 use Rattle.trace_model.proofs.steps.StepSound.{cases_of}
-use Rattle.link_marks.specs.Reached.{IsReached}
-use Rattle.link_marks.specs.Seats.{IsPrivate}
-use Rattle.link_marks.specs.FrameOutcomes.{IsLeaving}
-use Rattle.link_marks.proofs.seats.PrivateSteps.{private_result, changes_privately}
-use Rattle.link_marks.proofs.frames.TopSteps.{top_stepped}
+use Rattle.ring_model.specs.Reached.{IsReached}
+use Rattle.ring_model.specs.Seats.{IsPrivate}
+use Rattle.ring_model.specs.FrameOutcomes.{IsLeaving}
+use Rattle.ring_model.proofs.seats.PrivateSteps.{private_result, changes_privately}
+use Rattle.ring_model.proofs.frames.TopSteps.{top_stepped}
 use Rattle.nested_writer.specs.declared.frame.Frame as stack
 use Rattle.nested_writer.specs.declared.stack.leave.Ended.TheVariants.{Full}
 use Rattle.nested_writer.specs.Stack.{Stack, next_number}

@@ -2,11 +2,11 @@
 use Rattle.std.proofs.Common.{◌≡◌, ◌≢◌, ℕ, ◌+◌, ◌<◌, ◌≤◌, [], length, Some, refl, sym, ap, ◌∙◌, subst, arith}
 use Rattle.trace_model.specs.declared.limits.TheConstants.{MAX_PAGES, LINK_FILLS}
 use Rattle.trace_model.specs.Frames.{Phase, noted_fill}
-use Rattle.link_marks.specs.KeptLinks.{PhaseKept}
-use Rattle.link_marks.specs.SeenLinks.{HasSeenLink, HaveSeenLinks}
-use Rattle.link_marks.specs.KeptProgress.{PhaseAdvances, FramesAdvance}
-use Rattle.link_marks.proofs.links.FrameChanges.{top_kept}
-use Rattle.link_marks.proofs.links.SeenLinks.{frames_have_seen_links}
+use Rattle.ring_model.specs.KeptLinks.{PhaseKept}
+use Rattle.ring_model.specs.SeenLinks.{HasSeenLink, HaveSeenLinks}
+use Rattle.ring_model.specs.KeptProgress.{PhaseAdvances, FramesAdvance}
+use Rattle.ring_model.proofs.links.FrameChanges.{top_kept}
+use Rattle.ring_model.proofs.links.SeenLinks.{frames_have_seen_links}
 use Rattle.nested_writer.specs.Stack.{opened}
 use Rattle.ring_steps.specs.Views.{Writing}
 use Rattle.ring_frames.specs.Value.{phase_of}

@@ -4,9 +4,9 @@ use Rattle.trace_model.specs.History.{HistoryEvent, push, push_close, reserve, l
 use Rattle.trace_model.specs.Frames.{Kind, for_record, for_close, FrameState, waiting, reserved, left, Phase, Frame, Refusal}
 use Rattle.trace_model.specs.Ring.{Core}
 use Rattle.trace_model.specs.Steps as model
-use Rattle.link_marks.specs.Appended.{IsRefusedPage, PushAppends, is_pushed, isnt_pushed, EndAppends, TopEndAppends, record_reserved, record_refused, record_opens, record_goes_on, close_refused, close_opens, close_leaves, close_goes_on, left_opens, left_grants, left_stays, FrameAppends, TopAppends, Appends}
-use Rattle.link_marks.proofs.partition.RingsKept.{reached_kept}
-use Rattle.link_marks.proofs.histories.StepsAppend.{steps_append, leave_not_refused}
+use Rattle.ring_model.specs.Appended.{IsRefusedPage, PushAppends, is_pushed, isnt_pushed, EndAppends, TopEndAppends, record_reserved, record_refused, record_opens, record_goes_on, close_refused, close_opens, close_leaves, close_goes_on, left_opens, left_grants, left_stays, FrameAppends, TopAppends, Appends}
+use Rattle.ring_model.proofs.partition.RingsKept.{reached_kept}
+use Rattle.ring_model.proofs.histories.StepsAppend.{steps_append, leave_not_refused}
 use Rattle.nested_writer.specs.declared.stack.leave.Ended.{Ended as How}
 use Rattle.nested_writer.specs.declared.stack.leave.Ended.TheVariants.{Pending, Full}
 use Rattle.ring_frames.specs.declared.answer.Answer.TheVariants.{Ended}

@@ -1,7 +1,7 @@
 -- The writer's part has as many frames as its stack; and they have one top.
 use Rattle.std.proofs.Common.{◌≡◌, List, ◌∷◌, length, sym, ap, ◌∙◌, subst}
 use Rattle.trace_model.specs.Frames.{Frame}
-use Rattle.link_marks.specs.FrameOutcomes.{IsReserving, IsLeaving}
+use Rattle.ring_model.specs.FrameOutcomes.{IsReserving, IsLeaving}
 use Rattle.ring_frames.proofs.Pushed.{as_many}
 use Rattle.ring_steps.specs.Views.{Writing}
 use Rattle.ring_shared.specs.Value.{WriterValue}

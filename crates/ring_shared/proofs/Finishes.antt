@@ -3,9 +3,9 @@ use Rattle.std.specs.Prelude.{Option, Some, None, ◌⊎◌, ◌<◌}
 use Rattle.std.proofs.Common.{◌≡◌, ◌≢◌, suc, List, ◌∷◌, length, refl, sym, ap, ◌∙◌, subst, inl, inr, arith}
 use Rattle.trace_model.specs.Frames.{Refusal, Kind, FrameState, number_of, Frame}
 use Rattle.trace_model.specs.Steps as model
-use Rattle.link_marks.specs.FrameOutcomes.{IsReserving, IsLeaving, Reserving, reserves_on, has_reserved, is_refused as refused_to, Leaving, leaves_on, is_gone as gone_from}
-use Rattle.link_marks.proofs.partition.RingsKept.{reached_kept}
-use Rattle.link_marks.proofs.frames.FrameOutcomes.{frames_reserve, frames_leave}
+use Rattle.ring_model.specs.FrameOutcomes.{IsReserving, IsLeaving, Reserving, reserves_on, has_reserved, is_refused as refused_to, Leaving, leaves_on, is_gone as gone_from}
+use Rattle.ring_model.proofs.partition.RingsKept.{reached_kept}
+use Rattle.ring_model.proofs.frames.FrameOutcomes.{frames_reserve, frames_leave}
 use Rattle.nested_writer.specs.declared.fault.WriteFault.{WriteFault}
 use Rattle.ring_frames.specs.declared.answer.Answer.{Answer}
 use Rattle.ring_frames.specs.declared.answer.Answer.TheVariants.{Going, Reserved, Gone, Refused}

@@ -4,7 +4,7 @@ use Rattle.std.proofs.lemmas.List.{ext_get_or}
 use Rattle.std.proofs.lemmas.Option.{slice_get-get_or}
 use Rattle.trace_model.specs.History.{as_record, reserved_records}
 use Rattle.trace_model.specs.Ring.{Reader}
-use Rattle.link_marks.proofs.partition.OneNewRing.{new_ring_is_one}
+use Rattle.ring_model.proofs.partition.OneNewRing.{new_ring_is_one}
 use Rattle.ring_frames.specs.FirstPages.{AreFirstPages}
 use Rattle.ring_steps.specs.declared.rule.Shape.{Shape}
 use Rattle.ring_steps.specs.Views.{Reading}

@@ -13,7 +13,7 @@ use Rattle.ring_frames.specs.Value.{phase_of}
 use Rattle.ring_frames.specs.Steps.{GoesOnIn, IsNotedIn}
 use Rattle.ring_shared.specs.Value.{WriterValue}
 use Rattle.ring_shared.specs.Calls.{IsWriter, AreWriterFields, MakesSome}
-use Rattle.link_marks.proofs.frames.TopSteps.{top_stepped}
+use Rattle.ring_model.proofs.frames.TopSteps.{top_stepped}
 use Rattle.ring_shared.proofs.Called.{writer_seen, top_seen, phase_seen}
 use Rattle.ring_shared.proofs.Standing.{frames_like, frames_in, top_in, made}
 

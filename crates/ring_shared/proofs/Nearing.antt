@@ -4,10 +4,10 @@ use Rattle.std.proofs.Common.{◌≡◌, ◌≢◌, ℕ, List, [], ◌∷◌, le
 use Rattle.trace_model.specs.Frames.{Phase, idle, looking, claiming, looking_next, marking, clearing, opening, releasing, wishing, Frame}
 use Rattle.trace_model.specs.Ring.{Core}
 use Rattle.trace_model.specs.Steps as model
-use Rattle.link_marks.specs.Reached.{IsReached}
-use Rattle.link_marks.specs.WriterRanks.{writer_rank}
-use Rattle.link_marks.proofs.partition.RingsKept.{reached_kept}
-use Rattle.link_marks.proofs.seats.WriterEnds.{writer_steps_lower}
+use Rattle.ring_model.specs.Reached.{IsReached}
+use Rattle.ring_model.specs.WriterRanks.{writer_rank}
+use Rattle.ring_model.proofs.partition.RingsKept.{reached_kept}
+use Rattle.ring_model.proofs.seats.WriterEnds.{writer_steps_lower}
 use Rattle.ring_frames.specs.declared.answer.Answer.{Answer}
 use Rattle.ring_steps.specs.declared.rule.Shape.{Shape}
 use Rattle.ring_steps.specs.Made.{WriterMade}

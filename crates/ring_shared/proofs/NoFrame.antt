@@ -4,7 +4,7 @@ use Rattle.trace_model.specs.Frames.{no_frame, Frame as ModelFrame}
 use Rattle.trace_model.specs.Steps as model
 use Rattle.trace_model.proofs.steps.StepCases as cases
 use Rattle.trace_model.proofs.steps.StepIs.{step_by}
-use Rattle.link_marks.specs.Seats.{TopIsPrivate}
+use Rattle.ring_model.specs.Seats.{TopIsPrivate}
 use Rattle.nested_writer.specs.declared.frame.Frame.{Frame}
 use Rattle.nested_writer.specs.declared.fault.WriteFault.TheVariants.{NoFrame}
 use Rattle.ring_frames.specs.declared.answer.Answer.TheVariants.{Refused}

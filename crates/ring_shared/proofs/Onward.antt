@@ -6,7 +6,7 @@ use Rattle.trace_model.specs.Ring as ring
 use Rattle.trace_model.specs.Steps as model
 use Rattle.trace_model.proofs.steps.StepCases as cases
 use Rattle.trace_model.proofs.steps.StepIs.{step_by}
-use Rattle.link_marks.proofs.steps.StepsDetermined.{steps_are_determined}
+use Rattle.ring_model.proofs.steps.StepsDetermined.{steps_are_determined}
 use Rattle.page_image.specs.Contents.{records_of_page}
 use Rattle.ring_steps.specs.declared.rule.Shape.{Shape}
 use Rattle.ring_steps.specs.Views.{Reading}

@@ -4,7 +4,7 @@ use Rattle.trace_model.specs.Frames.{Kind, for_record, for_close, FrameState, wa
 use Rattle.trace_model.specs.Ring.{Core, PageRecords, fill_of}
 use Rattle.trace_model.specs.Steps as model
 use Rattle.trace_model.proofs.steps.StepCases as cases
-use Rattle.link_marks.proofs.steps.StepsDetermined.{steps_are_determined}
+use Rattle.ring_model.proofs.steps.StepsDetermined.{steps_are_determined}
 use Rattle.page_image.specs.Contents.{Contents}
 use Rattle.nested_writer.specs.Released.{IsWrittenPage}
 use Rattle.ring_steps.specs.Views.{Writing}
@@ -17,7 +17,7 @@ use Rattle.ring_frames.specs.Answers.{IsAnswerOf}
 use Rattle.ring_frames.specs.Fills.{OpensFill, Releases, released_in, LooksForWish, with_frames_and_history}
 use Rattle.ring_shared.specs.Value.{WriterValue}
 use Rattle.ring_shared.specs.Calls.{IsWriter, AreWriterFields, MakesSome}
-use Rattle.link_marks.proofs.frames.TopSteps.{top_stepped}
+use Rattle.ring_model.proofs.frames.TopSteps.{top_stepped}
 use Rattle.ring_shared.proofs.Called.{writer_seen, top_seen}
 use Rattle.ring_shared.proofs.Standing.{FramesIn, kept_now, frames_in, top_in, made}
 

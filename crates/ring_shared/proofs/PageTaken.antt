@@ -7,8 +7,8 @@ use Rattle.trace_model.specs.Links.{header_link}
 use Rattle.trace_model.specs.Partition.{IsPartition}
 use Rattle.trace_model.specs.Ring as ring
 use Rattle.trace_model.specs.Steps as model
-use Rattle.link_marks.specs.KeptPartition.{pieces_of}
-use Rattle.link_marks.proofs.partition.RingsKept.{reached_kept}
+use Rattle.ring_model.specs.KeptPartition.{pieces_of}
+use Rattle.ring_model.proofs.partition.RingsKept.{reached_kept}
 use Rattle.page_image.specs.Contents.{Contents}
 use Rattle.nested_writer.specs.Released.{IsWrittenPage}
 use Rattle.ring_steps.specs.declared.rule.Shape.{Shape}

@@ -3,8 +3,8 @@ use Rattle.std.proofs.Common.{◌≡◌, List, [], sym, ap, ◌∙◌, subst}
 use Rattle.trace_model.specs.Ring.{Core}
 use Rattle.trace_model.specs.Steps as model
 use Rattle.trace_model.proofs.steps.StepSound.{cases_of}
-use Rattle.link_marks.specs.Seats.{PhaseIsPrivate}
-use Rattle.link_marks.proofs.seats.PrivateSteps.{private_result, changes_privately}
+use Rattle.ring_model.specs.Seats.{PhaseIsPrivate}
+use Rattle.ring_model.proofs.seats.PrivateSteps.{private_result, changes_privately}
 use Rattle.nested_writer.specs.Stack.{opened}
 use Rattle.ring_frames.specs.declared.answer.Answer.{Answer}
 use Rattle.ring_frames.specs.Value.{phase_of}

@@ -2,8 +2,8 @@
 use Rattle.std.proofs.Common.{ℕ, ◌+◌, ◌^◌, ◌<◌, List, sym, ap, subst, arith}
 use Rattle.trace_model.specs.History.{HistoryEvent}
 use Rattle.trace_model.specs.Ring.{fill_of}
-use Rattle.link_marks.proofs.contents.RecordCounts.{numbers_fit}
-use Rattle.link_marks.proofs.partition.RingsKept.{reached_kept}
+use Rattle.ring_model.proofs.contents.RecordCounts.{numbers_fit}
+use Rattle.ring_model.proofs.partition.RingsKept.{reached_kept}
 use Rattle.page_image.specs.Contents.{Contents}
 use Rattle.nested_writer.specs.IsStack.{IsStack}
 use Rattle.nested_writer.specs.Released.{IsRestingTail}

@@ -8,8 +8,8 @@ use Rattle.trace_model.specs.Frames.{Kind, for_record, for_close, FrameState, wa
 use Rattle.trace_model.specs.Ring.{Core}
 use Rattle.trace_model.specs.Steps as model
 use Rattle.trace_model.proofs.steps.StepSound.{cases_of}
-use Rattle.link_marks.specs.KeptStack.{MayBeIn, IsForRecord}
-use Rattle.link_marks.proofs.frames.StackSteps.{top_agrees}
+use Rattle.ring_model.specs.KeptStack.{MayBeIn, IsForRecord}
+use Rattle.ring_model.proofs.frames.StackSteps.{top_agrees}
 use Rattle.nested_writer.specs.declared.frame.Slot.{Slot}
 use Rattle.nested_writer.specs.Calls.{IsTopSlot}
 use Rattle.nested_writer.specs.declared.fault.WriteFault.{WriteFault}

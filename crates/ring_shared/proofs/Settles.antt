@@ -6,10 +6,10 @@ use Rattle.trace_model.specs.History.{HistoryEvent, as_record, committed_records
 use Rattle.trace_model.specs.Packing.{tail_of, fills_of}
 use Rattle.trace_model.specs.Partition.{Piece, IsPartition}
 use Rattle.trace_model.specs.Ring.{Reader, IsTaken, fill_of, AreFillsOf}
-use Rattle.link_marks.specs.KeptPartition.{pieces_of}
-use Rattle.link_marks.specs.RingKept.{IsRingKept}
-use Rattle.link_marks.proofs.partition.RingsKept.{reached_kept, reached_ring}
-use Rattle.link_marks.proofs.partition.SettledRest.{tail_is_the_rest}
+use Rattle.ring_model.specs.KeptPartition.{pieces_of}
+use Rattle.ring_model.specs.RingKept.{IsRingKept}
+use Rattle.ring_model.proofs.partition.RingsKept.{reached_kept, reached_ring}
+use Rattle.ring_model.proofs.partition.SettledRest.{tail_is_the_rest}
 use Rattle.page_image.specs.Contents.{Contents, records_of_page}
 use Rattle.nested_writer.specs.IsStack.{IsStack}
 use Rattle.nested_writer.specs.Released.{IsWrittenPage}

@@ -3,8 +3,8 @@ use Rattle.std.proofs.Common.{◌≡◌, ◌≢◌, List, [], refl, sym, ap, ◌
 use Rattle.trace_model.specs.Frames.{Phase, Frame}
 use Rattle.trace_model.specs.Ring.{Core}
 use Rattle.trace_model.specs.Steps as model
-use Rattle.link_marks.specs.RingKept.{IsRingKept}
-use Rattle.link_marks.proofs.partition.RingsKept.{reached_kept}
+use Rattle.ring_model.specs.RingKept.{IsRingKept}
+use Rattle.ring_model.proofs.partition.RingsKept.{reached_kept}
 use Rattle.ring_steps.specs.declared.rule.Shape.{Shape}
 use Rattle.ring_steps.specs.Made.{WriterMade}
 use Rattle.ring_steps.specs.Views.{Writing, writing_of}

@@ -5,9 +5,9 @@ use Rattle.trace_model.specs.Frames.{Kind, for_record, for_close, FrameState, wa
 use Rattle.trace_model.specs.Ring.{Core}
 use Rattle.trace_model.specs.Steps as model
 use Rattle.trace_model.proofs.histories.HistoryPrefixes.{writer-append}
-use Rattle.link_marks.specs.Appended.{IsRefusedPage, record_reserved, record_refused, record_opens, record_goes_on, close_refused, close_opens, close_leaves, close_goes_on, left_opens, left_grants, left_stays, FrameAppends, TopAppends}
-use Rattle.link_marks.specs.FrameOutcomes.{IsReserving, IsLeaving, Reserving, reserves_on, has_reserved, is_refused, Leaving, leaves_on, is_gone}
-use Rattle.link_marks.proofs.partition.RingsKept.{reached_kept, reached_further}
+use Rattle.ring_model.specs.Appended.{IsRefusedPage, record_reserved, record_refused, record_opens, record_goes_on, close_refused, close_opens, close_leaves, close_goes_on, left_opens, left_grants, left_stays, FrameAppends, TopAppends}
+use Rattle.ring_model.specs.FrameOutcomes.{IsReserving, IsLeaving, Reserving, reserves_on, has_reserved, is_refused, Leaving, leaves_on, is_gone}
+use Rattle.ring_model.proofs.partition.RingsKept.{reached_kept, reached_further}
 use Rattle.nested_writer.specs.declared.fault.WriteFault.{WriteFault}
 use Rattle.ring_frames.specs.declared.answer.Answer.{Answer}
 use Rattle.ring_frames.specs.declared.answer.Answer.TheVariants.{Going, Refused}

@@ -5,9 +5,9 @@ use Rattle.trace_model.specs.Links.{Link}
 use Rattle.trace_model.specs.Ring.{Core, Reader, ReaderPhase, loading_head}
 use Rattle.trace_model.specs.Steps as model
 use Rattle.trace_model.proofs.steps.StepSound.{cases_of}
-use Rattle.link_marks.proofs.frames.AnswersRight.{passed_below}
-use Rattle.link_marks.proofs.partition.RingsKept.{reached_kept}
-use Rattle.link_marks.proofs.seats.SeatSteps.{reader_leaves_writer}
+use Rattle.ring_model.proofs.frames.AnswersRight.{passed_below}
+use Rattle.ring_model.proofs.partition.RingsKept.{reached_kept}
+use Rattle.ring_model.proofs.seats.SeatSteps.{reader_leaves_writer}
 use Rattle.ring_steps.specs.declared.rule.Shape.{Shape}
 use Rattle.ring_steps.specs.Made.{ReaderMade}
 use Rattle.ring_steps.specs.Views.{Reading}

@@ -2,7 +2,7 @@
 use Rattle.std.proofs.Common.{◌≡◌, ℕ, List, [], ◌∷◌, sym, ap, ◌∙◌, subst}
 use Rattle.trace_model.specs.Frames.{Kind, for_record, for_close, FrameState, waiting, reserved, left, Frame}
 use Rattle.trace_model.specs.Steps as model
-use Rattle.link_marks.specs.FrameOutcomes.{IsReserving, IsLeaving}
+use Rattle.ring_model.specs.FrameOutcomes.{IsReserving, IsLeaving}
 use Rattle.nested_writer.specs.declared.frame.Frame as stack
 use Rattle.nested_writer.specs.Stack.{kind_of, state_of}
 use Rattle.nested_writer.specs.declared.frame.Progress.{Progress}

@@ -7,11 +7,11 @@ use Rattle.trace_model.proofs.steps.StepCases as cases
 use Rattle.trace_model.specs.Steps.{Step}
 use Rattle.trace_model.proofs.steps.StepCases.{ReleaseFillStep, releases, releases_last}
 use Rattle.trace_model.proofs.steps.EventSteps.{no_top_step}
-use Rattle.link_marks.specs.FrameOutcomes.{IsLeaving}
-use Rattle.link_marks.specs.KeptStack.{MayBeIn}
-use Rattle.link_marks.proofs.partition.RingsKept.{reached_kept}
-use Rattle.link_marks.proofs.frames.StackSteps.{top_agrees, wishing_left}
-use Rattle.link_marks.proofs.frames.TopSteps.{top_stepped}
+use Rattle.ring_model.specs.FrameOutcomes.{IsLeaving}
+use Rattle.ring_model.specs.KeptStack.{MayBeIn}
+use Rattle.ring_model.proofs.partition.RingsKept.{reached_kept}
+use Rattle.ring_model.proofs.frames.StackSteps.{top_agrees, wishing_left}
+use Rattle.ring_model.proofs.frames.TopSteps.{top_stepped}
 use Rattle.nested_writer.specs.declared.frame.Frame as stack
 use Rattle.nested_writer.specs.Calls.{top_of}
 use Rattle.ring_frames.specs.declared.answer.Answer.{Answer}

@@ -9,9 +9,9 @@ use Rattle.trace_model.specs.Ring.{Core}
 use Rattle.trace_model.specs.Steps as model
 use Rattle.trace_model.proofs.histories.HistoryPrefixes.{writer-append}
 use Rattle.trace_model.proofs.steps.StepSound.{cases_of}
-use Rattle.link_marks.specs.FrameOutcomes.{IsReserving, IsLeaving}
-use Rattle.link_marks.proofs.contents.PackedRuns.{runs_packed}
-use Rattle.link_marks.proofs.partition.RingsKept.{reached_kept}
+use Rattle.ring_model.specs.FrameOutcomes.{IsReserving, IsLeaving}
+use Rattle.ring_model.proofs.contents.PackedRuns.{runs_packed}
+use Rattle.ring_model.proofs.partition.RingsKept.{reached_kept}
 use Rattle.nested_writer.specs.declared.fault.WriteFault.{WriteFault}
 use Rattle.nested_writer.specs.declared.stack.leave.Ended.{Ended as How}
 use Rattle.nested_writer.specs.declared.stack.leave.Ended.TheVariants.{Pending, Full}

@@ -5,7 +5,7 @@ use Rattle.trace_model.specs.Words.{slot_len, padded}
 use Rattle.trace_model.specs.Frames.{Kind, for_record, for_close, FrameState, waiting, reserved, left, Refusal, Frame}
 use Rattle.trace_model.specs.Steps as model
 use Rattle.trace_model.proofs.steps.StepSound.{cases_of}
-use Rattle.link_marks.specs.FrameOutcomes.{IsReserving, IsLeaving}
+use Rattle.ring_model.specs.FrameOutcomes.{IsReserving, IsLeaving}
 use Rattle.nested_writer.specs.declared.fault.WriteFault.{WriteFault}
 use Rattle.nested_writer.specs.declared.frame.Slot.{Slot}
 use Rattle.nested_writer.specs.declared.frame.Progress.{Progress}

@@ -6,7 +6,7 @@ use Rattle.trace_model.specs.History.{HistoryEvent, push, push_close, reserve, l
 use Rattle.trace_model.specs.Frames.{waiting, reserved, Frame}
 use Rattle.trace_model.specs.Ring.{Core}
 use Rattle.trace_model.specs.Steps as model
-use Rattle.link_marks.specs.Appended.{Appends}
+use Rattle.ring_model.specs.Appended.{Appends}
 use Rattle.nested_writer.specs.declared.fault.WriteFault.{WriteFault}
 use Rattle.nested_writer.specs.declared.stack.leave.Ended.{Ended as How}
 use Rattle.ring_frames.specs.declared.answer.Answer.{Answer}

@@ -1,7 +1,7 @@
 -- How far the frame on top is from its end, by what the writer knows.
 use Rattle.std.specs.Prelude.{◌≡◌, ℕ, ◌<◌, List, ◌∷◌, length, None}
 use Rattle.trace_model.specs.Frames.{number_of, Frame}
-use Rattle.link_marks.specs.WriterRanks.{writer_rank}
+use Rattle.ring_model.specs.WriterRanks.{writer_rank}
 use Rattle.ring_shared.specs.Value.{WriterValue}
 
 -- at most 3 times the ring's pages and 52

@@ -3,7 +3,7 @@
 use Rattle.std.specs.Prelude.{◌≡◌, ◌≢◌, ℕ, List, [], ◌∷◌}
 use Rattle.trace_model.specs.declared.numbers.RecordNo.{RecordNo}
 use Rattle.trace_model.specs.Frames.{Frame}
-use Rattle.link_marks.specs.FrameOutcomes.{IsLeaving}
+use Rattle.ring_model.specs.FrameOutcomes.{IsLeaving}
 use Rattle.nested_writer.specs.declared.fault.WriteFault.{WriteFault}
 use Rattle.ring_frames.specs.declared.answer.Answer.{Answer}
 use Rattle.ring_frames.specs.declared.answer.Answer.TheVariants.{Reserved, Gone, Refused}

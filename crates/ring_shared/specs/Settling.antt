@@ -5,8 +5,8 @@ use Rattle.trace_model.specs.History.{committed_records}
 use Rattle.trace_model.specs.Partition.{Piece, IsPartition}
 use Rattle.trace_model.specs.Ring.{Core, IsStart, TakenFill, fill_of, AreFillsOf}
 use Rattle.trace_model.specs.Steps.{Exchange, Run}
-use Rattle.link_marks.specs.KeptPartition.{pieces_of}
-use Rattle.link_marks.specs.Reached.{MayStart}
+use Rattle.ring_model.specs.KeptPartition.{pieces_of}
+use Rattle.ring_model.specs.Reached.{MayStart}
 use Rattle.page_image.specs.Contents.{Contents, records_of_page}
 use Rattle.nested_writer.specs.Released.{IsWrittenPage}
 use Rattle.ring_steps.specs.declared.rule.Shape.{Shape}

@@ -3,7 +3,7 @@ use Rattle.std.specs.Prelude.{◌≡◌, []}
 use Rattle.trace_model.specs.History.{committed_records}
 use Rattle.trace_model.specs.Partition.{IsPartition}
 use Rattle.trace_model.specs.Ring.{fill_of}
-use Rattle.link_marks.specs.KeptPartition.{pieces_of}
+use Rattle.ring_model.specs.KeptPartition.{pieces_of}
 use Rattle.page_image.specs.Contents.{Contents, records_of_page}
 use Rattle.nested_writer.specs.Released.{IsRestingTail}
 use Rattle.ring_steps.specs.declared.rule.Shape.{Shape}

@@ -6,9 +6,9 @@ use Rattle.trace_model.specs.Record.{Record}
 use Rattle.trace_model.specs.Ring.{TakenFill, Core}
 use Rattle.trace_model.specs.Steps as model
 use Rattle.trace_model.specs.Partition.{IsPartition}
-use Rattle.link_marks.specs.Reached.{IsReached}
-use Rattle.link_marks.specs.AnswerLaws.{ArePassed}
-use Rattle.link_marks.specs.KeptPartition.{pieces_of}
+use Rattle.ring_model.specs.Reached.{IsReached}
+use Rattle.ring_model.specs.AnswerLaws.{ArePassed}
+use Rattle.ring_model.specs.KeptPartition.{pieces_of}
 use Rattle.page_image.specs.Contents.{Contents, records_of_page, IsPage}
 use Rattle.ring_frames.specs.Answers.{IsTakenPage}
 use Rattle.ring_frames.specs.ReaderPhases.{reader_phase_of}

@@ -1,7 +1,7 @@
 -- What it means that the frame on top, which has a record to reserve, makes some steps of a page turn.
 use Rattle.std.specs.Prelude.{◌≡◌, ◌≤◌, List, ◌∷◌}
 use Rattle.trace_model.specs.Frames.{Frame}
-use Rattle.link_marks.specs.FrameOutcomes.{IsReserving}
+use Rattle.ring_model.specs.FrameOutcomes.{IsReserving}
 use Rattle.ring_frames.specs.Answers.{KeepsPayloads}
 use Rattle.ring_shared.specs.Value.{WriterValue, SameWriter}
 use Rattle.ring_shared.specs.Calls.{AreWriterFields}

@@ -6,7 +6,7 @@ use Rattle.trace_model.specs.Words.{padded}
 use Rattle.trace_model.specs.History.{HistoryEvent, push, push_close, open_fill, reserve, leave, wished, Reservation, reservation_for, reserved_records, IsHistory}
 use Rattle.trace_model.specs.Packing.{IsPacked}
 use Rattle.trace_model.specs.Frames.{for_close, waiting, left, Frame}
-use Rattle.link_marks.specs.FrameOutcomes.{IsReserving}
+use Rattle.ring_model.specs.FrameOutcomes.{IsReserving}
 use Rattle.nested_writer.specs.declared.fault.WriteFault.{WriteFault}
 use Rattle.ring_frames.specs.declared.answer.Answer.{Answer}
 use Rattle.ring_frames.specs.declared.answer.Answer.TheVariants.{Reserved, Refused}

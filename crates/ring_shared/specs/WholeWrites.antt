@@ -4,7 +4,7 @@ use Rattle.trace_model.specs.declared.numbers.RecordNo.{RecordNo}
 use Rattle.trace_model.specs.Words.{padded}
 use Rattle.trace_model.specs.Frames.{for_record, Frame}
 use Rattle.trace_model.specs.Steps as model
-use Rattle.link_marks.specs.FrameOutcomes.{IsLeaving}
+use Rattle.ring_model.specs.FrameOutcomes.{IsLeaving}
 use Rattle.nested_writer.specs.declared.fault.WriteFault.{WriteFault}
 use Rattle.nested_writer.specs.declared.stack.leave.Ended.{Ended as How}
 use Rattle.nested_writer.specs.declared.stack.leave.Ended.TheVariants.{Pending, Full}

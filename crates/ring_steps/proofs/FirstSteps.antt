@@ -6,9 +6,9 @@ use mathlib.Core.Option.{some, none}
 use Rattle.atomic_table.specs.Table.{takes, Allows, Splits}
 use Rattle.atomic_table.proofs.Lists.{set_else}
 use Rattle.trace_model.specs.Ring.{Core, page_at}
-use Rattle.link_marks.specs.RingKept.{IsRingKept}
-use Rattle.link_marks.proofs.contents.PageChanges.{pages_differ}
-use Rattle.link_marks.proofs.partition.RingsKept.{reached_kept}
+use Rattle.ring_model.specs.RingKept.{IsRingKept}
+use Rattle.ring_model.proofs.contents.PageChanges.{pages_differ}
+use Rattle.ring_model.proofs.partition.RingsKept.{reached_kept}
 use Rattle.ring_steps.specs.declared.rule.Shape.{Shape}
 use Rattle.ring_steps.specs.Made.{writer_made_of}
 use Rattle.ring_steps.specs.Views.{Writing, writing_of, Reading, SeatView, laid, whole, writes, reads, writing, passed, reading, AreSeated, made, running}

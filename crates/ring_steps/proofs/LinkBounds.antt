@@ -11,13 +11,13 @@ use Rattle.trace_model.specs.Ring.{Core, link_into}
 use Rattle.trace_model.specs.Steps.{Answer}
 use Rattle.trace_model.proofs.steps.StepCases.{ClearUpdateStep, clears}
 use Rattle.trace_model.proofs.words.LinkWords.{word_reports}
-use Rattle.link_marks.specs.KeptLinks.{spot, passed_spot}
-use Rattle.link_marks.specs.RingKept.{IsRingKept}
-use Rattle.link_marks.specs.Reached.{IsReached}
-use Rattle.link_marks.proofs.links.FrameChanges.{top_kept}
-use Rattle.link_marks.proofs.contents.PageChanges.{page_below}
-use Rattle.link_marks.proofs.frames.TopSteps.{top_stepped}
-use Rattle.link_marks.proofs.partition.RingsKept.{reached_kept}
+use Rattle.ring_model.specs.KeptLinks.{spot, passed_spot}
+use Rattle.ring_model.specs.RingKept.{IsRingKept}
+use Rattle.ring_model.specs.Reached.{IsReached}
+use Rattle.ring_model.proofs.links.FrameChanges.{top_kept}
+use Rattle.ring_model.proofs.contents.PageChanges.{page_below}
+use Rattle.ring_model.proofs.frames.TopSteps.{top_stepped}
+use Rattle.ring_model.proofs.partition.RingsKept.{reached_kept}
 use Rattle.ring_steps.specs.declared.rule.Shape.{Shape}
 use Rattle.ring_steps.specs.declared.ends.WriterSeat.{WriterSeat}
 use Rattle.ring_steps.specs.Made.{WriterMade, privately_made}

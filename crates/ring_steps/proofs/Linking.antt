@@ -15,17 +15,17 @@ use Rattle.trace_model.specs.Ring.{Core, link_into, links_with, page_at}
 use Rattle.trace_model.specs.Steps.{steps, going, Answer, MayContinue, after_next, in_phase, with_head_claimed, with_link, contents_of, Step}
 use Rattle.trace_model.proofs.steps.StepCases.{LoadLinkStep, load_link_late, sees_free, sees_header, sees_update, ClaimHeadStep, claim_late, claims, claim_fails, LoadNextStep, load_next_late, sees_normal, sees_other, MarkHeadStep, mark_late, marks, mark_fails, ClearUpdateStep, clears, LoadWishStep, grants, closes_more, goes_away}
 use Rattle.trace_model.proofs.words.LinkWords.{word_reports}
-use Rattle.link_marks.specs.KeptLinks.{passed_spot}
-use Rattle.link_marks.specs.RingKept.{IsRingKept}
-use Rattle.link_marks.specs.Reached.{IsReached}
-use Rattle.link_marks.proofs.links.Positions.{page_turn}
-use Rattle.link_marks.proofs.links.FrameChanges.{top_kept}
-use Rattle.link_marks.proofs.links.LinksFit.{links_fit_words}
-use Rattle.link_marks.proofs.seats.PrivateSteps.{IsPrivateOf}
-use Rattle.link_marks.proofs.links.SeenLinks.{claims_fail_once_the_head_moved}
-use Rattle.link_marks.proofs.frames.TopSteps.{top_stepped}
-use Rattle.link_marks.proofs.partition.RingsKept.{reached_kept}
-use Rattle.link_marks.proofs.steps.StepsGiven.{each_event_is_a_step}
+use Rattle.ring_model.specs.KeptLinks.{passed_spot}
+use Rattle.ring_model.specs.RingKept.{IsRingKept}
+use Rattle.ring_model.specs.Reached.{IsReached}
+use Rattle.trace_model.proofs.Positions.{page_turn}
+use Rattle.ring_model.proofs.links.FrameChanges.{top_kept}
+use Rattle.ring_model.proofs.links.LinksFit.{links_fit_words}
+use Rattle.ring_model.proofs.seats.PrivateSteps.{IsPrivateOf}
+use Rattle.ring_model.proofs.links.SeenLinks.{claims_fail_once_the_head_moved}
+use Rattle.ring_model.proofs.frames.TopSteps.{top_stepped}
+use Rattle.ring_model.proofs.partition.RingsKept.{reached_kept}
+use Rattle.ring_model.proofs.steps.StepsGiven.{each_event_is_a_step}
 use Rattle.ring_steps.specs.declared.rule.Shape.{Shape}
 use Rattle.ring_steps.specs.Made.{writer_made, writer_made_of}
 use Rattle.ring_steps.specs.Views.{Writing, writing_of, Reading, writing, passed}

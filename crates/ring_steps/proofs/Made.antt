@@ -2,8 +2,8 @@
 use Rattle.std.proofs.Common.{◌≡◌, ℕ, Bool, true, false, List, [], ◌∷◌, ◌++◌, refl, sym, ap, ◌∙◌, subst, append-nil}
 use Rattle.trace_model.specs.Ring.{Core, IsStart}
 use Rattle.trace_model.specs.Steps.{Event, pushes, pushes_close, steps, ends, reads, wishes, Answer, Exchange, Step, Run}
-use Rattle.link_marks.specs.Reached.{MayStart, IsReached}
-use Rattle.link_marks.specs.Seats.{IsOfReader, IsPrivate}
+use Rattle.ring_model.specs.Reached.{MayStart, IsReached}
+use Rattle.ring_model.specs.Seats.{IsOfReader, IsPrivate}
 use Rattle.ring_steps.specs.declared.rule.Shape.{Shape}
 use Rattle.ring_steps.specs.Made.{WriterMade, writer_made, reader_made, trace_of, is_by_reader, is_by_writer, kept_if, made_by, writer_made_of, reader_made_of}
 use Rattle.ring_steps.specs.Views.{Writing, writing_of, writing_after, Reading, reading_made}

@@ -4,8 +4,8 @@ use Rattle.std.proofs.Math.Logic.{∥∥₁_elim}
 use Rattle.std.proofs.Props.{props}
 use Rattle.trace_model.specs.Ring.{Core}
 use Rattle.trace_model.specs.Steps.{Exchange, Answer, Step}
-use Rattle.link_marks.specs.Reached.{IsReached}
-use Rattle.link_marks.specs.Seats.{IsPrivate, PrivateRun}
+use Rattle.ring_model.specs.Reached.{IsReached}
+use Rattle.ring_model.specs.Seats.{IsPrivate, PrivateRun}
 use Rattle.ring_steps.specs.declared.rule.Shape.{Shape}
 use Rattle.ring_steps.specs.Made.{WriterMade, writer_made, writer_made_of, privately_made}
 use Rattle.ring_steps.specs.Views.{Writing, writing_of, Reading}

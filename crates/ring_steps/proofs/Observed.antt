@@ -7,10 +7,10 @@ use Rattle.trace_model.specs.Ring.{Core}
 use Rattle.trace_model.specs.Steps.{Event, Answer, Step}
 use Rattle.trace_model.proofs.histories.Committed.{committed_len, committed_len-more}
 use Rattle.trace_model.proofs.steps.StepSound.{cases_of}
-use Rattle.link_marks.specs.RingKept.{IsRingKept}
-use Rattle.link_marks.proofs.partition.PartitionChanges.{frozen}
-use Rattle.link_marks.proofs.partition.PartitionSteps.{settled}
-use Rattle.link_marks.proofs.histories.StepsAsEvents.{leads_step}
+use Rattle.ring_model.specs.RingKept.{IsRingKept}
+use Rattle.ring_model.proofs.partition.PartitionChanges.{frozen}
+use Rattle.ring_model.proofs.partition.PartitionSteps.{settled}
+use Rattle.ring_model.proofs.histories.StepsAsEvents.{leads_step}
 
 -- the first of the reserved records, as they are by now
 abbrev pub first_records : ℕ → List HistoryEvent → List Record

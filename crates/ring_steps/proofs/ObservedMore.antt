@@ -7,7 +7,7 @@ use Rattle.trace_model.specs.Packing.{opens_of, fills_of, first_of_fill}
 use Rattle.trace_model.specs.Fitting.{IsRising}
 use Rattle.trace_model.specs.Ring.{PageRecords, fill_of}
 use Rattle.trace_model.proofs.packing.FillFirsts.{first_below, fill_behind}
-use Rattle.link_marks.proofs.partition.PartitionLemmas.{take_split, take_map}
+use Rattle.ring_model.proofs.partition.PartitionLemmas.{take_split, take_map}
 use Rattle.ring_steps.proofs.Observed.{first_records}
 
 -- The records up to the end of a fill: those before a number, those from there to the fill, and its own.

@@ -14,16 +14,16 @@ use Rattle.trace_model.specs.Ring.{PageRecords, Core, empty_page, page_at, fill_
 use Rattle.trace_model.specs.Steps.{steps, going, Answer, contents_of, with_new_tail, held_with_payload, own_number, after_begin, begin_answer, Step}
 use Rattle.trace_model.proofs.steps.StepCases.{ReleaseFillStep, releases, releases_last, opens, FrameStep, frame_step}
 use Rattle.trace_model.proofs.steps.StepIs.{step_by}
-use Rattle.link_marks.specs.RingKept.{IsRingKept}
-use Rattle.link_marks.specs.KeptLinks.{passed_spot}
-use Rattle.link_marks.proofs.links.FrameChanges.{top_kept}
-use Rattle.link_marks.proofs.frames.StackSteps.{releasing_left, top_agrees}
-use Rattle.link_marks.proofs.links.Positions.{page_turn}
-use Rattle.link_marks.proofs.contents.PageChanges.{pages_differ, page_below}
-use Rattle.link_marks.proofs.contents.OtherPageSteps.{ended_at}
-use Rattle.link_marks.proofs.seats.PrivateSteps.{private_state, IsPrivateOf}
-use Rattle.link_marks.proofs.seats.SeatSteps.{writer_leaves_reader}
-use Rattle.link_marks.proofs.partition.RingsKept.{reached_kept}
+use Rattle.ring_model.specs.RingKept.{IsRingKept}
+use Rattle.ring_model.specs.KeptLinks.{passed_spot}
+use Rattle.ring_model.proofs.links.FrameChanges.{top_kept}
+use Rattle.ring_model.proofs.frames.StackSteps.{releasing_left, top_agrees}
+use Rattle.trace_model.proofs.Positions.{page_turn}
+use Rattle.ring_model.proofs.contents.PageChanges.{pages_differ, page_below}
+use Rattle.ring_model.proofs.contents.OtherPageSteps.{ended_at}
+use Rattle.ring_model.proofs.seats.PrivateSteps.{private_state, IsPrivateOf}
+use Rattle.ring_model.proofs.seats.SeatSteps.{writer_leaves_reader}
+use Rattle.ring_model.proofs.partition.RingsKept.{reached_kept}
 use Rattle.page_image.specs.Contents.{Contents}
 use Rattle.nested_writer.specs.Released.{IsWrittenPage}
 use Rattle.ring_steps.specs.declared.rule.Shape.{Shape}

@@ -3,12 +3,12 @@ use Rattle.std.proofs.Common.{◌≡◌, ℕ, List, [], ◌∷◌, refl, sym, ap
 use Rattle.trace_model.specs.Frames.{Kind, for_record, FrameState, Frame}
 use Rattle.trace_model.specs.Ring.{Core}
 use Rattle.trace_model.specs.Steps as model
-use Rattle.link_marks.specs.Reached.{IsReached}
-use Rattle.link_marks.specs.RingLaws.{MayAsk}
-use Rattle.link_marks.specs.Seats.{WriterStays, TopIsPrivate, IsPrivate}
-use Rattle.link_marks.proofs.seats.PrivateAlike.{private_computed}
-use Rattle.link_marks.proofs.partition.RingsKept.{reached_kept}
-use Rattle.link_marks.proofs.steps.StepsGiven.{each_event_is_a_step}
+use Rattle.ring_model.specs.Reached.{IsReached}
+use Rattle.ring_model.specs.RingLaws.{MayAsk}
+use Rattle.ring_model.specs.Seats.{WriterStays, TopIsPrivate, IsPrivate}
+use Rattle.ring_model.proofs.seats.PrivateAlike.{private_computed}
+use Rattle.ring_model.proofs.partition.RingsKept.{reached_kept}
+use Rattle.ring_model.proofs.steps.StepsGiven.{each_event_is_a_step}
 use Rattle.ring_steps.specs.declared.rule.Shape.{Shape}
 use Rattle.ring_steps.specs.Made.{WriterMade, writer_made_of}
 use Rattle.ring_steps.specs.Views.{Writing, writing_of, writing_after}

@@ -8,7 +8,7 @@ use Rattle.trace_model.specs.Ring.{Core, link_into}
 use Rattle.trace_model.specs.Steps.{steps, going, Answer, MayContinue, IsGranted, in_phase, after_next, after_begin, with_new_tail, step_of}
 use Rattle.trace_model.proofs.steps.StepCases.{FrameStep, frame_step, LoadLinkStep, load_link_late, sees_free, sees_header, sees_update, OpenFillStep, open_late, opens, ReleaseFillStep, releases, releases_last, LoadWishStep, grants, closes_more, goes_away}
 use Rattle.trace_model.proofs.steps.StepIs.{step_by}
-use Rattle.link_marks.proofs.frames.TopSteps.{top_stepped}
+use Rattle.ring_model.proofs.frames.TopSteps.{top_stepped}
 use Rattle.ring_steps.specs.declared.rule.Shape.{Shape}
 use Rattle.ring_steps.specs.Made.{WriterMade, writer_made_of}
 use Rattle.ring_steps.specs.Views.{Writing, writing_of, writing_after}

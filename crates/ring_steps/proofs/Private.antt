@@ -3,13 +3,13 @@ use Rattle.std.proofs.Common.{◌≡◌, ◌≢◌, ℕ, ◌+◌, ◌<◌, ◌�
 use Rattle.trace_model.specs.Ring.{Core, page_at}
 use Rattle.trace_model.specs.Steps.{contents_of, Event, Answer, Exchange, Step}
 use Rattle.trace_model.proofs.steps.StepSound.{cases_of}
-use Rattle.link_marks.specs.RingKept.{IsRingKept}
-use Rattle.link_marks.specs.Reached.{IsReached}
-use Rattle.link_marks.specs.Seats.{PrivateRun}
-use Rattle.link_marks.proofs.contents.PageChanges.{pages_differ}
-use Rattle.link_marks.proofs.seats.PrivateSteps.{private_result, changes_privately, IsPrivateOf}
-use Rattle.link_marks.proofs.seats.SeatPages.{private_leaves_other_pages}
-use Rattle.link_marks.proofs.partition.RingsKept.{reached_kept}
+use Rattle.ring_model.specs.RingKept.{IsRingKept}
+use Rattle.ring_model.specs.Reached.{IsReached}
+use Rattle.ring_model.specs.Seats.{PrivateRun}
+use Rattle.ring_model.proofs.contents.PageChanges.{pages_differ}
+use Rattle.ring_model.proofs.seats.PrivateSteps.{private_result, changes_privately, IsPrivateOf}
+use Rattle.ring_model.proofs.seats.SeatPages.{private_leaves_other_pages}
+use Rattle.ring_model.proofs.partition.RingsKept.{reached_kept}
 use Rattle.ring_steps.specs.Made.{WriterMade, writer_made, reader_made, is_by_reader, is_by_writer, writer_made_of, reader_made_of, privately_made}
 use Rattle.ring_steps.specs.Views.{Reading}
 use Rattle.ring_steps.specs.Shown.{Homes, IsHome, AreWords, AreHomes, IsReading, IsShown}

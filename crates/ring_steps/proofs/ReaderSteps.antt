@@ -6,9 +6,9 @@ use Rattle.trace_model.specs.Ring.{Core, ReaderPhase, storing_spare_link, swappi
 use Rattle.trace_model.specs.Steps.{Event, wishes, Answer, wished_for, with_wish, Exchange, Step}
 use Rattle.trace_model.proofs.steps.StepCases.{store_wish_step}
 use Rattle.trace_model.proofs.steps.StepIs.{step_by}
-use Rattle.link_marks.specs.KeptLinks.{ReaderKept}
-use Rattle.link_marks.specs.RingKept.{IsRingKept}
-use Rattle.link_marks.proofs.partition.RingsKept.{reached_kept}
+use Rattle.ring_model.specs.KeptLinks.{ReaderKept}
+use Rattle.ring_model.specs.RingKept.{IsRingKept}
+use Rattle.ring_model.proofs.partition.RingsKept.{reached_kept}
 use Rattle.ring_steps.specs.declared.rule.Shape.{Shape}
 use Rattle.ring_steps.specs.Made.{WriterMade, writer_made_of, reader_made_of}
 use Rattle.ring_steps.specs.Views.{writing_of, Reading, reading_after, reading}

@@ -15,9 +15,9 @@ use Rattle.atomic_table.proofs.Lists.{at_map}
 use Rattle.trace_model.specs.Links.{Link, word_of, normal_link}
 use Rattle.trace_model.specs.Ring.{Core, Reader, IsStart, link_into, page_at}
 use Rattle.link_marks.specs.FirstLinks.{IsFirstLink}
-use Rattle.link_marks.specs.Reached.{IsReached}
-use Rattle.link_marks.proofs.links.Positions.{at_position, apart}
-use Rattle.link_marks.proofs.partition.OneNewRing.{new_ring_is_one}
+use Rattle.ring_model.specs.Reached.{IsReached}
+use Rattle.trace_model.proofs.Positions.{at_position, apart}
+use Rattle.ring_model.proofs.partition.OneNewRing.{new_ring_is_one}
 use Rattle.page_image.specs.Contents.{Contents}
 use Rattle.ring_steps.specs.declared.rule.Shape.{Shape}
 use Rattle.ring_steps.specs.Made.{writer_made_of}

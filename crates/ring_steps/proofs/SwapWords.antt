@@ -10,11 +10,11 @@ use Rattle.atomic_table.proofs.Lists.{set_here, set_else}
 use Rattle.trace_model.specs.Links.{Link, word_of, normal_link, header_link}
 use Rattle.trace_model.specs.Ring.{PageRecords, Core, swapping, empty_page, link_into, links_with, page_at}
 use Rattle.trace_model.specs.Steps.{contents_of, after_swap}
-use Rattle.link_marks.specs.KeptLinks.{ReaderKept}
-use Rattle.link_marks.specs.RingKept.{IsRingKept}
-use Rattle.link_marks.proofs.links.Positions.{apart, page_turn, page_here, page_else}
-use Rattle.link_marks.proofs.contents.PageChanges.{pages_differ}
-use Rattle.link_marks.proofs.seats.SeatPages.{IsHeadTaken, head_taken}
+use Rattle.ring_model.specs.KeptLinks.{ReaderKept}
+use Rattle.ring_model.specs.RingKept.{IsRingKept}
+use Rattle.trace_model.proofs.Positions.{apart, page_turn, page_here, page_else}
+use Rattle.ring_model.proofs.contents.PageChanges.{pages_differ}
+use Rattle.ring_model.proofs.seats.SeatPages.{IsHeadTaken, head_taken}
 use Rattle.page_image.specs.Contents.{Contents}
 use Rattle.ring_steps.specs.Views.{Reading}
 use Rattle.ring_steps.specs.Shown.{page_word, page_before, AreWords, Homes, IsHome, HasBody, AreHomes}

@@ -20,9 +20,9 @@ use Rattle.trace_model.specs.Steps as model
 use Rattle.trace_model.proofs.steps.StepCases as cases
 use Rattle.trace_model.specs.Steps.{contents_of}
 use Rattle.trace_model.proofs.words.LinkWords.{word_reports}
-use Rattle.link_marks.specs.KeptLinks.{Spot, spot, ReaderKept}
-use Rattle.link_marks.specs.RingKept.{IsRingKept}
-use Rattle.link_marks.proofs.contents.RecordCounts.{records_few}
+use Rattle.ring_model.specs.KeptLinks.{Spot, spot, ReaderKept}
+use Rattle.ring_model.specs.RingKept.{IsRingKept}
+use Rattle.ring_model.proofs.contents.RecordCounts.{records_few}
 use Rattle.page_image.specs.Contents.{Contents, records_of_page}
 use Rattle.nested_writer.specs.Released.{IsWrittenPage}
 use Rattle.ring_steps.specs.declared.rule.Shape.{Shape}

@@ -15,13 +15,13 @@ use Rattle.link_marks.specs.ModelLinks.{link_of}
 use Rattle.link_marks.specs.declared.link.Link as code
 use Rattle.link_marks.specs.declared.link.Mark.{Mark}
 use Rattle.link_marks.specs.declared.link.Mark.TheVariants.{Normal, Header, Update}
-use Rattle.link_marks.specs.KeptLinks.{ReaderKept}
-use Rattle.link_marks.specs.RingKept.{IsRingKept}
-use Rattle.link_marks.proofs.frames.AnswersRight.{moving_right}
-use Rattle.link_marks.proofs.links.LinkFills.{fill_at, normal_reports, header_reports}
-use Rattle.link_marks.proofs.links.Positions.{at_position, one_position}
-use Rattle.link_marks.proofs.partition.RingsKept.{reached_kept}
-use Rattle.link_marks.proofs.steps.StepsDetermined.{steps_are_determined}
+use Rattle.ring_model.specs.KeptLinks.{ReaderKept}
+use Rattle.ring_model.specs.RingKept.{IsRingKept}
+use Rattle.ring_model.proofs.frames.AnswersRight.{moving_right}
+use Rattle.ring_model.proofs.links.LinkFills.{fill_at, normal_reports, header_reports}
+use Rattle.trace_model.proofs.Positions.{at_position, one_position}
+use Rattle.ring_model.proofs.partition.RingsKept.{reached_kept}
+use Rattle.ring_model.proofs.steps.StepsDetermined.{steps_are_determined}
 use Rattle.ring_steps.specs.declared.rule.Shape.{Shape}
 use Rattle.ring_steps.specs.Views.{Reading, reading_made, reading_after}
 use Rattle.ring_steps.specs.Seats.{IsReaderStep}

@@ -20,12 +20,12 @@ use Rattle.trace_model.proofs.steps.StepCases as cases
 use Rattle.trace_model.proofs.steps.StepCases.{loads_header, loads_update, loads_owed, loads_passed, push_step, push_refused, close_step, close_refused, frame_step, frame_lacks, end_step, end_lacks, end_early, read_step, store_wish_step}
 use Rattle.trace_model.proofs.steps.StepSound.{cases_of}
 use Rattle.trace_model.proofs.steps.StepIs.{step_by}
-use Rattle.link_marks.specs.RingKept.{IsRingKept}
-use Rattle.link_marks.specs.Seats.{IsOfReader}
-use Rattle.link_marks.proofs.links.LinksFit.{links_fit_words}
-use Rattle.link_marks.proofs.partition.RingsKept.{reached_kept}
-use Rattle.link_marks.proofs.seats.SeatSteps.{reader_leaves_writer}
-use Rattle.link_marks.proofs.steps.StepsGiven.{each_event_is_a_step}
+use Rattle.ring_model.specs.RingKept.{IsRingKept}
+use Rattle.ring_model.specs.Seats.{IsOfReader}
+use Rattle.ring_model.proofs.links.LinksFit.{links_fit_words}
+use Rattle.ring_model.proofs.partition.RingsKept.{reached_kept}
+use Rattle.ring_model.proofs.seats.SeatSteps.{reader_leaves_writer}
+use Rattle.ring_model.proofs.steps.StepsGiven.{each_event_is_a_step}
 use Rattle.page_image.specs.Contents.{Contents}
 use Rattle.ring_steps.specs.declared.rule.Shape.{Shape}
 use Rattle.ring_steps.specs.Made.{writer_made_of}

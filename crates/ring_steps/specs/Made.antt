@@ -6,8 +6,8 @@ use Rattle.trace_model.specs.Links.{Link}
 use Rattle.trace_model.specs.Frames.{Frame}
 use Rattle.trace_model.specs.Ring.{Reader, Core}
 use Rattle.trace_model.specs.Steps.{Event, pushes, pushes_close, steps, ends, reads, wishes, Exchange, Run}
-use Rattle.link_marks.specs.Reached.{IsReached}
-use Rattle.link_marks.specs.Seats.{PrivateRun}
+use Rattle.ring_model.specs.Reached.{IsReached}
+use Rattle.ring_model.specs.Seats.{PrivateRun}
 
 -- ---- single steps
 

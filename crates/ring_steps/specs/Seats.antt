@@ -5,8 +5,8 @@ use Rattle.atomic_table.specs.Seated.{TableId}
 use Rattle.trace_model.specs.declared.limits.TheConstants.{MIN_PAGES, MAX_PAGES, LINK_FILLS}
 use Rattle.trace_model.specs.Ring.{storing_spare_link, swapping, Core, AreApart}
 use Rattle.trace_model.specs.Steps.{Event, steps, Answer, Exchange, Step}
-use Rattle.link_marks.specs.Reached.{IsReached}
-use Rattle.link_marks.specs.Seats.{IsOfReader, PrivateRun}
+use Rattle.ring_model.specs.Reached.{IsReached}
+use Rattle.ring_model.specs.Seats.{IsOfReader, PrivateRun}
 use Rattle.page_image.specs.Contents.{Contents}
 use Rattle.ring_steps.specs.declared.rule.Shape.{Shape}
 use Rattle.ring_steps.specs.Made.{writer_made_of, reader_made_of, privately_made}

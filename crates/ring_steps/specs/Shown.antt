@@ -10,7 +10,7 @@ use Rattle.trace_model.specs.History.{as_record, reserved_records}
 use Rattle.trace_model.specs.Links.{word_of}
 use Rattle.trace_model.specs.Ring.{PageRecords, Core, link_into, page_at}
 use Rattle.trace_model.specs.Steps.{contents_of}
-use Rattle.link_marks.specs.Reached.{IsReached}
+use Rattle.ring_model.specs.Reached.{IsReached}
 use Rattle.page_image.specs.Contents.{Contents}
 use Rattle.nested_writer.specs.Released.{IsWrittenPage}
 use Rattle.ring_steps.specs.declared.rule.TheConstants.{OPENED_WORD, DONE_WORD, WISH_WORD, LINKS_WORD}

@@ -5,7 +5,7 @@ use Rattle.trace_model.specs.Record.{Record}
 use Rattle.trace_model.specs.Links.{word_of, header_link}
 use Rattle.trace_model.specs.Ring.{ReaderPhase, loading_head, loading_done, storing_spare_link, swapping, TakenFill, link_into}
 use Rattle.trace_model.specs.Steps as model
-use Rattle.link_marks.specs.KeptLinks.{Spot, spot}
+use Rattle.ring_model.specs.KeptLinks.{Spot, spot}
 use Rattle.page_image.specs.Contents.{Contents, records_of_page}
 use Rattle.nested_writer.specs.Released.{IsWrittenPage}
 use Rattle.ring_steps.specs.declared.rule.Shape.{Shape}

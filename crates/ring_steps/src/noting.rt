@@ -1,7 +1,7 @@
 //! What the writer does in private between its steps on words, as notes for proofs: no word is loaded or stored.
 ghost use Rattle.std.specs.Prelude.{◌≡◌};
 ghost use Rattle.trace_model.specs.Steps.{pushes, pushes_close, steps, ends};
-ghost use Rattle.link_marks.specs.Seats.{TopIsPrivate};
+ghost use Rattle.ring_model.specs.Seats.{TopIsPrivate};
 ghost use Rattle.ring_steps.specs.Seats.{Leads};
 ghost use Rattle.ring_steps.specs.Ends.{writing_in, SameSeat};
 ghost use Rattle.ring_steps.specs.Notes.{part_after, FillsTopSlot};

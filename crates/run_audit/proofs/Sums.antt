@@ -7,7 +7,7 @@ use Rattle.trace_model.specs.Collection.{Has, Misses, Agree, IsBelow, IsSame}
 use Rattle.trace_model.specs.Ring.{Core}
 use Rattle.trace_model.proofs.collections.Collections.{below_more, below_below, below_both}
 use Rattle.trace_model.proofs.collections.Joined.{below_agrees}
-use Rattle.link_marks.specs.Reached.{IsReached}
+use Rattle.ring_model.specs.Reached.{IsReached}
 use Rattle.world_model.specs.World.{parcel_of}
 use Rattle.world_model.specs.GenuineWorlds.{IsExact}
 use Rattle.world_model.proofs.Lookups.{element_at, contains_at, get_from_map}

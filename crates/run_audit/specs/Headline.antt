@@ -5,7 +5,7 @@ use Rattle.trace_model.specs.Record.{Record}
 use Rattle.trace_model.specs.Parcel.{Parcel}
 use Rattle.trace_model.specs.Collection.{Has, Misses}
 use Rattle.trace_model.specs.Ring.{Core}
-use Rattle.link_marks.specs.Reached.{IsReached}
+use Rattle.ring_model.specs.Reached.{IsReached}
 use Rattle.world_model.specs.World.{parcel_of}
 use Rattle.world_model.specs.GenuineWorlds.{IsCut, IsExact}
 use Rattle.run_audit.specs.declared.ledger.Ledger.{Ledger}

@@ -9,8 +9,8 @@ use Rattle.trace_model.specs.Window.{RingEvent, history_events_of}
 use Rattle.trace_model.specs.Parcel.{Parcel}
 use Rattle.trace_model.specs.Collection.{Has, Misses}
 use Rattle.trace_model.specs.Ring.{Core, Reader, TakenFill}
-use Rattle.link_marks.specs.Reached.{IsReached}
-use Rattle.link_marks.specs.RunsAsEvents.{fills_taken}
+use Rattle.ring_model.specs.Reached.{IsReached}
+use Rattle.ring_model.specs.RunsAsEvents.{fills_taken}
 use Rattle.text_model.specs.Script.{Script}
 use Rattle.world_model.specs.World.{parcel_of}
 use Rattle.world_model.specs.RunEvents.{AreEventsOfSteps}

@@ -3,7 +3,7 @@ use Rattle.std.specs.Prelude.{◌≡◌, ℕ, ◌+◌, ◌<◌, ◌≤◌, ◌�
 use Rattle.std.specs.List.{slice_get, AllZip}
 use Rattle.trace_model.specs.Ring.{Core}
 use Rattle.trace_model.specs.Window.{RingEvent, history_events_of}
-use Rattle.link_marks.specs.RunsAsEvents.{fills_taken}
+use Rattle.ring_model.specs.RunsAsEvents.{fills_taken}
 use Rattle.text_model.specs.Script.{Script, ParsesScript}
 use Rattle.world_model.specs.RunEvents.{AreEventsOfSteps}
 use Rattle.line_model.specs.WriterCalls.{exchanges_to}

@@ -9,8 +9,8 @@ use Rattle.trace_model.specs.Steps as model
 use Rattle.trace_model.specs.Steps.{steps, refused, Step, Exchange, top_step_of}
 use Rattle.trace_model.proofs.steps.StepSound.{cases_of}
 use Rattle.text_model.specs.Script.{step_frame, finish_frame}
-use Rattle.link_marks.specs.Reached.{IsReached}
-use Rattle.link_marks.specs.Ranks.{frame_limit}
+use Rattle.ring_model.specs.Reached.{IsReached}
+use Rattle.ring_model.specs.Ranks.{frame_limit}
 use Rattle.world_model.specs.Lanes.{Lane, lane_behind, event_in, event_on_top, FitFrames, FrameRun, IsGone, StepsFrame, lacks_to_step, steps_on, FinishesFrame, lacks_to_finish, finishes, LineRun}
 use Rattle.world_model.proofs.FramesMove.{Moves, stays, changes, pops, step_moves}
 use Rattle.world_model.proofs.LanePayloads.{pushes_none}

@@ -6,9 +6,9 @@ use Rattle.trace_model.specs.Frames.{Kind, for_record, for_close, FrameState, re
 use Rattle.trace_model.specs.Steps as model
 use Rattle.trace_model.specs.Steps.{steps, ends}
 use Rattle.trace_model.proofs.words.Lengths.{slot_len_ge, length-padded}
-use Rattle.link_marks.specs.KeptStack.{IsForRecord, MayBeIn, FramesAgree}
-use Rattle.link_marks.specs.RingKept.{IsRingKept}
-use Rattle.link_marks.proofs.partition.RingsKept.{reached_kept}
+use Rattle.ring_model.specs.KeptStack.{IsForRecord, MayBeIn, FramesAgree}
+use Rattle.ring_model.specs.RingKept.{IsRingKept}
+use Rattle.ring_model.proofs.partition.RingsKept.{reached_kept}
 use Rattle.world_model.specs.Lanes.{Lane, FitsKind, FitFrames, event_in, event_on_top}
 use Rattle.nested_writer.specs.declared.frame.Slot.{Slot}
 use Rattle.nested_writer.specs.declared.frame.Progress.{Progress}

@@ -6,8 +6,8 @@ use Rattle.trace_model.specs.Frames.{FrameState, waiting, reserved, left, Frame}
 use Rattle.trace_model.specs.Ring.{Reader, Core}
 use Rattle.trace_model.specs.Steps.{Event, Answer, Step}
 use Rattle.trace_model.proofs.steps.StepSound.{cases_of}
-use Rattle.link_marks.specs.Seats.{IsOfReader}
-use Rattle.link_marks.proofs.seats.SeatSteps.{writer_leaves_reader}
+use Rattle.ring_model.specs.Seats.{IsOfReader}
+use Rattle.ring_model.proofs.seats.SeatSteps.{writer_leaves_reader}
 use Rattle.world_model.specs.Lanes.{Lane, HasPayloads, FitFrames, lane_behind, event_in, event_on_top}
 use Rattle.world_model.specs.World.{parcel_of}
 use Rattle.world_model.proofs.FramesMove.{PushesNone, step_moves}

@@ -11,8 +11,8 @@ use Rattle.trace_model.specs.Ring.{Reader}
 use Rattle.trace_model.specs.Parcel.{Parcel}
 use Rattle.text_model.specs.Script.{Script, Command, begin_frame, step_frame, finish_frame, write, close, step_reader, take_page, wish, deliver}
 use Rattle.text_model.specs.ScriptLimits.{IsWithinLimits, IsCommandWithin}
-use Rattle.link_marks.proofs.partition.OneNewRing.{new_ring_is_one}
-use Rattle.link_marks.proofs.partition.RingsKept.{reached_kept}
+use Rattle.ring_model.proofs.partition.OneNewRing.{new_ring_is_one}
+use Rattle.ring_model.proofs.partition.RingsKept.{reached_kept}
 use Rattle.world_model.specs.Lanes.{Lane, IsNewLane}
 use Rattle.world_model.specs.World.{World, IsNewWorld, parcel_of, IsFill, RunsLine, Obeys}
 use Rattle.world_model.specs.GenuineWorlds.{parcels_from}

@@ -7,7 +7,7 @@ use Rattle.trace_model.specs.Steps.{pushes, pushes_close, pushed, refused, Step,
 use Rattle.trace_model.proofs.steps.StepCases.{StepCases, push_step, push_refused, close_step, close_refused, frame_step, frame_lacks, end_step, end_lacks, end_early, read_step, store_wish_step}
 use Rattle.trace_model.proofs.steps.StepSound.{cases_of}
 use Rattle.text_model.specs.Script.{begin_frame, finish_frame}
-use Rattle.link_marks.specs.Seats.{IsOfReader}
+use Rattle.ring_model.specs.Seats.{IsOfReader}
 use Rattle.world_model.specs.Lanes.{Lane, payloads_with, lane_with, FitsKind, FitFrames, PushesFrame, FinishesPushed, WritesFrame, LineRun}
 use Rattle.world_model.specs.World.{parcel_of}
 use Rattle.ring_core.specs.declared.event.Event.{Event}

@@ -9,9 +9,9 @@ use Rattle.trace_model.specs.Steps as model
 use Rattle.trace_model.specs.Steps.{Event, pushes, pushes_close, steps, ends, reads, wishes, reading, empty, moving, page_taken, Step, Exchange}
 use Rattle.trace_model.proofs.steps.StepCases.{StepCases, push_step, push_refused, close_step, close_refused, frame_step, frame_lacks, end_step, end_lacks, end_early, read_step, store_wish_step}
 use Rattle.trace_model.proofs.steps.StepSound.{cases_of}
-use Rattle.link_marks.specs.Seats.{IsOfReader}
-use Rattle.link_marks.proofs.partition.RingsKept.{reached_kept}
-use Rattle.link_marks.proofs.seats.SeatSteps.{reader_leaves_writer}
+use Rattle.ring_model.specs.Seats.{IsOfReader}
+use Rattle.ring_model.proofs.partition.RingsKept.{reached_kept}
+use Rattle.ring_model.proofs.seats.SeatSteps.{reader_leaves_writer}
 use Rattle.world_model.specs.Lanes.{Lane, lane_behind, payloads_left, Wishes}
 use Rattle.world_model.specs.World.{parcel_of, parcels_in}
 use Rattle.world_model.proofs.FramesMove.{stays}

@@ -9,12 +9,12 @@ use Rattle.trace_model.specs.Ring.{TakenFill, Core}
 use Rattle.trace_model.specs.Steps as model
 use Rattle.trace_model.specs.Steps.{Event, page_taken, Step}
 use Rattle.trace_model.proofs.collections.Elements.{some_is, get_behind}
-use Rattle.link_marks.specs.RingKept.{IsRingKept}
-use Rattle.link_marks.specs.KeptPartition.{piece_of, pieces_of, covered_total, PartitionAt}
-use Rattle.link_marks.proofs.frames.AnswersRight.{swapped_right}
-use Rattle.link_marks.proofs.partition.PartitionLemmas.{first_new, covered_total-snoc}
-use Rattle.link_marks.proofs.contents.RecordCounts.{numbers_fit}
-use Rattle.link_marks.proofs.partition.RingsKept.{ring_step}
+use Rattle.ring_model.specs.RingKept.{IsRingKept}
+use Rattle.ring_model.specs.KeptPartition.{piece_of, pieces_of, covered_total, PartitionAt}
+use Rattle.ring_model.proofs.frames.AnswersRight.{swapped_right}
+use Rattle.ring_model.proofs.partition.PartitionLemmas.{first_new, covered_total-snoc}
+use Rattle.ring_model.proofs.contents.RecordCounts.{numbers_fit}
+use Rattle.ring_model.proofs.partition.RingsKept.{ring_step}
 use Rattle.page_image.specs.Contents.{records_of_page}
 use Rattle.ring_frames.specs.declared.answer.Answer.{Answer}
 use Rattle.ring_frames.specs.declared.answer.Answer.TheVariants.{Pushed, Going, Reserved, Ended, Gone, Refused, Looking, Empty, Moving, Taken, Wished}

@@ -7,7 +7,7 @@ use Rattle.trace_model.specs.declared.limits.TheConstants.{MAX_PAGES}
 use Rattle.trace_model.specs.Ring.{Core}
 use Rattle.trace_model.specs.Steps.{reads, reading, Step, Exchange}
 use Rattle.text_model.specs.Script.{take_page}
-use Rattle.link_marks.specs.Ranks.{reader_limit}
+use Rattle.ring_model.specs.Ranks.{reader_limit}
 use Rattle.world_model.specs.Lanes.{Lane, lane_behind, ReaderRun, HasTakeAnswer}
 use Rattle.world_model.proofs.LineEnds.{reader_runs_short}
 use Rattle.script_replay.specs.Value.{LaneValue}

@@ -5,7 +5,7 @@ use Rattle.trace_model.specs.Frames.{Frame}
 use Rattle.trace_model.specs.Ring.{Core}
 use Rattle.trace_model.specs.Steps.{Answer}
 use Rattle.trace_model.proofs.steps.StepSound.{cases_of}
-use Rattle.link_marks.proofs.partition.RingsKept.{ring_step, reached_kept}
+use Rattle.ring_model.proofs.partition.RingsKept.{ring_step, reached_kept}
 use Rattle.step_model.specs.Seen.{ReaderSeen, CountsSeen, RingSeen, ring_seen, Change, spare_link_is, reader_is, all_assigned}
 use Rattle.step_model.specs.Changes.{same_reader, unless_same, link_changes, page_changes, count_changes, frame_changes, changes, all_links, all_pages, all_counts}
 use Rattle.step_model.specs.StepLaws.{ChangesLeadOn, KeysAreAll}

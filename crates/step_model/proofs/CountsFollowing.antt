@@ -10,12 +10,12 @@ use Rattle.trace_model.specs.Steps.{Event, pushes, pushes_close, steps, ends, re
 use Rattle.trace_model.proofs.histories.OpenNumbers.{HasNumber, open_at, numbers_open}
 use Rattle.trace_model.proofs.steps.StepCases.{StepCases, loads_header, loads_update, loads_owed, loads_passed, finds_none, finds_closed, swaps, swap_fails, ReadStep, push_step, push_refused, close_step, close_refused as refused_close, frame_step, frame_lacks, end_step, end_lacks, end_early, read_step, store_wish_step}
 use Rattle.trace_model.proofs.steps.StepSound.{cases_of}
-use Rattle.link_marks.specs.Seats.{IsOfReader}
-use Rattle.link_marks.specs.KeptStack.{FramesAgree}
-use Rattle.link_marks.specs.RingKept.{IsRingKept}
-use Rattle.link_marks.specs.Appended.{PushAppends, is_pushed, isnt_pushed, EndAppends, TopEndAppends, record_reserved, record_refused, record_opens, record_goes_on, close_refused, close_opens, close_leaves, close_goes_on, left_opens, left_grants, left_stays, FrameAppends, TopAppends, Appends}
-use Rattle.link_marks.proofs.histories.StepsAppend.{steps_append}
-use Rattle.link_marks.proofs.partition.RingsKept.{ring_step, reached_kept}
+use Rattle.ring_model.specs.Seats.{IsOfReader}
+use Rattle.ring_model.specs.KeptStack.{FramesAgree}
+use Rattle.ring_model.specs.RingKept.{IsRingKept}
+use Rattle.ring_model.specs.Appended.{PushAppends, is_pushed, isnt_pushed, EndAppends, TopEndAppends, record_reserved, record_refused, record_opens, record_goes_on, close_refused, close_opens, close_leaves, close_goes_on, left_opens, left_grants, left_stays, FrameAppends, TopAppends, Appends}
+use Rattle.ring_model.proofs.histories.StepsAppend.{steps_append}
+use Rattle.ring_model.proofs.partition.RingsKept.{ring_step, reached_kept}
 use Rattle.step_model.specs.StepCounts.{owns_from, top_claims, head_after, gives_next, top_moment, has_left, all_have_left, records_in}
 use Rattle.step_model.specs.StepLaws.{CountsFollowSteps}
 use Rattle.step_model.proofs.StepMoves.{takes_page, frame_in, Moves, takes, stays, pushes_one, pops, goes, owns_none_same, moves}

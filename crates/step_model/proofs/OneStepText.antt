@@ -11,7 +11,7 @@ use Rattle.trace_model.proofs.collections.Elements.{some_is}
 use Rattle.text_model.specs.Log.{Delivery, new_page, known_page, no_page}
 use Rattle.text_model.specs.Script.{Command, begin_frame, step_frame, finish_frame, write, close, step_reader, take_page, wish, deliver, Script}
 use Rattle.text_model.specs.ScriptLimits.{IsWithinLimits}
-use Rattle.link_marks.proofs.steps.StepsDetermined.{steps_are_determined}
+use Rattle.ring_model.proofs.steps.StepsDetermined.{steps_are_determined}
 use Rattle.world_model.specs.Lanes.{Lane, LineRun}
 use Rattle.world_model.specs.World.{World, IsNewWorld, IsFill, Brings, DeliversTaken, DeliversNothing, WorldBehind}
 use Rattle.world_model.proofs.Lookups.{get_set_here}

@@ -8,7 +8,7 @@ use Rattle.trace_model.specs.Collection.{Has, Misses}
 use Rattle.text_model.specs.Log.{Delivery}
 use Rattle.text_model.specs.Script.{Script}
 use Rattle.text_model.specs.ScriptLimits.{IsWithinLimits}
-use Rattle.link_marks.specs.Reached.{IsReached}
+use Rattle.ring_model.specs.Reached.{IsReached}
 use Rattle.world_model.specs.World.{World, WorldOf, Brings}
 use Rattle.step_model.specs.Seen.{RingSeen, ring_seen, all_assigned}
 use Rattle.step_model.specs.Changes.{changes, all_keys}

@@ -5,8 +5,8 @@ use Rattle.std.proofs.lemmas.Option.{slice_get_within}
 use Rattle.ring_core.proofs.Homes.{get_set_same, get_set_other}
 use Rattle.trace_model.specs.Ring.{Core}
 use Rattle.trace_model.specs.Steps as model
-use Rattle.link_marks.specs.Reached.{IsReached}
-use Rattle.link_marks.proofs.partition.RingsKept.{reached_kept}
+use Rattle.ring_model.specs.Reached.{IsReached}
+use Rattle.ring_model.proofs.partition.RingsKept.{reached_kept}
 use Rattle.ring_core.specs.Value.{CoreValue}
 use Rattle.ring_core.specs.IsCore.{IsCore}
 use Rattle.ring_frames.specs.declared.answer.Answer.{Answer}

@@ -4,7 +4,7 @@ use Rattle.trace_model.specs.declared.limits.TheConstants.{MAX_SIZE}
 use Rattle.trace_model.specs.Ring.{Core}
 use Rattle.trace_model.specs.Steps.{Event, Step}
 use Rattle.trace_model.specs.Steps as steps
-use Rattle.link_marks.specs.Reached.{IsReached}
+use Rattle.ring_model.specs.Reached.{IsReached}
 use Rattle.ring_core.specs.Value.{CoreValue}
 use Rattle.ring_core.specs.IsCore.{IsCore}
 use Rattle.ring_frames.specs.declared.answer.Answer.{Answer}

@@ -8,7 +8,7 @@ use Rattle.trace_model.specs.Links.{normal_link}
 use Rattle.trace_model.specs.Ring.{Core, Reader, first_reader}
 use Rattle.world_model.specs.World.{parcel_of}
 use Rattle.text_model.specs.Script.{Script}
-use Rattle.link_marks.specs.Reached.{IsReached}
+use Rattle.ring_model.specs.Reached.{IsReached}
 use Rattle.ring_steps.specs.Views.{Writing}
 use Rattle.run_audit.specs.declared.ledger.Ledger.{Ledger}
 use Rattle.run_audit.specs.Audit.{taken_of}

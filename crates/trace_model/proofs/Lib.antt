@@ -4,3 +4,5 @@ pub mod histories
 pub mod packing
 pub mod collections
 pub mod steps
+-- fills and positions
+pub mod Positions

@@ -20,14 +20,14 @@ use Rattle.trace_model.proofs.collections.Elements.{some_is}
 use Rattle.trace_model.proofs.packing.FillFirsts.{first_below, first_rises_to}
 use Rattle.trace_model.proofs.packing.FillOfNumber.{LiesIn, lies_in, ends_before}
 use Rattle.trace_model.proofs.collections.FirstNumbers.{own_records, own_or_skipped}
-use Rattle.link_marks.specs.KeptPartition.{piece_of, pieces_of}
-use Rattle.link_marks.specs.Reached.{IsReached}
-use Rattle.link_marks.specs.RingKept.{IsRingKept}
-use Rattle.link_marks.specs.RunsAsEvents.{fills_taken, fills_lost, numbers_of, AreEventsOfRun}
-use Rattle.link_marks.proofs.partition.RingsKept.{ring_start, reached_kept, taken_partition}
-use Rattle.link_marks.proofs.contents.PackedRuns.{runs_packed}
-use Rattle.link_marks.proofs.contents.TakenHoldRecords.{taken_hold}
-use Rattle.link_marks.proofs.histories.WindowRuns.{passed_by, lost_closed}
+use Rattle.ring_model.specs.KeptPartition.{piece_of, pieces_of}
+use Rattle.ring_model.specs.Reached.{IsReached}
+use Rattle.ring_model.specs.RingKept.{IsRingKept}
+use Rattle.ring_model.specs.RunsAsEvents.{fills_taken, fills_lost, numbers_of, AreEventsOfRun}
+use Rattle.ring_model.proofs.partition.RingsKept.{ring_start, reached_kept, taken_partition}
+use Rattle.ring_model.proofs.contents.PackedRuns.{runs_packed}
+use Rattle.ring_model.proofs.contents.TakenHoldRecords.{taken_hold}
+use Rattle.ring_model.proofs.histories.WindowRuns.{passed_by, lost_closed}
 use Rattle.world_model.specs.World.{parcel_of}
 use Rattle.world_model.specs.GenuineWorlds.{pieces_in, IsWholeFill, StandsIn, IsOverwrittenBefore, IsCut, IsOneOf, IsExact}
 use Rattle.world_model.specs.RunEvents.{AreEventsOfSteps}

@@ -13,8 +13,8 @@ use Rattle.trace_model.proofs.collections.Collections.{below_more}
 use Rattle.trace_model.proofs.collections.Genuine.{genuine_agree}
 use Rattle.text_model.specs.Script.{Command, Script}
 use Rattle.text_model.specs.ScriptLimits.{IsWithinLimits}
-use Rattle.link_marks.specs.KeptPartition.{pieces_of}
-use Rattle.link_marks.proofs.partition.RingsKept.{reached_kept}
+use Rattle.ring_model.specs.KeptPartition.{pieces_of}
+use Rattle.ring_model.proofs.partition.RingsKept.{reached_kept}
 use Rattle.world_model.specs.World.{World, WorldBehind}
 use Rattle.world_model.specs.GenuineWorlds.{parcels_from, piece_in, pieces_in, IsGenuineWorld}
 use Rattle.world_model.proofs.Lookups.{contains_at, get_map}

@@ -8,7 +8,7 @@ use Rattle.trace_model.proofs.steps.StepCases.{StepCases, push_step, push_refuse
 use Rattle.text_model.specs.Script.{Command, begin_frame, step_frame, finish_frame, write, close, step_reader, take_page, wish, deliver}
 use Rattle.trace_model.proofs.words.Lengths.{slot_len-slot_len, length-padded}
 use Rattle.trace_model.proofs.steps.StepSound.{cases_of}
-use Rattle.link_marks.specs.RingLaws.{MayAsk}
+use Rattle.ring_model.specs.RingLaws.{MayAsk}
 use Rattle.world_model.specs.Lanes.{Lane, IsNewLane, lane_behind, payloads_left, payloads_with, FitsKind, FitFrames, HasPayloads, event_in, event_on_top, FrameRun, StepsFrame, lacks_to_step, steps_on, FinishesFrame, lacks_to_finish, finishes, PushesFrame, FinishesPushed, WritesFrame, ReaderRun, LineRun}
 use Rattle.world_model.proofs.FramesMove.{Moves, stays, changes, pops, PushesNone, step_moves}
 

@@ -4,12 +4,12 @@ use Rattle.trace_model.specs.Words.{padded}
 use Rattle.trace_model.specs.Frames.{FrameState, waiting, reserved, left, number_of, Frame}
 use Rattle.trace_model.specs.Ring.{Core}
 use Rattle.trace_model.specs.Steps.{Event, reads, Answer, pushed, going, reserved_as, pending, full, gone, refused, reading, empty, moving, page_taken, wished_for, Step, Exchange}
-use Rattle.link_marks.specs.Reached.{IsReached}
-use Rattle.link_marks.specs.RingKept.{IsRingKept}
-use Rattle.link_marks.specs.Ranks.{frame_rank, reader_rank}
-use Rattle.link_marks.proofs.seats.FrameEnds.{steps_lower, ends_lower, frames_are_near}
-use Rattle.link_marks.proofs.seats.TakeEnds.{takes_lower, takes_are_near}
-use Rattle.link_marks.proofs.partition.RingsKept.{reached_kept}
+use Rattle.ring_model.specs.Reached.{IsReached}
+use Rattle.ring_model.specs.RingKept.{IsRingKept}
+use Rattle.ring_model.specs.Ranks.{frame_rank, reader_rank}
+use Rattle.ring_model.proofs.seats.FrameEnds.{steps_lower, ends_lower, frames_are_near}
+use Rattle.ring_model.proofs.seats.TakeEnds.{takes_lower, takes_are_near}
+use Rattle.ring_model.proofs.partition.RingsKept.{reached_kept}
 use Rattle.world_model.specs.Lanes.{Lane, lane_behind, event_in, event_on_top, FrameRun, ReaderRun, HasTakeAnswer}
 use Rattle.world_model.specs.LineEnds.{FrameRunsAreShort, ReaderRunsAreShort}
 use Rattle.world_model.proofs.WorldsKept.{reached_on}

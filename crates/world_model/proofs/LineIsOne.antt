@@ -6,7 +6,7 @@ use mathlib.Core.Logic.{dite}
 use Rattle.trace_model.specs.Ring.{Core}
 use Rattle.trace_model.specs.Steps.{Event, reads, wishes, Answer, pushed, going, reserved_as, pending, full, gone, refused, reading, empty, moving, page_taken, wished_for, Step, Exchange}
 use Rattle.text_model.specs.Script.{Command, begin_frame, step_frame, finish_frame, write, close, step_reader, take_page, wish, deliver}
-use Rattle.link_marks.proofs.steps.StepsDetermined.{steps_are_determined}
+use Rattle.ring_model.proofs.steps.StepsDetermined.{steps_are_determined}
 use Rattle.world_model.specs.Lanes.{Lane, lane_behind, lane_with, FrameRun, IsStepped, LacksFrame, StepsFrame, lacks_to_step, steps_on, FinishesFrame, lacks_to_finish, finishes, PushesFrame, FinishesPushed, WritesFrame, ReaderRun, HasTakeAnswer, IsRead, Wishes, LineRun}
 
 -- both the exchanges and the state after them are the same

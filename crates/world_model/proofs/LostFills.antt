@@ -4,8 +4,8 @@ use Rattle.std.specs.Prelude.{Contains}
 use Rattle.trace_model.specs.History.{HistoryEvent}
 use Rattle.trace_model.specs.Window.{RingEvent, first_window}
 use Rattle.trace_model.specs.Ring.{Core, window_of}
-use Rattle.link_marks.specs.RunsAsEvents.{fills_taken, fills_lost, AreEventsOfRun}
-use Rattle.link_marks.proofs.histories.WindowRuns.{not_both, passed_by, lost_closed}
+use Rattle.ring_model.specs.RunsAsEvents.{fills_taken, fills_lost, AreEventsOfRun}
+use Rattle.ring_model.proofs.histories.WindowRuns.{not_both, passed_by, lost_closed}
 use Rattle.world_model.specs.GenuineWorlds.{StandsIn, IsOverwrittenBefore}
 
 module _ (n start : ℕ) (c : Core) (events others : List RingEvent) (reported : AreEventsOfRun n start c events) (other : AreEventsOfRun n start c others) where

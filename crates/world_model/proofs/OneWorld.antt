@@ -14,8 +14,8 @@ use Rattle.trace_model.proofs.collections.Elements.{some_is}
 use Rattle.text_model.specs.Log.{Delivery, new_page, known_page, no_page, delivery_line}
 use Rattle.text_model.specs.Script.{Command, begin_frame, step_frame, finish_frame, write, close, step_reader, take_page, wish, deliver, Script}
 use Rattle.text_model.specs.ScriptLimits.{IsWithinLimits}
-use Rattle.link_marks.proofs.partition.OneNewRing.{new_ring_is_one}
-use Rattle.link_marks.proofs.partition.RingsKept.{reached_kept}
+use Rattle.ring_model.proofs.partition.OneNewRing.{new_ring_is_one}
+use Rattle.ring_model.proofs.partition.RingsKept.{reached_kept}
 use Rattle.world_model.specs.Lanes.{Lane, IsNewLane, LineRun}
 use Rattle.world_model.specs.Log.{log_of}
 use Rattle.world_model.specs.World.{World, IsNewWorld, parcel_of, parcels_of, RunsLine, IsFill, Brings, DeliversTaken, DeliversNothing, DeliversFill, delivers, lacks, Obeys, ObeysAll, WorldBehind}

@@ -7,11 +7,11 @@ use Rattle.trace_model.specs.Window.{RingEvent, history_events_of, Window, first
 use Rattle.trace_model.specs.Ring.{Reader, Core, IsStart, window_of}
 use Rattle.trace_model.specs.Steps.{Exchange, Run}
 use Rattle.trace_model.proofs.steps.StepSound.{cases_of}
-use Rattle.link_marks.specs.RingKept.{IsRingKept}
-use Rattle.link_marks.specs.RunsAsEvents.{fills_taken, numbers_of, AreEventsOfRun}
-use Rattle.link_marks.proofs.partition.RingsKept.{ring_step}
-use Rattle.link_marks.proofs.histories.StepsAsEvents.{leads_step}
-use Rattle.link_marks.proofs.histories.WindowRuns.{has_none, passed_by, lost_closed, history_events-append, run-append, taken-append}
+use Rattle.ring_model.specs.RingKept.{IsRingKept}
+use Rattle.ring_model.specs.RunsAsEvents.{fills_taken, numbers_of, AreEventsOfRun}
+use Rattle.ring_model.proofs.partition.RingsKept.{ring_step}
+use Rattle.ring_model.proofs.histories.StepsAsEvents.{leads_step}
+use Rattle.ring_model.proofs.histories.WindowRuns.{has_none, passed_by, lost_closed, history_events-append, run-append, taken-append}
 use Rattle.world_model.specs.RunEvents.{AreEventsOf, AreEventsOfSteps}
 
 -- each step has its events

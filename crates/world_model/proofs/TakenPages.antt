@@ -8,12 +8,12 @@ use Rattle.trace_model.specs.Ring.{TakenFill, Reader, Core}
 use Rattle.trace_model.specs.Steps.{Event, Answer, pushed, going, reserved_as, pending, full, gone, refused, reading, empty, moving, page_taken, wished_for, Step, Exchange, Run}
 use Rattle.trace_model.specs.Parcel.{Parcel}
 use Rattle.trace_model.proofs.steps.StepSound.{cases_of}
-use Rattle.link_marks.specs.RingKept.{IsRingKept}
-use Rattle.link_marks.specs.WindowLaws.{MovesWindow}
-use Rattle.link_marks.proofs.frames.AnswersRight.{swapped_right}
-use Rattle.link_marks.proofs.steps.CountMoves.{losses_need_a_full_ring}
-use Rattle.link_marks.proofs.histories.HistorySteps.{step_owed}
-use Rattle.link_marks.proofs.partition.RingsKept.{ring_step}
+use Rattle.ring_model.specs.RingKept.{IsRingKept}
+use Rattle.ring_model.specs.WindowLaws.{MovesWindow}
+use Rattle.ring_model.proofs.frames.AnswersRight.{swapped_right}
+use Rattle.ring_model.proofs.steps.CountMoves.{losses_need_a_full_ring}
+use Rattle.ring_model.proofs.histories.HistorySteps.{step_owed}
+use Rattle.ring_model.proofs.partition.RingsKept.{ring_step}
 use Rattle.world_model.specs.World.{parcel_of, parcels_in, parcels_of}
 use Rattle.world_model.specs.GenuineWorlds.{parcels_from}
 

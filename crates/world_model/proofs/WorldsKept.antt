@@ -14,8 +14,8 @@ use Rattle.trace_model.specs.Parcel.{Parcel}
 use Rattle.trace_model.proofs.collections.Elements.{some_is}
 use Rattle.text_model.specs.Script.{Command, begin_frame, step_frame, finish_frame, write, close, step_reader, take_page, wish, deliver, Script}
 use Rattle.text_model.specs.ScriptLimits.{IsWithinLimits}
-use Rattle.link_marks.specs.Reached.{IsReached}
-use Rattle.link_marks.proofs.partition.RingsKept.{reached_kept}
+use Rattle.ring_model.specs.Reached.{IsReached}
+use Rattle.ring_model.proofs.partition.RingsKept.{reached_kept}
 use Rattle.world_model.specs.Lanes.{Lane, IsNewLane}
 use Rattle.world_model.specs.World.{World, IsNewWorld, parcel_of, parcels_of, RunsLine, DeliversTaken, DeliversNothing, DeliversFill, delivers, lacks, Obeys, ObeysAll, WorldBehind}
 use Rattle.world_model.specs.GenuineWorlds.{parcels_from}

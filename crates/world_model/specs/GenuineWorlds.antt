@@ -12,7 +12,7 @@ use Rattle.trace_model.specs.Collection.{Has, Misses, Agree}
 use Rattle.trace_model.specs.Ring.{Core, IsStart, fill_of}
 use Rattle.trace_model.specs.Steps.{Exchange}
 use Rattle.trace_model.specs.Window.{RingEvent, history_events_of}
-use Rattle.link_marks.specs.RunsAsEvents.{fills_taken, fills_lost, AreEventsOfRun}
+use Rattle.ring_model.specs.RunsAsEvents.{fills_taken, fills_lost, AreEventsOfRun}
 use Rattle.text_model.specs.Script.{Script}
 use Rattle.world_model.specs.Lanes.{Lane}
 use Rattle.world_model.specs.World.{World}

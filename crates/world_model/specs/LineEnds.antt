@@ -1,8 +1,8 @@
 -- How long a line's exchanges with a ring are.
 use Rattle.std.specs.Prelude.{◌≡◌, ℕ, ◌≤◌, List, length}
 use Rattle.trace_model.specs.Steps.{Exchange}
-use Rattle.link_marks.specs.Reached.{IsReached}
-use Rattle.link_marks.specs.Ranks.{frame_limit, reader_limit}
+use Rattle.ring_model.specs.Reached.{IsReached}
+use Rattle.ring_model.specs.Ranks.{frame_limit, reader_limit}
 use Rattle.world_model.specs.Lanes.{Lane, FrameRun, ReaderRun, HasTakeAnswer}
 
 -- a frame that is still on the stack has made at most this many steps

@@ -3,7 +3,7 @@ use Rattle.std.specs.Prelude.{◌≡◌, ℕ, List, [], ◌∷◌, ◌++◌}
 use Rattle.trace_model.specs.Window.{RingEvent, history_events_of, WindowRunFrom}
 use Rattle.trace_model.specs.Ring.{Core, window_of}
 use Rattle.trace_model.specs.Steps.{Exchange, Step}
-use Rattle.link_marks.specs.RunsAsEvents.{fills_taken, numbers_of}
+use Rattle.ring_model.specs.RunsAsEvents.{fills_taken, numbers_of}
 
 -- These events are what happens from one state of a ring to another: what the frames did, in order; the window moves by
 -- them, each allowed in the state in which it is done; and the fills that they take are those that the reader took.

@@ -3,7 +3,7 @@ ghost use Rattle.std.specs.Prelude.{◌≡◌, ◌<◌, ℕ, suc, List, [], ◌�
 ghost use Rattle.std.specs.List.{slice_get};
 ghost use Rattle.trace_model.specs.Window.{RingEvent, acts, WindowRun};
 ghost use Rattle.trace_model.specs.History.{leave};
-ghost use Rattle.link_marks.specs.RunsAsEvents.{AreEventsOfRun};
+ghost use Rattle.ring_model.specs.RunsAsEvents.{AreEventsOfRun};
 ghost use Rattle.text_model.specs.Script.{Script};
 ghost use Rattle.text_model.specs.ScriptLimits.{IsWithinLimits};
 ghost use Rattle.world_model.specs.Lanes.{Lane};

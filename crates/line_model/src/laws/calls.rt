@@ -3,7 +3,7 @@ ghost use Rattle.std.specs.Prelude.{◌≡◌, ◌⊎◌, ℕ, Bool, List, ◌�
 ghost use Rattle.trace_model.specs.Frames.{Frame, waiting, left};
 ghost use Rattle.trace_model.specs.Ring.{Core};
 ghost use Rattle.trace_model.specs.Steps.{Answer, Step, steps};
-ghost use Rattle.link_marks.specs.RingKept.{IsRingKept};
+ghost use Rattle.ring_model.specs.RingKept.{IsRingKept};
 ghost use Rattle.line_model.specs.Lines.{OpenFrame};
 ghost use Rattle.line_model.specs.LineParts.{CallsFinish, ClosesMake, LineCallsMake, LinesCallsGoOn, LinesCallsMake, PartsGoOn, PushesMake, RestCallsGoOn, RestCallsMake, StartIsBetweenLines, TopCallsGoOn, WriterMakesLines, WritesMake};
 ghost use Rattle.line_model.specs.CallEvents.{AreOpenFrames, CallsMakeEvents, CallMakes};

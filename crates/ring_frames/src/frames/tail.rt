@@ -11,7 +11,7 @@ impl Frames {
     ghost use Rattle.trace_model.specs.Steps as model;
     ghost use Rattle.trace_model.specs.Frames.{noted_fill};
     ghost use Rattle.trace_model.specs.History.{HistoryEvent};
-    ghost use Rattle.link_marks.specs.Seats.{PhaseIsPrivate};
+    ghost use Rattle.ring_model.specs.Seats.{PhaseIsPrivate};
     ghost use Rattle.nested_writer.specs.Stack.{opened};
     ghost use Rattle.nested_writer.specs.Ends.{MayEndTop, IsEnd};
     ghost use Rattle.nested_writer.specs.IsStack.{IsStack};

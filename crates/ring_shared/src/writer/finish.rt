@@ -28,7 +28,7 @@ enum Target {
 impl Writer {
     ghost use Rattle.std.specs.Prelude.{◌≡◌, ◌∷◌, List};
     ghost use Rattle.trace_model.specs.Frames.{Frame as ModelFrame};
-    ghost use Rattle.link_marks.specs.FrameOutcomes.{IsReserving};
+    ghost use Rattle.ring_model.specs.FrameOutcomes.{IsReserving};
     ghost use Rattle.ring_shared.specs.Value.{SameWriter};
     ghost use Rattle.ring_shared.specs.Calls.{IsWriter};
     ghost use Rattle.ring_frames.specs.declared.phase.Phase.TheVariants.{Wishing};

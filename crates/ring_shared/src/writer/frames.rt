@@ -10,7 +10,7 @@ impl Writer {
     ghost use Rattle.trace_model.specs.Steps as model;
     ghost use Rattle.trace_model.specs.Words.{slot_len};
     ghost use Rattle.trace_model.specs.Frames.{noted_fill};
-    ghost use Rattle.link_marks.specs.Seats.{PhaseIsPrivate};
+    ghost use Rattle.ring_model.specs.Seats.{PhaseIsPrivate};
     ghost use Rattle.nested_writer.specs.Stack.{opened};
     ghost use Rattle.nested_writer.specs.PlainTop.{IsPlainTop};
     ghost use Rattle.nested_writer.specs.declared.fault.WriteFault.{WriteFault};

@@ -2,7 +2,7 @@
 ghost use Rattle.std.specs.Prelude.{◌≡◌, ℕ, List, length};
 ghost use Rattle.trace_model.specs.Steps.{Exchange, Run};
 ghost use Rattle.text_model.specs.Script.{Command};
-ghost use Rattle.link_marks.specs.RingLaws.{MayAsk};
+ghost use Rattle.ring_model.specs.RingLaws.{MayAsk};
 ghost use Rattle.world_model.specs.Lanes.{Lane, IsNewLane, HasPayloads, event_on_top, LineRun};
 ghost use Rattle.world_model.specs.LineEnds.{FrameRunsAreShort, ReaderRunsAreShort};
 

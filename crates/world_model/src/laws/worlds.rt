@@ -6,7 +6,7 @@ ghost use Rattle.trace_model.specs.Ring.{Core, IsStart};
 ghost use Rattle.trace_model.specs.Steps.{Exchange};
 ghost use Rattle.trace_model.specs.Parcel.{Parcel};
 ghost use Rattle.trace_model.specs.Collection.{Agree, IsSame, IsLeastUpperBound};
-ghost use Rattle.link_marks.specs.RunsAsEvents.{AreEventsOfRun};
+ghost use Rattle.ring_model.specs.RunsAsEvents.{AreEventsOfRun};
 ghost use Rattle.text_model.specs.Script.{Script, Command, deliver};
 ghost use Rattle.text_model.specs.ScriptLimits.{IsWithinLimits};
 ghost use Rattle.world_model.specs.World.{World, Obeys, WorldBehind, WorldOf};

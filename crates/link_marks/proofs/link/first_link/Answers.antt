@@ -1,6 +1,6 @@
 use Rattle.trace_model.specs.Links.{normal, header}
 use Rattle.link_marks.specs.ModelLinks.{link_of}
-use Rattle.link_marks.proofs.links.FirstLinks.{first_header, first_normal, first_fits}
+use Rattle.link_marks.proofs.FirstLinks.{first_header, first_normal, first_fits}
 use Rattle.link_marks.proofs.link.first_link.Goals as goal
 
 pub returns-then-fill-start : goal.returns-then-fill-start

@@ -1,6 +1,6 @@
 use Rattle.std.specs.Prelude.{Option, Some, IfSome, List, []}
 use Rattle.std.proofs.Common.{rules, ◌≡◌, ◌≢◌, refl, sym, ◌∙◌, subst}
-use Rattle.link_marks.specs.FrameOutcomes.{IsLeaving}
+use Rattle.ring_model.specs.FrameOutcomes.{IsLeaving}
 use Rattle.nested_writer.specs.declared.frame.Frame as stack
 use Rattle.nested_writer.specs.Calls.{top_of}
 use Rattle.nested_writer.specs.declared.frame.Pushed.{Pushed}

@@ -2,7 +2,7 @@ use Rattle.std.specs.Prelude.{List, Option}
 use Rattle.std.proofs.Common.{rules, ◌≡◌, ℕ, [], ◌∷◌, refl, sym, ◌∙◌, subst}
 use Rattle.trace_model.specs.Frames.{Frame}
 use Rattle.trace_model.specs.Steps.{steps}
-use Rattle.link_marks.specs.Seats.{TopIsPrivate}
+use Rattle.ring_model.specs.Seats.{TopIsPrivate}
 use Rattle.nested_writer.specs.declared.fault.WriteFault.TheVariants.{NoFrame}
 use Rattle.ring_frames.specs.declared.answer.Answer.TheVariants.{Refused}
 use Rattle.ring_frames.specs.Phases.{as_answer}

@@ -1,6 +1,6 @@
 use Rattle.std.specs.Prelude.{Some}
 use Rattle.std.proofs.Common.{rules, sym, ◌∙◌, arith}
-use Rattle.link_marks.proofs.links.FramePhases.{none_some}
+use Rattle.ring_model.proofs.links.FramePhases.{none_some}
 use Rattle.ring_steps.specs.Views.{writing}
 use Rattle.ring_steps.proofs.WriterParts.{now_within, step_reached}
 use Rattle.ring_steps.proofs.Paging.{open_allowed, opened_slot, opened_body, opened_size, opened_seat}

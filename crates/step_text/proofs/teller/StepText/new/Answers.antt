@@ -1,6 +1,6 @@
 use Rattle.std.proofs.Common.{◌∙◌, ◌<◌, ◌≤◌, ◌++◌, Some, length, sym, ap, arith}
 use Rattle.std.proofs.lemmas.Option.{slice_get-get_or}
-use Rattle.link_marks.proofs.partition.OneNewRing.{new_ring_is_one}
+use Rattle.ring_model.proofs.partition.OneNewRing.{new_ring_is_one}
 use Rattle.world_model.proofs.Lookups.{get_map}
 use Rattle.step_model.specs.RunTexts.{new_rings_text, trace_line}
 use Rattle.step_text.specs.Known.{known_in}

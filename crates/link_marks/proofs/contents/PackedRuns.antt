@@ -1,6 +1,0 @@
--- What was done on a ring is packed in pages.
-use Rattle.trace_model.proofs.packing.PackedHistories.{is_packed}
-use Rattle.link_marks.specs.HistoryLaws.{RunsArePacked}
-
-pub runs_packed : RunsArePacked
-runs_packed n size start c r = is_packed size c.history r.packed.room r.packed.fit

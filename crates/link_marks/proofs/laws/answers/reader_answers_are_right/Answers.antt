@@ -1,5 +1,0 @@
-use Rattle.link_marks.proofs.frames.AnswersRight.{empty_right, moving_right, swapped_right}
-use Rattle.link_marks.proofs.laws.answers.reader_answers_are_right.Goals as goal
-
-pub returns : goal.returns
-returns c = record { none = empty_right; moves = moving_right; takes = swapped_right }

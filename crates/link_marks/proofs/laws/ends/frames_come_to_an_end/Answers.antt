@@ -1,5 +1,0 @@
-use Rattle.link_marks.proofs.seats.FrameEnds.{steps_lower, ends_lower, frames_are_near}
-use Rattle.link_marks.proofs.laws.ends.frames_come_to_an_end.Goals as goal
-
-pub returns : goal.returns
-returns c = record { steps = steps_lower; ends = ends_lower; near = frames_are_near }

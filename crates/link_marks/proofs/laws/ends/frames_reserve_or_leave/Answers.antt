@@ -1,5 +1,0 @@
-use Rattle.link_marks.proofs.frames.FrameOutcomes.{frames_reserve, frames_leave}
-use Rattle.link_marks.proofs.laws.ends.frames_reserve_or_leave.Goals as goal
-
-pub returns : goal.returns
-returns c = record { reserve = frames_reserve; leave = frames_leave }

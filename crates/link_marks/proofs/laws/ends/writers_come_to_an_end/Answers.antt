@@ -1,5 +1,0 @@
-use Rattle.link_marks.proofs.seats.WriterEnds.{writer_steps_lower, writers_near}
-use Rattle.link_marks.proofs.laws.ends.writers_come_to_an_end.Goals as goal
-
-pub returns : goal.returns
-returns c = record { steps = writer_steps_lower; near = writers_near }

@@ -1,8 +1,0 @@
-use Rattle.link_marks.proofs.examples.WrongStepsRefused.{closes_without_a_wish, wish_closes_an_empty_page}
-use Rattle.link_marks.proofs.laws.examples.wrong_closes_are_refused.Goals as goal
-
-pub returns : goal.returns
-returns c = record {
-  closes_without_a_wish = closes_without_a_wish;
-  wish_closes_an_empty_page = wish_closes_an_empty_page;
-}

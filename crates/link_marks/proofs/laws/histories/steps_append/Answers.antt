@@ -1,5 +1,0 @@
-use Rattle.link_marks.proofs.histories.StepsAppend.{steps_append, appended_is_one}
-use Rattle.link_marks.proofs.laws.histories.steps_append.Goals as goal
-
-pub returns : goal.returns
-returns c = record { append = steps_append; one = appended_is_one }

@@ -1,5 +1,0 @@
-use Rattle.link_marks.proofs.contents.Payloads as payloads
-use Rattle.link_marks.proofs.laws.payloads.ends_write_one_page.Goals as goal
-
-pub returns : goal.returns
-returns c = record { one = payloads.ends_write_one_page }

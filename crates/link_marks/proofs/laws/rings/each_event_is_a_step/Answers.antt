@@ -1,5 +1,0 @@
-use Rattle.link_marks.proofs.steps.StepsGiven.{each_event_is_a_step}
-use Rattle.link_marks.proofs.laws.rings.each_event_is_a_step.Goals as goal
-
-pub returns : goal.returns
-returns c = record { steps = each_event_is_a_step }

@@ -1,5 +1,0 @@
-use Rattle.link_marks.proofs.partition.OneNewRing.{new_ring_is_one}
-use Rattle.link_marks.proofs.laws.rings.new_ring_is_one.Goals as goal
-
-pub returns : goal.returns
-returns c = record { one = new_ring_is_one }

@@ -1,5 +1,0 @@
-use Rattle.link_marks.proofs.links.SeenLinks.{frames_have_seen_links, claims_fail_once_the_head_moved}
-use Rattle.link_marks.proofs.laws.seats.frames_have_seen_links.Goals as goal
-
-pub returns : goal.returns
-returns c = record { seen = frames_have_seen_links; claims = claims_fail_once_the_head_moved }

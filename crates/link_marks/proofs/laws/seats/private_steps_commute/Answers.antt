@@ -1,7 +1,0 @@
-use Rattle.link_marks.proofs.seats.PrivateSteps.{private_touches_no_word}
-use Rattle.link_marks.proofs.seats.SeatPages.{private_leaves_other_pages}
-use Rattle.link_marks.proofs.seats.PrivateCommutes.{private_commutes}
-use Rattle.link_marks.proofs.laws.seats.private_steps_commute.Goals as goal
-
-pub returns : goal.returns
-returns c = record { words = private_touches_no_word; pages = private_leaves_other_pages; commute = private_commutes }

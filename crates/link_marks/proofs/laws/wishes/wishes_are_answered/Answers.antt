@@ -1,6 +1,0 @@
-use Rattle.link_marks.proofs.wishes.WishSteps.{wishes_held, gone_has_looked, wishes_answered, wished_tails_closed}
-use Rattle.link_marks.proofs.wishes.WishedPages.{ends_on_wished}
-use Rattle.link_marks.proofs.laws.wishes.wishes_are_answered.Goals as goal
-
-pub returns : goal.returns
-returns c = record { held = wishes_held; gone = gone_has_looked; answered = wishes_answered; closed = wished_tails_closed; own = ends_on_wished }

@@ -1,0 +1,9 @@
+pub mod links
+pub mod histories
+pub mod contents
+pub mod partition
+pub mod frames
+pub mod steps
+pub mod wishes
+pub mod seats
+pub mod examples
