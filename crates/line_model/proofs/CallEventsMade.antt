@@ -5,7 +5,7 @@ use Rattle.trace_model.specs.Words.{padded}
 use Rattle.trace_model.specs.History.{HistoryEvent, push, push_close, open_fill, reserve, leave, wished, is_settled}
 use Rattle.trace_model.specs.Packing.{tail_of, FitsBehind, next_reservation}
 use Rattle.trace_model.specs.Window.{Window, history_events_of, IsWindow, RingEvent, closes, takes, loses, acts}
-use Rattle.trace_model.specs.Frames.{FrameState, waiting, reserved, left, number_of, Frame, pushed_onto, pushed_frames}
+use Rattle.trace_model.specs.Frames.{Progress, waiting, reserved, left, number_of, Frame, pushed_onto, pushed_frames}
 use Rattle.trace_model.specs.Ring.{Core}
 use Rattle.trace_model.specs.Steps.{Event, pushes, pushes_close, steps, ends, reads, wishes, Answer, Exchange, after_leave, Step}
 use Rattle.trace_model.proofs.steps.StepCases.{StepCases, push_step, push_refused, close_step, close_refused, frame_step, frame_lacks, end_step, end_lacks, end_early, read_step, store_wish_step}
@@ -148,7 +148,7 @@ module _ (n size start : ℕ) (c : Core) (x : Exchange) (after : Core) (r : IsRi
       → x.event ≡ event_on_top c.frames payloads
       → MadeEvents
   by_last frame below top last is =
-      let step2 = as_event (frame ∷ below) steps top is (ap (λ (s : FrameState). event_in s payloads) last.has_left) in
+      let step2 = as_event (frame ∷ below) steps top is (ap (λ (s : Progress). event_in s payloads) last.has_left) in
       let settled : IsTrue (is_settled c.history) =
       settled_at_rest c.history
       (r.history.stack ∙ ap pushed_frames top
@@ -209,13 +209,13 @@ module _ (n size start : ℕ) (c : Core) (x : Exchange) (after : Core) (r : IsRi
         (sym (ap next_reservation history_is) ∙ wants)
         (subst (λ (h : List HistoryEvent). FitsBehind size (tail_of h) res) history_is fits)))
 
-    by_state : (state : FrameState)
+    by_state : (state : Progress)
         → frame.state ≡ state
         → AreOpenFrames below others rest p.finishing
         → x.event ≡ event_on_top c.frames payloads
         → MadeEvents
     by_state waiting at more e =
-        let step2 = as_event (frame ∷ below) steps on_top e (ap (λ (s : FrameState). event_in s payloads) at) in
+        let step2 = as_event (frame ∷ below) steps on_top e (ap (λ (s : Progress). event_in s payloads) at) in
         by_does (top_makes n size (length c.frames - 1) c frame below
         (deep frame below on_top) p.window.head own_window top rest others p.finishing is.not_left more after
         (steps_make n size start c frame below x.answer after r on_top (inl at) step2)

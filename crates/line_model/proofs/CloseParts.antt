@@ -3,7 +3,7 @@ use Rattle.std.proofs.Common.{◌≡◌, ℕ, ◌≤◌, ◌<◌, ◌⊎◌, fal
 use Rattle.trace_model.specs.declared.limits.TheConstants.{MAX_FRAMES}
 use Rattle.trace_model.specs.History.{HistoryEvent, push_close}
 use Rattle.trace_model.specs.Window.{RingEvent, acts}
-use Rattle.trace_model.specs.Frames.{for_close, waiting, idle, Refusal}
+use Rattle.trace_model.specs.Frames.{for_close, waiting, idle, WriteFault}
 use Rattle.trace_model.specs.Ring.{Core}
 use Rattle.trace_model.specs.Steps.{Event, pushes, pushes_close, steps, ends, reads, wishes, Answer, pushed, refused}
 use Rattle.trace_model.proofs.steps.StepCases.{StepCases, push_step, push_refused, close_step, close_refused, frame_step, frame_lacks, end_step, end_lacks, end_early, read_step, store_wish_step}
@@ -33,7 +33,7 @@ closed_with s =
 
 abbrev pub Closing : LineWriting → Answer → LineWriting → Type 0
 Closing s answer t = ((answer ≡ pushed) × (length s.frames < MAX_FRAMES) × (t ≡ closed_with s))
-    ⊎ ((why : Refusal) × (answer ≡ refused why) × (MAX_FRAMES ≤ length s.frames) × (t ≡ s))
+    ⊎ ((why : WriteFault) × (answer ≡ refused why) × (MAX_FRAMES ≤ length s.frames) × (t ≡ s))
 
 closing : (n size : ℕ) (c : Core) (answer : Answer) (after : Core)
     → StepCases n size c pushes_close answer after
@@ -110,7 +110,7 @@ closes_make n size start cpu answer s u payloads calls t lefts p agrees call =
     by_push a called low (inr (why, turned, stand, is)) =
         absurd (let both : pushed ≡ refused why = sym a ∙ turned in cc)
 
-    by_refusal : (why : Refusal)
+    by_refusal : (why : WriteFault)
         → answer ≡ refused why
         → Closing s answer u
         → LinePart n size (close cpu) p [] p × Agrees n p payloads u

@@ -2,7 +2,7 @@
 use Rattle.std.proofs.Common.{◌≡◌, ℕ, zero, suc, ◌≤◌, ◌⊎◌, List, [], ◌∷◌, ◌++◌, length, refl, sym, ap, ◌∙◌, subst, inl, inr, arith}
 use Rattle.trace_model.specs.History.{push}
 use Rattle.trace_model.specs.Window.{RingEvent, acts}
-use Rattle.trace_model.specs.Frames.{for_close, waiting, idle, Frame, Refusal}
+use Rattle.trace_model.specs.Frames.{for_close, waiting, idle, Frame, WriteFault}
 use Rattle.trace_model.specs.Steps.{pushes, pushes_close, pushed, refused, Exchange}
 use Rattle.text_model.specs.Script.{Command, begin_frame, step_frame, finish_frame, write, close, step_reader, take_page, wish, deliver}
 use Rattle.world_model.specs.Lanes.{payloads_left}
@@ -157,7 +157,7 @@ module _ (n size start : ℕ) (s : LineWriting) (payloads : List (List ℕ)) (ma
       )
 
   -- a push that is refused: the part of a `b` and of a `w` line
-  refused_push : (cpu moment : ℕ) (payload : List ℕ) (why : Refusal)
+  refused_push : (cpu moment : ℕ) (payload : List ℕ) (why : WriteFault)
       → IsWriterCall n size start s record { event = pushes moment (length payload); answer = refused why } t
       → LinePart n size (begin_frame cpu moment payload) p [] p
       × LinePart n size (write cpu moment payload) p [] p

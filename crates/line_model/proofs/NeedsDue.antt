@@ -1,6 +1,6 @@
 -- A frame that is refused a page was about to reserve, and needed one.
 use Rattle.std.proofs.Common.{◌≡◌, ℕ, List, [], ◌∷◌, refl, sym, subst}
-use Rattle.trace_model.specs.Frames.{Kind, for_record, for_close, FrameState, waiting, reserved, left, Phase, idle, looking, claiming, looking_next, marking, clearing, opening, releasing, wishing, Frame, Refusal, too_deep, too_long, late_moment, crowded, worn, no_frame, not_reserved}
+use Rattle.trace_model.specs.Frames.{Purpose, for_record, for_close, Progress, waiting, reserved, left, Phase, idle, looking, claiming, looking_next, marking, clearing, opening, releasing, wishing, Frame, WriteFault, too_deep, too_long, late_moment, crowded, worn, no_frame, not_reserved}
 use Rattle.trace_model.specs.Ring.{ReaderPhase, loading_head, loading_done, storing_spare_link, swapping, Core}
 use Rattle.trace_model.specs.Steps.{Event, Answer, pushed, going, reserved_as, pending, full, gone, refused, reading, empty, moving, page_taken, wished_for, leave_answer, begin_answer, end_answer}
 use Rattle.trace_model.proofs.steps.StepCases.{StepCases, PushRefused, all_stand, has_no_room, comes_late, BeginsAgain, IdleStep, reserves, finds_nothing, is_crowded, is_worn, notes, load_link_late, sees_free, sees_header, sees_update, claim_late, claims, claim_fails, load_next_late, sees_normal, sees_other, mark_late, marks, mark_fails, clears, open_late, opens, releases, releases_last, grants, closes_more, goes_away, FrameStep, loads_header, loads_update, loads_owed, loads_passed, finds_none, finds_closed, swaps, swap_fails, ReadStep, push_step, push_refused, close_step, close_refused, frame_step, frame_lacks, end_step, end_lacks, end_early, read_step, store_wish_step}
@@ -9,7 +9,7 @@ use Rattle.ring_model.specs.AnswerLaws.{IsInNeed}
 use Rattle.line_model.specs.SingleFrames.{RefusedFramesNeedPages}
 
 module _ (n size : ℕ) (c : Core) where
-  abbrev DueRefusal : Refusal → Type 0
+  abbrev DueRefusal : WriteFault → Type 0
   DueRefusal too_deep = Unit {0}
   DueRefusal too_long = Unit {0}
   DueRefusal late_moment = Unit {0}
@@ -43,7 +43,7 @@ module _ (n size : ℕ) (c : Core) where
   ends_due [] = tt
   ends_due (next ∷ below) = tt
 
-  begins_due : (kind : Kind) (state : FrameState) (below : List Frame) → Due (begin_answer kind state below)
+  begins_due : (kind : Purpose) (state : Progress) (below : List Frame) → Due (begin_answer kind state below)
   begins_due (for_record moment len) waiting below = tt
   begins_due for_close waiting below = leaves_due below
   begins_due kind (reserved number) below = tt
@@ -53,7 +53,7 @@ module _ (n size : ℕ) (c : Core) where
     again : (noted : ℕ) → BeginsAgain c frame below noted answer after → Due answer
     again noted step = due answer _ step.answer_is (begins_due frame.kind frame.state below)
 
-    idle_due : (state : FrameState)
+    idle_due : (state : Progress)
         → frame.state ≡ state
         → frame.phase ≡ idle
         → IdleStep n size c frame below state answer after
@@ -92,7 +92,7 @@ module _ (n size : ℕ) (c : Core) where
     frame_due wishing at (closes_more alone denied more a is) = due answer _ a tt
     frame_due wishing at (goes_away alone denied last a is) = due answer _ a tt
 
-  push_due : (moment len : ℕ) (why : Refusal) → PushRefused size c moment len why → DueRefusal why
+  push_due : (moment len : ℕ) (why : WriteFault) → PushRefused size c moment len why → DueRefusal why
   push_due moment len why (all_stand many) = tt
   push_due moment len why (has_no_room few long) = tt
   push_due moment len why (comes_late few fits tardy) = tt

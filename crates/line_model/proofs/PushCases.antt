@@ -4,20 +4,20 @@ use Rattle.std.specs.Prelude.{nat_le, if◌then◌else◌}
 use Rattle.trace_model.specs.declared.limits.TheConstants.{MAX_FRAMES, MOMENT_LIMIT}
 use Rattle.trace_model.specs.Words.{slot_len, encoded_len}
 use Rattle.trace_model.specs.History.{HistoryEvent, push, push_close}
-use Rattle.trace_model.specs.Frames.{Kind, for_record, for_close, Refusal}
+use Rattle.trace_model.specs.Frames.{Purpose, for_record, for_close, WriteFault}
 use Rattle.trace_model.specs.Ring.{Core}
 use Rattle.trace_model.specs.Steps.{Event, pushes, pushes_close, steps, ends, reads, wishes, Answer, pushed, refused, with_history_event, with_frame, IsTooLong}
 use Rattle.trace_model.proofs.words.Lengths.{slot_len_ge}
 use Rattle.trace_model.proofs.steps.StepCases.{StepCases, PushRefused, all_stand, has_no_room, comes_late, push_step, push_refused, close_step, close_refused, frame_step, frame_lacks, end_step, end_lacks, end_early, read_step, store_wish_step}
 
 -- The push isn't refused, and makes this of the ring; or it is, and the ring stays.
-pub data PushCases (Refused : Type 0) (kind : Kind) (event : HistoryEvent) (c : Core) (answer : Answer) (after : Core)
+pub data PushCases (Refused : Type 0) (kind : Purpose) (event : HistoryEvent) (c : Core) (answer : Answer) (after : Core)
     : Type 0 where
   is_pushed : answer ≡ pushed
       → (Refused → ⊥)
       → after ≡ with_history_event (with_frame c kind) event
       → PushCases Refused kind event c answer after
-  is_refused : (why : Refusal)
+  is_refused : (why : WriteFault)
       → answer ≡ refused why
       → Refused
       → after ≡ c
@@ -63,7 +63,7 @@ module _ (n size : ℕ) (c : Core) (moment len : ℕ) (answer : Answer) (after :
   abbrev Here : (m l : ℕ) → Type 0
   Here m l = PushCases (Refuses size m l (length c.frames)) (for_record m l) (push m l) c answer after
 
-  refuses : (m l : ℕ) (why : Refusal) → PushRefused size c m l why → Refuses size m l (length c.frames)
+  refuses : (m l : ℕ) (why : WriteFault) → PushRefused size c m l why → Refuses size m l (length c.frames)
   refuses m l why (all_stand many) = inl many
   refuses m l why (has_no_room few long) = inr (inl (no_room size l long))
   refuses m l why (comes_late few short tardy) = inr (inr tardy)

@@ -3,7 +3,7 @@ use Rattle.std.proofs.Common.{◌≡◌, ℕ, ◌≤◌, ◌<◌, ◌⊎◌, fal
 use Rattle.trace_model.specs.declared.limits.TheConstants.{MAX_FRAMES, MOMENT_LIMIT}
 use Rattle.trace_model.specs.History.{HistoryEvent, push}
 use Rattle.trace_model.specs.Window.{RingEvent, acts}
-use Rattle.trace_model.specs.Frames.{for_record, waiting, idle, Refusal}
+use Rattle.trace_model.specs.Frames.{for_record, waiting, idle, WriteFault}
 use Rattle.trace_model.specs.Ring.{Core}
 use Rattle.trace_model.specs.Steps.{Event, pushes, pushes_close, steps, ends, reads, wishes, Answer, pushed, refused, IsTooLong}
 use Rattle.trace_model.proofs.steps.StepCases.{StepCases, PushRefused, all_stand, has_no_room, comes_late, push_step, push_refused, close_step, close_refused, frame_step, frame_lacks, end_step, end_lacks, end_early, read_step, store_wish_step}
@@ -54,10 +54,10 @@ Refuses size s moment len = (MAX_FRAMES ≤ length s.frames) ⊎ (IsTooLong size
 abbrev pub Pushing : ℕ → LineWriting → ℕ → ℕ → Answer → LineWriting → Type 0
 Pushing size s moment len answer t =
     ((answer ≡ pushed) × (Refuses size s moment len → ⊥) × (t ≡ writer_with s moment len))
-    ⊎ ((why : Refusal) × (answer ≡ refused why) × Refuses size s moment len × (t ≡ s))
+    ⊎ ((why : WriteFault) × (answer ≡ refused why) × Refuses size s moment len × (t ≡ s))
 
 module _ (n size : ℕ) (c : Core) (moment len : ℕ) (answer : Answer) (after : Core) where
-  refuses_in : (m l : ℕ) (why : Refusal)
+  refuses_in : (m l : ℕ) (why : WriteFault)
       → m ≡ moment
       → l ≡ len
       → PushRefused size c m l why

@@ -1,7 +1,7 @@
 -- Between two lines all frames on the stack are record frames.
 use Rattle.std.proofs.Common.{◌≡◌, ℕ, suc, ◌-◌, ◌<◌, ◌≤◌, ◌⊎◌, List, [], ◌∷◌, length, refl, sym, ap, ◌∙◌, subst, inl, inr, arith}
 use Rattle.trace_model.specs.History.{HistoryEvent}
-use Rattle.trace_model.specs.Frames.{Kind, for_record, for_close, Frame}
+use Rattle.trace_model.specs.Frames.{Purpose, for_record, for_close, Frame}
 use Rattle.trace_model.specs.Ring.{Core}
 use Rattle.trace_model.specs.Steps.{Event, pushes, pushes_close, steps, ends, reads, wishes, Answer, pushed, going, reserved_as, pending, full, gone, refused, reading, empty, moving, page_taken, wished_for, Step, Exchange}
 use Rattle.trace_model.proofs.steps.StepSound.{cases_of}
@@ -66,7 +66,7 @@ module _ (n size : ℕ) where
       (frames_keep n size (AreRecordsBelow depth) (moved_below depth) _ before after xs run are)
 
   -- a push, after which the frame that was pushed is finished, or nothing is done
-  pushed_keeps : (kind : Kind) (before between after : Lane) (Refused : Type 0) (event : HistoryEvent) (answer : Answer)
+  pushed_keeps : (kind : Purpose) (before between after : Lane) (Refused : Type 0) (event : HistoryEvent) (answer : Answer)
       (core : Core) (xs : List Exchange)
       → between.core ≡ core
       → PushCases Refused kind event before.core answer core

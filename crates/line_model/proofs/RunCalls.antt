@@ -1,6 +1,6 @@
 -- What a line of a replay has with its ring are, for the writer, the calls of that line.
 use Rattle.std.proofs.Common.{◌≡◌, ◌≢◌, ℕ, suc, ◌-◌, ◌≤◌, List, [], ◌∷◌, length, drop, refl, sym, ap, ◌∙◌, subst, inl, inr, arith}
-use Rattle.trace_model.specs.Frames.{Frame, Refusal}
+use Rattle.trace_model.specs.Frames.{Frame, WriteFault}
 use Rattle.trace_model.specs.Ring.{Core}
 use Rattle.trace_model.specs.Steps.{Event, pushes, pushes_close, reads, wishes, Answer, pushed, refused, Step, Exchange}
 use Rattle.trace_model.proofs.steps.StepSound.{cases_of}
@@ -97,7 +97,7 @@ module _ (n size start : ℕ) where
   -- it is answered by the push or by a refusal
   data IsAnswer (answer : Answer) : Type 0 where
     is_pushed : answer ≡ pushed → IsAnswer answer
-    is_refused : (why : Refusal) → answer ≡ refused why → IsAnswer answer
+    is_refused : (why : WriteFault) → answer ≡ refused why → IsAnswer answer
 
   module _ (event : Event) (payload : List ℕ) (before between : Lane) (x : Exchange)
       (reached : IsReached n size start before.core) (p : PushesFrame n size event payload before x between) where

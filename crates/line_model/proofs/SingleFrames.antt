@@ -3,7 +3,7 @@ use Rattle.std.proofs.Common.{◌≡◌, ◌≢◌, ℕ, ◌+◌, ◌≤◌, ◌
 use Rattle.trace_model.specs.Words.{padded}
 use Rattle.trace_model.specs.History.{HistoryEvent, push, push_close, open_fill, Reservation, reserved_records}
 use Rattle.trace_model.specs.Packing.{tail_of, IsPacked}
-use Rattle.trace_model.specs.Frames.{Kind, for_record, for_close, FrameState, waiting, reserved, left, idle, Frame, crowded, worn}
+use Rattle.trace_model.specs.Frames.{Purpose, for_record, for_close, Progress, waiting, reserved, left, idle, Frame, crowded, worn}
 use Rattle.trace_model.specs.Ring.{Core}
 use Rattle.trace_model.specs.Steps.{Event, Answer, steps, ends, pushed, refused, Exchange, Step}
 use Rattle.trace_model.proofs.histories.NextRecords.{records_snoc}
@@ -147,7 +147,7 @@ module _ (n size start records : ℕ) (c : Core) (x : Exchange) (after : Core) (
       subst (IsAlone records) (sym e) (waits_no_more (record frame { phase = phase }) refl (left_not frame at))
   left_on frame at (is_gone has under last e) = subst (IsAlone records) (sym e) (none_left refl)
 
-  by_state : (payloads : List (List ℕ)) (frame : Frame) (state : FrameState)
+  by_state : (payloads : List (List ℕ)) (frame : Frame) (state : Progress)
       → frame.state ≡ state
       → c.frames ≡ frame ∷ []
       → x.event ≡ event_on_top c.frames payloads
@@ -157,19 +157,19 @@ module _ (n size start records : ℕ) (c : Core) (x : Exchange) (after : Core) (
   by_state payloads frame waiting at top e stage =
       let (tall, count) = stage at in
       waits_on frame at tall count (steps_make n size start c frame [] x.answer after kept top (inl at)
-      (as_event payloads frame steps top e (ap (λ (s : FrameState). event_in s payloads) at)))
+      (as_event payloads frame steps top e (ap (λ (s : Progress). event_in s payloads) at)))
   by_state [] frame (reserved number) at top e stage =
       let is = ends_make n size c frame [] number (padded []) x.answer after top at
-      (cases_of (as_event [] frame (ends (padded [])) top e (ap (λ (s : FrameState). event_in s []) at))) in
+      (cases_of (as_event [] frame (ends (padded [])) top e (ap (λ (s : Progress). event_in s []) at))) in
       subst (IsAlone records) (sym (ap writer_of is)) (waits_no_more _ refl (λ z. cc))
   by_state (payload ∷ payloads) frame (reserved number) at top e stage =
       let is = ends_make n size c frame [] number (padded payload) x.answer after top at
       (cases_of (as_event (payload ∷ payloads) frame (ends (padded payload)) top e
-      (ap (λ (s : FrameState). event_in s (payload ∷ payloads)) at))) in
+      (ap (λ (s : Progress). event_in s (payload ∷ payloads)) at))) in
       subst (IsAlone records) (sym (ap writer_of is)) (waits_no_more _ refl (λ z. cc))
   by_state payloads frame left at top e stage =
       left_on frame at (steps_make n size start c frame [] x.answer after kept top (inr at)
-      (as_event payloads frame steps top e (ap (λ (s : FrameState). event_in s payloads) at)))
+      (as_event payloads frame steps top e (ap (λ (s : Progress). event_in s payloads) at)))
 
   alone_on : (payloads : List (List ℕ))
       → c.frames ≢ []
@@ -202,7 +202,7 @@ module _ (n size start records : ℕ) where
       )
 
 -- after its push it is alone
-pushed_alone : (n size start : ℕ) (kind : Kind) (s u : LineWriting)
+pushed_alone : (n size start : ℕ) (kind : Purpose) (s u : LineWriting)
     → s.frames ≡ []
     → IsWriterCall n size start s record { event = push_of kind; answer = pushed } u
     → IsAlone (length (reserved_records s.history)) u
@@ -213,7 +213,7 @@ pushed_alone n size start kind s u none call = by_kind kind call
         (closed_at_rest n size start call.core (reached_kept n size start call.core call.reached)
         (ap (λ (w : LineWriting). w.frames) call.before_is ∙ none))
 
-    by_kind : (k : Kind)
+    by_kind : (k : Purpose)
         → IsWriterCall n size start s record { event = push_of k; answer = pushed } u
         → IsAlone (length (reserved_records s.history)) u
     by_kind (for_record moment len) own = by_push (pushing_of n size start moment len pushed s u own)

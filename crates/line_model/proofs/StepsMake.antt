@@ -3,7 +3,7 @@ use Rattle.std.proofs.Common.{◌≡◌, ◌≢◌, ℕ, ◌+◌, ◌≤◌, ◌
 use Rattle.trace_model.specs.declared.limits.TheConstants.{LINK_FILLS}
 use Rattle.trace_model.specs.History.{open_fill, Reservation, close_frame, writer_after}
 use Rattle.trace_model.specs.Packing.{tail_of, FitsBehind, next_reservation}
-use Rattle.trace_model.specs.Frames.{Kind, for_record, for_close, FrameState, waiting, reserved, left, owner, helper, Phase, idle, looking, claiming, looking_next, marking, clearing, opening, releasing, wishing, Frame, pushed_frames}
+use Rattle.trace_model.specs.Frames.{Purpose, for_record, for_close, Progress, waiting, reserved, left, owner, helper, Phase, idle, looking, claiming, looking_next, marking, clearing, opening, releasing, wishing, Frame, pushed_frames}
 use Rattle.trace_model.specs.Ring.{Core}
 use Rattle.trace_model.specs.Steps.{steps, Answer, NeedsPage, new_reservation, closing_phase, after_next, after_begin, with_new_tail, Step}
 use Rattle.trace_model.proofs.steps.StepCases.{BeginsAgain, IdleStep, reserves, finds_nothing, is_crowded, is_worn, notes, FrameStep, load_link_late, sees_free, sees_header, sees_update, claim_late, claims, claim_fails, load_next_late, sees_normal, sees_other, mark_late, marks, mark_fails, clears, open_late, opens, releases, releases_last, grants, closes_more, goes_away}
@@ -15,12 +15,12 @@ use Rattle.ring_model.proofs.frames.TopSteps.{top_stepped}
 use Rattle.line_model.specs.WriterCalls.{writer_of}
 use Rattle.line_model.specs.CallEvents.{LeavesNone, DoesntFit, CallMakes, goes_on, begins, has_reserved, leaves, leaves_fill, closes_one, finds_wish, is_gone}
 
-abbrev framed : Kind → FrameState → Phase → Frame
+abbrev framed : Purpose → Progress → Phase → Frame
 framed kind state phase = record { kind = kind; state = state; phase = phase }
 
 module _ (n size start : ℕ) (c : Core) (below : List Frame) (answer : Answer) (after : Core)
     (r : IsRingKept n size start c) where
-  abbrev Made : Kind → FrameState → Phase → Type 0
+  abbrev Made : Purpose → Progress → Phase → Type 0
   Made kind state phase = CallMakes n size c (framed kind state phase) below after
 
   -- the stack of the history if this frame is the top one and waits
@@ -41,17 +41,17 @@ module _ (n size start : ℕ) (c : Core) (below : List Frame) (answer : Answer) 
   none_wanted : next_reservation c.history ≡ None → LeavesNone n size c
   none_wanted none res is = absurd (let both : None ≡ Some res = sym none ∙ is in cc)
 
-  none_fit : (kind : Kind) (state : FrameState) (phase : Phase)
+  none_fit : (kind : Purpose) (state : Progress) (phase : Phase)
       → next_reservation c.history ≡ None
       → DoesntFit size c (framed kind state phase)
   none_fit kind state phase none waits at res is fits = absurd (let both : None ≡ Some res = sym none ∙ is in cc)
 
-  not_idle : (kind : Kind) (state : FrameState) (phase : Phase)
+  not_idle : (kind : Purpose) (state : Progress) (phase : Phase)
       → phase ≢ idle
       → DoesntFit size c (framed kind state phase)
   not_idle kind state phase ne waits at res is fits = ne at
 
-  not_waiting : (kind : Kind) (phase : Phase) → DoesntFit size c (framed kind left phase)
+  not_waiting : (kind : Purpose) (phase : Phase) → DoesntFit size c (framed kind left phase)
   not_waiting kind phase waits at res is fits = absurd (let both : left ≡ waiting = waits in cc)
 
   some_is : (a b : Reservation) → Some a ≡ Some b → a ≡ b
@@ -69,7 +69,7 @@ module _ (n size start : ℕ) (c : Core) (below : List Frame) (answer : Answer) 
       needs (subst (FitsBehind size (tail_of c.history))
       (some_is res (new_reservation c moment len) (sym is ∙ waits_record moment len phase top)) fits)
 
-  fits_not : (kind : Kind) (phase : Phase)
+  fits_not : (kind : Purpose) (phase : Phase)
       → c.frames ≡ framed kind waiting phase ∷ below
       → NeedsPage size c kind
       → DoesntFit size c (framed kind waiting phase)
@@ -77,7 +77,7 @@ module _ (n size start : ℕ) (c : Core) (below : List Frame) (answer : Answer) 
       λ waits at res is fits. needs_no_fit moment len phase top needs res is fits
   fits_not for_close phase top needs = none_fit for_close waiting phase (waits_close phase top)
 
-  refused_none : (kind : Kind) (phase : Phase)
+  refused_none : (kind : Purpose) (phase : Phase)
       → c.frames ≡ framed kind waiting phase ∷ below
       → NeedsPage size c kind
       → (c.opened ≡ c.done + n) ⊎ (LINK_FILLS ≤ c.opened + n)
@@ -86,7 +86,7 @@ module _ (n size start : ℕ) (c : Core) (below : List Frame) (answer : Answer) 
       λ res is. (needs_no_fit moment len phase top needs res is, why)
   refused_none for_close phase top needs why = none_wanted (waits_close phase top)
 
-  on : (kind : Kind) (state : FrameState) (phase next_phase : Phase) (next : Core)
+  on : (kind : Purpose) (state : Progress) (phase next_phase : Phase) (next : Core)
       → (state ≡ waiting) ⊎ (state ≡ left)
       → phase ≢ idle
       → after ≡ next
@@ -95,7 +95,7 @@ module _ (n size start : ℕ) (c : Core) (below : List Frame) (answer : Answer) 
   on kind state phase next_phase next active ne is same =
       goes_on next_phase active (not_idle kind state phase ne) (ap writer_of is ∙ same)
 
-  late : (kind : Kind) (state : FrameState) (phase : Phase) (noted : ℕ)
+  late : (kind : Purpose) (state : Progress) (phase : Phase) (noted : ℕ)
       → (state ≡ waiting) ⊎ (state ≡ left)
       → phase ≢ idle
       → c.frames ≡ framed kind state phase ∷ below
@@ -110,7 +110,7 @@ module _ (n size start : ℕ) (c : Core) (below : List Frame) (answer : Answer) 
   late kind (reserved number) phase noted (inr e) ne top step = absurd (cc)
   late kind left phase noted active ne top step = on kind left phase (closing_phase c) _ active ne step.after_is refl
 
-  opened_now : (kind : Kind) (state : FrameState) (noted page : ℕ)
+  opened_now : (kind : Purpose) (state : Progress) (noted page : ℕ)
       → (state ≡ waiting) ⊎ (state ≡ left)
       → c.frames ≡ framed kind state (opening noted page) ∷ below
       → after ≡ after_begin kind state (with_new_tail c page) (framed kind state (opening noted page)) below
@@ -127,7 +127,7 @@ module _ (n size start : ℕ) (c : Core) (below : List Frame) (answer : Answer) 
   opened_now kind left noted page active top is =
       begins (closing_phase (with_new_tail c page)) active (not_waiting kind (opening noted page)) (ap writer_of is)
 
-  idle_made : (kind : Kind) (state : FrameState)
+  idle_made : (kind : Purpose) (state : Progress)
       → (state ≡ waiting) ⊎ (state ≡ left)
       → c.frames ≡ framed kind state idle ∷ below
       → IdleStep n size c (framed kind state idle) below state answer after
@@ -147,7 +147,7 @@ module _ (n size start : ℕ) (c : Core) (below : List Frame) (answer : Answer) 
   idle_made kind (reserved number) (inr e) top step = absurd (cc)
   idle_made kind left active top step = absurd step
 
-  made_in : (kind : Kind) (state : FrameState) (phase : Phase)
+  made_in : (kind : Purpose) (state : Progress) (phase : Phase)
       → (state ≡ waiting) ⊎ (state ≡ left)
       → c.frames ≡ framed kind state phase ∷ below
       → (phase ≡ releasing → state ≡ left)

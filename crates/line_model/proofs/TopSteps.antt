@@ -10,7 +10,7 @@ use Rattle.trace_model.proofs.histories.NextEvent.{opened_stack, settled_at_rest
 use Rattle.trace_model.specs.Packing.{opens_of, tail_of, fill_len, is_wished}
 use Rattle.trace_model.specs.Fitting.{NeedsFill}
 use Rattle.trace_model.specs.Window.{Window, RingEvent, acts, closes, takes, loses, history_events_of, window_after, WindowRunFrom}
-use Rattle.trace_model.specs.Frames.{Kind, for_record, for_close, FrameState, waiting, reserved, left, Role, owner, helper, Phase, idle, looking, claiming, looking_next, marking, clearing, opening, releasing, wishing, noted_fill, owned_update, pushed_frame, pushed_onto, Frame, pushed_frames}
+use Rattle.trace_model.specs.Frames.{Purpose, for_record, for_close, Progress, waiting, reserved, left, Role, owner, helper, Phase, idle, looking, claiming, looking_next, marking, clearing, opening, releasing, wishing, noted_fill, owned_update, pushed_frame, pushed_onto, Frame, pushed_frames}
 use Rattle.trace_model.specs.Ring.{Reader, Core, window_of}
 use Rattle.trace_model.specs.Steps.{Event, ends, Answer, Step, closing_phase, frames_after_leave, with_new_tail, after_begin, after_next, IsGranted, NeedsPage as NeedsPageThere}
 use Rattle.trace_model.proofs.packing.PackedHistories.{tail_is}
@@ -176,7 +176,7 @@ module _ (script : Script) (before : Lane) (state : CpuState) (p : Option (List 
 
   -- ---- what is needed, and what is due
 
-  needs_of : (kind : Kind) (st : FrameState)
+  needs_of : (kind : Purpose) (st : Progress)
       → (st ≡ left → fs ≡ [])
       → NeedsFill size (opens_of c.history) (reserved_records c.history) (is_wished c.history) kind st
       → Needs s (pushed_onto kind st (pushed_frames fs))
@@ -208,14 +208,14 @@ module _ (script : Script) (before : Lane) (state : CpuState) (p : Option (List 
   can_have room small (inl full) = omega (arith, room, full)
   can_have room small (inr last) = omega (arith, small, last)
 
-  stack_of_kind : (kind : Kind)
+  stack_of_kind : (kind : Purpose)
       → frame.kind ≡ kind
       → frame.state ≡ waiting
       → (writer_after c.history).stack ≡ pushed_frame kind waiting ∷ pushed_frames fs
   stack_of_kind kind is waits = stack_waiting n script.start c frame fs kept.history top waits
-      ∙ ap (λ (k : Kind). pushed_frame k waiting ∷ pushed_frames fs) is
+      ∙ ap (λ (k : Purpose). pushed_frame k waiting ∷ pushed_frames fs) is
 
-  needs_there : (kind : Kind)
+  needs_there : (kind : Purpose)
       → frame.kind ≡ kind
       → frame.state ≡ waiting
       → NeedsPageThere size c kind
@@ -229,7 +229,7 @@ module _ (script : Script) (before : Lane) (state : CpuState) (p : Option (List 
   needs_there for_close is waits needs = subst (Needs s) (sym (stack_of_kind for_close is waits)) needs
 
   -- a leave without a record is due
-  leave_due : (kind : Kind)
+  leave_due : (kind : Purpose)
       → frame.kind ≡ kind
       → frame.state ≡ waiting
       → NeedsPage s
@@ -382,10 +382,10 @@ module _ (script : Script) (before : Lane) (state : CpuState) (p : Option (List 
   held : frame.state ≢ left → p ≢ None
   held not e = let both : Some payload ≡ None = sym (one.unwritten not) ∙ e in cc
 
-  not_left : (st : FrameState) → st ≢ left → frame.state ≡ st → frame.state ≢ left
+  not_left : (st : Progress) → st ≢ left → frame.state ≡ st → frame.state ≢ left
   not_left st not is e = not (sym is ∙ e)
 
-  there_in : (st : FrameState) → frame.state ≡ st → IsThere below (line p l)
+  there_in : (st : Progress) → frame.state ≡ st → IsThere below (line p l)
   there_in waiting is = inl (held (not_left waiting (λ e. cc) is))
   there_in (reserved number) is = inl (held (not_left (reserved number) (λ e. cc) is))
   there_in left is = inr (one.has_left is).1
@@ -480,7 +480,7 @@ module _ (script : Script) (before : Lane) (state : CpuState) (p : Option (List 
           (λ what is_own its_due. none_own below false what some is_own)
 
   -- it leaves without a record, and does nothing else
-  leaves_none : (kind : Kind) (next : Core)
+  leaves_none : (kind : Purpose) (next : Core)
       → frame.kind ≡ kind
       → frame.state ≡ waiting
       → Brief (acts (leave None) ∷ [])
@@ -507,7 +507,7 @@ module _ (script : Script) (before : Lane) (state : CpuState) (p : Option (List 
   late from noted at ne noted_is active again =
       by_kind frame.kind frame.state refl refl active again.after_is
     where
-      by_kind : (kind : Kind) (st : FrameState)
+      by_kind : (kind : Purpose) (st : Progress)
           → frame.kind ≡ kind
           → frame.state ≡ st
           → (st ≡ waiting) ⊎ (st ≡ left)
@@ -561,7 +561,7 @@ module _ (script : Script) (before : Lane) (state : CpuState) (p : Option (List 
           (ap (λ (d : Core). d.frames) is ∙ frames) refl
           (stand_in to false (λ o e. absurd (unowned o e))) there (λ closing waits o e. absurd (unnoted o e))
 
-      by_kind : (kind : Kind) (st : FrameState)
+      by_kind : (kind : Purpose) (st : Progress)
           → frame.kind ≡ kind
           → frame.state ≡ st
           → (st ≡ waiting) ⊎ (st ≡ left)
@@ -626,7 +626,7 @@ module _ (script : Script) (before : Lane) (state : CpuState) (p : Option (List 
         moving = λ o e. absurd (let no : ⊥ = cc in no);
       } (inl (held (not_left waiting (λ e. cc) w))) (λ closing waits o e. absurd (let no : ⊥ = cc in no))
 
-  idle_does : (st : FrameState)
+  idle_does : (st : Progress)
       → frame.state ≡ st
       → (st ≡ waiting) ⊎ (st ≡ left)
       → frame.phase ≡ idle
@@ -864,7 +864,7 @@ module _ (script : Script) (before : Lane) (state : CpuState) (p : Option (List 
       (due_one (acts (leave (Some (padded payload))))
       (subst (λ (st : List PushedFrame). Leaves s st (Some (padded payload)))
       (sym (stack_reserved n script.start c frame fs kept.history top number at
-      ∙ ap (λ (k : Kind). pushed_frame k (reserved number) ∷ pushed_frames fs) e.kind_is)) tt)) (
+      ∙ ap (λ (k : Purpose). pushed_frame k (reserved number) ∷ pushed_frames fs) e.kind_is)) tt)) (
         (λ not. omega arith),
         (λ not waits rests free.
             absurd (let both : reserved number ≡ waiting = sym at ∙ waits in let no : ⊥ = cc in no)),
@@ -874,7 +874,7 @@ module _ (script : Script) (before : Lane) (state : CpuState) (p : Option (List 
   pub step_does : event ≡ event_on_top c.frames before.payloads → Made
   step_does is = by_state frame.state refl (is ∙ (λ i. event_on_top (top i) (paid i)))
     where
-      by_state : (st : FrameState) → frame.state ≡ st → event ≡ event_in st (payload ∷ ps) → Made
+      by_state : (st : Progress) → frame.state ≡ st → event ≡ event_in st (payload ∷ ps) → Made
       by_state waiting at e = frame_does frame.phase refl (inl at)
           (top_step frame fs frame.phase top refl (subst (λ (x : Event). Step n size c x answer after) e step))
       by_state (reserved number) at e =

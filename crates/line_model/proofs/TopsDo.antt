@@ -2,7 +2,7 @@
 use Rattle.std.proofs.Common.{◌≡◌, ◌≢◌, ℕ, ◌+◌, ◌<◌, ◌≤◌, Bool, true, false, List, [], ◌∷◌, ◌++◌, length, Option, Some, None, refl, sym, ap, ◌∙◌, subst, inl, inr, ⊎_elim, arith, append_assoc, append-nil, length-append}
 use Rattle.trace_model.specs.History.{HistoryEvent, reserve}
 use Rattle.trace_model.specs.Window.{RingEvent, acts, history_events_of}
-use Rattle.trace_model.specs.Frames.{Kind, FrameState, waiting, reserved, left, idle, noted_fill, Frame}
+use Rattle.trace_model.specs.Frames.{Purpose, Progress, waiting, reserved, left, idle, noted_fill, Frame}
 use Rattle.trace_model.specs.Ring.{Core}
 use Rattle.trace_model.specs.Steps.{Exchange}
 use Rattle.text_model.specs.Script.{Script}
@@ -98,11 +98,11 @@ there_of : (frame : Frame) (payload : List ℕ) (below : List LineFrame) (first 
     → IsThere below first
 there_of frame payload below first one = by_state frame.state refl
   where
-    unwritten : (st : FrameState) → st ≢ left → frame.state ≡ st → first.payload ≢ None
+    unwritten : (st : Progress) → st ≢ left → frame.state ≡ st → first.payload ≢ None
     unwritten st not is none =
         let both : Some payload ≡ None = sym (one.unwritten (λ e. not (sym is ∙ e))) ∙ none in cc
 
-    by_state : (st : FrameState) → frame.state ≡ st → IsThere below first
+    by_state : (st : Progress) → frame.state ≡ st → IsThere below first
     by_state waiting is = inl (unwritten waiting (λ e. cc) is)
     by_state (reserved number) is = inl (unwritten (reserved number) (λ e. cc) is)
     by_state left is = inr (one.has_left is).1
@@ -121,7 +121,7 @@ of_writer : (frames : List Frame) (payloads : List (List ℕ)) → IsOfReader (e
 of_writer [] payloads of = of
 of_writer (frame ∷ below) payloads of = in_state frame.state payloads of
   where
-    in_state : (state : FrameState) (ps : List (List ℕ)) → IsOfReader (event_in state ps) → ⊥
+    in_state : (state : Progress) (ps : List (List ℕ)) → IsOfReader (event_in state ps) → ⊥
     in_state waiting ps of = of
     in_state (reserved number) [] of = of
     in_state (reserved number) (payload ∷ ps) of = of
@@ -274,7 +274,7 @@ pub record_fresh : (c : Core) → IsRecordOnTop c.frames → IsFresh c
 record_fresh c on_top frame below o top closing waits noted = absurd (subst IsRecordOnTop top on_top closing)
 
 -- so is a frame that was just pushed
-pub pushed_fresh : (c : Core) (kind : Kind) (under : List Frame)
+pub pushed_fresh : (c : Core) (kind : Purpose) (under : List Frame)
     → c.frames ≡ record { kind = kind; state = waiting; phase = idle } ∷ under
     → IsFresh c
 pushed_fresh c kind under is frame below o top closing waits noted =

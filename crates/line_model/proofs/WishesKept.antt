@@ -4,7 +4,7 @@ use Rattle.std.proofs.Common.{◌≡◌, ℕ, true, false, List, [], ◌∷◌, 
 use Rattle.std.specs.Prelude.{Bool}
 use Rattle.trace_model.specs.History.{reserved_records}
 use Rattle.trace_model.specs.Packing.{is_wished}
-use Rattle.trace_model.specs.Frames.{Kind, for_record, for_close, FrameState, waiting, reserved, left, Role, owner, helper, Phase, idle, looking, claiming, looking_next, marking, clearing, opening, releasing, wishing, noted_fill, Frame}
+use Rattle.trace_model.specs.Frames.{Purpose, for_record, for_close, Progress, waiting, reserved, left, Role, owner, helper, Phase, idle, looking, claiming, looking_next, marking, clearing, opening, releasing, wishing, noted_fill, Frame}
 use Rattle.trace_model.specs.Ring.{ReaderPhase, loading_head, loading_done, storing_spare_link, swapping, Core}
 use Rattle.trace_model.specs.Steps.{Event, Answer, closing_phase, frames_after_leave, after_next, after_begin, with_new_tail, Exchange, Run}
 use Rattle.trace_model.proofs.packing.PackedHistories.{is_wished-push, is_wished-push_close, is_wished-open_fill, is_wished-reserve, is_wished-leave}
@@ -57,7 +57,7 @@ leaves_to : (o : ℕ) (c : Core) (frame : Frame) (below : List Frame)
 leaves_to o c frame [] not s = absurd (not s)
 leaves_to o c frame (next ∷ below) not s = s
 
-again_to : (o : ℕ) (kind : Kind) (state : FrameState) (c : Core) (frame : Frame) (below : List Frame)
+again_to : (o : ℕ) (kind : Purpose) (state : Progress) (c : Core) (frame : Frame) (below : List Frame)
     → ((frame.state ≡ left) × (noted_fill frame.phase ≡ Some o) → ⊥)
     → Serves o (frame ∷ below)
     → Serves o (after_begin kind state c frame below).frames
@@ -73,7 +73,7 @@ again_to o (for_record moment len) left c frame below not s =
 again_to o for_close left c frame below not s =
     changes_to o frame (record frame { phase = closing_phase c }) below not s
 
-again_wished : (kind : Kind) (state : FrameState) (c : Core) (frame : Frame) (below : List Frame)
+again_wished : (kind : Purpose) (state : Progress) (c : Core) (frame : Frame) (below : List Frame)
     → is_wished (after_begin kind state c frame below).history ≡ is_wished c.history
 again_wished (for_record moment len) waiting c frame below = refl
 again_wished for_close waiting c frame below = is_wished-leave c.history None
@@ -82,7 +82,7 @@ again_wished for_close (reserved number) c frame below = refl
 again_wished (for_record moment len) left c frame below = refl
 again_wished for_close left c frame below = refl
 
-again_opened : (kind : Kind) (state : FrameState) (c : Core) (frame : Frame) (below : List Frame)
+again_opened : (kind : Purpose) (state : Progress) (c : Core) (frame : Frame) (below : List Frame)
     → (after_begin kind state c frame below).opened ≡ c.opened
 again_opened (for_record moment len) waiting c frame below = refl
 again_opened for_close waiting c frame below = refl
@@ -142,7 +142,7 @@ module _ (n size start : ℕ) (c : Core) (answer : Answer) (after : Core) (kept 
     none_noted : (o : ℕ) → None ≡ Some o → ⊥
     none_noted o e = cc
 
-    idle_serves : (state : FrameState)
+    idle_serves : (state : Progress)
         → frame.phase ≡ idle
         → IdleStep n size c frame below state answer after
         → WishServed after

@@ -3,7 +3,7 @@ use Rattle.std.proofs.Common.{◌≡◌, ◌≢◌, ℕ, zero, suc, ◌+◌, ◌
 use Rattle.trace_model.specs.declared.limits.TheConstants.{MAX_FRAMES}
 use Rattle.trace_model.specs.Words.{padded}
 use Rattle.trace_model.specs.History.{HistoryEvent, push, push_close, open_fill, reserve, leave, wished}
-use Rattle.trace_model.specs.Frames.{Kind, for_record, for_close, idle, noted_fill, Frame, Refusal}
+use Rattle.trace_model.specs.Frames.{Purpose, for_record, for_close, idle, noted_fill, Frame, WriteFault}
 use Rattle.trace_model.specs.Window.{Window, RingEvent, acts, closes, takes, loses, history_events_of}
 use Rattle.trace_model.specs.Ring.{Core}
 use Rattle.trace_model.specs.Steps.{Event, pushes, pushes_close, Answer, pushed, refused, with_history_event, with_frame, Step, Exchange}
@@ -80,11 +80,11 @@ module _ (script : Script) (lane : Lane) (state : CpuState) (stands : Stands scr
   with_pushed event payload = with_own state (acts event ∷ []) (new_frame payload ∷ state.frames)
 
   -- the ring after it
-  abbrev pushed_lane : Kind → HistoryEvent → List ℕ → Lane
+  abbrev pushed_lane : Purpose → HistoryEvent → List ℕ → Lane
   pushed_lane kind event payload =
       record { core = with_history_event (with_frame lane.core kind) event; payloads = payload ∷ lane.payloads }
 
-  pushed_stands : (kind : Kind) (event : HistoryEvent) (payload : List ℕ)
+  pushed_stands : (kind : Purpose) (event : HistoryEvent) (payload : List ℕ)
       → FitsKind kind payload
       → BeginsNone event
       → IsReached script.pages script.size script.start (pushed_lane kind event payload).core
@@ -115,13 +115,13 @@ module _ (script : Script) (lane : Lane) (state : CpuState) (stands : Stands scr
         → (Refused → ⊥)
         → Stands script between (with_pushed event payload)
         → PushStands Refused event payload answer between
-    now_refused : (why : Refusal)
+    now_refused : (why : WriteFault)
         → answer ≡ refused why
         → Refused
         → between ≡ lane
         → PushStands Refused event payload answer between
 
-  push_stands : (Why Refused : Type 0) (kind : Kind) (event : HistoryEvent) (payload : List ℕ) (answer : Answer)
+  push_stands : (Why Refused : Type 0) (kind : Purpose) (event : HistoryEvent) (payload : List ℕ) (answer : Answer)
       (between : Lane) (core : Core)
       → FitsKind kind payload
       → BeginsNone event

@@ -1,7 +1,7 @@
 -- The laws of lines, as statements: the calls of a writer for a line make the line's part of the history.
 use Rattle.std.specs.Prelude.{◌≡◌, ℕ, suc, ◌<◌, ◌≤◌, ◌⊎◌, ⊤, List, [], ◌∷◌, ◌++◌, length}
 use Rattle.trace_model.specs.History.{push}
-use Rattle.trace_model.specs.Frames.{for_record, Frame, Refusal}
+use Rattle.trace_model.specs.Frames.{for_record, Frame, WriteFault}
 use Rattle.trace_model.specs.Window.{RingEvent, acts}
 use Rattle.trace_model.specs.Steps.{Answer, pushes, pushes_close, pushed, refused, Exchange}
 use Rattle.text_model.specs.Script.{Command, begin_frame, write, close}
@@ -30,7 +30,7 @@ PushMakes n size cpu moment payload answer u payloads p =
     × (behind : LineState)
     × LinePart n size (begin_frame cpu moment payload) p (acts (push moment (length payload)) ∷ []) behind
     × Agrees n behind (payload ∷ payloads) u)
-    ⊎ ((why : Refusal)
+    ⊎ ((why : WriteFault)
     × (answer ≡ refused why)
     × LinePart n size (begin_frame cpu moment payload) p [] p
     × LinePart n size (write cpu moment payload) p [] p
@@ -68,7 +68,7 @@ ClosesMake = (n size start cpu : ℕ) (answer : Answer) (s u : LineWriting) (pay
     → (events : List RingEvent) × (behind : LineState)
     × LinePart n size (close cpu) p events behind
     × Agrees n behind lefts t)
-    × ((why : Refusal) → answer ≡ refused why → LinePart n size (close cpu) p [] p × Agrees n p payloads u)
+    × ((why : WriteFault) → answer ≡ refused why → LinePart n size (close cpu) p [] p × Agrees n p payloads u)
 
 -- ---- lines
 

@@ -2,7 +2,7 @@
 use Rattle.std.specs.Prelude.{◌≡◌, ◌≢◌, ℕ, ◌+◌, ◌≤◌, ⊤, List, [], ◌∷◌, length}
 use Rattle.trace_model.specs.declared.limits.TheConstants.{LINK_FILLS}
 use Rattle.trace_model.specs.History.{reserved_records}
-use Rattle.trace_model.specs.Frames.{Kind, for_record, for_close, crowded, worn}
+use Rattle.trace_model.specs.Frames.{Purpose, for_record, for_close, crowded, worn}
 use Rattle.trace_model.specs.Ring.{Core}
 use Rattle.trace_model.specs.Steps.{Event, pushes, pushes_close, Answer, pushed, refused, Step, Exchange}
 use Rattle.ring_model.specs.AnswerLaws.{IsInNeed}
@@ -16,7 +16,7 @@ RefusedFramesNeedPages = (n size : ℕ) (c : Core) (event : Event) (answer : Ans
     × (answer ≡ refused worn → IsInNeed n size c)
 
 -- the push of a frame of this kind
-abbrev pub push_of : Kind → Event
+abbrev pub push_of : Purpose → Event
 push_of (for_record moment len) = pushes moment len
 push_of for_close = pushes_close
 
@@ -33,7 +33,7 @@ AreServed n start records (x ∷ calls) = IsServed n start records x × AreServe
 
 -- All calls for a frame that was pushed on an empty stack, and above which none is pushed, are served.
 abbrev pub SingleFramesAreServed : Type 0
-SingleFramesAreServed = (n size start : ℕ) (kind : Kind) (payload : List ℕ) (s u : LineWriting) (calls : List Exchange)
+SingleFramesAreServed = (n size start : ℕ) (kind : Purpose) (payload : List ℕ) (s u : LineWriting) (calls : List Exchange)
     (t : LineWriting) (lefts : List (List ℕ))
     → s.frames ≡ []
     → IsWriterCall n size start s record { event = push_of kind; answer = pushed } u

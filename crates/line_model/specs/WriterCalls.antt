@@ -2,7 +2,7 @@
 -- docs/FORMATS.md, "Writer frames".
 use Rattle.std.specs.Prelude.{◌≡◌, ℕ, zero, suc, ◌+◌, ◌≤◌, ◌⊎◌, List, [], ◌∷◌, ◌++◌, length}
 use Rattle.trace_model.specs.History.{HistoryEvent}
-use Rattle.trace_model.specs.Frames.{Frame, Refusal}
+use Rattle.trace_model.specs.Frames.{Frame, WriteFault}
 use Rattle.trace_model.specs.Ring.{Core}
 use Rattle.trace_model.specs.Steps.{Event, pushes, pushes_close, pushed, refused, Step, Exchange}
 use Rattle.text_model.specs.Script.{Command, begin_frame, step_frame, finish_frame, write, close}
@@ -89,7 +89,7 @@ pub data BeginCalls (n size start : ℕ) (event : Event) (payload : List ℕ) (b
       → IsWriterCall n size start before record { event = event; answer = pushed } after
       → lefts ≡ payload ∷ payloads
       → BeginCalls n size start event payload before payloads made after lefts
-  begins_none : (why : Refusal)
+  begins_none : (why : WriteFault)
       → made ≡ record { event = event; answer = refused why } ∷ []
       → IsWriterCall n size start before record { event = event; answer = refused why } after
       → lefts ≡ payloads
@@ -104,7 +104,7 @@ pub data WholeCalls (n size start : ℕ) (event : Event) (payload : List ℕ) (b
       → IsWriterCall n size start before record { event = event; answer = pushed } between
       → FinishCalls n size start between (payload ∷ payloads) finishing after lefts
       → WholeCalls n size start event payload before payloads made after lefts
-  writes_none : (why : Refusal)
+  writes_none : (why : WriteFault)
       → made ≡ record { event = event; answer = refused why } ∷ []
       → IsWriterCall n size start before record { event = event; answer = refused why } after
       → lefts ≡ payloads

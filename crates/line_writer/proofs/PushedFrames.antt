@@ -3,7 +3,7 @@ use Rattle.std.proofs.Common.{◌≡◌, ◌≢◌, ℕ, ◌<◌, ◌≤◌, tru
 use Rattle.std.specs.Prelude.{slice_set}
 use Rattle.std.proofs.lemmas.List.{length-set, map-append}
 use Rattle.trace_model.specs.declared.limits.TheConstants.{MAX_FRAMES}
-use Rattle.trace_model.specs.Frames.{Frame, Refusal}
+use Rattle.trace_model.specs.Frames.{Frame, WriteFault}
 use Rattle.trace_model.specs.Steps as model
 use Rattle.trace_model.specs.Steps.{Event, pushes, pushes_close, pushed, refused}
 use Rattle.world_model.specs.Lanes.{FitsKind, FitFrames}
@@ -55,7 +55,7 @@ pub data IsPushOutcome (payload : List ℕ) (before : LineWriting) (reported : m
       → length before.frames < MAX_FRAMES
       → after.done ≡ before.done
       → IsPushOutcome payload before reported after
-  fails : (why : Refusal) → reported ≡ refused why → after ≡ before → IsPushOutcome payload before reported after
+  fails : (why : WriteFault) → reported ≡ refused why → after ≡ before → IsPushOutcome payload before reported after
 
 of_record : (size moment : ℕ) (payload : List ℕ) (before : LineWriting) (reported : model.Answer) (after : LineWriting)
     → Pushing size before moment (length payload) reported after

@@ -3,7 +3,8 @@ use Rattle.std.proofs.Common.{◌≡◌, ◌≢◌, ℕ, suc, ◌+◌, ◌*◌, 
 use Rattle.std.specs.Prelude.{None}
 use Rattle.std.proofs.lemmas.List.{get_or_default}
 use Rattle.trace_model.specs.Words.{slot_len, padded}
-use Rattle.trace_model.specs.Frames.{Kind, for_record, for_close, FrameState, waiting, reserved, left, number_of, Frame}
+use Rattle.trace_model.specs.Frames.{Purpose, for_record, for_close, waiting, reserved, left, number_of, Frame}
+use Rattle.trace_model.specs.Frames as frames_model
 use Rattle.trace_model.specs.Ring.{Core}
 use Rattle.trace_model.specs.Steps.{Event, steps, ends, Exchange, frames_after_leave}
 use Rattle.trace_model.proofs.words.Lengths.{slot_len_ge, length-padded}
@@ -94,7 +95,7 @@ module _ (old : LineWriter) (is : IsLineWriter old) (v : WriterValue) (event : E
 
 -- ---- stages
 
-stage_low : (kind : Kind) (state : FrameState) → stage_of kind state ≤ 2
+stage_low : (kind : Purpose) (state : frames_model.Progress) → stage_of kind state ≤ 2
 stage_low (for_record moment len) waiting = omega arith
 stage_low for_close waiting = omega arith
 stage_low kind (reserved number) = omega arith
@@ -104,7 +105,7 @@ stage_top_low : (frames : List Frame) → stage_on_top frames ≤ 2
 stage_top_low [] = omega arith
 stage_top_low (frame ∷ below) = stage_low frame.kind frame.state
 
-stage_leaving : (kind : Kind) (state : FrameState) → IsLeaving kind state → stage_of kind state ≡ 0
+stage_leaving : (kind : Purpose) (state : frames_model.Progress) → IsLeaving kind state → stage_of kind state ≡ 0
 stage_leaving (for_record moment len) waiting is = absurd is
 stage_leaving for_close waiting is = refl
 stage_leaving kind (reserved number) is = absurd is
@@ -150,7 +151,7 @@ unnumbered_in (Through noted) none = refl
 unnumbered_in (Reserved slot) none = absurd (none slot refl)
 unnumbered_in (Left noted) none = refl
 
-abbrev state_first : List Frame → FrameState
+abbrev state_first : List Frame → frames_model.Progress
 state_first [] = waiting
 state_first (first ∷ others) = first.state
 
@@ -188,7 +189,7 @@ module _ (old : WriterValue) (v : WriterValue) (result : Answer) (frame : Frame)
       absurd (let short = ap (λ (l : List Frame). length l) (next_top below is) in
       let long = ap (λ (l : List Frame). length l) top in omega arith)
 
-  stage_in : (kind : Kind) (state : FrameState)
+  stage_in : (kind : Purpose) (state : frames_model.Progress)
       → number_of state ≡ None
       → (IsLeaving kind state → IsLeaving frame.kind frame.state)
       → length v.part.frames ≡ length old.part.frames
@@ -241,7 +242,7 @@ step_called old v result is some none makes near =
 
 -- ---- a record that is reserved, and its payload
 
-for_record_is : (kind : Kind) → IsForRecord kind → (moment : ℕ) × (len : ℕ) × (kind ≡ for_record moment len)
+for_record_is : (kind : Purpose) → IsForRecord kind → (moment : ℕ) × (len : ℕ) × (kind ≡ for_record moment len)
 for_record_is (for_record moment len) of = (moment, len, refl)
 for_record_is for_close of = absurd of
 
@@ -309,18 +310,18 @@ module _ (old : LineWriter) (is : IsLineWriter old) (slot : Slot)
       let r = reached_kept w.shape.pages w.shape.size w.shape.start core is.writer.reached in
       let agree : FramesAgree (t.frame ∷ t.below) = subst FramesAgree core_top r.stack.agree in
       let may : MayBeIn t.frame.kind (reserved t.number) t.frame.phase =
-      subst (λ (s : FrameState). MayBeIn t.frame.kind s t.frame.phase) t.state_is agree.0 in
+      subst (λ (s : frames_model.Progress). MayBeIn t.frame.kind s t.frame.phase) t.state_is agree.0 in
       let (moment, len, kind) = for_record_is t.frame.kind may.0 in
       let (payload, rest, payloads, long) = top_payload w.part.frames (payloads_of old) t.frame t.below t.top is.fit in
       let same : item.now ≡ payload =
       first_is f old.payloads (length w.part.frames) item payload rest few_depth some_depth item_is payloads in
-      let len_is : length payload ≡ len = subst (λ (k : Kind). FitsKind k payload) kind long in
+      let len_is : length payload ≡ len = subst (λ (k : Purpose). FitsKind k payload) kind long in
       record {
         slot_is = fits t.frame t.below moment len t.top kind ∙ ap slot_len (sym len_is)
             ∙ ap (λ (p : List ℕ). slot_len (length p)) (sym same);
         event_is = ap (λ (fs : List Frame). event_on_top fs (payloads_of old)) t.top
             ∙ ap (event_in t.frame.state) payloads
-            ∙ ap (λ (s : FrameState). event_in s (payload ∷ rest)) t.state_is
+            ∙ ap (λ (s : frames_model.Progress). event_in s (payload ∷ rest)) t.state_is
             ∙ ap (λ (p : List ℕ). ends (padded p)) (sym same);
       }
 

@@ -2,7 +2,7 @@
 use Rattle.std.specs.Prelude.{Result, Ok, Err, None}
 use Rattle.std.proofs.Common.{◌≡◌, ℕ, ◌-◌, ◌⊎◌, inl, inr, false, List, [], ◌∷◌, ◌++◌, length, map, reverse, take, drop, refl, sym, ap, ◌∙◌, subst, arith, Bor, append_assoc, append-nil}
 use Rattle.trace_model.specs.Words.{padded}
-use Rattle.trace_model.specs.Frames.{Kind, for_record, FrameState, waiting, reserved, left, Frame}
+use Rattle.trace_model.specs.Frames.{Purpose, for_record, Progress, waiting, reserved, left, Frame}
 use Rattle.trace_model.specs.Steps.{Event, pushes, steps, ends, Exchange}
 use Rattle.trace_model.specs.Steps as model
 use Rattle.ring_model.specs.FrameOutcomes.{IsReserving, IsLeaving}
@@ -31,7 +31,7 @@ use Rattle.line_writer.proofs.LineRuns.{not_written}
 
 -- ---- a frame whose record isn't reserved makes a step
 
-other_steps : (IsSo : FrameState → Type 0) (state : FrameState) (payloads : List (List ℕ))
+other_steps : (IsSo : Progress → Type 0) (state : Progress) (payloads : List (List ℕ))
     → ((number : ℕ) → IsSo (reserved number) → ⊥)
     → IsSo state
     → steps ≡ event_in state payloads
@@ -39,10 +39,10 @@ other_steps IsSo waiting payloads never is = refl
 other_steps IsSo (reserved number) payloads never is = absurd (never number is)
 other_steps IsSo left payloads never is = refl
 
-left_leaves : (kind : Kind) (state : FrameState) → state ≡ left → IsLeaving kind state
+left_leaves : (kind : Purpose) (state : Progress) → state ≡ left → IsLeaving kind state
 left_leaves kind state e = subst (IsLeaving kind) (sym e) (any kind)
   where
-    any : (kind : Kind) → IsLeaving kind left
+    any : (kind : Purpose) → IsLeaving kind left
     any (for_record moment len) = tt
     any Rattle.trace_model.specs.Frames.for_close = tt
 
@@ -184,7 +184,7 @@ module _ (shape : Shape) (before : Writing) (moment : ℕ) (payload : List ℕ) 
       subst (Popped from) (sym same)
       (popped_then shape before.frames payload payloads many from reserved_as ended (ends (padded payload))
       (Ended Pending) t.next s t.top
-      (sym (ap (λ (x : FrameState). event_in x (payload ∷ payloads)) t.state_is)) call
+      (sym (ap (λ (x : Progress). event_in x (payload ∷ payloads)) t.state_is)) call
       (ap (λ (w : Writing). w.frames) (sym same) ∙ frames))
   ended_then from reserved_as ended Full s t call (answer, all) frames =
       let none : before.frames ≡ [] = sym frames ∙ leaves_below shape [] ended answer after all in
@@ -194,7 +194,7 @@ module _ (shape : Shape) (before : Writing) (moment : ℕ) (payload : List ℕ) 
       top ∙ ap (λ (l : List Frame). frame ∷ l) (sym none) in
       leaves shape before.frames payload payloads many from ended answer after frame
       (stands_then shape before.frames payload payloads many from reserved_as ended (ends (padded payload)) (Ended Full)
-      t.next s t.top (sym (ap (λ (x : FrameState). event_in x (payload ∷ payloads)) t.state_is)) call frame there)
+      t.next s t.top (sym (ap (λ (x : Progress). event_in x (payload ∷ payloads)) t.state_is)) call frame there)
       there (left_leaves frame.kind frame.state is)
       (subst (λ (l : List Frame). Leaves shape l ended answer after) (sym none) all)
 

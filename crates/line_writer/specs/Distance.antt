@@ -1,12 +1,12 @@
 -- How far the frame on top is from being popped, the end of its record included.
 use Rattle.std.specs.Prelude.{ℕ, ◌+◌, ◌*◌, List, [], ◌∷◌}
-use Rattle.trace_model.specs.Frames.{Kind, for_record, for_close, FrameState, waiting, reserved, left, Frame}
+use Rattle.trace_model.specs.Frames.{Purpose, for_record, for_close, Progress, waiting, reserved, left, Frame}
 use Rattle.ring_model.specs.Ranks.{frame_limit}
 use Rattle.ring_shared.specs.Value.{WriterValue}
 use Rattle.ring_shared.specs.Nearer.{rank_of}
 
 -- A record frame that waits has its record to reserve, and then to end; a close frame has no record.
-abbrev pub stage_of : Kind → FrameState → ℕ
+abbrev pub stage_of : Purpose → Progress → ℕ
 stage_of (for_record moment len) waiting = 2
 stage_of for_close waiting = 0
 stage_of kind (reserved number) = 1

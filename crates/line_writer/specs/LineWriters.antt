@@ -1,7 +1,7 @@
 -- A writer with the payloads of its frames, and what its calls and lines make of both.
 use Rattle.std.specs.Prelude.{◌≡◌, ℕ, ◌<◌, List, [], ◌∷◌, ◌++◌, length, map, reverse, take, Bool, true, false}
 use Rattle.trace_model.specs.declared.limits.TheConstants.{MAX_FRAMES}
-use Rattle.trace_model.specs.Frames.{Refusal}
+use Rattle.trace_model.specs.Frames.{WriteFault}
 use Rattle.trace_model.specs.Steps.{Event, pushes, pushed, refused, Exchange}
 use Rattle.text_model.specs.Script.{Command}
 use Rattle.world_model.specs.Lanes.{FitFrames, event_on_top, payloads_left}
@@ -54,7 +54,7 @@ pub record Pushes (event : Event) (payload : List ℕ) (old : LineWriter) (stand
       × HasMade old (record { event = event; answer = pushed } ∷ []) new
       × (payloads_of new ≡ payload ∷ payloads_of old)
   pub has_refused : stands ≡ false
-      → (why : Refusal)
+      → (why : WriteFault)
       × Calls old record { event = event; answer = refused why } new
       × HasMade old (record { event = event; answer = refused why } ∷ []) new
       × (payloads_of new ≡ payloads_of old)

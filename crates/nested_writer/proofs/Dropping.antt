@@ -4,7 +4,7 @@ use Rattle.std.specs.Prelude.{Bool}
 use Rattle.std.specs.List.{slice_get}
 use Rattle.trace_model.specs.History.{HistoryEvent, Reservation, reserved_records}
 use Rattle.trace_model.specs.Packing.{opens_of, is_wished}
-use Rattle.trace_model.specs.Frames.{FrameState, number_of}
+use Rattle.trace_model.specs.Frames.{Progress, number_of}
 use Rattle.page_image.specs.Contents.{Contents}
 use Rattle.nested_writer.specs.declared.frame.Frame.{Frame}
 use Rattle.nested_writer.specs.Stack.{Stack, tail_fill}
@@ -15,7 +15,7 @@ use Rattle.nested_writer.proofs.Leaving.{left_is}
 
 none_reserved : (frames : List Frame) → IsAtBottom frames → AreBefore 0 frames
 none_reserved [] at = absurd at
-none_reserved (bottom ∷ []) at = (subst (λ (state : FrameState). IfSome (number_of state) (λ k. k < 0)) (sym (left_is bottom.progress at)) tt, tt)
+none_reserved (bottom ∷ []) at = (subst (λ (state : Progress). IfSome (number_of state) (λ k. k < 0)) (sym (left_is bottom.progress at)) tt, tt)
 none_reserved (bottom ∷ next ∷ below) at = absurd at
 
 module _ (start : ℕ) (cuts : List ℕ) (records : List Reservation) (found : Bool) (s : Stack) (first : Contents) (rest : List Contents) (older : s.older ≡ first ∷ rest) (k : IsStackOf start cuts records found s) where

@@ -12,7 +12,7 @@ use Rattle.trace_model.specs.Overwriting.{IsPlaceOf, bytes_at}
 use Rattle.trace_model.specs.History.{HistoryEvent, leave, Reservation, PushedFrame, record_frame, last_moment, records_with_payload, writer_after, reserved_records, MayLeave}
 use Rattle.trace_model.specs.Packing.{opens_of, cut_from, is_wished}
 use Rattle.trace_model.specs.Fitting.{IsRising}
-use Rattle.trace_model.specs.Frames.{Kind, reserved, number_of, pushed_onto, pushed_of}
+use Rattle.trace_model.specs.Frames.{Purpose, reserved, number_of, pushed_onto, pushed_of}
 use Rattle.trace_model.specs.Ring.{PageRecords}
 use Rattle.trace_model.specs.OpenPages.{HoldsRecords}
 use Rattle.trace_model.proofs.collections.Elements.{some_is}
@@ -216,7 +216,7 @@ ended start h s top below slot page top_is has there k =
     let p : List ℕ = bytes_at slot.place.start slot.place.len lies.page.bytes in
     let rest : List PushedFrame = pushed_of (model_frames below) in
     let stack : (writer_after h).stack ≡ record_frame moment len (Some slot.number) ∷ rest = k.stack_is ∙ ap (λ (fs : List Frame). pushed_of (model_frames fs)) top_is
-    ∙ ap (λ (x : Progress). pushed_onto (kind_of top.purpose) (state_of x) rest) has ∙ ap (λ (x : Kind). pushed_onto x (reserved slot.number) rest) kind in
+    ∙ ap (λ (x : Progress). pushed_onto (kind_of top.purpose) (state_of x) rest) has ∙ ap (λ (x : Purpose). pushed_onto x (reserved slot.number) rest) kind in
     let long = payload_len start (opens_of h) xs (is_wished h) s k.holds top below slot len lies in
     let done : IsStack start (h ++ leave (Some p) ∷ []) (after_leave s top below) = record {
       keeps = IsHistory-push h (leave (Some p)) k.keeps (subst (λ (st : List PushedFrame). MayLeave st (Some p)) (sym stack) (ap slot_len long ∙ slot_len-slot_len len));

@@ -4,7 +4,8 @@ use Rattle.std.proofs.lemmas.Option.{none-some}
 use Rattle.trace_model.specs.History.{HistoryEvent, leave, wished, Reservation, PushedFrame, records_after_leave, writer_after, reserved_records, MayLeave, MayWish}
 use Rattle.trace_model.specs.Packing.{opens_of, is_wished}
 use Rattle.trace_model.specs.Fitting.{NeedsFill}
-use Rattle.trace_model.specs.Frames.{Kind, for_record, for_close, FrameState, waiting, left, number_of, pushed_frame, pushed_onto, pushed_of}
+use Rattle.trace_model.specs.Frames.{Purpose, for_record, for_close, waiting, left, number_of, pushed_frame, pushed_onto, pushed_of}
+use Rattle.trace_model.specs.Frames as frames_model
 use Rattle.trace_model.proofs.histories.Allowed.{IsHistory-push}
 use Rattle.trace_model.proofs.histories.NextEvent.{left_stack, wished_stack}
 use Rattle.trace_model.proofs.histories.NextRecords.{records_snoc, records_left}
@@ -35,11 +36,11 @@ frames_left size done older tail cuts records found top (next ∷ below) may st 
 pub of_left : (start : ℕ) (cuts : List ℕ) (records : List Reservation) (found : Bool) (s : Stack) (top : Frame) (below : List Frame) → MayBePushed s.size (kind_of top.purpose) → FramesStand s.size s.done s.older s.tail cuts records found below → IsStackOf start cuts records found s → IsStackOf start cuts records found (after_leave s top below)
 of_left start cuts records found s top below may st k = of_frames found (frames_after_leave top below) (frames_left s.size s.done s.older s.tail cuts records found top below may st) k
 
-may_leave : (kind : Kind) (stack : List PushedFrame) → MayLeave (pushed_frame kind waiting ∷ stack) None
+may_leave : (kind : Purpose) (stack : List PushedFrame) → MayLeave (pushed_frame kind waiting ∷ stack) None
 may_leave (for_record moment len) stack = refl
 may_leave for_close stack = refl
 
-same_records : (kind : Kind) (records : List Reservation) → records_after_leave (pushed_frame kind waiting) None records ≡ records
+same_records : (kind : Purpose) (records : List Reservation) → records_after_leave (pushed_frame kind waiting) None records ≡ records
 same_records (for_record moment len) records = refl
 same_records for_close records = refl
 
@@ -48,7 +49,7 @@ pub left_none : (start : ℕ) (h : List HistoryEvent) (s : Stack) (top : Frame) 
 left_none start h s top below top_is waits k =
     let rest : List PushedFrame = pushed_of (model_frames below) in
     let frames = subst (FramesStand s.size s.done s.older s.tail (opens_of h) (reserved_records h) (is_wished h)) top_is k.holds.frames_are in
-    let stack : (writer_after h).stack ≡ pushed_frame (kind_of top.purpose) waiting ∷ rest = k.stack_is ∙ ap (λ (fs : List Frame). pushed_of (model_frames fs)) top_is ∙ ap (λ (st : FrameState). pushed_onto (kind_of top.purpose) st rest) waits in
+    let stack : (writer_after h).stack ≡ pushed_frame (kind_of top.purpose) waiting ∷ rest = k.stack_is ∙ ap (λ (fs : List Frame). pushed_of (model_frames fs)) top_is ∙ ap (λ (st : frames_model.Progress). pushed_onto (kind_of top.purpose) st rest) waits in
     record {
       keeps = IsHistory-push h (leave None) k.keeps (subst (λ (st : List PushedFrame). MayLeave st None) (sym stack) (may_leave (kind_of top.purpose) rest));
       stack_is = left_stack h (pushed_frame (kind_of top.purpose) waiting) rest None stack ∙ sym (pushed_after_leave top below);
@@ -67,7 +68,7 @@ of_progress : (start : ℕ) (cuts : List ℕ) (records : List Reservation) (foun
 of_progress start cuts records found s top below progress top_is waits st k =
     let frames = subst (FramesStand s.size s.done s.older s.tail cuts records found) top_is k.frames_are in
     of_frames found (record top { progress = progress } ∷ below)
-    (frames.0, st, subst (λ (state : FrameState). IfSome (number_of state) (λ number. AreBefore number below)) (sym waits) tt, (λ e. absurd (waits_not_left (sym waits ∙ e))), frames.4) k
+    (frames.0, st, subst (λ (state : frames_model.Progress). IfSome (number_of state) (λ number. AreBefore number below)) (sym waits) tt, (λ e. absurd (waits_not_left (sym waits ∙ e))), frames.4) k
   where
     waits_not_left : waiting ≡ left → ⊥
     waits_not_left e = cc
@@ -78,7 +79,7 @@ is_progress : (start : ℕ) (h : List HistoryEvent) (s : Stack) (top : Frame) (b
     → IsStack start h (with_progress s top below progress)
 is_progress start h s top below progress top_is waits goes st k = record {
   keeps = k.keeps;
-  stack_is = k.stack_is ∙ ap (λ (fs : List Frame). pushed_of (model_frames fs)) top_is ∙ ap (λ (state : FrameState). pushed_onto (kind_of top.purpose) state (pushed_of (model_frames below))) (waits ∙ sym goes);
+  stack_is = k.stack_is ∙ ap (λ (fs : List Frame). pushed_of (model_frames fs)) top_is ∙ ap (λ (state : frames_model.Progress). pushed_onto (kind_of top.purpose) state (pushed_of (model_frames below))) (waits ∙ sym goes);
   fit = k.fit;
   holds = of_progress start (opens_of h) (reserved_records h) (is_wished h) s top below progress top_is goes st k.holds;
 }
@@ -92,13 +93,13 @@ pub noted_record : (start : ℕ) (h : List HistoryEvent) (s : Stack) (top : Fram
     → IsStack start h s
     → IsStack start h (with_progress s top below (Waiting (Some (opened s))))
 noted_record start h s top below moment len top_is purpose waits past k = is_progress start h s top below (Waiting (Some (opened s))) top_is waits refl
-    (omega arith, λ e. subst (λ (kind : Kind). NeedsFill s.size (opens_of h) (reserved_records h) (is_wished h) kind waiting) (sym (ap kind_of purpose)) (needs_record start h s moment len past k)) k
+    (omega arith, λ e. subst (λ (kind : Purpose). NeedsFill s.size (opens_of h) (reserved_records h) (is_wished h) kind waiting) (sym (ap kind_of purpose)) (needs_record start h s moment len past k)) k
 
 pub noted_close : (start : ℕ) (h : List HistoryEvent) (s : Stack) (top : Frame) (below : List Frame) → s.frames ≡ top ∷ below → top.purpose ≡ Close → state_of top.progress ≡ waiting → s.tail.bytes ≢ []
     → IsStack start h s
     → IsStack start h (with_progress s top below (Waiting (Some (opened s))))
 noted_close start h s top below top_is purpose waits some k = is_progress start h s top below (Waiting (Some (opened s))) top_is waits refl
-    (omega arith, λ e. subst (λ (kind : Kind). NeedsFill s.size (opens_of h) (reserved_records h) (is_wished h) kind waiting) (sym (ap kind_of purpose)) (tail_some start (opens_of h) (reserved_records h) (is_wished h) s k.holds some)) k
+    (omega arith, λ e. subst (λ (kind : Purpose). NeedsFill s.size (opens_of h) (reserved_records h) (is_wished h) kind waiting) (sym (ap kind_of purpose)) (tail_some start (opens_of h) (reserved_records h) (is_wished h) s k.holds some)) k
 
 -- a close frame has nothing to close
 pub gone_through : (start : ℕ) (h : List HistoryEvent) (s : Stack) (top : Frame) (below : List Frame) (noted : ℕ) → s.frames ≡ top ∷ below → top.purpose ≡ Close → state_of top.progress ≡ waiting → noted ≤ opened s
@@ -115,7 +116,7 @@ left_is (Reserved slot) gone = absurd gone
 left_is (Left noted) gone = refl
 
 left_empty : (start : ℕ) (h : List HistoryEvent) (s : Stack) (bottom : Frame) → s.frames ≡ bottom ∷ [] → state_of bottom.progress ≡ left → IsStack start h s → (writer_after h).stack ≡ []
-left_empty start h s bottom top_is gone k = k.stack_is ∙ ap (λ (fs : List Frame). pushed_of (model_frames fs)) top_is ∙ ap (λ (state : FrameState). pushed_onto (kind_of bottom.purpose) state []) gone
+left_empty start h s bottom top_is gone k = k.stack_is ∙ ap (λ (fs : List Frame). pushed_of (model_frames fs)) top_is ∙ ap (λ (state : frames_model.Progress). pushed_onto (kind_of bottom.purpose) state []) gone
 
 -- it is asked to close the tail, which holds a record
 pub asked : (start : ℕ) (h : List HistoryEvent) (s : Stack) (bottom : Frame) → s.frames ≡ bottom ∷ [] → state_of bottom.progress ≡ left → s.tail.bytes ≢ [] → IsStack start h s → IsStack start (h ++ wished ∷ []) (with_progress s bottom [] (Left (Some (opened s))))

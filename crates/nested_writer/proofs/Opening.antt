@@ -6,7 +6,7 @@ use Rattle.std.proofs.lemmas.List.{length_push}
 use Rattle.trace_model.specs.History.{HistoryEvent, open_fill, Reservation, PushedFrame, writer_after, reserved_records, MayOpen}
 use Rattle.trace_model.specs.Packing.{opens_of, cut_from, is_wished}
 use Rattle.trace_model.specs.Fitting.{NeedsFill, FitsPage}
-use Rattle.trace_model.specs.Frames.{Kind, for_record, for_close, left, pushed_onto, pushed_of}
+use Rattle.trace_model.specs.Frames.{Purpose, for_record, for_close, left, pushed_onto, pushed_of}
 use Rattle.trace_model.specs.OpenPages.{HoldsRecords}
 use Rattle.trace_model.specs.Reading.{records_in}
 use Rattle.trace_model.proofs.collections.Elements.{some_is, get_in_front, get_behind}
@@ -104,7 +104,7 @@ module _ (start : ℕ) (cuts : List ℕ) (records : List Reservation) (found : B
       }
 
 -- what the frame that noted its need still needs
-still_needs : (size done : ℕ) (older : List Contents) (tail : Contents) (cuts : List ℕ) (records : List Reservation) (found : Bool) (s : Stack) (kind : Kind) (progress : Progress) → opened s ≡ done + length older + 1 → HasNoted s progress → StandsAt size done older tail cuts records found kind progress
+still_needs : (size done : ℕ) (older : List Contents) (tail : Contents) (cuts : List ℕ) (records : List Reservation) (found : Bool) (s : Stack) (kind : Purpose) (progress : Progress) → opened s ≡ done + length older + 1 → HasNoted s progress → StandsAt size done older tail cuts records found kind progress
     → NeedsFill size cuts records found kind (state_of progress)
 still_needs size done older tail cuts records found s kind (Waiting noted) same has st = st.1 (has ∙ ap Some same)
 still_needs size done older tail cuts records found s kind (Through noted) same has st = absurd has
@@ -112,7 +112,7 @@ still_needs size done older tail cuts records found s kind (Reserved slot) same 
 still_needs size done older tail cuts records found s for_close (Left noted) same has st = st.1 (has ∙ ap Some same)
 still_needs size done older tail cuts records found s (for_record moment len) (Left noted) same has st = st.1 (has ∙ ap Some same)
 
-may_open : (kind : Kind) (progress : Progress) (s : Stack) (below : List PushedFrame) → HasNoted s progress → (state_of progress ≡ left → below ≡ []) → MayOpen (pushed_onto kind (state_of progress) below)
+may_open : (kind : Purpose) (progress : Progress) (s : Stack) (below : List PushedFrame) → HasNoted s progress → (state_of progress ≡ left → below ≡ []) → MayOpen (pushed_onto kind (state_of progress) below)
 may_open (for_record moment len) (Waiting noted) s below has alone = refl
 may_open for_close (Waiting noted) s below has alone = tt
 may_open kind (Through noted) s below has alone = absurd has
@@ -120,7 +120,7 @@ may_open kind (Reserved slot) s below has alone = absurd has
 may_open (for_record moment len) (Left noted) s below has alone = subst MayOpen (sym (alone refl)) tt
 may_open for_close (Left noted) s below has alone = subst MayOpen (sym (alone refl)) tt
 
-fits_page : (size : ℕ) (kind : Kind) → MayBePushed size kind → FitsPage size kind
+fits_page : (size : ℕ) (kind : Purpose) → MayBePushed size kind → FitsPage size kind
 fits_page size (for_record moment len) may = may.0
 fits_page size for_close may = tt
 

@@ -7,7 +7,7 @@ use Rattle.trace_model.specs.Record.{Record}
 use Rattle.trace_model.specs.History.{HistoryEvent, Reservation, HasItsBytes, as_record, writer_after, reserved_records, is_settled, settled_prefix, committed_records, IsHistory}
 use Rattle.trace_model.specs.Packing.{opens_of, cut_from, tail_of, is_wished, first_of_fill}
 use Rattle.trace_model.specs.Fitting.{tail_at}
-use Rattle.trace_model.specs.Frames.{FrameState, left, pushed_onto, pushed_of}
+use Rattle.trace_model.specs.Frames.{Progress, left, pushed_onto, pushed_of}
 use Rattle.trace_model.specs.Ring.{fill_of}
 use Rattle.trace_model.specs.OpenPages.{IsOf, AreOf, HoldsRecords}
 use Rattle.trace_model.proofs.histories.Committed.{whole_front}
@@ -109,7 +109,7 @@ bottom_of (f ∷ next ∷ below) at = absurd at
 
 pub none_stands : (start : ℕ) (h : List HistoryEvent) (s : Stack) → IsAtBottom s.frames → IsStack start h s → (writer_after h).stack ≡ []
 none_stands start h s at k = let bottom = bottom_of s.frames at in
-    k.stack_is ∙ ap (λ (fs : List Frame). pushed_of (model_frames fs)) bottom.1 ∙ ap (λ (state : FrameState). pushed_onto (kind_of bottom.0.purpose) state []) bottom.2
+    k.stack_is ∙ ap (λ (fs : List Frame). pushed_of (model_frames fs)) bottom.1 ∙ ap (λ (state : Progress). pushed_onto (kind_of bottom.0.purpose) state []) bottom.2
 
 -- ---- the oldest page goes
 

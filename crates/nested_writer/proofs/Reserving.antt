@@ -10,7 +10,8 @@ use Rattle.trace_model.specs.Overwriting.{IsPlaceOf}
 use Rattle.trace_model.specs.History.{HistoryEvent, reserve, Reservation, PushedFrame, record_frame, last_moment, reservation_for, writer_after, reserved_records, MayReserve}
 use Rattle.trace_model.specs.Packing.{opens_of, cut_from, tail_of, fill_len, FitsBehind, is_wished}
 use Rattle.trace_model.specs.Fitting.{IsRising, tail_at}
-use Rattle.trace_model.specs.Frames.{Kind, reserved, pushed_onto, pushed_of}
+use Rattle.trace_model.specs.Frames.{reserved, pushed_onto, pushed_of}
+use Rattle.trace_model.specs.Frames as frames_model
 use Rattle.trace_model.specs.OpenPages.{HoldsRecords}
 use Rattle.trace_model.proofs.collections.Elements.{get_in_front, get_behind}
 use Rattle.trace_model.proofs.packing.FillCuts.{IsRising-more, reserved_before, reserved_last, opens_of-reserve}
@@ -270,7 +271,7 @@ reserved_record start h s top below moment len noted tail' place top_is purpose 
     let o = k.holds in
     let rest : List PushedFrame = pushed_of (model_frames below) in
     let stack : (writer_after h).stack ≡ record_frame moment len None ∷ rest = k.stack_is ∙ ap (λ (fs : List Frame). pushed_of (model_frames fs)) top_is ∙ (λ i. pushed_onto (kind_of (purpose i)) (state_of (waits i)) rest) in
-    let early = (subst (λ (kind : Kind). MayBePushed s.size kind) (ap kind_of purpose) (subst (FramesStand s.size s.done s.older s.tail (opens_of h) xs (is_wished h)) top_is o.frames_are).0).1 in
+    let early = (subst (λ (kind : frames_model.Purpose). MayBePushed s.size kind) (ap kind_of purpose) (subst (FramesStand s.size s.done s.older s.tail (opens_of h) xs (is_wished h)) top_is o.frames_are).0).1 in
     let fits : FitsBehind s.size (tail_at (opens_of h) xs) q = fits_behind start (opens_of h) xs (is_wished h) s o top below moment len tail' place p o.tail_is.size_is low in
     record {
       keeps = IsHistory-push h reserve k.keeps (subst MayReserve (sym stack) refl);

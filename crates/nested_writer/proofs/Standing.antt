@@ -5,7 +5,8 @@ use Rattle.std.specs.List.{slice_get}
 use Rattle.trace_model.specs.History.{Reservation}
 use Rattle.trace_model.specs.Overwriting.{IsPlaceOf}
 use Rattle.trace_model.specs.Fitting.{NeedsFill}
-use Rattle.trace_model.specs.Frames.{Kind, FrameState, waiting, left, number_of}
+use Rattle.trace_model.specs.Frames.{Purpose, waiting, left, number_of}
+use Rattle.trace_model.specs.Frames as frames_model
 use Rattle.trace_model.proofs.collections.Elements.{some_is}
 use Rattle.page_image.specs.Contents.{Contents}
 use Rattle.nested_writer.specs.declared.frame.Slot.{Slot}
@@ -48,7 +49,7 @@ noted_before o o' (Some k) low n e = let same : k ≡ o' = some_is k o' e in ome
 pub data BecomesOther (size done : ℕ) (older : List Contents) (cuts : List ℕ) (records : List Reservation) (found : Bool)
     (done' : ℕ) (older' : List Contents) (cuts' : List ℕ) (records' : List Reservation) (found' : Bool) : Type 0 where
   as_many : done' + length older' ≡ done + length older
-      → ((kind : Kind) (state : FrameState) → NeedsFill size cuts records found kind state → NeedsFill size cuts' records' found' kind state)
+      → ((kind : Purpose) (state : frames_model.Progress) → NeedsFill size cuts records found kind state → NeedsFill size cuts' records' found' kind state)
       → BecomesOther size done older cuts records found done' older' cuts' records' found'
   more : done + length older < done' + length older' → BecomesOther size done older cuts records found done' older' cuts' records' found'
 
@@ -57,7 +58,7 @@ module _ (size done : ℕ) (older : List Contents) (tail : Contents) (cuts : Lis
   no_fewer : done + length older ≤ done' + length older'
   no_fewer = elim becomes [ as_many same needs ↦ omega arith | more low ↦ omega arith ]
 
-  needs_on : (kind : Kind) (state : FrameState) (noted : Option ℕ) → IsNoted (done + length older + 1) noted
+  needs_on : (kind : Purpose) (state : frames_model.Progress) (noted : Option ℕ) → IsNoted (done + length older + 1) noted
       → (noted ≡ Some (done + length older + 1) → NeedsFill size cuts records found kind state)
       → noted ≡ Some (done' + length older' + 1)
       → NeedsFill size cuts' records' found' kind state
@@ -66,7 +67,7 @@ module _ (size done : ℕ) (older : List Contents) (tail : Contents) (cuts : Lis
     | more low ↦ absurd (noted_before (done + length older + 1) (done' + length older' + 1) noted (omega arith) n e)
   ]
 
-  stands_on : (kind : Kind) (progress : Progress) → IfSome (number_of (state_of progress)) (λ number. number < bound) → StandsAt size done older tail cuts records found kind progress → StandsAt size done' older' tail' cuts' records' found' kind progress
+  stands_on : (kind : Purpose) (progress : Progress) → IfSome (number_of (state_of progress)) (λ number. number < bound) → StandsAt size done older tail cuts records found kind progress → StandsAt size done' older' tail' cuts' records' found' kind progress
   stands_on kind (Waiting noted) before st = (let fewer = no_fewer in noted_later (done + length older + 1) (done' + length older' + 1) noted (omega arith) st.0, needs_on kind waiting noted st.0 st.1)
   stands_on kind (Through noted) before st = (st.0, let fewer = no_fewer in let low = st.1 in omega arith)
   stands_on kind (Reserved slot) before (moment, len, is, open_yet) = (moment, len, is, lies len slot before open_yet)
@@ -87,7 +88,7 @@ pub all_before : (size done : ℕ) (older : List Contents) (tail : Contents) (cu
 all_before size done older tail cuts records found [] st = tt
 all_before size done older tail cuts records found (f ∷ below) st = (number_before (kind_of f.purpose) f.progress st.1, all_before size done older tail cuts records found below st.4)
   where
-    number_before : (kind : Kind) (progress : Progress) → StandsAt size done older tail cuts records found kind progress → IfSome (number_of (state_of progress)) (λ number. number < length records)
+    number_before : (kind : Purpose) (progress : Progress) → StandsAt size done older tail cuts records found kind progress → IfSome (number_of (state_of progress)) (λ number. number < length records)
     number_before kind (Waiting noted) at = tt
     number_before kind (Through noted) at = tt
     number_before kind (Reserved slot) (moment, len, is, lies) = slice_get_within records slot.number lies.reservation lies.at

@@ -7,7 +7,7 @@ use Rattle.trace_model.specs.Overwriting.{IsPlaceOf}
 use Rattle.trace_model.specs.History.{HistoryEvent, Reservation, last_moment, writer_after, reserved_records, IsHistory}
 use Rattle.trace_model.specs.Packing.{opens_of, cut_from, is_wished}
 use Rattle.trace_model.specs.Fitting.{IsRising, HaveRoom, AreFit, FitsPage, NeedsFill}
-use Rattle.trace_model.specs.Frames.{Kind, for_record, for_close, waiting, left, number_of, pushed_of}
+use Rattle.trace_model.specs.Frames.{Purpose, for_record, for_close, waiting, left, number_of, pushed_of}
 use Rattle.trace_model.specs.OpenPages.{HoldsRecords}
 use Rattle.page_image.specs.Contents.{Contents, IsPage}
 use Rattle.nested_writer.specs.declared.frame.Slot.{Slot}
@@ -54,7 +54,7 @@ IsNoted opened noted = IfSome noted (λ o. o ≤ opened)
 
 -- What holds of a frame with this progress: what it noted is true; and if that is the number of begun fills, it still
 -- needs the next one. A close frame reserves nothing, and a reserved record is in an open page.
-abbrev pub StandsAt : (size done : ℕ) → List Contents → Contents → List ℕ → List Reservation → (found : Bool) → Kind
+abbrev pub StandsAt : (size done : ℕ) → List Contents → Contents → List ℕ → List Reservation → (found : Bool) → Purpose
     → Progress
     → Type 0
 StandsAt size done older tail cuts records found kind (Waiting noted) =
@@ -69,7 +69,7 @@ StandsAt size done older tail cuts records found kind (Left noted) =
     × (noted ≡ Some (done + length older + 1) → NeedsFill size cuts records found kind left)
 
 -- a record that a frame is pushed for has room in a page, and its moment is one that can be written
-abbrev pub MayBePushed : ℕ → Kind → Type 0
+abbrev pub MayBePushed : ℕ → Purpose → Type 0
 MayBePushed size (for_record moment len) = FitsPage size (for_record moment len) × (moment < MOMENT_LIMIT)
 MayBePushed size for_close = Unit {0}
 

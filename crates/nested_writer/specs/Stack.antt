@@ -1,6 +1,7 @@
 -- What contracts see of a writer's stack.
 use Rattle.std.specs.Prelude.{ℕ, ◌+◌, List, [], ◌∷◌, length}
-use Rattle.trace_model.specs.Frames.{Kind, for_record, for_close, FrameState, waiting, reserved, left, StackFrame}
+use Rattle.trace_model.specs.Frames.{for_record, for_close, waiting, reserved, left, StackFrame}
+use Rattle.trace_model.specs.Frames as frames_model
 use Rattle.page_image.specs.Contents.{Contents}
 use Rattle.nested_writer.specs.declared.frame.Purpose.{Purpose}
 use Rattle.nested_writer.specs.declared.frame.Purpose.TheVariants.{Record, Close}
@@ -57,11 +58,11 @@ new_stack pages size start = record {
 
 -- ---- frames as the model has them
 
-abbrev pub kind_of : Purpose → Kind
+abbrev pub kind_of : Purpose → frames_model.Purpose
 kind_of (Record moment len) = for_record moment len
 kind_of Close = for_close
 
-abbrev pub state_of : Progress → FrameState
+abbrev pub state_of : Progress → frames_model.Progress
 state_of (Waiting noted) = waiting
 state_of (Through noted) = waiting
 state_of (Reserved slot) = reserved slot.number

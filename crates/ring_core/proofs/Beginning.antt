@@ -6,7 +6,7 @@ use Rattle.std.specs.List.{slice_get}
 use Rattle.std.proofs.lemmas.List.{get_or-set_other}
 use Rattle.std.proofs.lemmas.Option.{slice_get_within, get_or_from_slice_get}
 use Rattle.trace_model.specs.History.{Reservation, records_with_payload}
-use Rattle.trace_model.specs.Frames.{Kind, for_record, for_close, FrameState, waiting, reserved, left, Phase as ModelPhase, idle, opening, Frame}
+use Rattle.trace_model.specs.Frames.{Purpose, for_record, for_close, Progress, waiting, reserved, left, Phase as ModelPhase, idle, opening, Frame}
 use Rattle.trace_model.specs.Ring.{Core, PageRecords, page_at, empty_page}
 use Rattle.trace_model.specs.Steps as model
 use Rattle.trace_model.proofs.steps.StepCases as cases
@@ -34,7 +34,7 @@ use Rattle.ring_core.proofs.Homes.{get_set_other}
 
 -- ---- a frame that begins again
 
-begin_result : (c : Core) (kind : Kind) (state : FrameState) (frame : Frame) (below : List Frame) → c.frames ≡ frame ∷ below → PrivateResult c (model.after_begin kind state c frame below)
+begin_result : (c : Core) (kind : Purpose) (state : Progress) (frame : Frame) (below : List Frame) → c.frames ≡ frame ∷ below → PrivateResult c (model.after_begin kind state c frame below)
 begin_result c (for_record moment len) waiting frame below top = goes_on frame below idle refl
 begin_result c for_close waiting frame below top = leaves frame below None top refl
 begin_result c kind (reserved number) frame below top = goes_on frame below idle refl
@@ -50,7 +50,7 @@ all_stay : (number : Option ℕ) (held : List PageRecords) → map (model.held_w
 all_stay number [] = refl
 all_stay number (h ∷ held) = λ i. none_written number h i ∷ all_stay number held i
 
-begin_holds : (c : Core) (kind : Kind) (state : FrameState) (frame : Frame) (below : List Frame) → (model.after_begin kind state c frame below).held ≡ c.held
+begin_holds : (c : Core) (kind : Purpose) (state : Progress) (frame : Frame) (below : List Frame) → (model.after_begin kind state c frame below).held ≡ c.held
 begin_holds c (for_record moment len) waiting frame below = refl
 begin_holds c for_close waiting frame below = all_stay (model.own_number frame.kind frame.state) c.held
 begin_holds c kind (reserved number) frame below = refl

@@ -1,6 +1,7 @@
 -- The frame on top in another phase; and one that begins again.
 use Rattle.std.proofs.Common.{◌≡◌, ℕ, List, [], ◌∷◌, Option, Some, refl, sym, ap, ◌∙◌, subst}
-use Rattle.trace_model.specs.Frames.{Kind, for_record, for_close, FrameState, waiting, left, Phase as ModelPhase, idle, Frame as ModelFrame}
+use Rattle.trace_model.specs.Frames.{for_record, for_close, waiting, left, Phase as ModelPhase, idle, Frame as ModelFrame}
+use Rattle.trace_model.specs.Frames as frames_model
 use Rattle.trace_model.specs.Ring.{Core}
 use Rattle.trace_model.specs.Steps as model
 use Rattle.ring_model.proofs.links.FramePhases.{none_some}
@@ -44,11 +45,11 @@ rephased n size start v c top frames frame below phase in_model k stack_is model
 -- ---- beginning again, by what the frame is
 
 -- what beginning again makes of a frame
-abbrev Again : (n size start : ℕ) (c : Core) (kind : Kind) (state : FrameState) (frame : ModelFrame) (below : List ModelFrame) → Answer → FramesValue → Type 0
+abbrev Again : (n size start : ℕ) (c : Core) (kind : frames_model.Purpose) (state : frames_model.Progress) (frame : ModelFrame) (below : List ModelFrame) → Answer → FramesValue → Type 0
 Again n size start c kind state frame below result new =
     IsAnswerOf size result (model.begin_answer kind state below) × AreFrames n size start new (model.after_begin kind state c frame below)
 
-again_left : (n size start : ℕ) (c : Core) (kind : Kind) (frame : ModelFrame) (below : List ModelFrame) (new : FramesValue) → AreFrames n size start new (model.in_phase c frame below (model.closing_phase c)) → Again n size start c kind left frame below Going new
+again_left : (n size start : ℕ) (c : Core) (kind : frames_model.Purpose) (frame : ModelFrame) (below : List ModelFrame) (new : FramesValue) → AreFrames n size start new (model.in_phase c frame below (model.closing_phase c)) → Again n size start c kind left frame below Going new
 again_left n size start c (for_record moment len) frame below new k = (refl, k)
 again_left n size start c for_close frame below new k = (refl, k)
 

@@ -1,6 +1,7 @@
 -- The bottom frame, which has left and is alone.
 use Rattle.std.proofs.Common.{◌≡◌, ◌≢◌, ℕ, List, [], ◌∷◌, length, Option, refl, ap, ◌∙◌, subst, arith}
-use Rattle.trace_model.specs.Frames.{Kind, FrameState, waiting, reserved, left}
+use Rattle.trace_model.specs.Frames.{waiting, reserved, left}
+use Rattle.trace_model.specs.Frames as frames_model
 use Rattle.trace_model.specs.Ring.{Core}
 use Rattle.ring_model.specs.KeptStack.{MayBeIn, FramesAgree}
 use Rattle.ring_model.specs.RingKept.{IsRingKept}
@@ -41,7 +42,7 @@ none_below (f ∷ frames) (phase ∷ phases) many none = let z = ap length none 
 
 -- a frame in this phase has left
 abbrev pub OnlyOfLeft : Phase → Type 0
-OnlyOfLeft phase = (kind : Kind) (state : FrameState) → MayBeIn kind state (phase_of phase) → state ≡ left
+OnlyOfLeft phase = (kind : frames_model.Purpose) (state : frames_model.Progress) → MayBeIn kind state (phase_of phase) → state ≡ left
 
 alone_in : (frames : List stack.Frame) (phase : Phase) (below : List Phase) → frames ≢ [] → AreBelow frames below → FramesAgree (frames_in_phases frames (phase ∷ below)) → OnlyOfLeft phase
     → (purpose : Purpose) × (noted : Option ℕ) × (frames ≡ record { purpose = purpose; progress = Left noted } ∷ []) × (below ≡ [])

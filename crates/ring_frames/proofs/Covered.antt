@@ -3,7 +3,8 @@ use Rattle.std.proofs.Common.{◌≡◌, ℕ, ◌<◌, ◌≤◌, List, [], ◌�
 use Rattle.std.specs.Prelude.{IfSome}
 use Rattle.trace_model.specs.History.{reserved_records}
 use Rattle.trace_model.specs.Packing.{opens_of, is_wished}
-use Rattle.trace_model.specs.Frames.{FrameState, reserved, number_of, Frame as ModelFrame}
+use Rattle.trace_model.specs.Frames.{reserved, number_of, Frame as ModelFrame}
+use Rattle.trace_model.specs.Frames as frames_model
 use Rattle.trace_model.specs.Ring.{Core}
 use Rattle.nested_writer.specs.declared.frame.Slot.{Slot}
 use Rattle.nested_writer.specs.declared.frame.Progress.{Progress}
@@ -32,7 +33,7 @@ held_number (f ∷ frames) (phase ∷ phases) slot long (inr there) = inr (held_
 number_low : (number other : ℕ) (frames : List Frame) (phases : List Phase) → AreBefore number frames → HasNumber (frames_in_phases frames phases) other → other < number
 number_low number other [] phases before none = absurd none
 number_low number other (f ∷ frames) [] before none = absurd none
-number_low number other (f ∷ frames) (phase ∷ phases) before (inl is) = subst (λ (s : FrameState). IfSome (number_of s) (λ n. n < number)) is before.0
+number_low number other (f ∷ frames) (phase ∷ phases) before (inl is) = subst (λ (s : frames_model.Progress). IfSome (number_of s) (λ n. n < number)) is before.0
 number_low number other (f ∷ frames) (phase ∷ phases) before (inr there) = number_low number other frames phases before.1 there
 
 pub enough_phases : (frames : List Frame) (phase : Phase) (below : List Phase) → AreBelow frames below → length frames ≤ length (phase ∷ below)

@@ -1,7 +1,8 @@
 -- What the frames on the stack are for: a push puts one on top, each step by which the frame on top continues or
 -- reserves keeps them, and one that leaves was on top of those that are left.
 use Rattle.std.proofs.Common.{◌≡◌, ℕ, ◌≤◌, List, [], ◌∷◌, length, Option, Some, None, refl, sym, ap, ◌∙◌, subst, arith}
-use Rattle.trace_model.specs.Frames.{Kind, for_record, for_close, FrameState, waiting, reserved, left, Phase, idle, looking, claiming, looking_next, marking, clearing, opening, releasing, wishing, Frame}
+use Rattle.trace_model.specs.Frames.{for_record, for_close, Progress, waiting, reserved, left, Phase, idle, looking, claiming, looking_next, marking, clearing, opening, releasing, wishing, Frame}
+use Rattle.trace_model.specs.Frames as frames_model
 use Rattle.trace_model.specs.Ring.{Core}
 use Rattle.trace_model.specs.Steps as model
 use Rattle.trace_model.proofs.steps.StepCases as cases
@@ -25,24 +26,24 @@ use Rattle.ring_frames.proofs.Covered.{enough_phases}
 
 -- ---- in the model
 
-abbrev pub kinds_of : List Frame → List Kind
+abbrev pub kinds_of : List Frame → List frames_model.Purpose
 kinds_of [] = []
 kinds_of (frame ∷ below) = frame.kind ∷ kinds_of below
 
 -- what is left if the one on top leaves, but the last one stays
-abbrev pub others_of : List Kind → List Kind
+abbrev pub others_of : List frames_model.Purpose → List frames_model.Purpose
 others_of [] = []
 others_of (top ∷ []) = top ∷ []
 others_of (top ∷ next ∷ others) = next ∷ others
 
 -- what an answer says of the kinds before and after it
-abbrev pub KeepsKinds : model.Answer → List Kind → List Kind → Type 0
+abbrev pub KeepsKinds : model.Answer → List frames_model.Purpose → List frames_model.Purpose → Type 0
 KeepsKinds model.pushed before after = Unit {0}
 KeepsKinds model.going before after = after ≡ before
 KeepsKinds (model.reserved_as number) before after = after ≡ before
-KeepsKinds model.pending before after = (top : Kind) × (before ≡ top ∷ after)
+KeepsKinds model.pending before after = (top : frames_model.Purpose) × (before ≡ top ∷ after)
 KeepsKinds model.full before after = Unit {0}
-KeepsKinds model.gone before after = (top : Kind) × (before ≡ top ∷ after)
+KeepsKinds model.gone before after = (top : frames_model.Purpose) × (before ≡ top ∷ after)
 KeepsKinds (model.refused why) before after = after ≡ others_of before
 KeepsKinds model.reading before after = Unit {0}
 KeepsKinds (model.empty done) before after = Unit {0}
@@ -63,7 +64,7 @@ module _ (n size : ℕ) (c : Core) (frame : Frame) where
   ended [] = tt
   ended (next ∷ below) = (frame.kind, refl)
 
-  begun : (kind : Kind) (state : FrameState) (now : Core) (below : List Frame) → KeepsKinds (model.begin_answer kind state below) (kinds_of (frame ∷ below)) (kinds_of ((model.after_begin kind state now frame below).frames))
+  begun : (kind : frames_model.Purpose) (state : Progress) (now : Core) (below : List Frame) → KeepsKinds (model.begin_answer kind state below) (kinds_of (frame ∷ below)) (kinds_of ((model.after_begin kind state now frame below).frames))
   begun (for_record moment len) waiting now below = refl
   begun for_close waiting now [] = refl
   begun for_close waiting now (next ∷ below) = (frame.kind, refl)
@@ -82,7 +83,7 @@ module _ (n size : ℕ) (c : Core) (frame : Frame) where
     again : (noted : ℕ) → cases.BeginsAgain c frame below noted answer after → AreKept
     again noted late = kept _ _ late.answer_is late.after_is (begun frame.kind frame.state c below)
 
-    kept_idle : (state : FrameState) → cases.IdleStep n size c frame below state answer after → AreKept
+    kept_idle : (state : Progress) → cases.IdleStep n size c frame below state answer after → AreKept
     kept_idle waiting (cases.reserves moment len r kind r_is fits a is) = kept _ _ a is refl
     kept_idle waiting (cases.finds_nothing kind none a is) = kept _ _ a is (leaves below)
     kept_idle waiting (cases.is_crowded needs full a is) = kept _ _ a is (refused below)
@@ -136,7 +137,7 @@ module _ (n size : ℕ) (c : Core) (answer : model.Answer) (after : Core) where
   steps_kinds (cases.store_wish_step e a is) = absurd (cc)
 
   -- an end
-  ends_kinds : (payload : List ℕ) → cases.StepCases n size c (model.ends payload) answer after → answer ≡ model.pending → (top : Kind) × (kinds_of c.frames ≡ top ∷ kinds_of after.frames)
+  ends_kinds : (payload : List ℕ) → cases.StepCases n size c (model.ends payload) answer after → answer ≡ model.pending → (top : frames_model.Purpose) × (kinds_of c.frames ≡ top ∷ kinds_of after.frames)
   ends_kinds payload (cases.push_step moment len e few short early a is) reported = absurd (cc)
   ends_kinds payload (cases.push_refused moment len why e refused a is) reported = absurd (cc)
   ends_kinds payload (cases.close_step e few a is) reported = absurd (cc)
@@ -144,7 +145,7 @@ module _ (n size : ℕ) (c : Core) (answer : model.Answer) (after : Core) where
   ends_kinds payload (cases.frame_step frame below e is step) reported = absurd (cc)
   ends_kinds payload (cases.frame_lacks e none a is) reported = absurd (cc)
   ends_kinds payload (cases.end_step given frame below number moment len e is x kind slot a after_is) reported =
-      subst (λ (fs : List Frame). (top : Kind) × (kinds_of fs ≡ top ∷ kinds_of after.frames)) (sym is)
+      subst (λ (fs : List Frame). (top : frames_model.Purpose) × (kinds_of fs ≡ top ∷ kinds_of after.frames)) (sym is)
       (subst (λ (x : model.Answer). KeepsKinds x (kinds_of (frame ∷ below)) (kinds_of after.frames)) reported (kept_end n size c frame below is answer after given a after_is))
   ends_kinds payload (cases.end_lacks given e none a is) reported = absurd (cc)
   ends_kinds payload (cases.end_early given frame below e is none a after_is) reported = absurd (cc)
@@ -155,7 +156,7 @@ module _ (n size : ℕ) (c : Core) (answer : model.Answer) (after : Core) where
   push_kinds : (moment len : ℕ) → cases.StepCases n size c (model.pushes moment len) answer after → answer ≡ model.pushed → kinds_of after.frames ≡ for_record moment len ∷ kinds_of c.frames
   push_kinds moment len (cases.push_step moment' len' e few short early a is) reported =
       ap (λ (d : Core). kinds_of d.frames) is
-      ∙ (let same : for_record moment' len' ≡ for_record moment len = cc in ap (λ (k : Kind). k ∷ kinds_of c.frames) same)
+      ∙ (let same : for_record moment' len' ≡ for_record moment len = cc in ap (λ (k : frames_model.Purpose). k ∷ kinds_of c.frames) same)
   push_kinds moment len (cases.push_refused moment' len' why e refused a is) reported = absurd (cc)
   push_kinds moment len (cases.close_step e few a is) reported = absurd (cc)
   push_kinds moment len (cases.close_refused e many a is) reported = absurd (cc)
@@ -189,7 +190,7 @@ module _ (n size : ℕ) (c : Core) (answer : model.Answer) (after : Core) where
   pub closing_kinds : model.Step n size c model.pushes_close answer after → answer ≡ model.pushed → kinds_of after.frames ≡ for_close ∷ kinds_of c.frames
   closing_kinds step reported = close_kinds n size c answer after (cases_of step) reported
 
-  pub ended_kinds : (payload : List ℕ) → model.Step n size c (model.ends payload) answer after → answer ≡ model.pending → (top : Kind) × (kinds_of c.frames ≡ top ∷ kinds_of after.frames)
+  pub ended_kinds : (payload : List ℕ) → model.Step n size c (model.ends payload) answer after → answer ≡ model.pending → (top : frames_model.Purpose) × (kinds_of c.frames ≡ top ∷ kinds_of after.frames)
   ended_kinds payload step reported = ends_kinds n size c answer after payload (cases_of step) reported
 
   pub stepped_kinds : model.Step n size c model.steps answer after → (a : model.Answer) → answer ≡ a → KeepsKinds a (kinds_of c.frames) (kinds_of after.frames)
@@ -197,24 +198,24 @@ module _ (n size : ℕ) (c : Core) (answer : model.Answer) (after : Core) where
 
 -- ---- of what is said of each kind
 
-abbrev pub map_kinds : (Kind → Option ℕ) → List Kind → List (Option ℕ)
+abbrev pub map_kinds : (frames_model.Purpose → Option ℕ) → List frames_model.Purpose → List (Option ℕ)
 map_kinds f [] = []
 map_kinds f (kind ∷ kinds) = f kind ∷ map_kinds f kinds
 
-module _ (f : Kind → Option ℕ) (before after : List Kind) (old new : List (Option ℕ)) (old_is : old ≡ map_kinds f before) (new_is : new ≡ map_kinds f after) where
+module _ (f : frames_model.Purpose → Option ℕ) (before after : List frames_model.Purpose) (old new : List (Option ℕ)) (old_is : old ≡ map_kinds f before) (new_is : new ≡ map_kinds f after) where
   pub same_mapped : after ≡ before → new ≡ old
   same_mapped same = new_is ∙ ap (map_kinds f) same ∙ sym old_is
 
-  pub more_mapped : (top : Kind) → after ≡ top ∷ before → new ≡ f top ∷ old
+  pub more_mapped : (top : frames_model.Purpose) → after ≡ top ∷ before → new ≡ f top ∷ old
   more_mapped top more = new_is ∙ ap (map_kinds f) more ∙ ap (λ (others : List (Option ℕ)). f top ∷ others) (sym old_is)
 
-  pub fewer_mapped : (top : Kind) × (before ≡ top ∷ after) → IsOneMore old new
+  pub fewer_mapped : (top : frames_model.Purpose) × (before ≡ top ∷ after) → IsOneMore old new
   fewer_mapped (top, fewer) = (f top, old_is ∙ ap (map_kinds f) fewer ∙ ap (λ (others : List (Option ℕ)). f top ∷ others) (sym new_is))
 
   pub left_mapped : after ≡ others_of before → new ≡ others_left old
   left_mapped others_are = new_is ∙ ap (map_kinds f) others_are ∙ by_kinds before ∙ ap others_left (sym old_is)
     where
-      by_kinds : (kinds : List Kind) → map_kinds f (others_of kinds) ≡ others_left (map_kinds f kinds)
+      by_kinds : (kinds : List frames_model.Purpose) → map_kinds f (others_of kinds) ≡ others_left (map_kinds f kinds)
       by_kinds [] = refl
       by_kinds (one ∷ []) = refl
       by_kinds (one ∷ two ∷ kinds) = refl
@@ -222,7 +223,7 @@ module _ (f : Kind → Option ℕ) (before after : List Kind) (old new : List (O
   pub others_mapped : after ≡ others_of before → AreOthersLeft old new
   others_mapped others_are top next others is = new_is ∙ by_kinds before after others_are (sym old_is ∙ is)
     where
-      by_kinds : (before after : List Kind) → after ≡ others_of before → map_kinds f before ≡ top ∷ next ∷ others → map_kinds f after ≡ next ∷ others
+      by_kinds : (before after : List frames_model.Purpose) → after ≡ others_of before → map_kinds f before ≡ top ∷ next ∷ others → map_kinds f after ≡ next ∷ others
       by_kinds [] after are is = absurd (let no : ◌≡◌ {A = List (Option ℕ)} [] (top ∷ next ∷ others) = is in cc)
       by_kinds (one ∷ []) after are is = absurd (let no : ◌≡◌ {A = List (Option ℕ)} (f one ∷ []) (top ∷ next ∷ others) = is in cc)
       by_kinds (one ∷ two ∷ kinds) after are is =
@@ -231,7 +232,7 @@ module _ (f : Kind → Option ℕ) (before after : List Kind) (old new : List (O
 
 -- ---- in the frames
 
-abbrev kind_len : Kind → Option ℕ
+abbrev kind_len : frames_model.Purpose → Option ℕ
 kind_len (for_record moment len) = Some len
 kind_len for_close = None
 

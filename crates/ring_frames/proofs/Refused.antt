@@ -1,6 +1,6 @@
 -- A push or an end that is refused changes nothing.
 use Rattle.std.proofs.Common.{◌≡◌, ℕ, List, [], ◌∷◌, sym, ◌∙◌, subst}
-use Rattle.trace_model.specs.Frames.{Refusal, Frame}
+use Rattle.trace_model.specs.Frames.{WriteFault, Frame}
 use Rattle.trace_model.specs.Ring.{Core}
 use Rattle.trace_model.specs.Steps as model
 use Rattle.trace_model.specs.Steps.{end_answer}
@@ -15,12 +15,12 @@ IsPushOrEnd (model.ends payload) = Unit {0}
 IsPushOrEnd model.reads = ⊥
 IsPushOrEnd model.wishes = ⊥
 
-end_accepts : (below : List Frame) (why : Refusal) → end_answer below ≡ model.refused why → ⊥
+end_accepts : (below : List Frame) (why : WriteFault) → end_answer below ≡ model.refused why → ⊥
 end_accepts [] why e = let no : model.full ≡ model.refused why = e in cc
 end_accepts (next ∷ below) why e = let no : model.pending ≡ model.refused why = e in cc
 
 -- it changes nothing if it is refused
-module _ (n size : ℕ) (c : Core) (event : model.Event) (answer : model.Answer) (after : Core) (may : IsPushOrEnd event) (why : Refusal) (refuses : answer ≡ model.refused why) where
+module _ (n size : ℕ) (c : Core) (event : model.Event) (answer : model.Answer) (after : Core) (may : IsPushOrEnd event) (why : WriteFault) (refuses : answer ≡ model.refused why) where
   accepted : answer ≡ model.pushed → ⊥
   accepted a = let no : model.pushed ≡ model.refused why = sym a ∙ refuses in cc
 

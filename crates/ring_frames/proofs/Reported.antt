@@ -1,7 +1,7 @@
 -- What the ring answers, from what the model does.
 use Rattle.std.proofs.Common.{◌≡◌, ◌≢◌, ℕ, refl, sym, subst}
 use Rattle.trace_model.specs.declared.numbers.RecordNo.{RecordNo}
-use Rattle.trace_model.specs.Frames.{Refusal}
+use Rattle.trace_model.specs.Frames as frames_model
 use Rattle.trace_model.specs.Steps as model
 use Rattle.nested_writer.specs.declared.fault.WriteFault.{WriteFault}
 use Rattle.nested_writer.specs.declared.stack.leave.Ended.TheVariants.{Pending, Full}
@@ -64,7 +64,7 @@ is_full size result reported t e = meant size result reported model.full t e
 pub is_gone_reported : (size : ℕ) (result : Answer) (reported : model.Answer) → IsAnswerOf size result reported → reported ≡ model.gone → result ≡ Gone
 is_gone_reported size result reported t e = meant size result reported model.gone t e
 
-pub is_refusal : (size : ℕ) (result : Answer) (reported : model.Answer) (why : Refusal) → IsAnswerOf size result reported → reported ≡ model.refused why → IsRefusal result
+pub is_refusal : (size : ℕ) (result : Answer) (reported : model.Answer) (why : frames_model.WriteFault) → IsAnswerOf size result reported → reported ≡ model.refused why → IsRefusal result
 is_refusal size result reported why t e = meant size result reported (model.refused why) t e
 
 -- the model answers `pushed` only if the ring does

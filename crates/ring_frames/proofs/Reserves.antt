@@ -5,7 +5,8 @@ use Rattle.std.specs.Prelude.{Ok, Err}
 use Rattle.trace_model.specs.declared.limits.TheConstants.{LINK_FILLS}
 use Rattle.trace_model.specs.History.{Reservation, reserve, leave, reservation_for, reserved_records}
 use Rattle.trace_model.specs.Packing.{tail_of, FitsBehind}
-use Rattle.trace_model.specs.Frames.{for_record, FrameState, waiting, reserved, left, idle, looking, Frame as ModelFrame}
+use Rattle.trace_model.specs.Frames.{for_record, waiting, reserved, left, idle, looking, Frame as ModelFrame}
+use Rattle.trace_model.specs.Frames as frames_model
 use Rattle.trace_model.specs.Ring.{PageRecords, Core}
 use Rattle.trace_model.specs.Steps as model
 use Rattle.trace_model.proofs.steps.StepCases as cases
@@ -80,7 +81,7 @@ module _ (n size start : ℕ) (v : FramesValue) (c : Core) (core : HasFrames n s
   stays is = left_rests is (top_agrees c frame below model_is (kept_of n size start v c core).stack).0
     where
       left_rests : state_of top.progress ≡ left → Rattle.ring_model.specs.KeptStack.MayBeIn (kind_of top.purpose) (state_of top.progress) idle → ⊥
-      left_rests is may = subst (λ (st : FrameState). Rattle.ring_model.specs.KeptStack.MayBeIn (kind_of top.purpose) st idle) is may refl
+      left_rests is may = subst (λ (st : frames_model.Progress). Rattle.ring_model.specs.KeptStack.MayBeIn (kind_of top.purpose) st idle) is may refl
 
   -- a step of a frame that rests touches no word
   own_step : IsPrivate c model.steps
@@ -88,7 +89,7 @@ module _ (n size start : ℕ) (v : FramesValue) (c : Core) (core : HasFrames n s
 
   -- a step of one that waits
   waits_step : (answer : model.Answer) (after : Core) → state_of top.progress ≡ waiting → cases.ReserveStep n size c frame below answer after → model.Step n size c model.steps answer after
-  waits_step answer after waits step = step_by (cases.frame_step frame below refl model_is (subst (λ (st : FrameState). cases.IdleStep n size c frame below st answer after) (sym waits) step))
+  waits_step answer after waits step = step_by (cases.frame_step frame below refl model_is (subst (λ (st : frames_model.Progress). cases.IdleStep n size c frame below st answer after) (sym waits) step))
 
   -- ---- it has its record
 

@@ -1,6 +1,7 @@
 -- What the answer of a ring means in the model; and the bytes that are in the slot of the frame on top.
 use Rattle.std.specs.Prelude.{◌≡◌, ℕ, ◌-◌, if◌then◌else◌, ◌==◌, List, [], ◌∷◌, ◌⊎◌, replicate, slice_index_or}
-use Rattle.trace_model.specs.Frames.{Refusal, too_deep, too_long, late_moment, crowded, worn, no_frame, not_reserved}
+use Rattle.trace_model.specs.Frames.{too_deep, too_long, late_moment, crowded, worn, no_frame, not_reserved}
+use Rattle.trace_model.specs.Frames as frames_model
 use Rattle.trace_model.specs.Overwriting.{bytes_at}
 use Rattle.trace_model.specs.Ring.{TakenFill}
 use Rattle.trace_model.specs.Steps as model
@@ -60,7 +61,7 @@ EndsPayload old new = (slot : Slot)
 
 -- ---- answers
 
-abbrev pub refusal_of : WriteFault → Refusal
+abbrev pub refusal_of : WriteFault → frames_model.WriteFault
 refusal_of TooDeep = too_deep
 refusal_of TooLong = too_long
 refusal_of LateMoment = late_moment

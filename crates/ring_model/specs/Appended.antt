@@ -3,7 +3,7 @@
 use Rattle.std.specs.Prelude.{◌≡◌, ◌≢◌, ℕ, ◌⊎◌, List, [], ◌∷◌, length, Some, None}
 use Rattle.trace_model.specs.History.{HistoryEvent, push, push_close, open_fill, reserve, leave, wished, reserved_records}
 use Rattle.trace_model.specs.Packing.{tail_of}
-use Rattle.trace_model.specs.Frames.{Kind, for_record, for_close, FrameState, waiting, reserved, left, Phase, idle, opening, wishing, noted_fill, owned_update, Frame, Refusal, crowded, worn, no_frame, not_reserved}
+use Rattle.trace_model.specs.Frames.{Purpose, for_record, for_close, Progress, waiting, reserved, left, Phase, idle, opening, wishing, noted_fill, owned_update, Frame, WriteFault, crowded, worn, no_frame, not_reserved}
 use Rattle.trace_model.specs.Ring.{Core}
 use Rattle.trace_model.specs.Steps.{Event, pushes, pushes_close, steps, ends, reads, wishes, Answer, pushed, going, reserved_as, gone, refused, leave_answer, end_answer, IsGranted}
 
@@ -12,10 +12,10 @@ use Rattle.trace_model.specs.Steps.{Event, pushes, pushes_close, steps, ends, re
 -- A frame that is pushed appends its push; one that is refused appends nothing.
 pub data PushAppends (event : HistoryEvent) (answer : Answer) (events : List HistoryEvent) : Type 0 where
   is_pushed : answer ≡ pushed → events ≡ event ∷ [] → PushAppends event answer events
-  isnt_pushed : (why : Refusal) → answer ≡ refused why → events ≡ [] → PushAppends event answer events
+  isnt_pushed : (why : WriteFault) → answer ≡ refused why → events ≡ [] → PushAppends event answer events
 
 -- A frame that has reserved leaves with the payload; the end of any other is refused, and appends nothing.
-abbrev pub EndAppends : List ℕ → FrameState → List Frame → Answer → List HistoryEvent → Type 0
+abbrev pub EndAppends : List ℕ → Progress → List Frame → Answer → List HistoryEvent → Type 0
 EndAppends payload waiting below answer events = (answer ≡ refused not_reserved) × (events ≡ [])
 EndAppends payload (reserved number) below answer events =
     (answer ≡ end_answer below) × (events ≡ leave (Some payload) ∷ [])
@@ -98,7 +98,7 @@ pub data LeftAppends (n : ℕ) (c : Core) (phase : Phase) (answer : Answer) (eve
       → LeftAppends n c phase answer events
 
 -- one that has reserved gets its number again as its answer
-abbrev pub FrameAppends : ℕ → Core → Kind → FrameState → Phase → List Frame → Answer → List HistoryEvent → Type 0
+abbrev pub FrameAppends : ℕ → Core → Purpose → Progress → Phase → List Frame → Answer → List HistoryEvent → Type 0
 FrameAppends n c (for_record moment len) waiting phase below answer events = RecordAppends c phase answer events
 FrameAppends n c for_close waiting phase below answer events = CloseAppends c phase below answer events
 FrameAppends n c kind (reserved number) phase below answer events = (answer ≡ reserved_as number) × (events ≡ [])

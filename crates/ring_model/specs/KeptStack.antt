@@ -2,16 +2,16 @@
 -- docs/FORMATS.md, "Writer frames".
 use Rattle.std.specs.Prelude.{◌≡◌, ◌≢◌, ℕ, ◌+◌, ◌≤◌, List, [], ◌∷◌, length}
 use Rattle.trace_model.specs.declared.limits.TheConstants.{MAX_FRAMES}
-use Rattle.trace_model.specs.Frames.{Kind, for_record, for_close, FrameState, waiting, reserved, left, Phase, idle, releasing, wishing, Frame}
+use Rattle.trace_model.specs.Frames.{Purpose, for_record, for_close, Progress, waiting, reserved, left, Phase, idle, releasing, wishing, Frame}
 use Rattle.trace_model.specs.Ring.{Core}
 
-abbrev pub IsForRecord : Kind → Type 0
+abbrev pub IsForRecord : Purpose → Type 0
 IsForRecord (for_record moment len) = Unit {0}
 IsForRecord for_close = ⊥
 
 -- The phases of a frame in its state. Only a record frame has reserved, and then it has noted nothing; a frame
 -- closes fills and looks for a wish only when it has left, and then it doesn't rest.
-abbrev pub MayBeIn : Kind → FrameState → Phase → Type 0
+abbrev pub MayBeIn : Purpose → Progress → Phase → Type 0
 MayBeIn kind waiting phase = (phase ≢ releasing) × (phase ≢ wishing)
 MayBeIn kind (reserved number) phase = IsForRecord kind × (phase ≡ idle)
 MayBeIn kind left phase = phase ≢ idle

@@ -5,7 +5,7 @@ use Rattle.std.specs.Prelude.{◌≡◌, ℕ, ◌+◌, ◌-◌, ◌*◌, ◌<◌
 use Rattle.trace_model.specs.History.{Reservation}
 use Rattle.trace_model.specs.Packing.{tail_of}
 use Rattle.trace_model.specs.Links.{Mark, normal, header, update}
-use Rattle.trace_model.specs.Frames.{FrameState, waiting, reserved, left, number_of, Phase, idle, looking, claiming, looking_next, marking, clearing, opening, releasing, wishing, Frame}
+use Rattle.trace_model.specs.Frames.{Progress, waiting, reserved, left, number_of, Phase, idle, looking, claiming, looking_next, marking, clearing, opening, releasing, wishing, Frame}
 use Rattle.trace_model.specs.Ring.{link_into, ReaderPhase, loading_head, loading_done, storing_spare_link, swapping, Core}
 use Rattle.trace_model.specs.Steps.{steps, ends, reads, Answer, reading, Step}
 use Rattle.ring_model.specs.RingKept.{IsRingKept}
@@ -13,7 +13,7 @@ use Rattle.ring_model.specs.RingKept.{IsRingKept}
 -- ---- a frame
 
 -- a frame that hasn't left has a way longer by all that it still does when it has left
-abbrev pub state_rank : FrameState → ℕ
+abbrev pub state_rank : Progress → ℕ
 state_rank waiting = 20
 state_rank (reserved number) = 20
 state_rank left = 0
@@ -34,7 +34,7 @@ abbrev pub tail_rank : List Reservation → ℕ
 tail_rank [] = 16
 tail_rank (r ∷ records) = 32
 
-abbrev pub idle_rank : Core → FrameState → ℕ
+abbrev pub idle_rank : Core → Progress → ℕ
 idle_rank c waiting = tail_rank (tail_of c.history)
 idle_rank c (reserved number) = 15
 idle_rank c left = 0
@@ -44,7 +44,7 @@ abbrev pub wish_rank : Core → ℕ
 wish_rank c = if c.wish == c.opened then 12 else 0
 
 -- how far a frame in this state and phase is from closing its last fill, but for the fills that are begun
-abbrev pub phase_rank : ℕ → Core → FrameState → Phase → ℕ
+abbrev pub phase_rank : ℕ → Core → Progress → Phase → ℕ
 phase_rank n c state idle = idle_rank c state
 phase_rank n c state (looking noted) = state_rank state + late_rank noted c.opened + 10
 phase_rank n c state (claiming noted page) = state_rank state + late_rank noted c.opened

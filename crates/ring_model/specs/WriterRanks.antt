@@ -6,7 +6,7 @@ use Rattle.std.specs.Prelude.{◌≡◌, ◌≢◌, ℕ, ◌+◌, ◌-◌, ◌*�
 use Rattle.trace_model.specs.History.{HistoryEvent, Reservation}
 use Rattle.trace_model.specs.Packing.{tail_of}
 use Rattle.trace_model.specs.Links.{header_link}
-use Rattle.trace_model.specs.Frames.{FrameState, waiting, reserved, left, number_of, Phase, idle, looking, claiming, looking_next, marking, clearing, opening, releasing, wishing, Frame}
+use Rattle.trace_model.specs.Frames.{Progress, waiting, reserved, left, number_of, Phase, idle, looking, claiming, looking_next, marking, clearing, opening, releasing, wishing, Frame}
 use Rattle.trace_model.specs.Ring.{link_into, Core}
 use Rattle.trace_model.specs.Steps.{steps, Answer, Step}
 use Rattle.ring_model.specs.Ranks.{state_rank, late_rank, frame_limit}
@@ -27,13 +27,13 @@ abbrev pub grant_rank : List Reservation → ℕ
 grant_rank [] = 0
 grant_rank (r ∷ records) = 12
 
-abbrev pub fresh_rank : List HistoryEvent → FrameState → ℕ
+abbrev pub fresh_rank : List HistoryEvent → Progress → ℕ
 fresh_rank history waiting = need_rank (tail_of history)
 fresh_rank history (reserved number) = 15
 fresh_rank history left = 0
 
 -- how far a frame in this state and phase is from closing its last fill, but for the fills that are begun
-abbrev pub own_rank : (n passed opened : ℕ) → List HistoryEvent → FrameState → Phase → ℕ
+abbrev pub own_rank : (n passed opened : ℕ) → List HistoryEvent → Progress → Phase → ℕ
 own_rank n passed opened history state idle = fresh_rank history state
 own_rank n passed opened history state (looking noted) =
     state_rank state + late_rank noted opened + look_rank n passed noted

@@ -232,7 +232,7 @@ module _ (v : WriterValue) (w : AreWriterFields v) (moment : ℕ) (payload : Lis
   begun = (has_begun v.shape v.part pushed_as moment (length payload) Pushed push_call (λ (fault, e). cc)).0
 
   reserves_it : Reserves v.shape (for_record moment (length payload)) v.part.frames pushed_as (Reserved number) reserved_then
-  reserves_it = subst (λ (k : Rattle.trace_model.specs.Frames.Kind). Reserves v.shape k v.part.frames pushed_as (Reserved number) reserved_then) begun.kind_is
+  reserves_it = subst (λ (k : Rattle.trace_model.specs.Frames.Purpose). Reserves v.shape k v.part.frames pushed_as (Reserved number) reserved_then) begun.kind_is
       (reserving_ends v.shape begun.frame.kind v.part.frames pushed_as pushed_as reserved_then (Reserved number)
       (reserving_first v.shape begun.frame v.part.frames pushed_as begun.top begun.reserves) reserve_call (λ e. cc))
 
@@ -267,7 +267,7 @@ module _ (v : WriterValue) (w : AreWriterFields v) (moment : ℕ) (payload : Lis
     written_at_once ne = written_then result after (is_gone now now after result at_once call (goes_so outcome ne))
 
     stands_so : Wished bottom [] call.answer call.next.frames → result ≡ Going → (next : Frame) × (after.frames ≡ next ∷ []) × IsLeaving next.kind next.state
-    stands_so (wishes_on next a top kind state) e = (next, ap (λ (x : Writing). x.frames) (sym call.after_is) ∙ top, subst (λ (s : Rattle.trace_model.specs.Frames.FrameState). IsLeaving next.kind s) (sym state) (subst (λ (k : Rattle.trace_model.specs.Frames.Kind). IsLeaving k left) (sym kind) tt))
+    stands_so (wishes_on next a top kind state) e = (next, ap (λ (x : Writing). x.frames) (sym call.after_is) ∙ top, subst (λ (s : Rattle.trace_model.specs.Frames.Progress). IsLeaving next.kind s) (sym state) (subst (λ (k : Rattle.trace_model.specs.Frames.Purpose). IsLeaving k left) (sym kind) tt))
     stands_so (wished_gone a top) e = absurd (let reports = subst (λ (x : Answer). Rattle.ring_frames.specs.Answers.IsAnswerOf size x call.answer) e call.reports in let both : model.going ≡ model.gone = sym reports ∙ a in cc)
 
     -- it goes on

@@ -1,7 +1,7 @@
 -- What a call of a writer appends to the history of its frames.
 use Rattle.std.proofs.Common.{◌≡◌, ◌≢◌, ℕ, List, [], ◌∷◌, ◌++◌, length, Some, None, refl, sym, ap, ◌∙◌, subst, inl, inr, append-nil}
 use Rattle.trace_model.specs.History.{HistoryEvent, push, push_close, reserve, leave, reserved_records}
-use Rattle.trace_model.specs.Frames.{Kind, for_record, for_close, FrameState, waiting, reserved, left, Phase, Frame, Refusal}
+use Rattle.trace_model.specs.Frames.{Purpose, for_record, for_close, Progress, waiting, reserved, left, Phase, Frame, WriteFault}
 use Rattle.trace_model.specs.Ring.{Core}
 use Rattle.trace_model.specs.Steps as model
 use Rattle.ring_model.specs.Appended.{IsRefusedPage, PushAppends, is_pushed, isnt_pushed, EndAppends, TopEndAppends, record_reserved, record_refused, record_opens, record_goes_on, close_refused, close_opens, close_leaves, close_goes_on, left_opens, left_grants, left_stays, FrameAppends, TopAppends, Appends}
@@ -51,15 +51,15 @@ closes_append shape before after call =
 
 -- ---- an end
 
-ended_not_refused : (size : ℕ) (how : How) (answer : model.Answer) (why : Refusal) → IsAnswerOf size (Ended how) answer → answer ≢ model.refused why
+ended_not_refused : (size : ℕ) (how : How) (answer : model.Answer) (why : WriteFault) → IsAnswerOf size (Ended how) answer → answer ≢ model.refused why
 ended_not_refused size Pending answer why reported a = cc
 ended_not_refused size Full answer why reported a = cc
 
-ended_event : (payload : List ℕ) (frames : List Frame) (answer : model.Answer) (history_events : List HistoryEvent) → ((why : Refusal) → answer ≢ model.refused why) → TopEndAppends payload frames answer history_events → history_events ≡ leave (Some payload) ∷ []
+ended_event : (payload : List ℕ) (frames : List Frame) (answer : model.Answer) (history_events : List HistoryEvent) → ((why : WriteFault) → answer ≢ model.refused why) → TopEndAppends payload frames answer history_events → history_events ≡ leave (Some payload) ∷ []
 ended_event payload [] answer history_events stands (a, is) = absurd (stands _ a)
 ended_event payload (frame ∷ below) answer history_events stands appends = by frame.state appends
   where
-    by : (state : FrameState) → EndAppends payload state below answer history_events → history_events ≡ leave (Some payload) ∷ []
+    by : (state : Progress) → EndAppends payload state below answer history_events → history_events ≡ leave (Some payload) ∷ []
     by waiting (a, is) = absurd (stands _ a)
     by (reserved number) (a, is) = is
     by left (a, is) = absurd (stands _ a)
@@ -83,7 +83,7 @@ page_no_number answer number reported (inl a) = cc
 page_no_number answer number reported (inr a) = cc
 
 module _ (n : ℕ) (c : Core) (below : List Frame) (answer : model.Answer) (history_events : List HistoryEvent) where
-  reserved_event : (kind : Kind) (state : FrameState) (phase : Phase) (number : ℕ) → state ≡ waiting → answer ≡ model.reserved_as number → FrameAppends n c kind state phase below answer history_events → (number ≡ length (reserved_records c.history)) × (history_events ≡ reserve ∷ [])
+  reserved_event : (kind : Purpose) (state : Progress) (phase : Phase) (number : ℕ) → state ≡ waiting → answer ≡ model.reserved_as number → FrameAppends n c kind state phase below answer history_events → (number ≡ length (reserved_records c.history)) × (history_events ≡ reserve ∷ [])
   reserved_event (for_record moment len) waiting phase number waits reported (record_reserved a is) = (number_is (sym reported ∙ a), is)
   reserved_event (for_record moment len) waiting phase number waits reported (record_refused a is) = absurd (page_no_number answer number reported a)
   reserved_event (for_record moment len) waiting phase number waits reported (record_opens fill a is) = absurd (cc)
@@ -95,8 +95,8 @@ module _ (n : ℕ) (c : Core) (below : List Frame) (answer : model.Answer) (hist
   reserved_event kind (reserved other) phase number waits reported appends = absurd (cc)
   reserved_event kind left phase number waits reported appends = absurd (cc)
 
-  again_event : (kind : Kind) (state : FrameState) (phase : Phase) (number : ℕ) → state ≡ reserved number → FrameAppends n c kind state phase below answer history_events → (answer ≡ model.reserved_as number) × (history_events ≡ [])
-  again_event kind state phase number has appends = subst (λ (s : FrameState). FrameAppends n c kind s phase below answer history_events) has appends
+  again_event : (kind : Purpose) (state : Progress) (phase : Phase) (number : ℕ) → state ≡ reserved number → FrameAppends n c kind state phase below answer history_events → (answer ≡ model.reserved_as number) × (history_events ≡ [])
+  again_event kind state phase number has appends = subst (λ (s : Progress). FrameAppends n c kind s phase below answer history_events) has appends
 
 -- the part's frames are the state's
 frames_are : {made : List WriterMade} (core : Core) (before : Writing) (frames : List Frame) → writing_of made core ≡ before → before.frames ≡ frames → core.frames ≡ frames
@@ -118,24 +118,24 @@ numbers_again shape before frame below number result after top has call =
 
 -- ---- a refusal
 
-refused_push : (history_event : HistoryEvent) (answer : model.Answer) (why : Refusal) (history_events : List HistoryEvent) → answer ≡ model.refused why → PushAppends history_event answer history_events → history_events ≡ []
+refused_push : (history_event : HistoryEvent) (answer : model.Answer) (why : WriteFault) (history_events : List HistoryEvent) → answer ≡ model.refused why → PushAppends history_event answer history_events → history_events ≡ []
 refused_push history_event answer why history_events reported (is_pushed a is) = absurd (cc)
 refused_push history_event answer why history_events reported (isnt_pushed other a is) = is
 
-end_not_refused : (below : List Frame) (why : Refusal) → model.end_answer below ≢ model.refused why
+end_not_refused : (below : List Frame) (why : WriteFault) → model.end_answer below ≢ model.refused why
 end_not_refused [] why e = cc
 end_not_refused (next ∷ below) why e = cc
 
-refused_end : (payload : List ℕ) (frames : List Frame) (answer : model.Answer) (why : Refusal) (history_events : List HistoryEvent) → answer ≡ model.refused why → TopEndAppends payload frames answer history_events → history_events ≡ []
+refused_end : (payload : List ℕ) (frames : List Frame) (answer : model.Answer) (why : WriteFault) (history_events : List HistoryEvent) → answer ≡ model.refused why → TopEndAppends payload frames answer history_events → history_events ≡ []
 refused_end payload [] answer why history_events reported (a, is) = is
 refused_end payload (frame ∷ below) answer why history_events reported appends = by frame.state appends
   where
-    by : (state : FrameState) → EndAppends payload state below answer history_events → history_events ≡ []
+    by : (state : Progress) → EndAppends payload state below answer history_events → history_events ≡ []
     by waiting (a, is) = is
     by (reserved number) (a, is) = absurd (end_not_refused below why (sym a ∙ reported))
     by left (a, is) = is
 
-refused_frame : (n : ℕ) (c : Core) (kind : Kind) (state : FrameState) (phase : Phase) (below : List Frame) (answer : model.Answer) (why : Refusal) (history_events : List HistoryEvent) → answer ≡ model.refused why → FrameAppends n c kind state phase below answer history_events → history_events ≡ leave None ∷ []
+refused_frame : (n : ℕ) (c : Core) (kind : Purpose) (state : Progress) (phase : Phase) (below : List Frame) (answer : model.Answer) (why : WriteFault) (history_events : List HistoryEvent) → answer ≡ model.refused why → FrameAppends n c kind state phase below answer history_events → history_events ≡ leave None ∷ []
 refused_frame n c (for_record moment len) waiting phase below answer why history_events reported (record_reserved a is) = absurd (cc)
 refused_frame n c (for_record moment len) waiting phase below answer why history_events reported (record_refused a is) = is
 refused_frame n c (for_record moment len) waiting phase below answer why history_events reported (record_opens fill a is) = absurd (cc)
@@ -150,11 +150,11 @@ refused_frame n c kind left phase below answer why history_events reported (left
 refused_frame n c kind left phase below answer why history_events reported (left_stays none denied (inl a) is) = absurd (cc)
 refused_frame n c kind left phase below answer why history_events reported (left_stays none denied (inr a) is) = absurd (cc)
 
-refused_step : (n : ℕ) (c : Core) (frames : List Frame) (answer : model.Answer) (why : Refusal) (history_events : List HistoryEvent) → answer ≡ model.refused why → TopAppends n c frames answer history_events → history_events ≡ events_of_refusal model.steps frames
+refused_step : (n : ℕ) (c : Core) (frames : List Frame) (answer : model.Answer) (why : WriteFault) (history_events : List HistoryEvent) → answer ≡ model.refused why → TopAppends n c frames answer history_events → history_events ≡ events_of_refusal model.steps frames
 refused_step n c [] answer why history_events reported (a, is) = is
 refused_step n c (frame ∷ below) answer why history_events reported appends = refused_frame n c frame.kind frame.state frame.phase below answer why history_events reported appends
 
-refused_events : (n : ℕ) (c : Core) (event : model.Event) (answer : model.Answer) (why : Refusal) (history_events : List HistoryEvent) → answer ≡ model.refused why → Appends n c event answer history_events → history_events ≡ events_of_refusal event c.frames
+refused_events : (n : ℕ) (c : Core) (event : model.Event) (answer : model.Answer) (why : WriteFault) (history_events : List HistoryEvent) → answer ≡ model.refused why → Appends n c event answer history_events → history_events ≡ events_of_refusal event c.frames
 refused_events n c (model.pushes moment len) answer why history_events reported appends = refused_push (push moment len) answer why history_events reported appends
 refused_events n c model.pushes_close answer why history_events reported appends = refused_push push_close answer why history_events reported appends
 refused_events n c model.steps answer why history_events reported appends = refused_step n c c.frames answer why history_events reported appends

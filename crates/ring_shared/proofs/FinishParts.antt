@@ -2,7 +2,7 @@
 use Rattle.std.specs.Prelude.{◌⊎◌, None}
 use Rattle.std.proofs.Common.{◌≡◌, ℕ, List, [], ◌∷◌, refl, sym, ap, ◌∙◌, subst, inl, inr}
 use Rattle.trace_model.specs.declared.numbers.RecordNo.{RecordNo}
-use Rattle.trace_model.specs.Frames.{Kind, FrameState, waiting, reserved, Frame}
+use Rattle.trace_model.specs.Frames.{Purpose, Progress, waiting, reserved, Frame}
 use Rattle.trace_model.specs.Steps as model
 use Rattle.ring_model.specs.FrameOutcomes.{IsLeaving}
 use Rattle.nested_writer.specs.declared.frame.Slot.{Slot}
@@ -42,7 +42,7 @@ pub record HasNumber (below : List Frame) (result : Answer) (frames : List Frame
 abbrev pub ReportsTop : Answer → List Frame → Type 0
 ReportsTop result frames = ((below : List Frame) × HasNumber below result frames) ⊎ IsRefusal result
 
-pub reserving_reports : (kind : Kind) (below : List Frame) (result : Answer) (after : List Frame) → IsReservedOr kind below result after → ReportsTop result after
+pub reserving_reports : (kind : Purpose) (below : List Frame) (result : Answer) (after : List Frame) → IsReservedOr kind below result after → ReportsTop result after
 reserving_reports kind below _ after (is_reserved next number end top kind_is state_is) = inl (below, record { next = next; number = number; reported = refl; top = top; state_is = state_is })
 reserving_reports kind below _ after (stays_refused fault next end top leaves) = inr (fault, refl)
 reserving_reports kind below _ after (is_refused fault end top) = inr (fault, refl)
@@ -51,7 +51,7 @@ pub number_or_refused : (result : Answer) (frames : List Frame) → ReportsTop r
 number_or_refused result frames (inl (below, h)) = inl (h.number, h.reported)
 number_or_refused result frames (inr refusal) = inr refusal
 
-abbrev state_first : List Frame → FrameState
+abbrev state_first : List Frame → Progress
 state_first [] = waiting
 state_first (first ∷ others) = first.state
 

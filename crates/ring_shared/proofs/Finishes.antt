@@ -1,7 +1,8 @@
 -- The frame on top, stepped as far as it gets by itself: what one step more makes of what came before it.
 use Rattle.std.specs.Prelude.{Option, Some, None, ◌⊎◌, ◌<◌}
 use Rattle.std.proofs.Common.{◌≡◌, ◌≢◌, suc, List, ◌∷◌, length, refl, sym, ap, ◌∙◌, subst, inl, inr, arith}
-use Rattle.trace_model.specs.Frames.{Refusal, Kind, FrameState, number_of, Frame}
+use Rattle.trace_model.specs.Frames.{Purpose, Progress, number_of, Frame}
+use Rattle.trace_model.specs.Frames as frames_model
 use Rattle.trace_model.specs.Steps as model
 use Rattle.ring_model.specs.FrameOutcomes.{IsReserving, IsLeaving, Reserving, reserves_on, has_reserved, is_refused as refused_to, Leaving, leaves_on, is_gone as gone_from}
 use Rattle.ring_model.proofs.partition.RingsKept.{reached_kept}
@@ -17,12 +18,12 @@ use Rattle.ring_shared.specs.Finishing.{MakesSteps, at_once, one_more, IsReserve
 use Rattle.ring_frames.proofs.Reported.{IsRefusal, is_going, is_refusal, is_gone_reported, is_number}
 
 -- a frame that hasn't reserved has no number
-pub reserving_unnumbered : (kind : Kind) (state : FrameState) → IsReserving kind state → number_of state ≡ None
+pub reserving_unnumbered : (kind : Purpose) (state : Progress) → IsReserving kind state → number_of state ≡ None
 reserving_unnumbered kind Rattle.trace_model.specs.Frames.waiting is = refl
 reserving_unnumbered kind (Rattle.trace_model.specs.Frames.reserved number) is = absurd is
 reserving_unnumbered kind Rattle.trace_model.specs.Frames.left is = refl
 
-pub leaving_unnumbered : (kind : Kind) (state : FrameState) → IsLeaving kind state → number_of state ≡ None
+pub leaving_unnumbered : (kind : Purpose) (state : Progress) → IsLeaving kind state → number_of state ≡ None
 leaving_unnumbered kind Rattle.trace_model.specs.Frames.waiting is = refl
 leaving_unnumbered kind (Rattle.trace_model.specs.Frames.reserved number) is = absurd is
 leaving_unnumbered kind Rattle.trace_model.specs.Frames.left is = refl
@@ -35,7 +36,7 @@ module _ (shape : Shape) where
   first_goes before between after call at_once = one_more before after at_once call
   first_goes before between after call (one_more last end goes more) = one_more last after (first_goes before between last call goes) more
 
-  pub reserves_behind : (kind : Kind) (below : List Frame) (before between after : Writing) (result : Answer) → IsCall shape before model.steps Going between → Reserves shape kind below between result after → Reserves shape kind below before result after
+  pub reserves_behind : (kind : Purpose) (below : List Frame) (before between after : Writing) (result : Answer) → IsCall shape before model.steps Going between → Reserves shape kind below between result after → Reserves shape kind below before result after
   reserves_behind kind below before between after result call r = record { between = r.between; goes = first_goes before between r.between call r.goes; last = r.last; ends = r.ends }
 
   pub leaves_behind : (below : List Frame) (before between after : Writing) (answer : Answer) → IsCall shape before model.steps Going between → Leaves shape below between answer after → Leaves shape below before answer after
@@ -65,7 +66,7 @@ module _ (shape : Shape) where
 
 -- Part of the steps to a record are made: it is still to be reserved, and what is made from here is made from the
 -- first.
-pub record IsStillReserving (shape : Shape) (kind : Kind) (below : List Frame) (before now : Writing) : Type 0 where
+pub record IsStillReserving (shape : Shape) (kind : Purpose) (below : List Frame) (before now : Writing) : Type 0 where
   pub frame : Frame
   pub top : now.frames ≡ frame ∷ below
   pub kind_is : frame.kind ≡ kind
@@ -75,13 +76,13 @@ pub record IsStillReserving (shape : Shape) (kind : Kind) (below : List Frame) (
 pub reserving_first : (shape : Shape) (frame : Frame) (below : List Frame) (before : Writing) → before.frames ≡ frame ∷ below → IsReserving frame.kind frame.state → IsStillReserving shape frame.kind below before before
 reserving_first shape frame below before top is = record { frame = frame; top = top; kind_is = refl; reserves = is; ends = λ answer after r. r }
 
-module _ (shape : Shape) (kind : Kind) (below : List Frame) (before now next : Writing) (result : Answer) (a : IsStillReserving shape kind below before now) (call : IsCall shape now model.steps result next) where
+module _ (shape : Shape) (kind : Purpose) (below : List Frame) (before now next : Writing) (result : Answer) (a : IsStillReserving shape kind below before now) (call : IsCall shape now model.steps result next) where
   goes_with : Reserving a.frame below call.answer call.next.frames → result ≡ Going → IsStillReserving shape kind below before next
   goes_with (reserves_on frame answer_is top kind_is state_is) e = record {
     frame = frame;
     top = frames_after shape now next result call (frame ∷ below) top;
     kind_is = kind_is ∙ a.kind_is;
-    reserves = subst (λ (k : Kind). IsReserving k frame.state) (sym kind_is) (subst (IsReserving a.frame.kind) (sym state_is) a.reserves);
+    reserves = subst (λ (k : Purpose). IsReserving k frame.state) (sym kind_is) (subst (IsReserving a.frame.kind) (sym state_is) a.reserves);
     ends = λ answer after r. a.ends answer after (reserves_behind shape kind below now next after answer (subst (λ (x : Answer). IsCall shape now model.steps x next) e call) r);
   }
   goes_with (has_reserved frame number answer_is top kind_is state_is) e =
@@ -156,7 +157,7 @@ module _ (shape : Shape) (below : List Frame) (before : Writing) (met : Option W
         (a.ends (Refused fault) after (was_refused now now next after frame fault answer at_once (subst (λ (x : Answer). IsCall shape now model.steps x next) e call) top leaves l));
   }
 
-  answered : (call.answer ≡ model.going) ⊎ ((why : Refusal) × (call.answer ≡ model.refused why)) → (result ≡ Going) ⊎ IsRefusal result
+  answered : (call.answer ≡ model.going) ⊎ ((why : frames_model.WriteFault) × (call.answer ≡ model.refused why)) → (result ≡ Going) ⊎ IsRefusal result
   answered (inl e) = inl (is_going shape.size result call.answer call.reports e)
   answered (inr (why, e)) = inr (is_refusal shape.size result call.answer why call.reports e)
 
@@ -190,7 +191,7 @@ module _ (shape : Shape) (below : List Frame) (before : Writing) (met : Option W
   gone_how (leaves_on frame answer_is top leaves) less = let same = ap (length {A = Frame}) (frames_after shape now next result call (frame ∷ below) top) in let w = wide in absurd (omega arith)
   gone_how (gone_from how top) less = reported_how met result (how_reported how)
     where
-      how_reported : (call.answer ≡ model.gone) ⊎ ((why : Refusal) × (call.answer ≡ model.refused why)) → IsGoneOrRefused result
+      how_reported : (call.answer ≡ model.gone) ⊎ ((why : frames_model.WriteFault) × (call.answer ≡ model.refused why)) → IsGoneOrRefused result
       how_reported (inl e) = inl (is_gone_reported shape.size result call.answer call.reports e)
       how_reported (inr (why, e)) = inr (is_refusal shape.size result call.answer why call.reports e)
 

@@ -1,6 +1,6 @@
 -- What the steps make of the writer's fields by which pages come and go, and by which the reader's wish is looked for.
 use Rattle.std.proofs.Common.{◌≡◌, ◌≢◌, ℕ, List, [], ◌∷◌, ◌++◌, drop, refl, sym, ap, ◌∙◌, subst}
-use Rattle.trace_model.specs.Frames.{Kind, for_record, for_close, FrameState, waiting, reserved, left, opening, Frame}
+use Rattle.trace_model.specs.Frames.{Purpose, for_record, for_close, Progress, waiting, reserved, left, opening, Frame}
 use Rattle.trace_model.specs.Ring.{Core, PageRecords, fill_of}
 use Rattle.trace_model.specs.Steps as model
 use Rattle.trace_model.proofs.steps.StepCases as cases
@@ -22,7 +22,7 @@ use Rattle.ring_shared.proofs.Called.{writer_seen, top_seen}
 use Rattle.ring_shared.proofs.Standing.{FramesIn, kept_now, frames_in, top_in, made}
 
 -- a frame that begins again keeps the writer's pages
-begun_pages : (kind : Kind) (state : FrameState) (c : Core) (frame : Frame) (below : List Frame) → (model.after_begin kind state c frame below).open_pages ≡ c.open_pages
+begun_pages : (kind : Purpose) (state : Progress) (c : Core) (frame : Frame) (below : List Frame) → (model.after_begin kind state c frame below).open_pages ≡ c.open_pages
 begun_pages (for_record moment len) waiting c frame below = refl
 begun_pages for_close waiting c frame below = refl
 begun_pages kind (reserved number) c frame below = refl

@@ -1,7 +1,7 @@
 -- What a push and an end make of the frames of a ring.
 use Rattle.std.specs.Prelude.{None, Some, Option}
 use Rattle.std.proofs.Common.{◌≡◌, ℕ, ◌⊎◌, List, [], ◌∷◌, length, refl, sym, ap, ◌∙◌, subst, inl, inr, arith}
-use Rattle.trace_model.specs.Frames.{for_record, waiting, reserved, number_of, Refusal, Frame}
+use Rattle.trace_model.specs.Frames.{for_record, waiting, reserved, number_of, WriteFault, Frame}
 use Rattle.trace_model.specs.Ring.{Core}
 use Rattle.trace_model.specs.Steps.{Event, pushes, pushes_close, steps, ends, reads, wishes, Answer, pushed, refused, frames_after_leave, end_answer}
 use Rattle.trace_model.proofs.steps.StepCases.{StepCases, push_step, push_refused, close_step, close_refused, frame_step, frame_lacks, end_step, end_lacks, end_early, read_step, store_wish_step}
@@ -24,7 +24,7 @@ pub record IsPushed (moment len : ℕ) (answer : Answer) (before after : List Fr
   pub state_is : frame.state ≡ waiting
   pub answer_is : answer ≡ pushed
 
-pub push_answers : (n size : ℕ) (c : Core) (moment len : ℕ) (answer : Answer) (after : Core) → StepCases n size c (pushes moment len) answer after → IsPushed moment len answer c.frames after.frames ⊎ ((why : Refusal) × (answer ≡ refused why) × (after ≡ c))
+pub push_answers : (n size : ℕ) (c : Core) (moment len : ℕ) (answer : Answer) (after : Core) → StepCases n size c (pushes moment len) answer after → IsPushed moment len answer c.frames after.frames ⊎ ((why : WriteFault) × (answer ≡ refused why) × (after ≡ c))
 push_answers n size c moment len answer after (push_step m l e few short early a is) =
     inl record { frame = _; top = ap (λ (d : Core). d.frames) is; kind_is = (let same : for_record m l ≡ for_record moment len = (let events : pushes moment len ≡ pushes m l = e in cc) in same); state_is = refl; answer_is = a }
 push_answers n size c moment len answer after (push_refused m l why e why_not a is) = inr (why, a, is)

@@ -4,7 +4,7 @@ use Rattle.std.proofs.Common.{◌≡◌, ℕ, List, [], ◌∷◌, length, refl,
 use Rattle.trace_model.specs.declared.numbers.RecordNo.{RecordNo}
 use Rattle.trace_model.specs.Words.{slot_len}
 use Rattle.trace_model.proofs.collections.Elements.{some_is}
-use Rattle.trace_model.specs.Frames.{Kind, for_record, for_close, FrameState, waiting, reserved, left, Frame}
+use Rattle.trace_model.specs.Frames.{Purpose, for_record, for_close, Progress, waiting, reserved, left, Frame}
 use Rattle.trace_model.specs.Ring.{Core}
 use Rattle.trace_model.specs.Steps as model
 use Rattle.trace_model.proofs.steps.StepSound.{cases_of}
@@ -130,7 +130,7 @@ module _ (shape : Shape) (result : Answer) (after : Writing) (goes_on : IsRefusa
   leaves_last below _ _ e (is_gone before between last answer goes call top) = record { between = between; goes = goes; last = subst (λ (x : Answer). IsCall shape between model.steps x after) e call }
   leaves_last below _ _ e (was_refused before between next last frame fault answer goes call top is l) = absurd (goes_on (fault, sym e))
 
-  frame_last : (kind : Kind) (state : FrameState) (below : List Frame) (before : Writing) → FinishesFrame shape kind state below before result after → HasLast shape before result after
+  frame_last : (kind : Purpose) (state : Progress) (below : List Frame) (before : Writing) → FinishesFrame shape kind state below before result after → HasLast shape before result after
   frame_last (for_record moment len) waiting below before r = record { between = r.between; goes = r.goes; last = r.last }
   frame_last for_close waiting below before l = leaves_last below before result refl l
   frame_last (for_record moment len) (reserved number) below before call = record { between = before; goes = at_once; last = call }
@@ -175,7 +175,7 @@ module _ (shape : Shape) (fault : WriteFault) (after : Writing) where
   refused_leaving frame below before answer at l top next others is =
       ap rooms_of (left_frames shape below before answer after l) ∙ same_others (room_of frame.kind) (rooms_of below) top next others (sym (ap rooms_of at) ∙ is)
 
-  refused_frame : (kind : Kind) (state : FrameState) (frame : Frame) (below : List Frame) (before : Writing) (result : Answer) → result ≡ Refused fault → before.frames ≡ frame ∷ below → FinishesFrame shape kind state below before result after → AreOthersLeft (rooms_of before.frames) (rooms_of after.frames)
+  refused_frame : (kind : Purpose) (state : Progress) (frame : Frame) (below : List Frame) (before : Writing) (result : Answer) → result ≡ Refused fault → before.frames ≡ frame ∷ below → FinishesFrame shape kind state below before result after → AreOthersLeft (rooms_of before.frames) (rooms_of after.frames)
   refused_frame (for_record moment len) waiting frame below before result reported at r = refused_last before r.between result reported r.goes r.last
   refused_frame for_close waiting frame below before result reported at l = refused_leaving frame below before result at l
   refused_frame (for_record moment len) (reserved number) frame below before result reported at call = refused_last before before result reported at_once call
@@ -216,7 +216,7 @@ write_rooms shape before after moment payload (Err fault) written refused = refu
 
 -- ---- of the slot on top
 
-room_of_record : (kind : Kind) (bytes : ℕ) → IsForRecord kind → ((moment len : ℕ) → kind ≡ for_record moment len → bytes ≡ slot_len len) → room_of kind ≡ Some bytes
+room_of_record : (kind : Purpose) (bytes : ℕ) → IsForRecord kind → ((moment len : ℕ) → kind ≡ for_record moment len → bytes ≡ slot_len len) → room_of kind ≡ Some bytes
 room_of_record (for_record moment len) bytes is fits = ap (λ (n : ℕ). Some n) (sym (fits moment len refl))
 room_of_record for_close bytes is fits = absurd is
 
@@ -226,7 +226,7 @@ top_room v w slot on_top fits =
     let t = reserved_top v w slot on_top in
     let at : w.core.frames ≡ t.frame ∷ t.below = ap (λ (p : Writing). p.frames) w.part_is ∙ t.top in
     let agree = top_agrees w.core t.frame t.below at (kept_now v w).stack in
-    let record_is : IsForRecord t.frame.kind = (subst (λ (s : FrameState). MayBeIn t.frame.kind s t.frame.phase) t.state_is agree.0).0 in
+    let record_is : IsForRecord t.frame.kind = (subst (λ (s : Progress). MayBeIn t.frame.kind s t.frame.phase) t.state_is agree.0).0 in
     (rooms_of t.below, ap rooms_of t.top ∙ ap (λ (room : Option ℕ). room ∷ rooms_of t.below) (room_of_record t.frame.kind slot.place.len record_is (λ moment len is. fits t.frame t.below moment len t.top is)))
 
 -- it is the first of the rooms

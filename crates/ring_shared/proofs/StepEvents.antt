@@ -1,7 +1,8 @@
 -- What one step of a frame appends to the history, as it goes on, leaves, or has left.
 use Rattle.std.proofs.Common.{◌≡◌, ◌≢◌, ℕ, ◌⊎◌, List, [], ◌∷◌, ◌++◌, length, fold, None, refl, sym, ap, ◌∙◌, subst, inl, inr, arith, append_assoc, append-nil}
 use Rattle.trace_model.specs.History.{HistoryEvent, push, push_close, open_fill, reserve, leave, wished, PushedFrame, close_frame, WriterState, after_event, writer_after}
-use Rattle.trace_model.specs.Frames.{Kind, for_record, for_close, FrameState, waiting, reserved, left, Refusal, Phase, Frame, pushed_onto, pushed_frames}
+use Rattle.trace_model.specs.Frames.{Purpose, for_record, for_close, Progress, waiting, reserved, left, Phase, Frame, pushed_onto, pushed_frames}
+use Rattle.trace_model.specs.Frames as frames_model
 use Rattle.trace_model.specs.Ring.{Core}
 use Rattle.trace_model.specs.Steps as model
 use Rattle.trace_model.proofs.histories.HistoryPrefixes.{writer-append}
@@ -72,7 +73,7 @@ history_then history between after one two is more = more ∙ ap (λ (h : List H
 -- ---- frames
 
 -- a frame that leaves has left, or is a close frame that waits
-pub how_leaving : (kind : Kind) (state : FrameState) → IsLeaving kind state → (state ≡ left) ⊎ ((kind ≡ for_close) × (state ≡ waiting))
+pub how_leaving : (kind : Purpose) (state : Progress) → IsLeaving kind state → (state ≡ left) ⊎ ((kind ≡ for_close) × (state ≡ waiting))
 how_leaving (for_record moment len) waiting is = absurd is
 how_leaving for_close waiting is = inr (refl, refl)
 how_leaving (for_record moment len) (reserved number) is = absurd is
@@ -80,7 +81,7 @@ how_leaving for_close (reserved number) is = absurd is
 how_leaving (for_record moment len) left is = inl refl
 how_leaving for_close left is = inl refl
 
-pub reserving_waits : (kind : Kind) (state : FrameState) → IsReserving kind state → state ≡ waiting
+pub reserving_waits : (kind : Purpose) (state : Progress) → IsReserving kind state → state ≡ waiting
 reserving_waits (for_record moment len) waiting is = refl
 reserving_waits for_close waiting is = absurd is
 reserving_waits (for_record moment len) (reserved number) is = absurd is
@@ -93,11 +94,11 @@ not_longer : (f : PushedFrame) (stack : List PushedFrame) → stack ≡ f ∷ st
 not_longer f stack e = let same = ap (length {A = PushedFrame}) e in omega arith
 
 -- a frame that has left is none of the pushed ones
-left_pushed : (kind : Kind) (state : FrameState) (stack : List PushedFrame) → state ≡ left → pushed_onto kind state stack ≡ stack
-left_pushed kind state stack e = ap (λ (s : FrameState). pushed_onto kind s stack) e
+left_pushed : (kind : Purpose) (state : Progress) (stack : List PushedFrame) → state ≡ left → pushed_onto kind state stack ≡ stack
+left_pushed kind state stack e = ap (λ (s : Progress). pushed_onto kind s stack) e
 
-close_pushed : (kind : Kind) (state : FrameState) (stack : List PushedFrame) → kind ≡ for_close → state ≡ waiting → pushed_onto kind state stack ≡ close_frame ∷ stack
-close_pushed kind state stack k s = ap (λ (x : FrameState). pushed_onto kind x stack) s ∙ ap (λ (x : Kind). pushed_onto x waiting stack) k
+close_pushed : (kind : Purpose) (state : Progress) (stack : List PushedFrame) → kind ≡ for_close → state ≡ waiting → pushed_onto kind state stack ≡ close_frame ∷ stack
+close_pushed kind state stack k s = ap (λ (x : Progress). pushed_onto kind x stack) s ∙ ap (λ (x : Purpose). pushed_onto x waiting stack) k
 
 -- ---- one step
 
@@ -106,7 +107,7 @@ page_not_going answer reported (inl a) = cc
 page_not_going answer reported (inr a) = cc
 
 module _ (n : ℕ) (c : Core) (below : List Frame) (answer : model.Answer) (events : List HistoryEvent) where
-  record_going : (kind : Kind) (state : FrameState) (phase : Phase) → IsReserving kind state → answer ≡ model.going → FrameAppends n c kind state phase below answer events → AreFills events
+  record_going : (kind : Purpose) (state : Progress) (phase : Phase) → IsReserving kind state → answer ≡ model.going → FrameAppends n c kind state phase below answer events → AreFills events
   record_going (for_record moment len) waiting phase is reported (record_reserved a e) = absurd (cc)
   record_going (for_record moment len) waiting phase is reported (record_refused a e) = absurd (page_not_going answer reported a)
   record_going (for_record moment len) waiting phase is reported (record_opens fill a e) = subst AreFills (sym e) tt
@@ -115,7 +116,7 @@ module _ (n : ℕ) (c : Core) (below : List Frame) (answer : model.Answer) (even
   record_going kind (reserved number) phase is reported appends = absurd is
   record_going kind left phase is reported appends = absurd is
 
-  left_acts : (kind : Kind) (state : FrameState) (phase : Phase) → state ≡ left → FrameAppends n c kind state phase below answer events → AreForReader events
+  left_acts : (kind : Purpose) (state : Progress) (phase : Phase) → state ≡ left → FrameAppends n c kind state phase below answer events → AreForReader events
   left_acts (for_record moment len) waiting phase s appends = absurd (cc)
   left_acts for_close waiting phase s appends = absurd (cc)
   left_acts kind (reserved number) phase s appends = absurd (cc)
@@ -123,7 +124,7 @@ module _ (n : ℕ) (c : Core) (below : List Frame) (answer : model.Answer) (even
   left_acts kind left phase s (left_grants wish a e) = subst AreForReader (sym e) tt
   left_acts kind left phase s (left_stays none denied a e) = subst AreForReader (sym e) tt
 
-  close_acts : (kind : Kind) (state : FrameState) (phase : Phase) → kind ≡ for_close → state ≡ waiting → FrameAppends n c kind state phase below answer events → (events ≡ []) ⊎ ((fills : List HistoryEvent) × AreFills fills × (events ≡ fills ++ leave None ∷ []))
+  close_acts : (kind : Purpose) (state : Progress) (phase : Phase) → kind ≡ for_close → state ≡ waiting → FrameAppends n c kind state phase below answer events → (events ≡ []) ⊎ ((fills : List HistoryEvent) × AreFills fills × (events ≡ fills ++ leave None ∷ []))
   close_acts (for_record moment len) state phase k s appends = absurd (cc)
   close_acts for_close waiting phase k s (close_refused a e) = inr ([], tt, e)
   close_acts for_close waiting phase k s (close_opens fill a e) = inr (open_fill ∷ [], tt, e)
@@ -183,7 +184,7 @@ module _ (shape : Shape) (before after : Writing) (result : Answer) (frame : Fra
     reported.history_is,
   )
 
-  gone_not_going : (call.answer ≡ model.gone) ⊎ ((why : Refusal) × (call.answer ≡ model.refused why)) → call.answer ≡ model.going → ⊥
+  gone_not_going : (call.answer ≡ model.gone) ⊎ ((why : frames_model.WriteFault) × (call.answer ≡ model.refused why)) → call.answer ≡ model.going → ⊥
   gone_not_going (inl a) reported = let both : model.gone ≡ model.going = sym a ∙ reported in cc
   gone_not_going (inr (why, a)) reported = let both : model.refused why ≡ model.going = sym a ∙ reported in cc
 
@@ -208,7 +209,7 @@ module _ (shape : Shape) (before after : Writing) (result : Answer) (frame : Fra
       ∙ stack_before ∙ left_pushed frame.kind frame.state (pushed_frames below) s in
       (reported.history_events, are, reported.history_is, popped same (leaving_step shape before after result call frame below top (left_leaves frame.kind frame.state s)))
     where
-      left_leaves : (kind : Kind) (state : FrameState) → state ≡ left → IsLeaving kind state
+      left_leaves : (kind : Purpose) (state : Progress) → state ≡ left → IsLeaving kind state
       left_leaves (for_record moment len) state e = subst (IsLeaving (for_record moment len)) (sym e) tt
       left_leaves for_close state e = subst (IsLeaving for_close) (sym e) tt
 
@@ -221,7 +222,7 @@ module _ (shape : Shape) (before after : Writing) (result : Answer) (frame : Fra
 
       leaving : Leaving below call.answer call.next.frames
       leaving = leaving_step shape before after result call frame below top
-          (subst (IsLeaving frame.kind) (sym s) (subst (λ (x : Kind). IsLeaving x waiting) (sym k) tt))
+          (subst (IsLeaving frame.kind) (sym s) (subst (λ (x : Purpose). IsLeaving x waiting) (sym k) tt))
 
       on : after.history ≡ before.history → pushed_frames after.frames ≡ close_frame ∷ pushed_frames below → Leaving below call.answer call.next.frames → CloseStep below before result after
       on h same (leaves_on next a at leaves) = still (how_leaving next.kind next.state leaves)
@@ -258,7 +259,7 @@ module _ (shape : Shape) (before after : Writing) (fault : WriteFault) (frame : 
       ∙ ap (λ (h : List HistoryEvent). (writer_after h).stack) refused_history
       ∙ ap (λ (w : WriterState). w.stack) (writer-append record { stack = []; records = [] } before.history (leave None ∷ []))
       ∙ ap (λ (stack : List PushedFrame). (after_event stack (writer_after before.history).records (leave None)).stack)
-      (stack_before shape before after (Refused fault) frame below top call ∙ ap (λ (x : FrameState). pushed_onto frame.kind x (pushed_frames below)) s)
+      (stack_before shape before after (Refused fault) frame below top call ∙ ap (λ (x : Progress). pushed_onto frame.kind x (pushed_frames below)) s)
 
   -- a record frame that is refused has left, or is gone
   pub refused_step : IsReserving frame.kind frame.state → LeftOrGone below (Refused fault) after.frames

@@ -1,6 +1,7 @@
 -- What the frame on top is stepped to, by what its stack states of it.
 use Rattle.std.proofs.Common.{◌≡◌, ℕ, List, [], ◌∷◌, sym, ap, ◌∙◌, subst}
-use Rattle.trace_model.specs.Frames.{Kind, for_record, for_close, FrameState, waiting, reserved, left, Frame}
+use Rattle.trace_model.specs.Frames.{Purpose, for_record, for_close, waiting, reserved, left, Frame}
+use Rattle.trace_model.specs.Frames as frames_model
 use Rattle.trace_model.specs.Steps as model
 use Rattle.ring_model.specs.FrameOutcomes.{IsReserving, IsLeaving}
 use Rattle.nested_writer.specs.declared.frame.Frame as stack
@@ -20,7 +21,7 @@ use Rattle.ring_shared.specs.Calls.{AreWriterFields, IsCall}
 use Rattle.ring_shared.specs.Finishing.{Reserves, Leaves, FinishesFrame, FinishesTop, Finishes, IsTarget}
 
 -- the frame on top, as the model has it
-pub record IsOnTop (frames : List Frame) (state : Kind → FrameState → Type 0) : Type 0 where
+pub record IsOnTop (frames : List Frame) (state : Purpose → frames_model.Progress → Type 0) : Type 0 where
   pub frame : Frame
   pub below : List Frame
   pub top : frames ≡ frame ∷ below
@@ -29,7 +30,7 @@ pub record IsOnTop (frames : List Frame) (state : Kind → FrameState → Type 0
 pub frames_of : (v : WriterValue) → AreWriterFields v → v.part.frames ≡ frames_in_phases v.frames.stack.frames (v.frames.phase ∷ v.frames.below)
 frames_of v w = ap (λ (p : Writing). p.frames) (sym w.part_is) ∙ w.frames_are.frames_are
 
-on_top : (frames : List stack.Frame) (phase : Phase) (below : List Phase) (shown : List Frame) (to : Target) (state : Kind → FrameState → Type 0) → shown ≡ frames_in_phases frames (phase ∷ below) → IsTarget (top_of frames) to → (to ≡ target.Step → ⊥) → ((f : stack.Frame) → IsTarget (Rattle.std.specs.Prelude.Some f) to → state (kind_of f.purpose) (state_of f.progress)) → IsOnTop shown state
+on_top : (frames : List stack.Frame) (phase : Phase) (below : List Phase) (shown : List Frame) (to : Target) (state : Purpose → frames_model.Progress → Type 0) → shown ≡ frames_in_phases frames (phase ∷ below) → IsTarget (top_of frames) to → (to ≡ target.Step → ⊥) → ((f : stack.Frame) → IsTarget (Rattle.std.specs.Prelude.Some f) to → state (kind_of f.purpose) (state_of f.progress)) → IsOnTop shown state
 on_top [] phase below shown to state same is other says = absurd (other is)
 on_top (f ∷ frames) phase below shown to state same is other says = record { frame = _; below = _; top = same; is = says f is }
 
@@ -41,7 +42,7 @@ module _ (v : WriterValue) (w : AreWriterFields v) where
   leaving_on_top is = on_top v.frames.stack.frames v.frames.phase v.frames.below v.part.frames target.End IsLeaving (frames_of v w) is (λ e. cc) (λ f at. at)
 
 module _ (shape : Shape) (before : Writing) (result : Answer) (after : Writing) where
-  reserving_frame : (kind : Kind) (state : FrameState) (below : List Frame) → IsReserving kind state → Reserves shape kind below before result after → FinishesFrame shape kind state below before result after
+  reserving_frame : (kind : Purpose) (state : frames_model.Progress) (below : List Frame) → IsReserving kind state → Reserves shape kind below before result after → FinishesFrame shape kind state below before result after
   reserving_frame (for_record moment len) waiting below is r = r
   reserving_frame (for_record moment len) (reserved number) below is r = absurd is
   reserving_frame (for_record moment len) left below is r = absurd is
@@ -49,7 +50,7 @@ module _ (shape : Shape) (before : Writing) (result : Answer) (after : Writing) 
   reserving_frame for_close (reserved number) below is r = absurd is
   reserving_frame for_close left below is r = absurd is
 
-  leaving_frame : (kind : Kind) (state : FrameState) (below : List Frame) → IsLeaving kind state → Leaves shape below before result after → FinishesFrame shape kind state below before result after
+  leaving_frame : (kind : Purpose) (state : frames_model.Progress) (below : List Frame) → IsLeaving kind state → Leaves shape below before result after → FinishesFrame shape kind state below before result after
   leaving_frame (for_record moment len) waiting below is l = absurd is
   leaving_frame (for_record moment len) (reserved number) below is l = absurd is
   leaving_frame (for_record moment len) left below is l = l
@@ -57,7 +58,7 @@ module _ (shape : Shape) (before : Writing) (result : Answer) (after : Writing) 
   leaving_frame for_close (reserved number) below is l = absurd is
   leaving_frame for_close left below is l = l
 
-  reserved_frame : (kind : Kind) (state : FrameState) (number : ℕ) (below : List Frame) → state ≡ reserved number → IsCall shape before model.steps result after → FinishesFrame shape kind state below before result after
+  reserved_frame : (kind : Purpose) (state : frames_model.Progress) (number : ℕ) (below : List Frame) → state ≡ reserved number → IsCall shape before model.steps result after → FinishesFrame shape kind state below before result after
   reserved_frame (for_record moment len) waiting number below e call = absurd (cc)
   reserved_frame (for_record moment len) (reserved other) number below e call = call
   reserved_frame (for_record moment len) left number below e call = absurd (cc)
@@ -84,18 +85,18 @@ abbrev first_of : Frame → List Frame → Frame
 first_of frame [] = frame
 first_of frame (first ∷ others) = first
 
-not_reserved : (kind : Kind) (number : ℕ) → IsReserving kind (reserved number) → ⊥
+not_reserved : (kind : Purpose) (number : ℕ) → IsReserving kind (reserved number) → ⊥
 not_reserved (for_record moment len) number is = is
 not_reserved for_close number is = is
 
-progress_lacks : (progress : Progress) (kind : Kind) → IsReserving kind (state_of progress) → HasNoSlot progress
+progress_lacks : (progress : Progress) (kind : Purpose) → IsReserving kind (state_of progress) → HasNoSlot progress
 progress_lacks (Waiting noted) kind is = tt
 progress_lacks (Through noted) kind is = tt
 progress_lacks (Reserved slot) kind is = absurd (not_reserved kind slot.number is)
 progress_lacks (Left noted) kind is = tt
 
 -- a frame whose record is to be reserved has no slot
-state_lacks : (f : stack.Frame) (kind : Kind) → IsReserving kind (state_of f.progress) → HasNoSlot f.progress
+state_lacks : (f : stack.Frame) (kind : Purpose) → IsReserving kind (state_of f.progress) → HasNoSlot f.progress
 state_lacks f kind is = progress_lacks f.progress kind is
 
 lacks_in : (frames : List stack.Frame) (phase : Phase) (phases : List Phase) (shown : List Frame) (frame : Frame) (below : List Frame) → shown ≡ frames_in_phases frames (phase ∷ phases) → shown ≡ frame ∷ below → IsReserving frame.kind frame.state → LacksSlot frames

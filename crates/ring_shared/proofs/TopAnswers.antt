@@ -1,6 +1,6 @@
 -- The frame on top, by its phase or its state, and what its step answers.
 use Rattle.std.proofs.Common.{◌≡◌, ◌≢◌, ℕ, List, [], ◌∷◌, length, sym, ap, ◌∙◌, subst, inl, inr, arith}
-use Rattle.trace_model.specs.Frames.{Kind, for_record, for_close, FrameState, waiting, reserved, left, Phase as ModelPhase, idle, releasing, Frame, no_frame}
+use Rattle.trace_model.specs.Frames.{Purpose, for_record, for_close, Progress, waiting, reserved, left, Phase as ModelPhase, idle, releasing, Frame, no_frame}
 use Rattle.trace_model.specs.Ring.{Core}
 use Rattle.trace_model.specs.Steps as model
 use Rattle.trace_model.proofs.steps.StepCases as cases
@@ -34,7 +34,7 @@ use Rattle.ring_shared.proofs.Standing.{kept_now, top_in}
 
 -- ---- by its phase
 
-has_left : (kind : Kind) → IsLeaving kind left
+has_left : (kind : Purpose) → IsLeaving kind left
 has_left (for_record moment len) = tt
 has_left for_close = tt
 
@@ -71,7 +71,7 @@ module _ (v : WriterValue) (w : AreWriterFields v) where
 
 -- ---- by its state
 
-reserved_rests : (kind : Kind) (state : FrameState) (phase : ModelPhase) (number : ℕ) → state ≡ reserved number → MayBeIn kind state phase → phase ≡ idle
+reserved_rests : (kind : Purpose) (state : Progress) (phase : ModelPhase) (number : ℕ) → state ≡ reserved number → MayBeIn kind state phase → phase ≡ idle
 reserved_rests kind waiting phase number is may = absurd (cc)
 reserved_rests kind (reserved other) phase number is may = may.1
 reserved_rests kind left phase number is may = absurd (cc)
@@ -83,7 +83,7 @@ module _ (shape : Shape) (before : Writing) (result : Answer) (after : Writing) 
       let at : call.core.frames ≡ frame ∷ below = ap (λ (p : Writing). p.frames) call.before_is ∙ top in
       let kept = reached_kept shape.pages shape.size shape.start call.core call.reached in
       let agree = top_agrees call.core frame below at kept.stack in
-      let (answer_is, same) = subst (λ (s : FrameState). cases.IdleStep shape.pages shape.size call.core frame below s call.answer call.next) is
+      let (answer_is, same) = subst (λ (s : Progress). cases.IdleStep shape.pages shape.size call.core frame below s call.answer call.next) is
       (top_stepped shape.pages shape.size call.core frame below idle call.answer call.next at (reserved_rests frame.kind frame.state frame.phase number is agree.0) call.step) in
       let (reported, reports, reported_is) = is_number shape.size result call.answer number call.reports answer_is in
       record {

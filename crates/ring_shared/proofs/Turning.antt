@@ -1,6 +1,6 @@
 -- The frame on top, which has a record to reserve, makes some steps of a page turn: one after the other.
 use Rattle.std.proofs.Common.{◌≡◌, ◌<◌, List, refl, ◌∙◌, subst, arith}
-use Rattle.trace_model.specs.Frames.{Kind, Frame}
+use Rattle.trace_model.specs.Frames.{Purpose, Frame}
 use Rattle.trace_model.specs.Steps as model
 use Rattle.ring_frames.specs.declared.answer.Answer.{Answer}
 use Rattle.ring_frames.specs.declared.answer.Answer.TheVariants.{Going, Gone}
@@ -26,7 +26,7 @@ module _ (shape : Shape) where
   goes_both before between after goes at_once = goes
   goes_both before between after goes (one_more last end more call) = one_more last after (goes_both before between last goes more) call
 
-  reserves_past : (kind : Kind) (below : List Frame) (before between after : Writing) (result : Answer) → MakesSteps shape before between → Reserves shape kind below between result after → Reserves shape kind below before result after
+  reserves_past : (kind : Purpose) (below : List Frame) (before between after : Writing) (result : Answer) → MakesSteps shape before between → Reserves shape kind below between result after → Reserves shape kind below before result after
   reserves_past kind below before between after result goes r = record { between = r.between; goes = goes_both before between r.between goes r.goes; last = r.last; ends = r.ends }
 
 -- ---- none, or one
@@ -42,7 +42,7 @@ turned_none v w (frame, below, top, is) = record {
 }
 
 -- a frame that has a record to reserve isn't gone by a step
-never_gone : (kind : Kind) (below : List Frame) (result : Answer) (after : List Frame) → IsReservedOr kind below result after → result ≡ Gone → ⊥
+never_gone : (kind : Purpose) (below : List Frame) (result : Answer) (after : List Frame) → IsReservedOr kind below result after → result ≡ Gone → ⊥
 never_gone kind below _ after (is_reserved next number end top kind_is state_is) e = cc
 never_gone kind below _ after (stays_refused fault next end top leaves) e = cc
 never_gone kind below _ after (is_refused fault end top) e = cc
@@ -95,7 +95,7 @@ pub same_turned : (first old new : WriterValue) → SameWriter first old → Tur
 same_turned first old new same t = (t.ring.0 ∙ same.0, t.ring.1 ∙ same.1)
 
 -- during the steps to a record
-pub part_way_turned : (shape : Shape) (kind : Kind) (below : List Frame) (before : Writing) (old new : WriterValue) → old.shape ≡ shape → IsStillReserving shape kind below before old.part → TurnsOn old new → IsStillReserving shape kind below before new.part
+pub part_way_turned : (shape : Shape) (kind : Purpose) (below : List Frame) (before : Writing) (old new : WriterValue) → old.shape ≡ shape → IsStillReserving shape kind below before old.part → TurnsOn old new → IsStillReserving shape kind below before new.part
 part_way_turned shape kind below before old new same a t =
     let (next, at, kind_is, is) = t.stands a.frame below a.top in
     record {

@@ -4,7 +4,8 @@ use Rattle.trace_model.specs.declared.numbers.RecordNo.{RecordNo}
 use Rattle.trace_model.specs.Words.{padded}
 use Rattle.trace_model.specs.Packing.{IsPacked}
 use Rattle.trace_model.specs.History.{IsHistory, HistoryEvent, push, reserve, leave, Reservation, reservation_for, record_frame, records_with_payload, WriterState, writer_after, reserved_records}
-use Rattle.trace_model.specs.Frames.{Kind, for_record, for_close, FrameState, waiting, left, Refusal, Frame}
+use Rattle.trace_model.specs.Frames.{Purpose, for_record, for_close, Progress, waiting, left, Frame}
+use Rattle.trace_model.specs.Frames as frames_model
 use Rattle.trace_model.specs.Ring.{Core}
 use Rattle.trace_model.specs.Steps as model
 use Rattle.trace_model.proofs.histories.HistoryPrefixes.{writer-append}
@@ -228,9 +229,9 @@ finishes_refused shape before frame below fault after top is f =
 pub finishes_close : FinishesClose
 finishes_close shape before frame below result after top k s f =
     close_leaves shape below before result after frame top k s
-    (finished_leaving shape before result after frame below top f (subst (IsLeaving frame.kind) (sym s) (subst (λ (x : Kind). IsLeaving x waiting) (sym k) tt)))
+    (finished_leaving shape before result after frame below top f (subst (IsLeaving frame.kind) (sym s) (subst (λ (x : Purpose). IsLeaving x waiting) (sym k) tt)))
 
-left_is_leaving : (kind : Kind) (state : FrameState) → state ≡ left → IsLeaving kind state
+left_is_leaving : (kind : Purpose) (state : Progress) → state ≡ left → IsLeaving kind state
 left_is_leaving (for_record moment len) state e = subst (IsLeaving (for_record moment len)) (sym e) tt
 left_is_leaving for_close state e = subst (IsLeaving for_close) (sym e) tt
 
@@ -255,7 +256,7 @@ pub writes_append : WritesAppend
 writes_append shape before moment payload after w =
     let begun : HasBegun moment (length payload) before w.pushed = (has_begun shape before w.pushed moment (length payload) Pushed w.push (λ (fault, e). cc)).0 in
     let (fills, are, at, reserves) = record_reserves shape begun.frame before.frames w.pushed w.reserved begun.top begun.reserves w.number
-    (subst (λ (k : Kind). Reserves shape k before.frames w.pushed (Reserved w.number) w.reserved) (sym begun.kind_is) w.reserve) in
+    (subst (λ (k : Purpose). Reserves shape k before.frames w.pushed (Reserved w.number) w.reserved) (sym begun.kind_is) w.reserve) in
     let t : HasTopRecord (for_record moment (length payload)) before.frames w.reserved.frames =
     (reserved_so (for_record moment (length payload)) before.frames (Reserved w.number) w.reserved.frames w.reserve.ends (λ (fault, e). cc)).0 in
     let (for_reader, reads, acts) = after_end shape w.reserved w.ended after (padded payload) w.how
@@ -270,7 +271,7 @@ pushed_and_refused : (shape : Shape) (before : Writing) (moment len : ℕ) (faul
 pushed_and_refused shape before moment len fault after r =
     let begun : HasBegun moment len before r.pushed = (has_begun shape before r.pushed moment len Pushed r.push (λ (f, e). cc)).0 in
     let (fills, are, refuses, how) = record_refused shape begun.frame before.frames r.pushed r.refused begun.top begun.reserves fault
-    (subst (λ (k : Kind). Reserves shape k before.frames r.pushed (Refused fault) r.refused) (sym begun.kind_is) r.reserve) in
+    (subst (λ (k : Purpose). Reserves shape k before.frames r.pushed (Refused fault) r.refused) (sym begun.kind_is) r.reserve) in
     let (for_reader, reads, acts) = rest how r.goes in
     let two = history_then before.history r.pushed.history r.refused.history (push moment len ∷ []) (fills ++ leave None ∷ []) (pushes_append shape before moment len r.pushed r.push) refuses in
     let three = history_then before.history r.refused.history after.history (push moment len ∷ (fills ++ leave None ∷ [])) for_reader two acts in (
@@ -294,7 +295,7 @@ refused_writes_append shape before moment len fault after (inr r) = inr (pushed_
 refused_push : (shape : Shape) (before : Writing) (moment len : ℕ) (fault : WriteFault) (after : Writing) → IsCall shape before (model.pushes moment len) (Refused fault) after → after.frames ≡ before.frames
 refused_push shape before moment len fault after call = by (push_answers shape.pages shape.size call.core moment len call.answer call.next (cases_of call.step))
   where
-    by : IsPushed moment len call.answer call.core.frames call.next.frames ⊎ ((why : Refusal) × (call.answer ≡ model.refused why) × (call.next ≡ call.core)) → after.frames ≡ before.frames
+    by : IsPushed moment len call.answer call.core.frames call.next.frames ⊎ ((why : frames_model.WriteFault) × (call.answer ≡ model.refused why) × (call.next ≡ call.core)) → after.frames ≡ before.frames
     by (inl p) = absurd (let both : model.refused (refusal_of fault) ≡ model.pushed = sym call.reports ∙ p.answer_is in cc)
     by (inr (why, denied, same)) = ap (λ (w : Writing). w.frames) (sym call.after_is) ∙ ap (λ (d : Core). d.frames) same ∙ ap (λ (w : Writing). w.frames) call.before_is
 

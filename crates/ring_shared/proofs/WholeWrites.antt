@@ -2,7 +2,8 @@
 use Rattle.std.specs.Prelude.{Some, None, ◌⊎◌, ◌<◌, ◌≤◌}
 use Rattle.std.proofs.Common.{◌≡◌, ◌≢◌, ℕ, List, [], ◌∷◌, length, refl, sym, ap, ◌∙◌, subst, inl, inr, arith}
 use Rattle.trace_model.specs.Words.{slot_len, padded}
-use Rattle.trace_model.specs.Frames.{Kind, for_record, for_close, FrameState, waiting, reserved, left, Refusal, Frame}
+use Rattle.trace_model.specs.Frames.{Purpose, for_record, for_close, waiting, reserved, left, Frame}
+use Rattle.trace_model.specs.Frames as frames_model
 use Rattle.trace_model.specs.Steps as model
 use Rattle.trace_model.proofs.steps.StepSound.{cases_of}
 use Rattle.ring_model.specs.FrameOutcomes.{IsReserving, IsLeaving}
@@ -57,7 +58,7 @@ module _ (shape : Shape) (before : Writing) (result : Answer) (after : Writing) 
   finishes_top : FinishesFrame shape frame.kind frame.state below before result after
   finishes_top = subst (λ (frames : List Frame). FinishesTop shape frames before result after) top f
 
-  reserves_so : (kind : Kind) (state : FrameState) → IsReserving kind state → FinishesFrame shape kind state below before result after → Reserves shape kind below before result after
+  reserves_so : (kind : Purpose) (state : frames_model.Progress) → IsReserving kind state → FinishesFrame shape kind state below before result after → Reserves shape kind below before result after
   reserves_so (for_record moment len) waiting is r = r
   reserves_so (for_record moment len) (reserved number) is r = absurd is
   reserves_so (for_record moment len) left is r = absurd is
@@ -65,7 +66,7 @@ module _ (shape : Shape) (before : Writing) (result : Answer) (after : Writing) 
   reserves_so for_close (reserved number) is r = absurd is
   reserves_so for_close left is r = absurd is
 
-  leaves_so : (kind : Kind) (state : FrameState) → IsLeaving kind state → FinishesFrame shape kind state below before result after → Leaves shape below before result after
+  leaves_so : (kind : Purpose) (state : frames_model.Progress) → IsLeaving kind state → FinishesFrame shape kind state below before result after → Leaves shape below before result after
   leaves_so (for_record moment len) waiting is l = absurd is
   leaves_so (for_record moment len) (reserved number) is l = absurd is
   leaves_so (for_record moment len) left is l = l
@@ -93,11 +94,11 @@ pub record HasBegun (moment len : ℕ) (before after : Writing) : Type 0 where
   pub kind_is : frame.kind ≡ for_record moment len
   pub reserves : IsReserving frame.kind frame.state
 
-record_waits : (kind : Kind) (state : FrameState) (moment len : ℕ) → kind ≡ for_record moment len → state ≡ waiting → IsReserving kind state
-record_waits kind state moment len k s = subst (λ (x : FrameState). IsReserving kind x) (sym s) (subst (λ (x : Kind). IsReserving x waiting) (sym k) tt)
+record_waits : (kind : Purpose) (state : frames_model.Progress) (moment len : ℕ) → kind ≡ for_record moment len → state ≡ waiting → IsReserving kind state
+record_waits kind state moment len k s = subst (λ (x : frames_model.Progress). IsReserving kind x) (sym s) (subst (λ (x : Purpose). IsReserving x waiting) (sym k) tt)
 
 module _ (shape : Shape) (before after : Writing) (moment len : ℕ) (result : Answer) (call : IsCall shape before (model.pushes moment len) result after) (not_no : IsRefusal result → ⊥) where
-  push_so : IsPushed moment len call.answer call.core.frames call.next.frames ⊎ ((why : Refusal) × (call.answer ≡ model.refused why) × (call.next ≡ call.core)) → HasBegun moment len before after × (result ≡ Pushed)
+  push_so : IsPushed moment len call.answer call.core.frames call.next.frames ⊎ ((why : frames_model.WriteFault) × (call.answer ≡ model.refused why) × (call.next ≡ call.core)) → HasBegun moment len before after × (result ≡ Pushed)
   push_so (inl p) = (
     record {
       frame = p.frame;
@@ -115,7 +116,7 @@ module _ (shape : Shape) (before after : Writing) (moment len : ℕ) (result : A
 -- ---- the reservation
 
 -- the record of the frame on top, of this kind, is reserved
-pub record HasTopRecord (kind : Kind) (below frames : List Frame) : Type 0 where
+pub record HasTopRecord (kind : Purpose) (below frames : List Frame) : Type 0 where
   pub next : Frame
   pub number : ℕ
   pub top : frames ≡ next ∷ below
@@ -123,13 +124,13 @@ pub record HasTopRecord (kind : Kind) (below frames : List Frame) : Type 0 where
   pub state_is : next.state ≡ reserved number
 
 -- an answer that refuses nothing states a record's number
-pub reserved_so : (kind : Kind) (below : List Frame) (result : Answer) (after : List Frame) → IsReservedOr kind below result after → (IsRefusal result → ⊥) → HasTopRecord kind below after × ((number : Rattle.trace_model.specs.declared.numbers.RecordNo.RecordNo) × (result ≡ Reserved number))
+pub reserved_so : (kind : Purpose) (below : List Frame) (result : Answer) (after : List Frame) → IsReservedOr kind below result after → (IsRefusal result → ⊥) → HasTopRecord kind below after × ((number : Rattle.trace_model.specs.declared.numbers.RecordNo.RecordNo) × (result ≡ Reserved number))
 reserved_so kind below _ after (is_reserved next number end top kind_is state_is) denied = (record { next = next; number = number.0; top = top; kind_is = kind_is; state_is = state_is }, (number, refl))
 reserved_so kind below _ after (stays_refused fault next end top leaves) denied = absurd (denied (fault, refl))
 reserved_so kind below _ after (is_refused fault end top) denied = absurd (denied (fault, refl))
 
 -- a frame that is refused stays on the stack, and leaves, or is gone
-refused_so : (kind : Kind) (below : List Frame) (result : Answer) (fault : WriteFault) (after : List Frame) → IsReservedOr kind below result after → result ≡ Refused fault → ((next : Frame) × (after ≡ next ∷ below) × IsLeaving next.kind next.state) ⊎ (after ≡ below)
+refused_so : (kind : Purpose) (below : List Frame) (result : Answer) (fault : WriteFault) (after : List Frame) → IsReservedOr kind below result after → result ≡ Refused fault → ((next : Frame) × (after ≡ next ∷ below) × IsLeaving next.kind next.state) ⊎ (after ≡ below)
 refused_so kind below _ fault after (is_reserved next number end top kind_is state_is) e = absurd (cc)
 refused_so kind below _ fault after (stays_refused other next end top leaves) e = inl (next, top, leaves)
 refused_so kind below _ fault after (is_refused other end top) e = inr top
@@ -139,7 +140,7 @@ module _ (shape : Shape) (before pushed after : Writing) (moment len : ℕ) (beg
   b = (has_begun shape before pushed moment len begun push went).0
 
   pub reserving : Reserves shape (for_record moment len) before.frames pushed result after
-  reserving = subst (λ (k : Kind). Reserves shape k before.frames pushed result after) b.kind_is (finished_reserving shape pushed result after b.frame before.frames b.top finished b.reserves)
+  reserving = subst (λ (k : Purpose). Reserves shape k before.frames pushed result after) b.kind_is (finished_reserving shape pushed result after b.frame before.frames b.top finished b.reserves)
 
   pub has_record : (IsRefusal result → ⊥) → HasTopRecord (for_record moment len) before.frames after.frames
   has_record denied = (reserved_so (for_record moment len) before.frames result after.frames reserving.ends denied).0
@@ -207,11 +208,11 @@ slot_in (f ∷ frames) phase phases shown next below number same top at =
     let heads : frames_in_phases (f ∷ frames) (phase ∷ phases) ≡ next ∷ below = sym same ∙ top in
     slot_of f.progress number (ap (λ (fs : List Frame). state_first fs) heads ∙ at)
   where
-    state_first : List Frame → FrameState
+    state_first : List Frame → frames_model.Progress
     state_first [] = waiting
     state_first (first ∷ others) = first.state
 
-pub top_slot_of : (v : WriterValue) (w : AreWriterFields v) (kind : Kind) (below : List Frame) → HasTopRecord kind below v.part.frames → (slot : Slot) × IsTopSlot v.frames.stack.frames slot
+pub top_slot_of : (v : WriterValue) (w : AreWriterFields v) (kind : Purpose) (below : List Frame) → HasTopRecord kind below v.part.frames → (slot : Slot) × IsTopSlot v.frames.stack.frames slot
 top_slot_of v w kind below t = slot_in v.frames.stack.frames v.frames.phase v.frames.below v.part.frames t.next below t.number (frames_of v w) t.top t.state_is
 
 -- so the frame on top has reserved
@@ -268,10 +269,10 @@ module _ (shape : Shape) (before after : Writing) (payload : List ℕ) (result :
   pub left_full : result ≡ Ended Full → (frame : Frame) × (after.frames ≡ frame ∷ []) × (frame.state ≡ left)
   left_full full = left_alone t.below refl full
 
-  has_left : (kind : Kind) (state : FrameState) → state ≡ left → IsLeaving kind state
+  has_left : (kind : Purpose) (state : frames_model.Progress) → state ≡ left → IsLeaving kind state
   has_left kind state e = subst (IsLeaving kind) (sym e) (any kind)
     where
-      any : (kind : Kind) → IsLeaving kind left
+      any : (kind : Purpose) → IsLeaving kind left
       any (for_record moment len) = tt
       any for_close = tt
 
@@ -289,7 +290,7 @@ module _ (shape : Shape) (before after : Writing) (payload : List ℕ) (result :
 -- ---- all of it
 
 -- the kind of a frame that has reserved
-pub top_kind : (kind : Kind) (below : List Frame) (number : Rattle.trace_model.specs.declared.numbers.RecordNo.RecordNo) (after : List Frame) → IsReservedOr kind below (Reserved number) after → HasTopRecord kind below after
+pub top_kind : (kind : Purpose) (below : List Frame) (number : Rattle.trace_model.specs.declared.numbers.RecordNo.RecordNo) (after : List Frame) → IsReservedOr kind below (Reserved number) after → HasTopRecord kind below after
 top_kind kind below number after is = (reserved_so kind below (Reserved number) after is (λ (fault, e). cc)).0
 
 -- the slot has exactly the room of the record

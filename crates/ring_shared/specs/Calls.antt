@@ -1,6 +1,6 @@
 -- What the calls of a writer make of a running ring.
 use Rattle.std.specs.Prelude.{◌≡◌, Bool, true, false, List, [], ◌∷◌}
-use Rattle.trace_model.specs.Frames.{Kind, for_record, for_close, Frame}
+use Rattle.trace_model.specs.Frames.{Purpose, for_record, for_close, Frame}
 use Rattle.trace_model.specs.Ring.{Core}
 use Rattle.trace_model.specs.Steps as model
 use Rattle.ring_model.specs.Reached.{IsReached}
@@ -46,7 +46,7 @@ pub record MakesSome (old : WriterValue) (event : model.Event) (result : Answer)
   pub writer : IsWriter new
 
 -- whether the first of these frames, which is the one on top, is a close
-abbrev pub is_for_close : Kind → Bool
+abbrev pub is_for_close : Purpose → Bool
 is_for_close (for_record moment len) = false
 is_for_close for_close = true
 

@@ -1,7 +1,7 @@
 -- What it means that the frame on top is stepped as far as it gets by itself.
 use Rattle.std.specs.Prelude.{◌≡◌, ◌⊎◌, ℕ, List, [], ◌∷◌, Option, Some, None, replicate}
 use Rattle.trace_model.specs.declared.numbers.RecordNo.{RecordNo}
-use Rattle.trace_model.specs.Frames.{Kind, for_record, for_close, FrameState, waiting, reserved, left, Frame}
+use Rattle.trace_model.specs.Frames.{Purpose, for_record, for_close, Progress, waiting, reserved, left, Frame}
 use Rattle.trace_model.specs.Steps as model
 use Rattle.ring_model.specs.FrameOutcomes.{IsReserving, IsLeaving}
 use Rattle.nested_writer.specs.declared.fault.WriteFault.{WriteFault}
@@ -35,7 +35,7 @@ pub data MakesSteps (shape : Shape) (before : Writing) : Writing → Type 0 wher
 
 -- This frame's record is reserved under a number; or the frame is refused, and is gone from the stack, or a frame that
 -- leaves is in its place. (That it is this frame, which has left, follows from the step in `Reserves`.)
-pub data IsReservedOr (kind : Kind) (below : List Frame) : Answer → List Frame → Type 0 where
+pub data IsReservedOr (kind : Purpose) (below : List Frame) : Answer → List Frame → Type 0 where
   is_reserved : (next : Frame) (number : RecordNo) (after : List Frame)
       → after ≡ next ∷ below
       → next.kind ≡ kind
@@ -50,7 +50,7 @@ pub data IsReservedOr (kind : Kind) (below : List Frame) : Answer → List Frame
       → IsReservedOr kind below (Refused fault) after
 
 -- The frame on top, above these, makes steps until its record is reserved, or it is refused.
-pub record Reserves (shape : Shape) (kind : Kind) (below : List Frame) (before : Writing) (result : Answer)
+pub record Reserves (shape : Shape) (kind : Purpose) (below : List Frame) (before : Writing) (result : Answer)
     (after : Writing)
     : Type 0 where
   pub between : Writing
@@ -85,7 +85,7 @@ Closes shape below before step_answer.Gone after = Leaves shape below before Gon
 
 -- A record frame is stepped until it has reserved or is refused; a close frame, or one that has left, until it is gone;
 -- and one that has reserved answers its number again.
-abbrev pub FinishesFrame : Shape → Kind → FrameState → List Frame → Writing → Answer → Writing → Type 0
+abbrev pub FinishesFrame : Shape → Purpose → Progress → List Frame → Writing → Answer → Writing → Type 0
 FinishesFrame shape (for_record moment len) waiting below before result after =
     Reserves shape (for_record moment len) below before result after
 FinishesFrame shape for_close waiting below before result after = Leaves shape below before result after
@@ -133,7 +133,7 @@ ZerosFinished old result new = (slot : Slot)
 
 -- ---- what it is stepped to
 
-abbrev pub IsTargetOf : Kind → FrameState → Target → Type 0
+abbrev pub IsTargetOf : Purpose → Progress → Target → Type 0
 IsTargetOf kind state target.Record = IsReserving kind state
 IsTargetOf kind state target.End = IsLeaving kind state
 IsTargetOf kind state target.Step = (number : ℕ) × (state ≡ reserved number)

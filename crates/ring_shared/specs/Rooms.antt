@@ -1,11 +1,11 @@
 -- How much room the frames of a writer have for their records.
 use Rattle.std.specs.Prelude.{◌≡◌, ℕ, List, [], ◌∷◌, Option, Some, None}
 use Rattle.trace_model.specs.Words.{slot_len}
-use Rattle.trace_model.specs.Frames.{Kind, for_record, for_close, Frame}
+use Rattle.trace_model.specs.Frames.{Purpose, for_record, for_close, Frame}
 use Rattle.ring_shared.specs.Value.{WriterValue}
 
 -- how many bytes the slot of a frame's record takes; a close frame has none
-abbrev pub room_of : Kind → Option ℕ
+abbrev pub room_of : Purpose → Option ℕ
 room_of (for_record moment len) = Some (slot_len len)
 room_of for_close = None
 

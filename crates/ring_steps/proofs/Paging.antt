@@ -8,7 +8,7 @@ use native.Mathlib.Decide.{ℕ_discrete}
 use lib.ListN.{get_elem?}
 use Rattle.atomic_table.specs.Table.{takes, gives, rest, turned, Allows}
 use Rattle.atomic_table.proofs.Lists.{set_here, set_else}
-use Rattle.trace_model.specs.Frames.{Kind, for_record, for_close, FrameState, waiting, reserved, left, opening, releasing, wishing, Phase, Frame}
+use Rattle.trace_model.specs.Frames.{Purpose, for_record, for_close, Progress, waiting, reserved, left, opening, releasing, wishing, Phase, Frame}
 use Rattle.trace_model.specs.History.{HistoryEvent}
 use Rattle.trace_model.specs.Ring.{PageRecords, Core, empty_page, page_at, fill_of}
 use Rattle.trace_model.specs.Steps.{steps, going, Answer, contents_of, with_new_tail, held_with_payload, own_number, after_begin, begin_answer, Step}
@@ -69,16 +69,16 @@ pub top_of : (frames : List Frame) (phase : Phase) → IsTopIn frames phase → 
 top_of [] phase top = absurd top
 top_of (frame ∷ below) phase top = record { frame = frame; below = below; is = refl; phase_is = top }
 
-begun_private : (kind : Kind) (state : FrameState) (c : Core) (frame : Frame) (below : List Frame) → IsPrivateOf c (after_begin kind state c frame below)
+begun_private : (kind : Purpose) (state : Progress) (c : Core) (frame : Frame) (below : List Frame) → IsPrivateOf c (after_begin kind state c frame below)
 begun_private (for_record moment len) waiting c frame below = refl
 begun_private for_close waiting c frame below = refl
 begun_private kind (reserved number) c frame below = refl
 begun_private kind left c frame below = refl
 
-begun_contents : (kind : Kind) (state : FrameState) (c : Core) (frame : Frame) (below : List Frame) (page : ℕ) → frame.kind ≡ kind → contents_of (after_begin kind state c frame below) page ≡ contents_of c page
+begun_contents : (kind : Purpose) (state : Progress) (c : Core) (frame : Frame) (below : List Frame) (page : ℕ) → frame.kind ≡ kind → contents_of (after_begin kind state c frame below) page ≡ contents_of c page
 begun_contents (for_record moment len) waiting c frame below page is = refl
 begun_contents for_close waiting c frame below page is = ended_at (own_number frame.kind frame.state) None c.held page
-    ∙ ap (λ (kind : Kind). held_with_payload (own_number kind frame.state) None (contents_of c page)) is
+    ∙ ap (λ (kind : Purpose). held_with_payload (own_number kind frame.state) None (contents_of c page)) is
 begun_contents kind (reserved number) c frame below page is = refl
 begun_contents kind left c frame below page is = refl
 

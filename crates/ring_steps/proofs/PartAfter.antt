@@ -1,6 +1,6 @@
 -- Private events of a writer lead from its part to the one that is computed.
 use Rattle.std.proofs.Common.{◌≡◌, ℕ, List, [], ◌∷◌, refl, sym, ap, ◌∙◌, subst}
-use Rattle.trace_model.specs.Frames.{Kind, for_record, FrameState, Frame}
+use Rattle.trace_model.specs.Frames.{Purpose, for_record, Progress, Frame}
 use Rattle.trace_model.specs.Ring.{Core}
 use Rattle.trace_model.specs.Steps as model
 use Rattle.ring_model.specs.Reached.{IsReached}
@@ -72,7 +72,7 @@ step_leads shape w own = leads_after shape w model.steps (λ c reached is. (subs
 may_end : (c : Core) (payload : List ℕ) → FillsTopSlot c.frames payload → MayAsk c (model.ends payload)
 may_end c payload fills frame below number moment len top reserved_is kind_is =
     let at : FillsSlotOf frame.kind frame.state payload = subst (λ (frames : List Frame). FillsTopSlot frames payload) top fills in
-    subst (λ (state : FrameState). FillsSlotOf (for_record moment len) state payload) reserved_is (subst (λ (kind : Kind). FillsSlotOf kind frame.state payload) kind_is at)
+    subst (λ (state : Progress). FillsSlotOf (for_record moment len) state payload) reserved_is (subst (λ (kind : Purpose). FillsSlotOf kind frame.state payload) kind_is at)
 
 pub end_leads : (shape : Shape) (w : Writing) (payload : List ℕ) → FillsTopSlot w.frames payload → Leads shape w (part_after shape w (model.ends payload))
 end_leads shape w payload fills = leads_after shape w (model.ends payload)

@@ -3,7 +3,7 @@ use Rattle.std.specs.Prelude.{Some, ◌==◌, ◌↔◌}
 use Rattle.std.proofs.Common.{◌≡◌, ◌≢◌, ℕ, ◌+◌, Bool, true, false, List, [], ◌∷◌, refl, sym, ap, ◌∙◌, subst, arith}
 use Rattle.std.proofs.lemmas.Bool.{eqb-true, eqb-false}
 use Rattle.trace_model.specs.Links.{Mark, normal, header, update, Link, normal_link, header_link, update_link}
-use Rattle.trace_model.specs.Frames.{Kind, for_record, for_close, FrameState, waiting, reserved, left, looking, claiming, looking_next, marking, clearing, opening, releasing, wishing, Phase, Frame}
+use Rattle.trace_model.specs.Frames.{Purpose, for_record, for_close, Progress, waiting, reserved, left, looking, claiming, looking_next, marking, clearing, opening, releasing, wishing, Phase, Frame}
 use Rattle.trace_model.specs.Ring.{Core, link_into}
 use Rattle.trace_model.specs.Steps.{steps, going, Answer, MayContinue, IsGranted, in_phase, after_next, after_begin, with_new_tail, step_of}
 use Rattle.trace_model.proofs.steps.StepCases.{FrameStep, frame_step, LoadLinkStep, load_link_late, sees_free, sees_header, sees_update, OpenFillStep, open_late, opens, ReleaseFillStep, releases, releases_last, LoadWishStep, grants, closes_more, goes_away}
@@ -49,7 +49,7 @@ computed : (n size : ℕ) (d : Core) (frame : Frame) (below : List Frame) (phase
     → step_of n size d steps ≡ Some (answer, after)
 computed n size d frame below phase answer after top at step = (step_by (frame_step frame below refl top (subst (λ (p : Phase). FrameStep n size d frame below p answer after) (sym at) step))).is
 
-begun_alone : (kind : Kind) (state : FrameState) (c : Core) (page : ℕ) (frame : Frame) (below : List Frame)
+begun_alone : (kind : Purpose) (state : Progress) (c : Core) (page : ℕ) (frame : Frame) (below : List Frame)
     → writing_of [] (after_begin kind state (with_new_tail c page) frame below) ≡ writing_of [] (after_begin kind state (with_new_tail (alone (writing_of [] c)) page) frame below)
 begun_alone (for_record moment len) waiting c page frame below = refl
 begun_alone for_close waiting c page frame below = refl

@@ -3,7 +3,7 @@
 use Rattle.std.specs.Prelude.{◌≡◌, ℕ, List, [], ◌∷◌, length, Some, None}
 use Rattle.trace_model.specs.Words.{slot_len}
 use Rattle.trace_model.specs.Links.{normal_link}
-use Rattle.trace_model.specs.Frames.{Kind, for_record, for_close, FrameState, waiting, reserved, left, Frame}
+use Rattle.trace_model.specs.Frames.{Purpose, for_record, for_close, Progress, waiting, reserved, left, Frame}
 use Rattle.trace_model.specs.Ring.{Core, first_reader}
 use Rattle.trace_model.specs.Events.{Event, steps, Outcome}
 use Rattle.trace_model.specs.Steps.{step_of}
@@ -43,7 +43,7 @@ abbrev pub part_after_wish : Shape → Writing → (wish : ℕ) → Writing
 part_after_wish shape w wish = part_of w steps (step_of shape.pages shape.size (record (alone w) { wish = wish }) steps)
 
 -- the payload takes exactly the slot that the frame on top was given, if that has reserved a record
-abbrev pub FillsSlotOf : Kind → FrameState → List ℕ → Type 0
+abbrev pub FillsSlotOf : Purpose → Progress → List ℕ → Type 0
 FillsSlotOf (for_record moment len) (reserved number) payload = slot_len (length payload) ≡ slot_len len
 FillsSlotOf (for_record moment len) waiting payload = Unit {0}
 FillsSlotOf (for_record moment len) left payload = Unit {0}

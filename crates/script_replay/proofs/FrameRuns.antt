@@ -3,7 +3,7 @@ use Rattle.std.proofs.Common.{◌≡◌, ◌≢◌, ℕ, zero, suc, ◌+◌, ◌
 use mathlib.Core.Logic.{dite}
 use native.Mathlib.Decide.{dec_le}
 use Rattle.trace_model.specs.declared.limits.TheConstants.{MAX_PAGES}
-use Rattle.trace_model.specs.Frames.{FrameState, waiting, reserved, left, Frame, no_frame}
+use Rattle.trace_model.specs.Frames.{Progress, waiting, reserved, left, Frame, no_frame}
 use Rattle.trace_model.specs.Ring.{Core}
 use Rattle.trace_model.specs.Steps as model
 use Rattle.trace_model.specs.Steps.{steps, refused, Step, Exchange, top_step_of}
@@ -136,7 +136,7 @@ pub asks_top : (frames : List Frame) (payloads : List (List ℕ)) (payload : Lis
     → event_on_top frames payloads ≡ event_on_top frames (payload ∷ [])
 asks_top frames payloads payload rest is = ap (event_on_top frames) is ∙ by_state frames
   where
-    in_state : (state : FrameState) → event_in state (payload ∷ rest) ≡ event_in state (payload ∷ [])
+    in_state : (state : Progress) → event_in state (payload ∷ rest) ≡ event_in state (payload ∷ [])
     in_state waiting = refl
     in_state (reserved number) = refl
     in_state left = refl

@@ -2,7 +2,8 @@
 use Rattle.std.proofs.Common.{◌≡◌, ℕ, ◌+◌, ◌-◌, ◌≤◌, List, [], ◌∷◌, ◌++◌, length, replicate, get_or, map, reverse, Some, refl, sym, ap, ◌∙◌, subst, arith}
 use Rattle.std.proofs.lemmas.List.{length-map, length-reverse, get_or-map, get_or-reverse}
 use Rattle.trace_model.specs.Words.{slot_len, padded}
-use Rattle.trace_model.specs.Frames.{Kind, for_record, for_close, FrameState, reserved, Frame}
+use Rattle.trace_model.specs.Frames.{Purpose, for_record, for_close, reserved, Frame}
+use Rattle.trace_model.specs.Frames as frames_model
 use Rattle.trace_model.specs.Steps as model
 use Rattle.trace_model.specs.Steps.{steps, ends}
 use Rattle.trace_model.proofs.words.Lengths.{slot_len_ge, length-padded}
@@ -68,7 +69,7 @@ top_has_place (f ∷ frames) slot has = ap place_of has
 
 -- ---- a record that is reserved, and its payload
 
-for_record_is : (kind : Kind) → IsForRecord kind → (moment : ℕ) × (len : ℕ) × (kind ≡ for_record moment len)
+for_record_is : (kind : Purpose) → IsForRecord kind → (moment : ℕ) × (len : ℕ) × (kind ≡ for_record moment len)
 for_record_is (for_record moment len) of = (moment, len, refl)
 for_record_is for_close of = absurd of
 
@@ -112,10 +113,10 @@ has_top_payload n size start cpu old lane slot is top fits =
     let frames_are : lane.core.frames ≡ frame ∷ under = k.frames.frames_are ∙ shown in
     let agree : FramesAgree (frame ∷ under) = subst FramesAgree frames_are r.stack.agree in
     let may : MayBeIn frame.kind (reserved slot.number) frame.phase =
-    subst (λ (s : FrameState). MayBeIn frame.kind s frame.phase) state agree.0 in
+    subst (λ (s : frames_model.Progress). MayBeIn frame.kind s frame.phase) state agree.0 in
     let (moment, len, kind) = for_record_is frame.kind may.0 in
     let (payload, rest, payloads, long) = top_payload lane.core.frames lane.payloads frame under frames_are is.fit in
-    let len_is : length payload ≡ len = subst (λ (x : Kind). FitsKind x payload) kind long in record {
+    let len_is : length payload ≡ len = subst (λ (x : Purpose). FitsKind x payload) kind long in record {
       payload = payload;
       rest = rest;
       payloads_are = is.payloads_are ∙ payloads;
@@ -123,7 +124,7 @@ has_top_payload n size start cpu old lane slot is top fits =
           ∙ ap slot_len (sym len_is);
       event_is = ap (λ (fs : List Frame). event_on_top fs lane.payloads) frames_are
           ∙ ap (event_in frame.state) payloads
-          ∙ ap (λ (s : FrameState). event_in s (payload ∷ rest)) state;
+          ∙ ap (λ (s : frames_model.Progress). event_in s (payload ∷ rest)) state;
     }
 
 -- ---- the end of its record

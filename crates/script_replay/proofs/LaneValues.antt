@@ -2,7 +2,7 @@
 use Rattle.std.proofs.Common.{◌≡◌, ℕ, suc, ◌-◌, List, [], ◌∷◌, length, drop, map, refl, sym, ap, ◌∙◌, arith}
 use Rattle.std.specs.Prelude.{IfSome}
 use Rattle.std.proofs.lemmas.List.{length-map, length-reverse}
-use Rattle.trace_model.specs.Frames.{FrameState, waiting, reserved, left, Frame}
+use Rattle.trace_model.specs.Frames.{Progress, waiting, reserved, left, Frame}
 use Rattle.trace_model.specs.Ring.{Reader, Core}
 use Rattle.trace_model.specs.Steps.{Event, Answer, Step}
 use Rattle.trace_model.proofs.steps.StepSound.{cases_of}
@@ -123,7 +123,7 @@ pub taken_stay : (n size : ℕ) (c : Core) (event : Event) (answer : Answer) (af
 taken_stay n size c event answer after not step =
     ap (λ (r : Reader). r.taken) (writer_leaves_reader n size c event answer after not step).reader
 
-not_of_reader_in : (state : FrameState) (payloads : List (List ℕ)) → IsOfReader (event_in state payloads) → ⊥
+not_of_reader_in : (state : Progress) (payloads : List (List ℕ)) → IsOfReader (event_in state payloads) → ⊥
 not_of_reader_in waiting payloads of = of
 not_of_reader_in (reserved number) [] of = of
 not_of_reader_in (reserved number) (payload ∷ payloads) of = of

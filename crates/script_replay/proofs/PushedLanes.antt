@@ -1,6 +1,6 @@
 -- A frame that is pushed is on top with its payload; one that is refused changes nothing.
 use Rattle.std.proofs.Common.{◌≡◌, ◌≢◌, ℕ, List, [], ◌∷◌, length, map, refl, sym, ap, ◌∙◌, subst}
-use Rattle.trace_model.specs.Frames.{Refusal, Frame}
+use Rattle.trace_model.specs.Frames.{WriteFault, Frame}
 use Rattle.trace_model.specs.Ring.{Core}
 use Rattle.trace_model.specs.Steps as model
 use Rattle.trace_model.specs.Steps.{pushes, pushes_close, pushed, refused, Step, Exchange}
@@ -37,7 +37,7 @@ pub data PushEnds (payload : List ℕ) (before : Core) (reported : model.Answer)
       → after.frames ≡ frame ∷ before.frames
       → FitsKind frame.kind payload
       → PushEnds payload before reported after
-  fails : (why : Refusal) → reported ≡ refused why → after.frames ≡ before.frames → PushEnds payload before reported after
+  fails : (why : WriteFault) → reported ≡ refused why → after.frames ≡ before.frames → PushEnds payload before reported after
 
 len_same : (moment len moment' len' : ℕ) → pushes moment len ≡ pushes moment' len' → len ≡ len'
 len_same moment len moment' len' e = cc

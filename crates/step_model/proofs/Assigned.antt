@@ -5,7 +5,7 @@ use Rattle.std.proofs.lemmas.Bool.{cond-true, cond-false, eqb-true, lt-ltb, le-l
 use Rattle.std.proofs.lemmas.List.Sums.{fold-append}
 use Rattle.std.proofs.Math.Seq.{set-append_seam}
 use Rattle.trace_model.specs.Links.{Link, same_link}
-use Rattle.trace_model.specs.Frames.{Kind, FrameState, waiting, Phase, idle, Frame}
+use Rattle.trace_model.specs.Frames.{Purpose, Progress, waiting, Phase, idle, Frame}
 use Rattle.trace_model.proofs.steps.StepSound.{same_link_true}
 use Rattle.step_model.specs.Seen.{ReaderSeen, CountsSeen, RingSeen, CountKey, spare_key, done_key, opened_key, wish_key, head_key, committed_key, Change, link_is, spare_link_is, page_is, count_is, phase_is, reader_is, frames_below, with_top_at, assigned, all_assigned}
 use Rattle.step_model.specs.Changes.{same_state, same_phase, same_reader, unless_same, link_changes, page_changes, count_change, count_changes, frame_changes, all_links, all_pages}
@@ -121,7 +121,7 @@ module _ (v : RingSeen) where
   all_below : (depth : ℕ) (frames : List Frame) → length frames < depth → frames_below depth frames ≡ frames
   all_below depth frames le = ap (λ (k : ℕ). drop k frames) (let none : (length frames + 1) - depth ≡ 0 = omega arith in none)
 
-  pub pushed_leads : (kind : Kind) (frames : List Frame) → all_assigned (frame_changes frames (frame_in kind waiting idle ∷ frames)) (with_frames frames) ≡ with_frames (frame_in kind waiting idle ∷ frames)
+  pub pushed_leads : (kind : Purpose) (frames : List Frame) → all_assigned (frame_changes frames (frame_in kind waiting idle ∷ frames)) (with_frames frames) ≡ with_frames (frame_in kind waiting idle ∷ frames)
   pushed_leads kind frames = let new : Frame = frame_in kind waiting idle in
       ap (λ (cs : List Change). all_assigned cs (with_frames frames)) (cond-true _ _ _ (lt-ltb (length frames) (suc (length frames)) (omega arith)))
       ∙ ap (λ (l : List Frame). assigned (phase_is (suc (length frames)) waiting idle) (with_frames (new ∷ l))) (all_below (suc (length frames)) frames (omega arith))
@@ -133,7 +133,7 @@ module _ (v : RingSeen) where
       (cond-false _ _ _ (le-ltb (suc (length frames)) (length frames) (omega arith)) ∙ cond-true _ _ _ (lt-ltb (length frames) (suc (length frames)) (omega arith)))
       ∙ ap (λ (k : ℕ). with_frames (drop k (old ∷ frames))) (let one : (suc (length frames) + 1) - suc (length frames) ≡ 1 = omega arith in one)
 
-  pub top_leads : (kind : Kind) (state other : FrameState) (phase next : Phase) (below : List Frame)
+  pub top_leads : (kind : Purpose) (state other : Progress) (phase next : Phase) (below : List Frame)
       → all_assigned (frame_changes (frame_in kind state phase ∷ below) (frame_in kind other next ∷ below)) (with_frames (frame_in kind state phase ∷ below)) ≡ with_frames (frame_in kind other next ∷ below)
   top_leads kind state other phase next below =
       let old : Frame = frame_in kind state phase in

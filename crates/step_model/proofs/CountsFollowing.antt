@@ -4,7 +4,7 @@ use Rattle.std.proofs.lemmas.Bool.{cond-true, cond-false, and_from, and_left, an
 use Rattle.std.proofs.lemmas.Option.{slice_get_within}
 use Rattle.trace_model.specs.History.{HistoryEvent, push, push_close, open_fill, reserve, leave, wished, PushedFrame, record_frame, last_moment, writer_after, reserved_records, is_settled}
 use Rattle.trace_model.specs.HistoryLaws.{committed_count}
-use Rattle.trace_model.specs.Frames.{Kind, for_record, for_close, FrameState, waiting, reserved, left, Phase, Frame, pushed_frames, pushed_onto}
+use Rattle.trace_model.specs.Frames.{Purpose, for_record, for_close, Progress, waiting, reserved, left, Phase, Frame, pushed_frames, pushed_onto}
 use Rattle.trace_model.specs.Ring.{ReaderPhase, loading_head, loading_done, storing_spare_link, swapping, Core}
 use Rattle.trace_model.specs.Steps.{Event, pushes, pushes_close, steps, ends, reads, wishes, Answer, page_taken, leave_answer, end_answer}
 use Rattle.trace_model.proofs.histories.OpenNumbers.{HasNumber, open_at, numbers_open}
@@ -57,12 +57,12 @@ head_follows c answer after (goes kind state other phase next below plain top fr
 
 -- ---- who has left
 
-onto_left : (kind : Kind) (state : FrameState) → rests_on (pushed_onto kind state []) ≡ has_left state
+onto_left : (kind : Purpose) (state : Progress) → rests_on (pushed_onto kind state []) ≡ has_left state
 onto_left kind waiting = refl
 onto_left kind (reserved number) = refl
 onto_left kind left = refl
 
-onto_more : (kind : Kind) (state : FrameState) (below : List PushedFrame) → (state ≡ left → ⊥) → rests_on (pushed_onto kind state below) ≡ false
+onto_more : (kind : Purpose) (state : Progress) (below : List PushedFrame) → (state ≡ left → ⊥) → rests_on (pushed_onto kind state below) ≡ false
 onto_more kind waiting below stands = refl
 onto_more kind (reserved number) below stands = refl
 onto_more kind left below stands = absurd (stands refl)
@@ -115,7 +115,7 @@ module _ (n size start : ℕ) (c : Core) (answer : Answer) (kept : IsRingKept n 
       let open_yet = open_at (reserved_records c.history) (writer_after c.history).stack number (numbers_open c.history kept.history.allowed) has in
       slice_get_within (reserved_records c.history) number open_yet.record_is open_yet.at
 
-  by_frame : (kind : Kind) (state : FrameState) (phase : Phase) (below : List Frame) (appended : List HistoryEvent) → c.frames ≡ frame_in kind state phase ∷ below → FramesAgree (frame_in kind state phase ∷ below)
+  by_frame : (kind : Purpose) (state : Progress) (phase : Phase) (below : List Frame) (appended : List HistoryEvent) → c.frames ≡ frame_in kind state phase ∷ below → FramesAgree (frame_in kind state phase ∷ below)
       → FrameAppends n c kind state phase below answer appended → Writes c answer appended
   by_frame (for_record moment len) waiting phase below appended top agree (record_reserved a e) =
       writes_record moment len (pushed_frames below) (ap (gives_next count) a ∙ eq-eqb count count refl) (ap top_moment top) (stack_is _ top) e
@@ -145,7 +145,7 @@ module _ (n size start : ℕ) (c : Core) (answer : Answer) (kept : IsRingKept n 
   by_top [] appended top agree (a, e) = writes_none (plain _ refl a) e
   by_top (frame ∷ below) appended top agree adds = by_frame frame.kind frame.state frame.phase below appended top agree adds
 
-  by_end_in : (payload : List ℕ) (state : FrameState) (below : List Frame) (appended : List HistoryEvent) → EndAppends payload state below answer appended → Writes c answer appended
+  by_end_in : (payload : List ℕ) (state : Progress) (below : List Frame) (appended : List HistoryEvent) → EndAppends payload state below answer appended → Writes c answer appended
   by_end_in payload waiting below appended (a, e) = writes_none (plain _ refl a) e
   by_end_in payload (reserved number) below appended (a, e) = writes_quiet (leave (Some payload)) tt (plain _ (end_gives_none count below) a) e
   by_end_in payload left below appended (a, e) = writes_none (plain _ refl a) e

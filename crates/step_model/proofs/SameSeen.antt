@@ -1,7 +1,7 @@
 -- What is found to be the same is one.
 use Rattle.std.proofs.Common.{◌≡◌, ℕ, true, ◌&&◌, ◌==◌, refl, ap}
 use Rattle.std.proofs.lemmas.Bool.{false≢true, eqb-true, and_parts}
-use Rattle.trace_model.specs.Frames.{FrameState, waiting, left, reserved, Role, owner, helper, Phase, idle, looking, claiming, looking_next, marking, clearing, opening, releasing, wishing}
+use Rattle.trace_model.specs.Frames.{Progress, waiting, left, reserved, Role, owner, helper, Phase, idle, looking, claiming, looking_next, marking, clearing, opening, releasing, wishing}
 use Rattle.trace_model.specs.Ring.{ReaderPhase, loading_head, loading_done, storing_spare_link, swapping}
 use Rattle.step_model.specs.Seen.{ReaderSeen}
 use Rattle.step_model.specs.Changes.{same_role, same_state, same_phase, same_reader_phase, same_reader}
@@ -11,7 +11,7 @@ role_is owner owner e = refl
 role_is helper helper e = refl
 role_is _ _ e = absurd (false≢true e)
 
-pub state_is : (a b : FrameState) → same_state a b ≡ true → a ≡ b
+pub state_is : (a b : Progress) → same_state a b ≡ true → a ≡ b
 state_is waiting waiting e = refl
 state_is left left e = refl
 state_is (reserved number) (reserved other) e = ap reserved (eqb-true number other e)

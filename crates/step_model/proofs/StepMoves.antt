@@ -2,7 +2,7 @@
 -- head moves if that one claims it, or if it is taken.
 use Rattle.std.proofs.Common.{◌≡◌, ℕ, ◌+◌, Bool, true, false, if◌then◌else◌, ◌==◌, List, [], ◌∷◌, Option, Some, None, refl, sym, ap, ◌∙◌}
 use Rattle.std.proofs.lemmas.Bool.{cond-false, cond_both}
-use Rattle.trace_model.specs.Frames.{Kind, for_record, for_close, FrameState, waiting, reserved, left, owner, helper, Phase, idle, looking, claiming, looking_next, marking, clearing, opening, releasing, wishing, Frame}
+use Rattle.trace_model.specs.Frames.{Purpose, for_record, for_close, Progress, waiting, reserved, left, owner, helper, Phase, idle, looking, claiming, looking_next, marking, clearing, opening, releasing, wishing, Frame}
 use Rattle.trace_model.specs.Ring.{TakenFill, ReaderPhase, loading_head, loading_done, storing_spare_link, swapping, Core}
 use Rattle.trace_model.specs.Steps.{Event, Answer, page_taken, leave_answer, end_answer, begin_answer, after_leave, after_begin, after_next, closing_phase, with_new_tail, taken_fill}
 use Rattle.trace_model.proofs.steps.StepCases.{StepCases, BeginsAgain, reserves, finds_nothing, is_crowded, is_worn, notes, load_link_late, sees_free, sees_header, sees_update, claim_late, claims, claim_fails, load_next_late, sees_normal, sees_other, mark_late, marks, mark_fails, clears, open_late, opens, releases, releases_last, grants, closes_more, goes_away, IdleStep, FrameStep, loads_header, loads_update, loads_owed, loads_passed, finds_none, finds_closed, swaps, swap_fails, ReadStep, push_step, push_refused, close_step, close_refused, frame_step, frame_lacks, end_step, end_lacks, end_early, read_step, store_wish_step}
@@ -13,7 +13,7 @@ abbrev pub takes_page : Answer → Bool
 takes_page (page_taken t) = true
 takes_page _ = false
 
-abbrev pub frame_in : Kind → FrameState → Phase → Frame
+abbrev pub frame_in : Purpose → Progress → Phase → Frame
 frame_in kind state phase = record { kind = kind; state = state; phase = phase }
 
 -- The head is taken, and the frames stay; or all stay; or a frame is pushed, or the one on top is gone; or that one goes
@@ -29,7 +29,7 @@ pub data Moves (c : Core) (answer : Answer) (after : Core) : Type 0 where
       → after.frames ≡ c.frames
       → after.head ≡ c.head
       → Moves c answer after
-  pushes_one : (kind : Kind)
+  pushes_one : (kind : Purpose)
       → takes_page answer ≡ false
       → after.frames ≡ frame_in kind waiting idle ∷ c.frames
       → after.head ≡ c.head
@@ -39,7 +39,7 @@ pub data Moves (c : Core) (answer : Answer) (after : Core) : Type 0 where
       → c.frames ≡ old ∷ after.frames
       → after.head ≡ c.head
       → Moves c answer after
-  goes : (kind : Kind) (state other : FrameState) (phase next : Phase) (below : List Frame)
+  goes : (kind : Purpose) (state other : Progress) (phase next : Phase) (below : List Frame)
       → takes_page answer ≡ false
       → c.frames ≡ frame_in kind state phase ∷ below
       → after.frames ≡ frame_in kind other next ∷ below
@@ -56,7 +56,7 @@ end_takes_none : (below : List Frame) → takes_page (end_answer below) ≡ fals
 end_takes_none [] = refl
 end_takes_none (next ∷ below) = refl
 
-begin_takes_none : (kind : Kind) (state : FrameState) (below : List Frame) → takes_page (begin_answer kind state below) ≡ false
+begin_takes_none : (kind : Purpose) (state : Progress) (below : List Frame) → takes_page (begin_answer kind state below) ≡ false
 begin_takes_none (for_record moment len) waiting below = refl
 begin_takes_none for_close waiting below = leave_takes_none below
 begin_takes_none kind (reserved number) below = refl
@@ -88,30 +88,30 @@ owns_none_same _ = refl
 -- ---- the frame on top
 
 module _ (n size : ℕ) (c : Core) (answer : Answer) (after : Core) where
-  module _ (kind : Kind) (state : FrameState) (phase : Phase) (below : List Frame) (top : c.frames ≡ frame_in kind state phase ∷ below) where
+  module _ (kind : Purpose) (state : Progress) (phase : Phase) (below : List Frame) (top : c.frames ≡ frame_in kind state phase ∷ below) where
     -- it goes on, and claims nothing
-    on : (other : FrameState) (next : Phase) (d : Core) → owns_from phase next ≡ false → takes_page answer ≡ false → d.frames ≡ frame_in kind other next ∷ below → d.head ≡ c.head → after ≡ d → Moves c answer after
+    on : (other : Progress) (next : Phase) (d : Core) → owns_from phase next ≡ false → takes_page answer ≡ false → d.frames ≡ frame_in kind other next ∷ below → d.head ≡ c.head → after ≡ d → Moves c answer after
     on other next d none plain frames head is = goes kind state other phase next below plain top (ap (λ (s : Core). s.frames) is ∙ frames) (ap (λ (s : Core). s.head) is ∙ head ∙ sym (cond-false _ _ _ none))
 
   -- it leaves; or its fill is begun; this state has the same head
-  leaves : (kind : Kind) (state : FrameState) (phase : Phase) (below : List Frame) (d : Core) (payload : Option (List ℕ)) → c.frames ≡ frame_in kind state phase ∷ below → takes_page answer ≡ false → d.head ≡ c.head
+  leaves : (kind : Purpose) (state : Progress) (phase : Phase) (below : List Frame) (d : Core) (payload : Option (List ℕ)) → c.frames ≡ frame_in kind state phase ∷ below → takes_page answer ≡ false → d.head ≡ c.head
       → after ≡ after_leave d (frame_in kind state phase) below payload → Moves c answer after
   leaves kind state phase [] d payload top plain head is = on kind state phase [] top left (closing_phase d) _ (owns_none_closing d phase) plain refl head is
   leaves kind state phase (next ∷ below) d payload top plain head is =
       pops (frame_in kind state phase) plain (top ∙ ap (λ (l : List Frame). frame_in kind state phase ∷ l) (sym (ap (λ (s : Core). s.frames) is))) (ap (λ (s : Core). s.head) is ∙ head)
 
-  begins : (kind : Kind) (state : FrameState) (phase : Phase) (below : List Frame) (d : Core) → c.frames ≡ frame_in kind state phase ∷ below → d.head ≡ c.head → answer ≡ begin_answer kind state below
+  begins : (kind : Purpose) (state : Progress) (phase : Phase) (below : List Frame) (d : Core) → c.frames ≡ frame_in kind state phase ∷ below → d.head ≡ c.head → answer ≡ begin_answer kind state below
       → after ≡ after_begin kind state d (frame_in kind state phase) below → Moves c answer after
   begins (for_record moment len) waiting phase below d top head a is = on (for_record moment len) waiting phase below top waiting idle _ (owns_none_idle phase) (ap takes_page a) refl head is
   begins for_close waiting phase below d top head a is = leaves for_close waiting phase below d None top (ap takes_page a ∙ leave_takes_none below) head is
   begins kind (reserved number) phase below d top head a is = on kind (reserved number) phase below top (reserved number) idle _ (owns_none_idle phase) (ap takes_page a ∙ begin_takes_none kind (reserved number) below) refl head is
   begins kind left phase below d top head a is = on kind left phase below top left (closing_phase d) _ (owns_none_closing d phase) (ap takes_page a ∙ begin_takes_none kind left below) refl head is
 
-  module _ (kind : Kind) (state : FrameState) (below : List Frame) where
+  module _ (kind : Purpose) (state : Progress) (below : List Frame) where
     again : (phase : Phase) (noted : ℕ) → c.frames ≡ frame_in kind state phase ∷ below → BeginsAgain c (frame_in kind state phase) below noted answer after → Moves c answer after
     again phase noted top step = begins kind state phase below c top refl step.answer_is step.after_is
 
-    idle_moves : (was : FrameState) → c.frames ≡ frame_in kind state idle ∷ below → IdleStep n size c (frame_in kind state idle) below was answer after → Moves c answer after
+    idle_moves : (was : Progress) → c.frames ≡ frame_in kind state idle ∷ below → IdleStep n size c (frame_in kind state idle) below was answer after → Moves c answer after
     idle_moves waiting top (reserves moment len r kind_is r_is fits a is) = on kind state idle below top (reserved _) idle _ refl (ap takes_page a) refl refl is
     idle_moves waiting top (finds_nothing kind_is none a is) = leaves kind state idle below c None top (ap takes_page a ∙ leave_takes_none below) refl is
     idle_moves waiting top (is_crowded needs full a is) = leaves kind state idle below c None top (ap takes_page a) refl is

@@ -3,7 +3,7 @@
 use Rattle.std.specs.Prelude.{ℕ, ◌+◌, ◌-◌, List, [], ◌∷◌, length, drop, fold, slice_set}
 use Rattle.trace_model.specs.HistoryLaws.{committed_count}
 use Rattle.trace_model.specs.Links.{Link}
-use Rattle.trace_model.specs.Frames.{Kind, FrameState, waiting, Phase, idle, Frame}
+use Rattle.trace_model.specs.Frames.{Purpose, Progress, waiting, Phase, idle, Frame}
 use Rattle.trace_model.specs.Ring.{ReaderPhase, Core}
 
 -- what is seen of the reader
@@ -71,9 +71,9 @@ pub data Change : Type 0 where
   spare_link_is : Link → Change
   page_is : (position page : ℕ) → Change
   count_is : CountKey → ℕ → Change
-  frame_is : (depth : ℕ) → Kind → Change
+  frame_is : (depth : ℕ) → Purpose → Change
   frame_gone : (depth : ℕ) → Change
-  phase_is : (depth : ℕ) → FrameState → Phase → Change
+  phase_is : (depth : ℕ) → Progress → Phase → Change
   reader_is : ReaderSeen → Change
 
 abbrev pub with_count : CountKey → ℕ → CountsSeen → CountsSeen
@@ -89,7 +89,7 @@ abbrev pub frames_below : (depth : ℕ) → List Frame → List Frame
 frames_below depth frames = drop ((length frames + 1) - depth) frames
 
 -- the top one of these frames is in this state and phase
-abbrev pub with_top_at : FrameState → Phase → List Frame → List Frame
+abbrev pub with_top_at : Progress → Phase → List Frame → List Frame
 with_top_at state phase [] = []
 with_top_at state phase (frame ∷ below) = record frame { state = state; phase = phase } ∷ below
 

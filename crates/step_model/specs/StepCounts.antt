@@ -3,7 +3,7 @@
 use Rattle.std.specs.Prelude.{◌≡◌, ℕ, ◌+◌, max, Bool, true, false, if◌then◌else◌, ◌&&◌, ◌==◌, List, [], ◌∷◌, length}
 use Rattle.trace_model.specs.History.{last_moment, reserved_records}
 use Rattle.trace_model.specs.HistoryLaws.{committed_count}
-use Rattle.trace_model.specs.Frames.{Kind, for_record, for_close, FrameState, waiting, left, reserved, owner, Phase, claiming, looking_next, Frame}
+use Rattle.trace_model.specs.Frames.{Purpose, for_record, for_close, Progress, waiting, left, reserved, owner, Phase, claiming, looking_next, Frame}
 use Rattle.trace_model.specs.Ring.{Core}
 use Rattle.trace_model.specs.Steps.{Answer, reserved_as, page_taken}
 
@@ -29,7 +29,7 @@ gives_next count (reserved_as number) = number == count
 gives_next count _ = false
 
 -- the moment that the frame on top was pushed with
-abbrev pub moment_of : Kind → ℕ
+abbrev pub moment_of : Purpose → ℕ
 moment_of (for_record moment len) = moment
 moment_of for_close = 0
 
@@ -37,7 +37,7 @@ abbrev pub top_moment : List Frame → ℕ
 top_moment [] = 0
 top_moment (frame ∷ below) = moment_of frame.kind
 
-abbrev pub has_left : FrameState → Bool
+abbrev pub has_left : Progress → Bool
 has_left waiting = false
 has_left left = true
 has_left (reserved number) = false

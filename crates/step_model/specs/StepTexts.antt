@@ -4,7 +4,7 @@ use Rattle.std.specs.Prelude.{ℕ, suc, ◌-◌, Bool, true, false, if◌then◌
 use Rattle.std.specs.Fmt.{decimal}
 use Rattle.trace_model.specs.History.{last_moment, reserved_records}
 use Rattle.trace_model.specs.Links.{Mark, normal, header, update, Link, same_link}
-use Rattle.trace_model.specs.Frames.{Kind, for_record, for_close, FrameState, waiting, left, reserved, Role, owner, helper, Phase, idle, looking, claiming, looking_next, marking, clearing, opening, releasing, wishing, noted_fill, Frame}
+use Rattle.trace_model.specs.Frames.{Purpose, for_record, for_close, Progress, waiting, left, reserved, Role, owner, helper, Phase, idle, looking, claiming, looking_next, marking, clearing, opening, releasing, wishing, noted_fill, Frame}
 use Rattle.trace_model.specs.Ring.{ReaderPhase, loading_head, loading_done, storing_spare_link, swapping, Core, page_at}
 use Rattle.trace_model.specs.Steps.{Event, pushes, pushes_close, steps, ends, reads, wishes, Answer, pushed, going, reserved_as, pending, full, gone, refused, reading, empty, moving, page_taken, wished_for}
 use Rattle.text_model.specs.Text.{hex_text, line_feed, space}
@@ -44,7 +44,7 @@ count_text head_key = codes "head"
 count_text committed_key = codes "committed"
 
 -- a record frame by the moment and the length that it was pushed with
-abbrev pub kind_text : Kind → List ℕ
+abbrev pub kind_text : Purpose → List ℕ
 kind_text (for_record moment len) = codes "record" ++ spaced moment ++ spaced len
 kind_text for_close = codes "close"
 
@@ -84,12 +84,12 @@ role_of (marking role noted page next) = role_text role
 role_of (clearing noted page) = role_text owner
 role_of _ = codes " -"
 
-abbrev pub state_text : FrameState → List ℕ
+abbrev pub state_text : Progress → List ℕ
 state_text waiting = codes " waiting"
 state_text left = codes " left"
 state_text (reserved number) = spaced number
 
-abbrev pub phase_text : FrameState → Phase → List ℕ
+abbrev pub phase_text : Progress → Phase → List ℕ
 phase_text state phase =
     phase_name phase ++ spaced_or_none (noted_fill phase) ++ spaced_or_none (page_of phase)
     ++ spaced_or_none (next_of phase) ++ role_of phase ++ state_text state
@@ -147,7 +147,7 @@ reserved_text before after =
     (decimal (after.opened - 1) ++ spaced (last_moment (reserved_records after.history)))
 
 -- the end of a frame that has reserved: the record's bytes
-abbrev pub ended_in : FrameState → List ℕ → List ℕ
+abbrev pub ended_in : Progress → List ℕ → List ℕ
 ended_in (reserved number) payload = key_line (codes "payload" ++ spaced number) (hex_text payload)
 ended_in _ payload = []
 

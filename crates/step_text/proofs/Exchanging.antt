@@ -1,6 +1,6 @@
 -- Which steps are compare and exchanges.
 use Rattle.std.proofs.Common.{◌≡◌, ℕ, Bool, if◌then◌else◌, List, [], ◌∷◌, refl, Some}
-use Rattle.trace_model.specs.Frames.{FrameState, waiting, reserved, left, owner, helper, Phase, idle, looking, claiming, looking_next, marking, clearing, opening, releasing, wishing, Frame}
+use Rattle.trace_model.specs.Frames.{Progress, waiting, reserved, left, owner, helper, Phase, idle, looking, claiming, looking_next, marking, clearing, opening, releasing, wishing, Frame}
 use Rattle.trace_model.specs.Ring.{Core}
 use Rattle.trace_model.specs.Steps.{Event}
 use Rattle.world_model.specs.Lanes.{event_in, event_on_top}
@@ -20,7 +20,7 @@ phase_exchanges opened (opening noted page) done = refl
 phase_exchanges opened releasing done = refl
 phase_exchanges opened wishing done = refl
 
-state_exchanges : (c : Core) (opened : ℕ) (frame : Frame) (below : List Frame) (payload : List ℕ) (state : FrameState) (done : Bool) → opened ≡ c.opened → c.frames ≡ frame ∷ below → exchange_text c (event_in state (payload ∷ [])) done ≡ (if steps_so state (is_exchange_in opened frame.phase) then outcome_text done else [])
+state_exchanges : (c : Core) (opened : ℕ) (frame : Frame) (below : List Frame) (payload : List ℕ) (state : Progress) (done : Bool) → opened ≡ c.opened → c.frames ≡ frame ∷ below → exchange_text c (event_in state (payload ∷ [])) done ≡ (if steps_so state (is_exchange_in opened frame.phase) then outcome_text done else [])
 state_exchanges c opened frame below payload waiting done o top = rw (o, top) (phase_exchanges c.opened frame.phase done)
 state_exchanges c opened frame below payload (reserved number) done o top = refl
 state_exchanges c opened frame below payload left done o top = rw (o, top) (phase_exchanges c.opened frame.phase done)

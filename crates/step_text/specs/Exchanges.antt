@@ -1,6 +1,6 @@
 -- Which steps begin again, and which are compare and exchanges.
 use Rattle.std.specs.Prelude.{ℕ, Bool, true, false, ◌==◌, not}
-use Rattle.trace_model.specs.Frames.{FrameState, waiting, reserved, left, Frame, owner, helper, Phase, looking, claiming, looking_next, marking, opening}
+use Rattle.trace_model.specs.Frames.{Progress, waiting, reserved, left, Frame, owner, helper, Phase, looking, claiming, looking_next, marking, opening}
 
 abbrev pub is_late : (noted opened : ℕ) → Bool
 is_late noted opened = not (noted == opened)
@@ -22,7 +22,7 @@ is_exchange_in opened (marking helper noted page next) = noted == opened
 is_exchange_in opened _ = false
 
 -- a frame in this state makes a step, which is so, and not the end of its record
-abbrev pub steps_so : FrameState → Bool → Bool
+abbrev pub steps_so : Progress → Bool → Bool
 steps_so waiting so = so
 steps_so (reserved number) so = false
 steps_so left so = so

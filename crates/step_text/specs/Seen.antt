@@ -16,7 +16,7 @@ use Rattle.step_text.specs.declared.seen.FrameSeen.{FrameSeen}
 use Rattle.step_text.specs.declared.seen.Counts.{Counts}
 use Rattle.step_text.specs.declared.seen.Parts.{Parts}
 
-abbrev pub state_in : FrameState → model.FrameState
+abbrev pub state_in : FrameState → model.Progress
 state_in Waiting = model.waiting
 state_in (Reserved number) = model.reserved number
 state_in Left = model.left

@@ -1,6 +1,6 @@
 -- The log of a replay: what its commands met, in their order. docs/FORMATS.md, "Log".
 use Rattle.std.specs.Prelude.{ℕ}
-use Rattle.trace_model.specs.Frames.{Refusal}
+use Rattle.trace_model.specs.Frames.{WriteFault}
 
 -- A line of the log. line: the number of the script's line. refused: a push, a step, or a line without a frame. taken:
 -- a page of that fill, its first record's number, how many records it has, and how many records were missed before
@@ -8,7 +8,7 @@ use Rattle.trace_model.specs.Frames.{Refusal}
 -- lost. asks: the reader asks for the page after this many closed ones. The last three are of a delivery: of a page
 -- that the collector hasn't yet, of one that it has, and of none, since that fill wasn't taken.
 pub data LogLine : Type 0 where
-  refused : (line cpu : ℕ) (why : Refusal) → LogLine
+  refused : (line cpu : ℕ) (why : WriteFault) → LogLine
   taken : (line cpu fill first count missed : ℕ) → LogLine
   empty : (line cpu : ℕ) → LogLine
   moving asks : (line cpu fill : ℕ) → LogLine

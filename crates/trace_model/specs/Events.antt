@@ -1,6 +1,6 @@
 -- What a ring is asked, step by step, what it answers, and what a step leads to.
 use Rattle.std.specs.Prelude.{ℕ, Bool, true, false, List, Option, None}
-use Rattle.trace_model.specs.Frames.{Refusal}
+use Rattle.trace_model.specs.Frames.{WriteFault}
 use Rattle.trace_model.specs.Ring.{TakenFill, Core}
 
 -- pushes, pushes_close: a frame is pushed, for a record or for a close. steps: the frame on top makes one step. ends:
@@ -21,7 +21,7 @@ pub data Answer : Type 0 where
   reserved_as : (number : ℕ) → Answer
   empty : (done : ℕ) → Answer
   moving wished_for : (fill : ℕ) → Answer
-  refused : Refusal → Answer
+  refused : WriteFault → Answer
   page_taken : TakenFill → Answer
 
 -- what a step answers, and the state after it; None: there is no such step

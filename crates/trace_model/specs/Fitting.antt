@@ -5,7 +5,7 @@ use Rattle.std.specs.Prelude.{◌≡◌, ◌≢◌, ℕ, ◌≤◌, Bool, true, 
 use Rattle.trace_model.specs.Words.{encoded_len}
 use Rattle.trace_model.specs.History.{HistoryEvent, push, push_close, open_fill, reserve, leave, wished, Reservation, writer_after, reservation_for}
 use Rattle.trace_model.specs.Packing.{cut_from, tail_of, fill_len, FitsBehind, next_reservation, MayCloseTail}
-use Rattle.trace_model.specs.Frames.{Kind, for_record, for_close, FrameState, waiting, reserved, left}
+use Rattle.trace_model.specs.Frames.{Purpose, for_record, for_close, Progress, waiting, reserved, left}
 
 -- ---- fills by their cuts
 
@@ -44,13 +44,13 @@ AreFit size history = (front rest : List HistoryEvent) (a : HistoryEvent)
 -- ---- frames
 
 -- a record that a frame was pushed for has room in an empty page
-abbrev pub FitsPage : ℕ → Kind → Type 0
+abbrev pub FitsPage : ℕ → Purpose → Type 0
 FitsPage size (for_record moment len) = encoded_len len 0 true ≤ size
 FitsPage size for_close = Unit {0}
 
 -- A frame that is about to begin a fill needs it: the tail has no room for its record; or it closes one that
 -- holds a record; or it has left, and the reader wished for one that holds a record.
-abbrev pub NeedsFill : ℕ → List ℕ → List Reservation → (found : Bool) → Kind → FrameState → Type 0
+abbrev pub NeedsFill : ℕ → List ℕ → List Reservation → (found : Bool) → Purpose → Progress → Type 0
 NeedsFill size cuts records found (for_record moment len) waiting =
     FitsBehind size (tail_at cuts records) (reservation_for moment len records) → ⊥
 NeedsFill size cuts records found for_close waiting = tail_at cuts records ≢ []

@@ -9,37 +9,37 @@ use Rattle.trace_model.specs.History.{PushedFrame, record_frame, close_frame}
 
 -- A record frame writes one record, pushed with its moment and its payload's length in bytes; a close
 -- frame begins the next fill, if the tail holds a record.
-pub data Kind : Type 0 where
-  for_record : (moment len : ℕ) → Kind
-  for_close : Kind
+pub data Purpose : Type 0 where
+  for_record : (moment len : ℕ) → Purpose
+  for_close : Purpose
 
 -- What a frame is on the writer's stack. waiting: it has no record yet. reserved: its record has this number.
 -- left: it was ended or refused, or had nothing more to do, and stays only at the bottom, to close fills and to look
 -- for the reader's wish.
-pub data FrameState : Type 0 where
-  waiting left : FrameState
-  reserved : (number : ℕ) → FrameState
+pub data Progress : Type 0 where
+  waiting left : Progress
+  reserved : (number : ℕ) → Progress
 
 -- the number of the frame's record, while it has reserved one
-abbrev pub number_of : FrameState → Option ℕ
+abbrev pub number_of : Progress → Option ℕ
 number_of (reserved number) = Some number
 number_of _ = None
 
 -- a frame as the history has it
-abbrev pub pushed_frame : Kind → FrameState → PushedFrame
+abbrev pub pushed_frame : Purpose → Progress → PushedFrame
 pushed_frame (for_record moment len) state = record_frame moment len (number_of state)
 pushed_frame for_close state = close_frame
 
 -- the frames that haven't left, with this one on top
-abbrev pub pushed_onto : Kind → FrameState → List PushedFrame → List PushedFrame
+abbrev pub pushed_onto : Purpose → Progress → List PushedFrame → List PushedFrame
 pushed_onto kind waiting below = pushed_frame kind waiting ∷ below
 pushed_onto kind (reserved number) below = pushed_frame kind (reserved number) ∷ below
 pushed_onto kind left below = below
 
 -- a frame of the stack, whatever writer or ring it belongs to
 pub record StackFrame : Type 0 where
-  pub kind : Kind
-  pub state : FrameState
+  pub kind : Purpose
+  pub state : Progress
 
 -- the frames of a stack, the top first, that haven't left, as the history has them
 abbrev pub pushed_of : List StackFrame → List PushedFrame
@@ -67,8 +67,8 @@ pub data Phase : Type 0 where
 -- A frame of a ring: what it was pushed for, what it is on the stack, and how far it has come. One that has left and
 -- has noted a fill begins it for the reader's wish.
 pub record Frame : Type 0 where
-  pub kind : Kind
-  pub state : FrameState
+  pub kind : Purpose
+  pub state : Progress
   pub phase : Phase
 
 -- a ring's frames as those of a stack
@@ -101,5 +101,5 @@ owned_update _ = None
 -- ---- refusals
 
 -- why a push, a step or an end is refused: docs/FORMATS.md, "What is asked, and what is answered"
-pub data Refusal : Type 0 where
-  too_deep too_long late_moment crowded worn no_frame not_reserved : Refusal
+pub data WriteFault : Type 0 where
+  too_deep too_long late_moment crowded worn no_frame not_reserved : WriteFault

@@ -7,7 +7,7 @@ use Rattle.trace_model.specs.Words.{slot_len, encoded_len}
 use Rattle.trace_model.specs.History.{HistoryEvent, push, push_close, leave, wished, Reservation, reservation_for, reserved_records, records_with_payload}
 use Rattle.trace_model.specs.Packing.{fill_len, tail_of}
 use Rattle.trace_model.specs.Links.{Mark, normal, header, update, Link}
-use Rattle.trace_model.specs.Frames.{Kind, for_record, for_close, FrameState, waiting, reserved, left, number_of, helper, Phase, idle, looking, claiming, looking_next, opening, releasing, wishing, Frame, Refusal, too_deep, too_long, late_moment, crowded, worn, no_frame, not_reserved}
+use Rattle.trace_model.specs.Frames.{Purpose, for_record, for_close, Progress, waiting, reserved, left, number_of, helper, Phase, idle, looking, claiming, looking_next, opening, releasing, wishing, Frame, WriteFault, too_deep, too_long, late_moment, crowded, worn, no_frame, not_reserved}
 use Rattle.trace_model.specs.Ring.{PageRecords, empty_page, Core, link_into, links_with}
 use Rattle.trace_model.specs.Events.{Answer, pushed, going, reserved_as, pending, full, gone, refused, Outcome, only_if}
 
@@ -68,7 +68,7 @@ held_with_payload (Some number) payload h = record h {
 }
 
 -- the number of the record that a frame reserved
-abbrev pub own_number : Kind → FrameState → Option ℕ
+abbrev pub own_number : Purpose → Progress → Option ℕ
 own_number (for_record moment len) state = number_of state
 own_number for_close state = None
 
@@ -81,14 +81,14 @@ after_leave c frame below payload = record c {
 }
 
 -- the frame is refused, and leaves
-abbrev pub refuses : Core → Frame → List Frame → Refusal → Outcome
+abbrev pub refuses : Core → Frame → List Frame → WriteFault → Outcome
 refuses c frame below why = Some (refused why, after_leave c frame below None)
 
 -- ---- a fill is begun, by this frame or by another
 
 -- What a frame does once its fill is begun: a record frame tries again; a close frame has what it wanted and leaves;
 -- one that has left goes on to close fills.
-abbrev pub begins_again : Kind → FrameState → Core → Frame → List Frame → Outcome
+abbrev pub begins_again : Purpose → Progress → Core → Frame → List Frame → Outcome
 begins_again (for_record moment len) waiting c frame below = goes_on c frame below idle
 begins_again for_close waiting c frame below = Some (leave_answer below, after_leave c frame below None)
 begins_again kind (reserved number) c frame below = goes_on c frame below idle
@@ -102,7 +102,7 @@ unless_begun noted c frame below outcome =
 -- ---- a push
 
 -- a frame of this kind is pushed
-abbrev pub with_frame : Core → Kind → Core
+abbrev pub with_frame : Core → Purpose → Core
 with_frame c kind = record c { frames = record { kind = kind; state = waiting; phase = idle } ∷ c.frames }
 
 -- It is refused if there is no room for one more frame, its record has no room in an empty page of this size, or its
@@ -146,7 +146,7 @@ note_fill n c frame below =
     else goes_on c frame below (looking c.opened))
 
 -- A record that fits in the tail page gets its number and moment. A close frame leaves if the tail is empty.
-abbrev pub reserve : (n size : ℕ) → Core → Frame → List Frame → Kind → Outcome
+abbrev pub reserve : (n size : ℕ) → Core → Frame → List Frame → Purpose → Outcome
 reserve n size c frame below (for_record moment len) =
     let r : Reservation = new_reservation c moment len in
     let number : ℕ = length (reserved_records c.history) in
@@ -193,7 +193,7 @@ open_fill c frame below noted page =
 
 -- ---- idle, reserved: a step, and the end with the payload
 
-abbrev pub idle_step : (n size : ℕ) → Core → Frame → List Frame → FrameState → Outcome
+abbrev pub idle_step : (n size : ℕ) → Core → Frame → List Frame → Progress → Outcome
 idle_step n size c frame below waiting = reserve n size c frame below frame.kind
 idle_step n size c frame below (reserved number) = Some (reserved_as number, c)
 idle_step n size c frame below left = None
@@ -204,7 +204,7 @@ end_answer [] = full
 end_answer (next ∷ below) = pending
 
 -- The payload takes the slot that the record has.
-abbrev pub end_frame : Core → List ℕ → Frame → List Frame → Kind → (reserved : Option ℕ) → Outcome
+abbrev pub end_frame : Core → List ℕ → Frame → List Frame → Purpose → (reserved : Option ℕ) → Outcome
 end_frame c payload frame below kind None = Some (refused not_reserved, c)
 end_frame c payload frame below (for_record moment len) (Some number) =
     only_if (slot_len (length payload) == slot_len len)

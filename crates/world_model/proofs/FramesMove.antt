@@ -1,6 +1,6 @@
 -- How a step changes the stack of frames: it pushes one, changes the one on top, which keeps its kind, or pops it.
 use Rattle.std.proofs.Common.{◌≡◌, ℕ, List, [], ◌∷◌, refl, sym, ap, ◌∙◌, subst}
-use Rattle.trace_model.specs.Frames.{Kind, for_record, for_close, FrameState, waiting, reserved, left, Role, Phase, Frame}
+use Rattle.trace_model.specs.Frames.{Purpose, for_record, for_close, Progress, waiting, reserved, left, Role, Phase, Frame}
 use Rattle.trace_model.specs.Ring.{ReaderPhase, loading_head, loading_done, storing_spare_link, swapping, Core}
 use Rattle.trace_model.specs.Steps.{Event, pushes, pushes_close, steps, ends, reads, wishes, Answer, closing_phase, frames_after_leave, with_new_tail, after_begin}
 use Rattle.trace_model.proofs.steps.StepCases.{StepCases, BeginsAgain, ReserveStep, reserves, finds_nothing, is_crowded, is_worn, notes, LoadLinkStep, load_link_late, sees_free, sees_header, sees_update, ClaimHeadStep, claim_late, claims, claim_fails, LoadNextStep, load_next_late, sees_normal, sees_other, MarkHeadStep, mark_late, marks, mark_fails, ClearUpdateStep, clears, OpenFillStep, open_late, opens, ReleaseFillStep, releases, releases_last, LoadWishStep, grants, closes_more, goes_away, IdleStep, FrameStep, by_phase, loads_header, loads_update, loads_owed, loads_passed, finds_none, finds_closed, swaps, swap_fails, ReadStep, push_step, push_refused, close_step, close_refused, frame_step, frame_lacks, end_step, end_lacks, end_early, read_step, store_wish_step}
@@ -23,7 +23,7 @@ module _ (n size : ℕ) (c : Core) (frame : Frame) (below : List Frame) (answer 
   leaves : (d next : Core) → next.frames ≡ frames_after_leave d frame below → after ≡ next → Moves c.frames after.frames
   leaves d next frames is = left_by d below refl (ap (λ (x : Core). x.frames) is ∙ frames)
 
-  begins : (kind : Kind) (state : FrameState) (d : Core) → after ≡ after_begin kind state d frame below → Moves c.frames after.frames
+  begins : (kind : Purpose) (state : Progress) (d : Core) → after ≡ after_begin kind state d frame below → Moves c.frames after.frames
   begins (for_record moment len) waiting d is = to _ _ refl refl is
   begins for_close waiting d is = leaves d _ refl is
   begins kind (reserved number) d is = to _ _ refl refl is
@@ -71,7 +71,7 @@ module _ (n size : ℕ) (c : Core) (frame : Frame) (below : List Frame) (answer 
   release_fill_moves (releases alone more a is) = stays (ap (λ (d : Core). d.frames) is)
   release_fill_moves (releases_last alone last a is) = to _ _ refl refl is
 
-  idle_moves : (state : FrameState) → IdleStep n size c frame below state answer after → Moves c.frames after.frames
+  idle_moves : (state : Progress) → IdleStep n size c frame below state answer after → Moves c.frames after.frames
   idle_moves waiting step = reserve_moves step
   idle_moves (reserved number) step = stays (ap (λ (d : Core). d.frames) step.1)
   idle_moves left step = absurd step

@@ -1,7 +1,7 @@
 -- There is a payload for each frame on the stack, as long as it was pushed for.
 use Rattle.std.proofs.Common.{◌≡◌, ℕ, zero, suc, ◌-◌, List, [], ◌∷◌, length, drop, refl, sym, ap, ◌∙◌, subst, arith}
 use Rattle.trace_model.specs.Words.{slot_len, padded}
-use Rattle.trace_model.specs.Frames.{Kind, for_record, FrameState, waiting, reserved, left, Frame}
+use Rattle.trace_model.specs.Frames.{Purpose, for_record, Progress, waiting, reserved, left, Frame}
 use Rattle.trace_model.specs.Ring.{Core}
 use Rattle.trace_model.specs.Steps.{Event, pushes, pushes_close, steps, ends, reads, wishes, Answer, pushed, going, reserved_as, pending, full, gone, refused, reading, empty, moving, page_taken, wished_for, Step, Exchange}
 use Rattle.trace_model.proofs.steps.StepCases.{StepCases, push_step, push_refused, close_step, close_refused, frame_step, frame_lacks, end_step, end_lacks, end_early, read_step, store_wish_step}
@@ -26,7 +26,7 @@ all_left frames payloads same = ap (λ (k : ℕ). drop k payloads) (let e : leng
 
 changed : (frame next : Frame) (below : List Frame) (payloads : List (List ℕ)) → next.kind ≡ frame.kind → FitFrames (frame ∷ below) payloads → FitFrames (next ∷ below) payloads
 changed frame next below [] kind fit = absurd fit
-changed frame next below (payload ∷ payloads) kind fit = (subst (λ (k : Kind). FitsKind k payload) (sym kind) fit.0, fit.1)
+changed frame next below (payload ∷ payloads) kind fit = (subst (λ (k : Purpose). FitsKind k payload) (sym kind) fit.0, fit.1)
 
 popped : (frame : Frame) (below : List Frame) (payloads : List (List ℕ)) → FitFrames (frame ∷ below) payloads → FitFrames below (payloads_left below payloads)
 popped frame below [] fit = absurd fit
@@ -44,7 +44,7 @@ fit_moved before after payloads fit (pops frame below top is) = subst (λ (l : L
 
 -- ---- the frame on top may be asked
 
-pushes_none_in : (state : FrameState) (payloads : List (List ℕ)) → PushesNone (event_in state payloads)
+pushes_none_in : (state : Progress) (payloads : List (List ℕ)) → PushesNone (event_in state payloads)
 pushes_none_in waiting payloads = tt
 pushes_none_in (reserved number) [] = tt
 pushes_none_in (reserved number) (payload ∷ payloads) = tt
@@ -62,11 +62,11 @@ first_same : (a b : Frame) (xs ys : List Frame) → ◌≡◌ {A = List Frame} (
 unfolding first_or
 first_same a b xs ys e = ap (first_or a) e
 
-takes_slot : (kind : Kind) (payload : List ℕ) (moment len : ℕ) → kind ≡ for_record moment len → FitsKind kind payload → slot_len (length (padded payload)) ≡ slot_len len
+takes_slot : (kind : Purpose) (payload : List ℕ) (moment len : ℕ) → kind ≡ for_record moment len → FitsKind kind payload → slot_len (length (padded payload)) ≡ slot_len len
 takes_slot kind payload moment len is fits =
-    ap slot_len (length-padded payload) ∙ slot_len-slot_len (length payload) ∙ ap slot_len (subst (λ (k : Kind). FitsKind k payload) is fits)
+    ap slot_len (length-padded payload) ∙ slot_len-slot_len (length payload) ∙ ap slot_len (subst (λ (k : Purpose). FitsKind k payload) is fits)
 
-may_ask_in : (c : Core) (frame : Frame) (below : List Frame) (payload : List ℕ) (payloads : List (List ℕ)) (state : FrameState) → c.frames ≡ frame ∷ below → FitsKind frame.kind payload → MayAsk c (event_in state (payload ∷ payloads))
+may_ask_in : (c : Core) (frame : Frame) (below : List Frame) (payload : List ℕ) (payloads : List (List ℕ)) (state : Progress) → c.frames ≡ frame ∷ below → FitsKind frame.kind payload → MayAsk c (event_in state (payload ∷ payloads))
 may_ask_in c frame below payload payloads waiting top fits = tt
 may_ask_in c frame below payload payloads (reserved number) top fits = λ other under number' moment len top' state kind.
     takes_slot frame.kind payload moment len (ap (λ (f : Frame). f.kind) (first_same frame other below under (sym top ∙ top')) ∙ kind) fits

@@ -1,7 +1,7 @@
 -- A frame and a take that a line steps have an end: each step lowers a rank.
 use Rattle.std.proofs.Common.{◌≡◌, ◌≢◌, ℕ, ◌+◌, ◌<◌, ◌≤◌, List, [], ◌∷◌, length, refl, sym, ap, ◌∙◌, subst, arith}
 use Rattle.trace_model.specs.Words.{padded}
-use Rattle.trace_model.specs.Frames.{FrameState, waiting, reserved, left, number_of, Frame}
+use Rattle.trace_model.specs.Frames.{Progress, waiting, reserved, left, number_of, Frame}
 use Rattle.trace_model.specs.Ring.{Core}
 use Rattle.trace_model.specs.Steps.{Event, reads, Answer, pushed, going, reserved_as, pending, full, gone, refused, reading, empty, moving, page_taken, wished_for, Step, Exchange}
 use Rattle.ring_model.specs.Reached.{IsReached}
@@ -32,7 +32,7 @@ still_reading (wished_for fill) not = absurd (not (λ e. cc))
 module _ (n size start : ℕ) where
   -- ---- a frame
 
-  own_lowers : (c : Core) (payloads : List (List ℕ)) (frame : Frame) (below : List Frame) (answer : Answer) (after : Core) → IsRingKept n size start c → c.frames ≡ frame ∷ below → (state : FrameState) → frame.state ≡ state → Step n size c (event_in state payloads) answer after → length after.frames ≡ length c.frames → frame_rank n after < frame_rank n c
+  own_lowers : (c : Core) (payloads : List (List ℕ)) (frame : Frame) (below : List Frame) (answer : Answer) (after : Core) → IsRingKept n size start c → c.frames ≡ frame ∷ below → (state : Progress) → frame.state ≡ state → Step n size c (event_in state payloads) answer after → length after.frames ≡ length c.frames → frame_rank n after < frame_rank n c
   own_lowers c payloads frame below answer after r top waiting is step stays = steps_lower n size start c frame below answer after r top (ap number_of is) step stays
   own_lowers c [] frame below answer after r top (reserved number) is step stays = ends_lower n size start c frame below number (padded []) answer after r top is step stays
   own_lowers c (payload ∷ payloads) frame below answer after r top (reserved number) is step stays = ends_lower n size start c frame below number (padded payload) answer after r top is step stays

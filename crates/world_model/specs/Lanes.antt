@@ -1,7 +1,7 @@
 -- What a line of a script does to the ring of its CPU: the exchanges that it has with it. docs/FORMATS.md, "Script".
 use Rattle.std.specs.Prelude.{◌≡◌, ◌≢◌, ℕ, ◌-◌, ◌<◌, ◌≤◌, ◌⊎◌, ⊤, List, [], ◌∷◌, length, drop}
 use Rattle.trace_model.specs.Words.{padded}
-use Rattle.trace_model.specs.Frames.{Kind, for_record, for_close, FrameState, reserved, Frame, no_frame}
+use Rattle.trace_model.specs.Frames.{Purpose, for_record, for_close, Progress, reserved, Frame, no_frame}
 use Rattle.trace_model.specs.Ring.{IsStart, Core}
 use Rattle.trace_model.specs.Steps.{Event, pushes, pushes_close, steps, ends, reads, wishes, Answer, pushed, refused, reading, Step, Exchange}
 use Rattle.text_model.specs.Script.{Command, begin_frame, step_frame, finish_frame, write, close, step_reader, take_page, wish, deliver}
@@ -35,7 +35,7 @@ abbrev pub lane_with : Lane → List ℕ → Answer → Core → Lane
 lane_with lane payload answer core = record { core = core; payloads = payloads_with payload answer lane.payloads }
 
 -- a frame's payload has the length that it was pushed for; a close frame's is empty
-abbrev pub FitsKind : Kind → List ℕ → Type 0
+abbrev pub FitsKind : Purpose → List ℕ → Type 0
 FitsKind (for_record moment len) payload = length payload ≡ len
 FitsKind for_close payload = payload ≡ []
 
@@ -53,7 +53,7 @@ HasPayloads lane = FitFrames lane.core.frames lane.payloads
 
 -- A step of a script's frame: it ends with its payload where its record is reserved, zeros filling the slot, and makes
 -- a step of the ring where not.
-abbrev pub event_in : FrameState → List (List ℕ) → Event
+abbrev pub event_in : Progress → List (List ℕ) → Event
 event_in (reserved number) [] = ends (padded [])
 event_in (reserved number) (payload ∷ payloads) = ends (padded payload)
 event_in _ payloads = steps

@@ -2,7 +2,7 @@
 use Rattle.std.proofs.Common.{◌≡◌, ℕ, ◌+◌, ◌-◌, ◌<◌, ◌≤◌, true, List, [], ◌∷◌, ◌++◌, length, Some, None, refl, sym, ap, subst, arith, length-append}
 use Rattle.trace_model.specs.History.{HistoryEvent, push, push_close, open_fill, reserve, leave, wished, reserved_records, is_settled}
 use Rattle.trace_model.specs.Packing.{opens_of}
-use Rattle.trace_model.specs.Frames.{Kind, for_record, for_close, FrameState, waiting, reserved, left, Phase, idle, looking, claiming, looking_next, marking, clearing, opening, releasing, wishing, Frame}
+use Rattle.trace_model.specs.Frames.{Purpose, for_record, for_close, Progress, waiting, reserved, left, Phase, idle, looking, claiming, looking_next, marking, clearing, opening, releasing, wishing, Frame}
 use Rattle.trace_model.specs.Ring.{ReaderPhase, loading_head, loading_done, storing_spare_link, swapping, Core}
 use Rattle.trace_model.specs.Steps.{Event, Answer, with_new_tail, after_begin}
 use Rattle.trace_model.proofs.steps.StepCases.{StepCases, BeginsAgain, IdleStep, ReserveStep, reserves, finds_nothing, is_crowded, is_worn, notes, load_link_late, sees_free, sees_header, sees_update, claim_late, claims, claim_fails, load_next_late, sees_normal, sees_other, mark_late, marks, mark_fails, clears, open_late, opens, releases, releases_last, grants, closes_more, goes_away, FrameStep, push_step, push_refused, close_step, close_refused, frame_step, frame_lacks, end_step, end_lacks, end_early, read_step, store_wish_step, loads_header, loads_update, loads_owed, loads_passed, finds_none, finds_closed, swaps, swap_fails, ReadStep}
@@ -23,13 +23,13 @@ module _ (n start : ℕ) (c : Core) (k : LinksKept n c) (t : ContentsKept n star
   closed_more : (a : HistoryEvent) → ClosedAt start (c.history ++ a ∷ []) c.done
   closed_more a = first_more c.history a (c.done - start) counted z
 
-  closed_begun : (kind : Kind) (state : FrameState) (frame : Frame) (below : List Frame) → ClosedKept start (after_begin kind state c frame below)
+  closed_begun : (kind : Purpose) (state : Progress) (frame : Frame) (below : List Frame) → ClosedKept start (after_begin kind state c frame below)
   closed_begun (for_record moment len) waiting frame below = z
   closed_begun for_close waiting frame below = closed_more (leave None)
   closed_begun kind (reserved number) frame below = z
   closed_begun kind left frame below = z
 
-  closed_opened : (kind : Kind) (state : FrameState) (page : ℕ) (frame : Frame) (below : List Frame) → ClosedKept start (after_begin kind state (with_new_tail c page) frame below)
+  closed_opened : (kind : Purpose) (state : Progress) (page : ℕ) (frame : Frame) (below : List Frame) → ClosedKept start (after_begin kind state (with_new_tail c page) frame below)
   closed_opened (for_record moment len) waiting page frame below = closed_more open_fill
   closed_opened kind (reserved number) page frame below = closed_more open_fill
   closed_opened kind left page frame below = closed_more open_fill
@@ -53,7 +53,7 @@ module _ (n size start : ℕ) (c : Core) (frame : Frame) (below : List Frame) (k
   closed_reserve answer after (is_worn needs full last a is) = subst (ClosedKept start) (sym is) (closed_more n start c k t z (leave None))
   closed_reserve answer after (notes needs room small a is) = subst (ClosedKept start) (sym is) z
 
-  closed_idle : (state : FrameState) (answer : Answer) (after : Core) → IdleStep n size c frame below state answer after → ClosedKept start after
+  closed_idle : (state : Progress) (answer : Answer) (after : Core) → IdleStep n size c frame below state answer after → ClosedKept start after
   closed_idle waiting answer after step = closed_reserve answer after step
   closed_idle (reserved number) answer after step = subst (ClosedKept start) (sym step.1) z
   closed_idle left answer after step = absurd step

@@ -2,7 +2,7 @@
 use Rattle.std.proofs.Common.{◌≡◌, ◌≢◌, ℕ, ◌+◌, ◌-◌, ◌≤◌, List, [], ◌∷◌, ◌++◌, get_or, length, map, set, Option, Some, None, refl, sym, ap, ◌∙◌, subst, arith}
 use Rattle.trace_model.specs.History.{HistoryEvent, push, push_close, open_fill, reserve, leave, wished, Reservation, writer_after, reserved_records, records_with_payload}
 use Rattle.trace_model.specs.Packing.{opens_of}
-use Rattle.trace_model.specs.Frames.{Kind, for_record, for_close, FrameState, waiting, reserved, left, Phase, idle, looking, claiming, looking_next, marking, clearing, opening, releasing, wishing, Frame, pushed_onto, pushed_frames}
+use Rattle.trace_model.specs.Frames.{Purpose, for_record, for_close, Progress, waiting, reserved, left, Phase, idle, looking, claiming, looking_next, marking, clearing, opening, releasing, wishing, Frame, pushed_onto, pushed_frames}
 use Rattle.trace_model.specs.Ring.{PageRecords, ReaderPhase, loading_head, loading_done, storing_spare_link, swapping, Core, page_at, AreApart}
 use Rattle.trace_model.specs.Steps.{Event, Answer, tail_page, after_leave, held_with_payload, own_number, with_new_tail, after_begin, after_swap}
 use Rattle.trace_model.proofs.steps.StepCases.{StepCases, BeginsAgain, IdleStep, ReserveStep, reserves, finds_nothing, is_crowded, is_worn, notes, load_link_late, sees_free, sees_header, sees_update, claim_late, claims, claim_fails, load_next_late, sees_normal, sees_other, mark_late, marks, mark_fails, clears, OpenFillStep, open_late, opens, releases, releases_last, grants, closes_more, goes_away, FrameStep, push_step, push_refused, close_step, close_refused, frame_step, frame_lacks, end_step, end_lacks, end_early, read_step, store_wish_step, LoadHeadStep, loads_header, loads_update, loads_owed, loads_passed, LoadDoneStep, finds_none, finds_closed, SwapHeadStep, swaps, swap_fails, ReadStep}
@@ -24,14 +24,14 @@ same_pages : (n start : ℕ) (order : List ℕ) (held : List PageRecords) (cuts 
 same_pages n start order held cuts cuts' xs xs' head opened a b k = subst (λ (l : List ℕ). PagesKept n start order held l xs' head opened) (sym a) (subst (λ (l : List Reservation). PagesKept n start order held cuts l head opened) (sym b) k)
 
 module _ (n start : ℕ) (c : Core) (frame : Frame) (below : List Frame) (some : 1 ≤ n) (a : AreApart n c.order c.spare) (t : ContentsKept n start c) (stack : (writer_after c.history).stack ≡ pushed_onto frame.kind frame.state (pushed_frames below)) where
-  contents_leave : (state : FrameState) (payload : Option (List ℕ)) → frame.state ≡ state → state ≢ left → ContentsKept n start (after_leave c frame below payload)
+  contents_leave : (state : Progress) (payload : Option (List ℕ)) → frame.state ≡ state → state ≢ left → ContentsKept n start (after_leave c frame below payload)
   contents_leave state payload same stands = same_pages n start c.order (map (held_with_payload (own_number frame.kind frame.state) payload) c.held) (opens_of c.history) (opens_of (c.history ++ leave payload ∷ []))
       (records_with_payload (own_number frame.kind frame.state) payload (reserved_records c.history)) (reserved_records (c.history ++ leave payload ∷ [])) c.head c.opened
       (opens_of-leave c.history payload)
       (records_left_by c.history frame.kind frame.state (pushed_frames below) payload stack (λ e. stands (sym same ∙ e)))
       (pages_finished n start c.order c.spare c.held (opens_of c.history) (reserved_records c.history) c.head c.opened some a t (own_number frame.kind frame.state) payload)
 
-  contents_after_begin : (kind : Kind) (state : FrameState) → frame.state ≡ state → ContentsKept n start (after_begin kind state c frame below)
+  contents_after_begin : (kind : Purpose) (state : Progress) → frame.state ≡ state → ContentsKept n start (after_begin kind state c frame below)
   contents_after_begin (for_record moment len) waiting same = t
   contents_after_begin for_close waiting same = contents_leave waiting None same (λ e. cc)
   contents_after_begin kind (reserved number) same = t
@@ -44,7 +44,7 @@ module _ (n size start : ℕ) (c : Core) (frame : Frame) (below : List Frame) (k
   some_page : 1 ≤ n
   some_page = let two = k.some_pages in omega arith
 
-  contents_leaves : (after : Core) (state : FrameState) (payload : Option (List ℕ)) → frame.state ≡ state → state ≢ left → after ≡ after_leave c frame below payload → ContentsKept n start after
+  contents_leaves : (after : Core) (state : Progress) (payload : Option (List ℕ)) → frame.state ≡ state → state ≢ left → after ≡ after_leave c frame below payload → ContentsKept n start after
   contents_leaves after state payload same stands is = subst (ContentsKept n start) (sym is) (contents_leave n start c frame below some_page k.apart t stack_top state payload same stands)
 
   contents_again : (noted : ℕ) (answer : Answer) (after : Core) → BeginsAgain c frame below noted answer after → ContentsKept n start after
@@ -55,7 +55,7 @@ module _ (n size start : ℕ) (c : Core) (frame : Frame) (below : List Frame) (k
       let held_on : (page : ℕ) → List PageRecords = λ page. set c.held page record { first = (get_or c.held page nothing).first; records = (get_or c.held page nothing).records ++ r ∷ [] } in
       subst (ContentsKept n start) (sym is) (same_pages n start c.order (held_on (tail_page c)) (opens_of c.history) (opens_of (c.history ++ reserve ∷ [])) (reserved_records c.history ++ r ∷ []) (reserved_records (c.history ++ reserve ∷ [])) c.head c.opened
       (opens_of-reserve c.history)
-      (records_reserved c.history moment len (pushed_frames below) (stack_top ∙ ap (λ (s : FrameState). pushed_onto frame.kind s (pushed_frames below)) same ∙ ap (λ (x : Kind). pushed_onto x waiting (pushed_frames below)) kind)
+      (records_reserved c.history moment len (pushed_frames below) (stack_top ∙ ap (λ (s : Progress). pushed_onto frame.kind s (pushed_frames below)) same ∙ ap (λ (x : Purpose). pushed_onto x waiting (pushed_frames below)) kind)
       ∙ ap (λ (x : Reservation). reserved_records c.history ++ x ∷ []) (sym r_is))
       (subst (λ (page : ℕ). PagesKept n start c.order (held_on page) (opens_of c.history) (reserved_records c.history ++ r ∷ []) c.head c.opened) (sym (tail_page_is n c o behind))
       (pages_reserved n start c.order c.spare c.held (opens_of c.history) (reserved_records c.history) c.head c.opened some_page k.apart t r (c.opened - 1) (omega arith) (omega arith) k.opened_le)))
@@ -64,7 +64,7 @@ module _ (n size start : ℕ) (c : Core) (frame : Frame) (below : List Frame) (k
   contents_reserve answer after same (is_worn needs full last a is) = contents_leaves after waiting None same (λ e. cc) is
   contents_reserve answer after same (notes needs room small a is) = subst (ContentsKept n start) (sym is) t
 
-  contents_idle : (state : FrameState) (answer : Answer) (after : Core) → frame.state ≡ state → IdleStep n size c frame below state answer after → ContentsKept n start after
+  contents_idle : (state : Progress) (answer : Answer) (after : Core) → frame.state ≡ state → IdleStep n size c frame below state answer after → ContentsKept n start after
   contents_idle waiting answer after same step = contents_reserve answer after same step
   contents_idle (reserved number) answer after same step = subst (ContentsKept n start) (sym step.1) t
   contents_idle left answer after same step = absurd step

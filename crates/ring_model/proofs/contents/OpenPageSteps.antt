@@ -5,7 +5,7 @@ use Rattle.std.proofs.Math.ListN.{get_or-append}
 use Rattle.std.proofs.Math.Seq.{get_or-append_seam}
 use mathlib.Core.Logic.{dite}
 use native.Mathlib.Decide.{ℕ_discrete}
-use Rattle.trace_model.specs.Frames.{Kind, for_record, for_close, FrameState, waiting, reserved, left, Phase, idle, looking, claiming, looking_next, marking, clearing, opening, releasing, wishing, Frame}
+use Rattle.trace_model.specs.Frames.{Purpose, for_record, for_close, Progress, waiting, reserved, left, Phase, idle, looking, claiming, looking_next, marking, clearing, opening, releasing, wishing, Frame}
 use Rattle.trace_model.specs.Ring.{ReaderPhase, loading_head, loading_done, storing_spare_link, swapping, Core, page_at}
 use Rattle.trace_model.specs.Steps.{Event, Answer, tail_page, with_new_tail, after_begin, after_swap}
 use Rattle.trace_model.proofs.steps.StepCases.{StepCases, BeginsAgain, IdleStep, ReserveStep, reserves, finds_nothing, is_crowded, is_worn, notes, load_link_late, sees_free, sees_header, sees_update, claim_late, claims, claim_fails, load_next_late, sees_normal, sees_other, mark_late, marks, mark_fails, clears, open_late, opens, releases, releases_last, grants, closes_more, goes_away, FrameStep, push_step, push_refused, close_step, close_refused, frame_step, frame_lacks, end_step, end_lacks, end_early, read_step, store_wish_step, loads_header, loads_update, loads_owed, loads_passed, finds_none, finds_closed, swaps, swap_fails, ReadStep}
@@ -46,7 +46,7 @@ module _ (n : ℕ) (order pages : List ℕ) (done opened : ℕ) (o : OpenPagesAt
 
 -- ---- the frame on top
 
-begun_pages : (n : ℕ) (c : Core) (kind : Kind) (state : FrameState) (frame : Frame) (below : List Frame) → OpenPagesKept n c → OpenPagesKept n (after_begin kind state c frame below)
+begun_pages : (n : ℕ) (c : Core) (kind : Purpose) (state : Progress) (frame : Frame) (below : List Frame) → OpenPagesKept n c → OpenPagesKept n (after_begin kind state c frame below)
 begun_pages n c (for_record moment len) waiting frame below o = o
 begun_pages n c for_close waiting frame below o = o
 begun_pages n c kind (reserved number) frame below o = o
@@ -63,7 +63,7 @@ module _ (n size : ℕ) (c : Core) (frame : Frame) (below : List Frame) (k : Lin
   pages_reserve answer after (is_worn needs full last a is) = subst (OpenPagesKept n) (sym is) o
   pages_reserve answer after (notes needs room small a is) = subst (OpenPagesKept n) (sym is) o
 
-  pages_idle : (state : FrameState) (answer : Answer) (after : Core) → IdleStep n size c frame below state answer after → OpenPagesKept n after
+  pages_idle : (state : Progress) (answer : Answer) (after : Core) → IdleStep n size c frame below state answer after → OpenPagesKept n after
   pages_idle waiting answer after step = pages_reserve answer after step
   pages_idle (reserved number) answer after step = subst (OpenPagesKept n) (sym step.1) o
   pages_idle left answer after step = absurd step

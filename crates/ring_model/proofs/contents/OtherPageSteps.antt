@@ -10,7 +10,7 @@ use mathlib.Core.Logic.{dite}
 use native.Mathlib.Decide.{ℕ_discrete, dec_le}
 use Rattle.trace_model.specs.History.{HistoryEvent, push, push_close, open_fill, reserve, leave, wished, Reservation, records_with_payload, reserved_records}
 use Rattle.trace_model.specs.Packing.{opens_of, cut_from}
-use Rattle.trace_model.specs.Frames.{Kind, for_record, for_close, FrameState, waiting, reserved, left, Phase, idle, looking, claiming, looking_next, marking, clearing, opening, releasing, wishing, Frame}
+use Rattle.trace_model.specs.Frames.{Purpose, for_record, for_close, Progress, waiting, reserved, left, Phase, idle, looking, claiming, looking_next, marking, clearing, opening, releasing, wishing, Frame}
 use Rattle.trace_model.specs.Ring.{PageRecords, empty_page, ReaderPhase, loading_head, loading_done, storing_spare_link, swapping, Core, IsStart}
 use Rattle.trace_model.specs.Steps.{Event, Answer, held_with_payload, own_number, with_new_tail, with_released, after_leave, after_begin}
 use Rattle.trace_model.proofs.steps.StepCases.{StepCases, BeginsAgain, IdleStep, reserves, finds_nothing, is_crowded, is_worn, notes, load_link_late, sees_free, sees_header, sees_update, claim_late, claims, claim_fails, load_next_late, sees_normal, sees_other, mark_late, marks, mark_fails, clears, open_late, opens, releases, releases_last, grants, closes_more, goes_away, FrameStep, push_step, push_refused, close_step, close_refused, frame_step, frame_lacks, end_step, end_lacks, end_early, read_step, store_wish_step, loads_header, loads_update, loads_owed, loads_passed, finds_none, finds_closed, swaps, swap_fails, ReadStep}
@@ -111,7 +111,7 @@ module _ (c : Core) (z : OtherPagesKept c) where
   others_left frame below payload = let number : Option ℕ = own_number frame.kind frame.state in
       others_ended (c.history ++ leave payload ∷ []) c.open_pages c.held (others_more c.history c.open_pages c.held z (leave payload)) number payload
 
-  others_begun : (kind : Kind) (state : FrameState) (frame : Frame) (below : List Frame) → OtherPagesKept (after_begin kind state c frame below)
+  others_begun : (kind : Purpose) (state : Progress) (frame : Frame) (below : List Frame) → OtherPagesKept (after_begin kind state c frame below)
   others_begun (for_record moment len) waiting frame below = z
   others_begun for_close waiting frame below = others_left frame below None
   others_begun kind (reserved number) frame below = z
@@ -122,7 +122,7 @@ module _ (n size start : ℕ) (c : Core) (frame : Frame) (below : List Frame) (a
   others_again : (noted : ℕ) → BeginsAgain c frame below noted answer after → OtherPagesKept after
   others_again noted step = subst OtherPagesKept (sym step.after_is) (others_begun c z frame.kind frame.state frame below)
 
-  others_idle : (state : FrameState) → IdleStep n size c frame below state answer after → OtherPagesKept after
+  others_idle : (state : Progress) → IdleStep n size c frame below state answer after → OtherPagesKept after
   others_idle waiting (reserves moment len r kind r_is fits a is) = let count = o.count in let behind = k.done_lt in
       subst OtherPagesKept (sym is) (others_more c.history c.open_pages _ (others_set c.history c.open_pages c.held z (length c.open_pages - 1) _ (omega arith)) reserve)
   others_idle waiting (finds_nothing kind none a is) = subst OtherPagesKept (sym is) (others_left c z frame below None)

@@ -10,7 +10,7 @@ use Rattle.trace_model.specs.Words.{encoded_len}
 use Rattle.trace_model.specs.History.{HistoryEvent, push, push_close, open_fill, reserve, leave, wished, Reservation, PushedFrame, writer_after, reserved_records, reservation_for}
 use Rattle.trace_model.specs.Packing.{opens_of, FitsBehind, is_wished}
 use Rattle.trace_model.specs.Fitting.{tail_at, IsFit, FitsPage, NeedsFill}
-use Rattle.trace_model.specs.Frames.{Kind, for_record, for_close, FrameState, waiting, reserved, left, Role, owner, helper, Phase, idle, looking, claiming, looking_next, marking, clearing, opening, releasing, wishing, Frame, pushed_onto, pushed_frames, noted_fill}
+use Rattle.trace_model.specs.Frames.{Purpose, for_record, for_close, Progress, waiting, reserved, left, Role, owner, helper, Phase, idle, looking, claiming, looking_next, marking, clearing, opening, releasing, wishing, Frame, pushed_onto, pushed_frames, noted_fill}
 use Rattle.trace_model.specs.Ring.{ReaderPhase, loading_head, loading_done, storing_spare_link, swapping, Core, IsStart}
 use Rattle.trace_model.specs.Steps.{Event, Answer, IsTooLong, NeedsPage, closing_phase, in_phase, after_leave, after_next, frames_after_leave, own_number, with_new_tail, after_begin}
 use Rattle.trace_model.proofs.steps.StepCases.{StepCases, BeginsAgain, IdleStep, ReserveStep, reserves, finds_nothing, is_crowded, is_worn, notes, load_link_late, sees_free, sees_header, sees_update, claim_late, claims, claim_fails, load_next_late, sees_normal, sees_other, mark_late, marks, mark_fails, clears, OpenFillStep, open_late, opens, releases, releases_last, grants, closes_more, goes_away, FrameStep, push_step, push_refused, close_step, close_refused, frame_step, frame_lacks, end_step, end_lacks, end_early, read_step, store_wish_step, loads_header, loads_update, loads_owed, loads_passed, finds_none, finds_closed, swaps, swap_fails, ReadStep}
@@ -29,7 +29,7 @@ use Rattle.ring_model.proofs.histories.HistorySteps.{top_agrees, top_stack, wish
 -- ---- the frames that are about to open a fill
 
 needs_same : (size : ℕ) (cuts cuts' : List ℕ) (xs xs' : List Reservation) (found found' : Bool) (opened : ℕ) (frames : List Frame)
-    → ((kind : Kind) (state : FrameState) → NeedsFill size cuts xs found kind state → NeedsFill size cuts' xs' found' kind state)
+    → ((kind : Purpose) (state : Progress) → NeedsFill size cuts xs found kind state → NeedsFill size cuts' xs' found' kind state)
     → FramesNeed size cuts xs found opened frames
     → FramesNeed size cuts' xs' found' opened frames
 needs_same size cuts cuts' xs xs' found found' opened [] step k = tt
@@ -88,7 +88,7 @@ module _ (size : ℕ) (c : Core) (frame : Frame) (below : List Frame) (rest : Li
       (is_wished-leave c.history payload)
       tt p (needs_left size (opens_of c.history) (reserved_records c.history) (is_wished c.history) c.opened c frame below p.needs.0 p.needs.2)
 
-  packed_after_begin : (kind : Kind) (state : FrameState) → frame.state ≡ state → (writer_after c.history).stack ≡ pushed_onto frame.kind frame.state rest → PackedKept size (after_begin kind state c frame below)
+  packed_after_begin : (kind : Purpose) (state : Progress) → frame.state ≡ state → (writer_after c.history).stack ≡ pushed_onto frame.kind frame.state rest → PackedKept size (after_begin kind state c frame below)
   packed_after_begin (for_record moment len) waiting same stack = packed_rests idle refl
   packed_after_begin for_close waiting same stack = packed_leaves None stack (λ e. differ (sym same ∙ e))
     where
@@ -104,7 +104,7 @@ module _ (n size start : ℕ) (c : Core) (frame : Frame) (below : List Frame) (k
   stack_top : (writer_after c.history).stack ≡ pushed_onto frame.kind frame.state (pushed_frames below)
   stack_top = top_stack n start c frame below h top
 
-  packs_leave : (after : Core) (state : FrameState) (payload : Option (List ℕ)) → frame.state ≡ state → state ≢ left → after ≡ after_leave c frame below payload → PackedKept size after
+  packs_leave : (after : Core) (state : Progress) (payload : Option (List ℕ)) → frame.state ≡ state → state ≢ left → after ≡ after_leave c frame below payload → PackedKept size after
   packs_leave after state payload same stands is = subst (PackedKept size) (sym is) (packed_leaves size c frame below (pushed_frames below) p payload stack_top (λ e. stands (sym same ∙ e)))
 
   packs_notes : (after : Core) (old phase : Phase) → frame.phase ≡ old → noted_fill phase ≡ noted_fill old → after ≡ in_phase c frame below phase → PackedKept size after
@@ -114,7 +114,7 @@ module _ (n size start : ℕ) (c : Core) (frame : Frame) (below : List Frame) (k
   packs_again noted answer after step = subst (PackedKept size) (sym step.after_is) (packed_after_begin size c frame below (pushed_frames below) p frame.kind frame.state refl stack_top)
 
   -- a page is needed, by what the tail holds
-  needs_page : (kind : Kind) (found : Bool) → NeedsPage size c kind → NeedsFill size (opens_of c.history) (reserved_records c.history) found kind waiting
+  needs_page : (kind : Purpose) (found : Bool) → NeedsPage size c kind → NeedsFill size (opens_of c.history) (reserved_records c.history) found kind waiting
   needs_page (for_record moment len) found needs = λ fits. needs (subst (λ (l : List Reservation). FitsBehind size l (reservation_for moment len (reserved_records c.history))) (sym (tail_is c.history)) fits)
   needs_page for_close found needs = λ none. needs (tail_is c.history ∙ none)
 
@@ -125,7 +125,7 @@ module _ (n size start : ℕ) (c : Core) (frame : Frame) (below : List Frame) (k
       let xs : List Reservation = reserved_records c.history in
       let found : Bool = is_wished c.history in
       let new : Reservation = reservation_for moment len xs in
-      let stack = stack_top ∙ ap (λ (x : FrameState). pushed_onto frame.kind x (pushed_frames below)) same ∙ ap (λ (x : Kind). pushed_onto x waiting (pushed_frames below)) kind in
+      let stack = stack_top ∙ ap (λ (x : Progress). pushed_onto frame.kind x (pushed_frames below)) same ∙ ap (λ (x : Purpose). pushed_onto x waiting (pushed_frames below)) kind in
       let records : reserved_records (h0 ++ reserve ∷ []) ≡ xs ++ new ∷ [] = records_reserved c.history moment len (pushed_frames below) stack in
       let room_for : FitsBehind size (tail_at cuts xs) new = subst (FitsBehind size (tail_at cuts xs)) r_is (subst (λ (l : List Reservation). FitsBehind size l r) (tail_is c.history) fits) in
       subst (PackedKept size) (sym is) record {
@@ -140,7 +140,7 @@ module _ (n size start : ℕ) (c : Core) (frame : Frame) (below : List Frame) (k
   packs_reserve answer after same (notes needs room small a is) = subst (PackedKept size) (sym is) (packed_goes size c frame below (pushed_frames below) p (looking c.opened)
       (λ _. subst (NeedsFill size (opens_of c.history) (reserved_records c.history) (is_wished c.history) frame.kind) (sym same) (needs_page frame.kind (is_wished c.history) needs)))
 
-  packs_idle : (state : FrameState) (answer : Answer) (after : Core) → frame.state ≡ state → IdleStep n size c frame below state answer after → PackedKept size after
+  packs_idle : (state : Progress) (answer : Answer) (after : Core) → frame.state ≡ state → IdleStep n size c frame below state answer after → PackedKept size after
   packs_idle waiting answer after same step = packs_reserve answer after same step
   packs_idle (reserved number) answer after same step = subst (PackedKept size) (sym step.1) q
   packs_idle left answer after same step = absurd step
@@ -226,7 +226,7 @@ fits_page size len fits = no_more (encoded_len len 0 true) (λ long. fits (inr l
     no_more : (k : ℕ) → (size < k → ⊥) → k ≤ size
     no_more k none = dite (dec_le k size) (λ yes. yes) (λ no. absurd (none (omega arith)))
 
-packs_pushed : (size : ℕ) (c after : Core) (kind : Kind) (a : HistoryEvent) → PackedKept size c → FitsPage size kind → opens_of (c.history ++ a ∷ []) ≡ opens_of c.history → reserved_records (c.history ++ a ∷ []) ≡ reserved_records c.history → is_wished (c.history ++ a ∷ []) ≡ is_wished c.history → IsFit size c.history a
+packs_pushed : (size : ℕ) (c after : Core) (kind : Purpose) (a : HistoryEvent) → PackedKept size c → FitsPage size kind → opens_of (c.history ++ a ∷ []) ≡ opens_of c.history → reserved_records (c.history ++ a ∷ []) ≡ reserved_records c.history → is_wished (c.history ++ a ∷ []) ≡ is_wished c.history → IsFit size c.history a
     → after ≡ record c { frames = record { kind = kind; state = waiting; phase = idle } ∷ c.frames; history = c.history ++ a ∷ [] }
     → PackedKept size after
 packs_pushed size c after kind a q fits cuts records found allowed is = subst (PackedKept size) (sym is)

@@ -8,7 +8,7 @@ use mathlib.Core.Logic.{dite}
 use native.Mathlib.Decide.{ℕ_discrete, dec_le}
 use Rattle.trace_model.specs.History.{Reservation, PushedFrame, writer_after, reserved_records, records_with_payload}
 use Rattle.trace_model.specs.Packing.{opens_of, cut_from}
-use Rattle.trace_model.specs.Frames.{Kind, for_record, for_close, FrameState, waiting, reserved, left, number_of, Phase, Frame, pushed_onto, pushed_frames}
+use Rattle.trace_model.specs.Frames.{Purpose, for_record, for_close, Progress, waiting, reserved, left, number_of, Phase, Frame, pushed_onto, pushed_frames}
 use Rattle.trace_model.specs.Ring.{PageRecords, empty_page, Core, page_at}
 use Rattle.trace_model.specs.Steps.{contents_of, held_with_payload, own_number}
 use Rattle.trace_model.proofs.steps.EventSteps.{top_ends}
@@ -26,13 +26,13 @@ use Rattle.ring_model.proofs.contents.PageChanges.{page_below}
 some_frame : (a b : Frame) → Some a ≡ Some b → a ≡ b
 some_frame a b e = cc
 
-top_has : (kind : Kind) (state : FrameState) (phase : Phase) (number : ℕ) (below : List PushedFrame) → MayBeIn kind state phase → state ≡ reserved number → HasNumber number (pushed_onto kind state below)
+top_has : (kind : Purpose) (state : Progress) (phase : Phase) (number : ℕ) (below : List PushedFrame) → MayBeIn kind state phase → state ≡ reserved number → HasNumber number (pushed_onto kind state below)
 top_has kind waiting phase number below may is = absurd (none_some (ap number_of is))
 top_has (for_record moment len) (reserved other) phase number below may is = inl (ap number_of is)
 top_has for_close (reserved other) phase number below may is = absurd may.0
 top_has kind left phase number below may is = absurd (none_some (ap number_of is))
 
-below_has : (kind : Kind) (state : FrameState) (number : ℕ) (below : List PushedFrame) → HasNumber number below → HasNumber number (pushed_onto kind state below)
+below_has : (kind : Purpose) (state : Progress) (number : ℕ) (below : List PushedFrame) → HasNumber number below → HasNumber number (pushed_onto kind state below)
 below_has kind waiting number below has = inr has
 below_has kind (reserved other) number below has = inr has
 below_has kind left number below has = has
@@ -43,13 +43,13 @@ stands_with [] k number frame agree at is = absurd (none_some at)
 stands_with (x ∷ below) zero number frame agree at is = top_has x.kind x.state x.phase number (pushed_frames below) agree.0 (ap (λ (f : Frame). f.state) (some_frame x frame at) ∙ is)
 stands_with (x ∷ below) (suc k) number frame agree at is = below_has x.kind x.state number (pushed_frames below) (stands_with below k number frame agree.2 at is)
 
-top_lacks : (records : List Reservation) (kind : Kind) (state : FrameState) (phase : Phase) (number : ℕ) (below : List PushedFrame) → MayBeIn kind state phase → state ≡ reserved number → AreOpen records (pushed_onto kind state below) → HasNumber number below → ⊥
+top_lacks : (records : List Reservation) (kind : Purpose) (state : Progress) (phase : Phase) (number : ℕ) (below : List PushedFrame) → MayBeIn kind state phase → state ≡ reserved number → AreOpen records (pushed_onto kind state below) → HasNumber number below → ⊥
 top_lacks records kind waiting phase number below may is h has = none_some (ap number_of is)
 top_lacks records (for_record moment len) (reserved other) phase number below may is h has = (h.0 number (ap number_of is)).1 has
 top_lacks records for_close (reserved other) phase number below may is h has = may.0
 top_lacks records kind left phase number below may is h has = none_some (ap number_of is)
 
-below_open : (records : List Reservation) (kind : Kind) (state : FrameState) (below : List PushedFrame) → AreOpen records (pushed_onto kind state below) → AreOpen records below
+below_open : (records : List Reservation) (kind : Purpose) (state : Progress) (below : List PushedFrame) → AreOpen records (pushed_onto kind state below) → AreOpen records below
 below_open records kind waiting below h = h.1
 below_open records kind (reserved number) below h = h.1
 below_open records kind left below h = h
@@ -178,7 +178,7 @@ module _ (n size start : ℕ) (c : Core) (payload : List ℕ) (after : Core) (nu
   }
 
 -- the number that the frame reserved
-own_is : (kind : Kind) (state : FrameState) (moment len number : ℕ) → kind ≡ for_record moment len → state ≡ reserved number → own_number kind state ≡ Some number
+own_is : (kind : Purpose) (state : Progress) (moment len number : ℕ) → kind ≡ for_record moment len → state ≡ reserved number → own_number kind state ≡ Some number
 own_is kind state moment len number kind_is state_is = (λ i. own_number (kind_is i) (state_is i))
 
 pub ends_write_one_page : EndsWriteOnePage

@@ -3,7 +3,7 @@ use Rattle.std.proofs.Common.{◌≡◌, ℕ, suc, ◌+◌, ◌%◌, ◌<◌, �
 use mathlib.Core.Logic.{dite}
 use native.Mathlib.Decide.{dec_le}
 use Rattle.trace_model.specs.declared.limits.TheConstants.{LINK_FILLS}
-use Rattle.trace_model.specs.Frames.{Kind, for_record, for_close, FrameState, waiting, reserved, left, Phase, idle, looking, claiming, looking_next, marking, clearing, opening, releasing, wishing, Frame, Refusal, too_deep, too_long, late_moment, crowded, worn, no_frame, not_reserved}
+use Rattle.trace_model.specs.Frames.{Purpose, for_record, for_close, Progress, waiting, reserved, left, Phase, idle, looking, claiming, looking_next, marking, clearing, opening, releasing, wishing, Frame, WriteFault, too_deep, too_long, late_moment, crowded, worn, no_frame, not_reserved}
 use Rattle.trace_model.specs.Links.{Link, normal_link, update_link}
 use Rattle.trace_model.specs.Ring.{link_into, page_at, IsTaken, ReaderPhase, loading_head, loading_done, storing_spare_link, swapping, TakenFill, Core}
 use Rattle.trace_model.specs.Steps.{Event, Answer, pushed, going, reserved_as, pending, full, gone, refused, reading, empty, moving, page_taken, wished_for, leave_answer, begin_answer, end_answer, Step}
@@ -19,7 +19,7 @@ use Rattle.ring_model.proofs.partition.RingsKept.{stands_moved, is_ring}
 
 -- ---- of a frame
 
-abbrev Refused : ℕ → Core → Refusal → Type 0
+abbrev Refused : ℕ → Core → WriteFault → Type 0
 Refused n c too_deep = Unit {0}
 Refused n c too_long = Unit {0}
 Refused n c late_moment = Unit {0}
@@ -54,7 +54,7 @@ module _ (n size : ℕ) (c : Core) (none : ℕ → Type 0) (way : ℕ → Type 0
   leaves_true [] = tt
   leaves_true (next ∷ below) = tt
 
-  begun_true : (kind : Kind) (state : FrameState) (below : List Frame) → IsTrueOf (begin_answer kind state below)
+  begun_true : (kind : Purpose) (state : Progress) (below : List Frame) → IsTrueOf (begin_answer kind state below)
   begun_true (for_record moment len) waiting below = tt
   begun_true for_close waiting below = leaves_true below
   begun_true kind (reserved number) below = tt
@@ -63,7 +63,7 @@ module _ (n size : ℕ) (c : Core) (none : ℕ → Type 0) (way : ℕ → Type 0
   again : (frame : Frame) (below : List Frame) (noted : ℕ) (answer : Answer) (after : Core) → BeginsAgain c frame below noted answer after → IsTrueOf answer
   again frame below noted answer after step = says answer (begin_answer frame.kind frame.state below) step.answer_is (begun_true frame.kind frame.state below)
 
-  idle_true : (frame : Frame) (below : List Frame) (state : FrameState) (answer : Answer) (after : Core) → IdleStep n size c frame below state answer after → IsTrueOf answer
+  idle_true : (frame : Frame) (below : List Frame) (state : Progress) (answer : Answer) (after : Core) → IdleStep n size c frame below state answer after → IsTrueOf answer
   idle_true frame below waiting answer after (reserves moment len r kind r_is fits a is) = says answer _ a tt
   idle_true frame below waiting answer after (finds_nothing kind nothing a is) = says answer (leave_answer below) a (leaves_true below)
   idle_true frame below waiting answer after (is_crowded needs all a is) = says answer (refused crowded) a all
@@ -96,7 +96,7 @@ module _ (n size : ℕ) (c : Core) (none : ℕ → Type 0) (way : ℕ → Type 0
   frame_true frame below wishing answer after (closes_more alone denied more a is) = says answer going a tt
   frame_true frame below wishing answer after (goes_away alone denied last a is) = says answer gone a tt
 
-  push_true : (moment len : ℕ) (why : Refusal) → PushRefused size c moment len why → Refused n c why
+  push_true : (moment len : ℕ) (why : WriteFault) → PushRefused size c moment len why → Refused n c why
   push_true moment len why (all_stand many) = tt
   push_true moment len why (has_no_room few long) = tt
   push_true moment len why (comes_late few fits late) = tt

@@ -1,6 +1,6 @@
 -- What becomes of the frame on top by one of its steps.
 use Rattle.std.proofs.Common.{◌≡◌, ◌≢◌, ℕ, ◌⊎◌, List, [], ◌∷◌, length, refl, sym, ap, ◌∙◌, subst, inl, inr}
-use Rattle.trace_model.specs.Frames.{Kind, for_record, for_close, FrameState, waiting, reserved, left, Refusal, crowded, worn, Role, owner, helper, Phase, idle, looking, claiming, looking_next, marking, clearing, opening, releasing, wishing, Frame}
+use Rattle.trace_model.specs.Frames.{Purpose, for_record, for_close, Progress, waiting, reserved, left, WriteFault, crowded, worn, Role, owner, helper, Phase, idle, looking, claiming, looking_next, marking, clearing, opening, releasing, wishing, Frame}
 use Rattle.trace_model.specs.History.{reserved_records}
 use Rattle.trace_model.specs.Ring.{Core}
 use Rattle.trace_model.specs.Steps.{Answer, going, refused, leave_answer, frames_after_leave, after_next, begin_answer, after_begin, with_new_tail}
@@ -11,20 +11,20 @@ use Rattle.ring_model.proofs.frames.TopSteps.{top_stepped}
 
 -- ---- a frame that leaves the tail
 
-left_behind : (frame : Frame) (below : List Frame) (c : Core) (answer : Answer) (after : Core) (others : List Frame) → below ≡ others → (answer ≡ leave_answer others) ⊎ ((why : Refusal) × (answer ≡ refused why)) → after.frames ≡ frames_after_leave c frame others → Leaving below answer after.frames
+left_behind : (frame : Frame) (below : List Frame) (c : Core) (answer : Answer) (after : Core) (others : List Frame) → below ≡ others → (answer ≡ leave_answer others) ⊎ ((why : WriteFault) × (answer ≡ refused why)) → after.frames ≡ frames_after_leave c frame others → Leaving below answer after.frames
 left_behind frame below c answer after [] none (inl a) e = subst (λ (b : List Frame). Leaving b answer after.frames) (sym none) (leaves_on _ (inl a) e tt)
 left_behind frame below c answer after [] none (inr a) e = subst (λ (b : List Frame). Leaving b answer after.frames) (sym none) (leaves_on _ (inr a) e tt)
 left_behind frame below c answer after (next ∷ others) some a e = is_gone a (e ∙ sym some)
 
 -- ---- a frame that has a record to reserve
 
-waits : (kind : Kind) (state : FrameState) → IsReserving kind state → state ≡ waiting
+waits : (kind : Purpose) (state : Progress) → IsReserving kind state → state ≡ waiting
 waits (for_record moment len) waiting is = refl
 waits for_close waiting is = absurd is
 waits kind (reserved number) is = absurd is
 waits kind left is = absurd is
 
-not_left : (kind : Kind) (state : FrameState) → IsReserving kind state → state ≢ left
+not_left : (kind : Purpose) (state : Progress) → IsReserving kind state → state ≢ left
 not_left kind state is e = let both : waiting ≡ left = sym (waits kind state is) ∙ e in cc
 
 module _ (frame : Frame) (below : List Frame) (is : IsReserving frame.kind frame.state) where
@@ -34,9 +34,9 @@ module _ (frame : Frame) (below : List Frame) (is : IsReserving frame.kind frame
   in_phase_of : (next : Core) (answer : Answer) (after : Core) (frames : List Frame) (phase : Phase) → answer ≡ going → after ≡ next → next.frames ≡ record frame { phase = phase } ∷ below → Reserves answer after
   in_phase_of next answer after frames phase a e f = reserves_on (record frame { phase = phase }) a (ap (λ (c : Core). c.frames) e ∙ f) refl refl
 
-  reserving_again : (kind : Kind) (state : FrameState) (c : Core) (answer : Answer) (after : Core) → kind ≡ frame.kind → state ≡ frame.state → answer ≡ begin_answer kind state below → after ≡ after_begin kind state c frame below → Reserves answer after
+  reserving_again : (kind : Purpose) (state : Progress) (c : Core) (answer : Answer) (after : Core) → kind ≡ frame.kind → state ≡ frame.state → answer ≡ begin_answer kind state below → after ≡ after_begin kind state c frame below → Reserves answer after
   reserving_again (for_record moment len) waiting c answer after k s a e = reserves_on (record frame { phase = idle }) a (ap (λ (d : Core). d.frames) e) refl refl
-  reserving_again for_close waiting c answer after k s a e = absurd (subst (λ (x : Kind). IsReserving x waiting) (sym k) (subst (IsReserving frame.kind) (sym s) is))
+  reserving_again for_close waiting c answer after k s a e = absurd (subst (λ (x : Purpose). IsReserving x waiting) (sym k) (subst (IsReserving frame.kind) (sym s) is))
   reserving_again kind (reserved number) c answer after k s a e = let both : waiting ≡ reserved number = sym (waits frame.kind frame.state is) ∙ sym s in absurd (cc)
   reserving_again kind left c answer after k s a e = let both : waiting ≡ left = sym (waits frame.kind frame.state is) ∙ sym s in absurd (cc)
 
@@ -47,9 +47,9 @@ module _ (frame : Frame) (below : List Frame) (is : IsReserving frame.kind frame
     reserving_late : (noted : ℕ) → BeginsAgain c frame below noted answer after → Reserves answer after
     reserving_late noted late = reserving_again frame.kind frame.state c answer after refl refl late.answer_is late.after_is
 
-    reserving_idle : (state : FrameState) → frame.state ≡ state → IdleStep n size c frame below state answer after → Reserves answer after
+    reserving_idle : (state : Progress) → frame.state ≡ state → IdleStep n size c frame below state answer after → Reserves answer after
     reserving_idle waiting at (reserves moment len r kind r_is fits a e) = has_reserved _ (length (reserved_records c.history)) a (ap (λ (d : Core). d.frames) e) refl refl
-    reserving_idle waiting at (finds_nothing kind none a e) = absurd (subst (λ (x : Kind). IsReserving x waiting) kind (subst (IsReserving frame.kind) at is))
+    reserving_idle waiting at (finds_nothing kind none a e) = absurd (subst (λ (x : Purpose). IsReserving x waiting) kind (subst (IsReserving frame.kind) at is))
     reserving_idle waiting at (is_crowded needs full a e) = is_refused crowded a (left_behind frame below c answer after below refl (inr (crowded, a)) (ap (λ (d : Core). d.frames) e))
     reserving_idle waiting at (is_worn needs room last a e) = is_refused worn a (left_behind frame below c answer after below refl (inr (worn, a)) (ap (λ (d : Core). d.frames) e))
     reserving_idle waiting at (notes needs room small a e) = goes (looking c.opened) _ refl a e
@@ -93,8 +93,8 @@ module _ (frame : Frame) (below : List Frame) (is : IsLeaving frame.kind frame.s
   abbrev Leaves : Answer → Core → Type 0
   Leaves answer after = Leaving below answer after.frames
 
-  leaving_again : (kind : Kind) (state : FrameState) (c : Core) (answer : Answer) (after : Core) → kind ≡ frame.kind → state ≡ frame.state → answer ≡ begin_answer kind state below → after ≡ after_begin kind state c frame below → Leaves answer after
-  leaving_again (for_record moment len) waiting c answer after k s a e = absurd (subst (λ (x : Kind). IsLeaving x waiting) (sym k) (subst (IsLeaving frame.kind) (sym s) is))
+  leaving_again : (kind : Purpose) (state : Progress) (c : Core) (answer : Answer) (after : Core) → kind ≡ frame.kind → state ≡ frame.state → answer ≡ begin_answer kind state below → after ≡ after_begin kind state c frame below → Leaves answer after
+  leaving_again (for_record moment len) waiting c answer after k s a e = absurd (subst (λ (x : Purpose). IsLeaving x waiting) (sym k) (subst (IsLeaving frame.kind) (sym s) is))
   leaving_again for_close waiting c answer after k s a e = left_behind frame below c answer after below refl (inl a) (ap (λ (d : Core). d.frames) e)
   leaving_again kind (reserved number) c answer after k s a e = absurd (subst (IsLeaving frame.kind) (sym s) is)
   leaving_again kind left c answer after k s a e = leaves_on _ (inl a) (ap (λ (d : Core). d.frames) e) is
@@ -106,8 +106,8 @@ module _ (frame : Frame) (below : List Frame) (is : IsLeaving frame.kind frame.s
     leaving_late : (noted : ℕ) → BeginsAgain c frame below noted answer after → Leaves answer after
     leaving_late noted late = leaving_again frame.kind frame.state c answer after refl refl late.answer_is late.after_is
 
-    leaving_idle : (state : FrameState) → frame.state ≡ state → IdleStep n size c frame below state answer after → Leaves answer after
-    leaving_idle waiting at (reserves moment len r kind r_is fits a e) = absurd (subst (λ (x : Kind). IsLeaving x waiting) kind (subst (IsLeaving frame.kind) at is))
+    leaving_idle : (state : Progress) → frame.state ≡ state → IdleStep n size c frame below state answer after → Leaves answer after
+    leaving_idle waiting at (reserves moment len r kind r_is fits a e) = absurd (subst (λ (x : Purpose). IsLeaving x waiting) kind (subst (IsLeaving frame.kind) at is))
     leaving_idle waiting at (finds_nothing kind none a e) = left_behind frame below c answer after below refl (inl a) (ap (λ (d : Core). d.frames) e)
     leaving_idle waiting at (is_crowded needs full a e) = left_behind frame below c answer after below refl (inr (crowded, a)) (ap (λ (d : Core). d.frames) e)
     leaving_idle waiting at (is_worn needs room last a e) = left_behind frame below c answer after below refl (inr (worn, a)) (ap (λ (d : Core). d.frames) e)

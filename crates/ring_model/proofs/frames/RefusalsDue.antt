@@ -2,7 +2,7 @@
 use Rattle.std.proofs.Common.{◌≡◌, ℕ, ◌+◌, ◌≤◌, List, refl, subst, arith}
 use Rattle.trace_model.specs.declared.limits.TheConstants.{LINK_FILLS}
 use Rattle.trace_model.specs.Packing.{FitsBehind, tail_of}
-use Rattle.trace_model.specs.Frames.{FrameState, waiting, Phase, idle, Frame, crowded, worn}
+use Rattle.trace_model.specs.Frames.{Progress, waiting, Phase, idle, Frame, crowded, worn}
 use Rattle.trace_model.specs.Ring.{Core}
 use Rattle.trace_model.specs.Steps.{steps, Answer, refused, NeedsPage, Step}
 use Rattle.trace_model.proofs.steps.EventSteps.{top_step}
@@ -22,7 +22,7 @@ due_reserve n size c frame below answer after need (notes needs room small a is)
 
 due_frame : (n size : ℕ) (c : Core) (frame : Frame) (below : List Frame) (phase : Phase) (answer : Answer) (after : Core) → phase ≡ idle → frame.state ≡ waiting → NeedsPage size c frame.kind → FrameStep n size c frame below phase answer after → Due n c answer
 due_frame n size c frame below phase answer after about waits need step =
-    due_reserve n size c frame below answer after need (subst (λ (s : FrameState). IdleStep n size c frame below s answer after) waits (subst (λ (p : Phase). FrameStep n size c frame below p answer after) about step))
+    due_reserve n size c frame below answer after need (subst (λ (s : Progress). IdleStep n size c frame below s answer after) waits (subst (λ (p : Phase). FrameStep n size c frame below p answer after) about step))
 
 pub refusals_due : (n size : ℕ) (c : Core) (answer : Answer) (after : Core) → Step n size c steps answer after → IsInNeed n size c → Due n c answer
 refusals_due n size c answer after step need =

@@ -3,7 +3,7 @@ use Rattle.std.proofs.Common.{◌≡◌, ◌≢◌, ℕ, zero, suc, ◌+◌, ◌
 use Rattle.std.specs.Prelude.{◌==◌, slice_get}
 use Rattle.std.proofs.lemmas.Bool.{cond_both}
 use Rattle.trace_model.specs.declared.limits.TheConstants.{MAX_FRAMES}
-use Rattle.trace_model.specs.Frames.{Kind, for_record, for_close, FrameState, waiting, reserved, left, Role, owner, helper, Phase, idle, looking, claiming, looking_next, marking, clearing, opening, releasing, wishing, Frame}
+use Rattle.trace_model.specs.Frames.{Purpose, for_record, for_close, Progress, waiting, reserved, left, Role, owner, helper, Phase, idle, looking, claiming, looking_next, marking, clearing, opening, releasing, wishing, Frame}
 use Rattle.trace_model.specs.Ring.{ReaderPhase, loading_head, loading_done, storing_spare_link, swapping, Core, IsStart}
 use Rattle.trace_model.specs.Steps.{Event, Answer, closing_phase, after_leave, frames_after_leave, after_next, after_begin}
 use Rattle.trace_model.proofs.steps.StepCases.{StepCases, BeginsAgain, reserves, finds_nothing, is_crowded, is_worn, notes, load_link_late, sees_free, sees_header, sees_update, claim_late, claims, claim_fails, load_next_late, sees_normal, sees_other, mark_late, marks, mark_fails, clears, open_late, opens, releases, releases_last, grants, closes_more, goes_away, IdleStep, FrameStep, loads_header, loads_update, loads_owed, loads_passed, finds_none, finds_closed, swaps, swap_fails, ReadStep, push_step, push_refused, close_step, close_refused, frame_step, frame_lacks, end_step, end_lacks, end_early, read_step, store_wish_step}
@@ -23,12 +23,12 @@ closing_moves : (c : Core) → closing_phase c ≢ idle
 closing_moves c = cond_both ((c.done + 1) == c.opened) wishing releasing (λ (p : Phase). p ≢ idle) (λ _ e. cc) (λ _ e. cc)
 
 -- a frame that is about to open a fill goes on with that, whatever its state
-under_way : (kind : Kind) (state : FrameState) (phase next : Phase) → phase ≢ idle → next ≢ idle → next ≢ releasing → next ≢ wishing → MayBeIn kind state phase → MayBeIn kind state next
+under_way : (kind : Purpose) (state : Progress) (phase next : Phase) → phase ≢ idle → next ≢ idle → next ≢ releasing → next ≢ wishing → MayBeIn kind state phase → MayBeIn kind state next
 under_way kind waiting phase next moves on not_releasing not_wishing may = (not_releasing, not_wishing)
 under_way kind (reserved number) phase next moves on not_releasing not_wishing may = absurd (moves may.1)
 under_way kind left phase next moves on not_releasing not_wishing may = on
 
-pub releasing_left : (kind : Kind) (state : FrameState) (phase : Phase) → phase ≡ releasing → MayBeIn kind state phase → state ≡ left
+pub releasing_left : (kind : Purpose) (state : Progress) (phase : Phase) → phase ≡ releasing → MayBeIn kind state phase → state ≡ left
 releasing_left kind waiting phase is may = absurd (may.0 is)
 releasing_left kind (reserved number) phase is may = absurd (differ (sym is ∙ may.1))
   where
@@ -36,7 +36,7 @@ releasing_left kind (reserved number) phase is may = absurd (differ (sym is ∙ 
     differ e = cc
 releasing_left kind left phase is may = refl
 
-pub wishing_left : (kind : Kind) (state : FrameState) (phase : Phase) → phase ≡ wishing → MayBeIn kind state phase → state ≡ left
+pub wishing_left : (kind : Purpose) (state : Progress) (phase : Phase) → phase ≡ wishing → MayBeIn kind state phase → state ≡ left
 wishing_left kind waiting phase is may = absurd (may.1 is)
 wishing_left kind (reserved number) phase is may = absurd (differ (sym is ∙ may.1))
   where
@@ -45,7 +45,7 @@ wishing_left kind (reserved number) phase is may = absurd (differ (sym is ∙ ma
 wishing_left kind left phase is may = refl
 
 -- one that has left doesn't rest
-left_on : (kind : Kind) (state : FrameState) (next : Phase) → state ≡ left → next ≢ idle → MayBeIn kind state next
+left_on : (kind : Purpose) (state : Progress) (next : Phase) → state ≡ left → next ≢ idle → MayBeIn kind state next
 left_on kind waiting next is on = absurd (let z : ⊥ = cc in z)
 left_on kind (reserved number) next is on = absurd (waits_on number is)
 left_on kind left next is on = on
@@ -60,13 +60,13 @@ leaving : (c : Core) (frame : Frame) (below : List Frame) → length (frame ∷ 
 leaving c frame [] few agree = going_on c.done c.opened (record frame { state = left; phase = closing_phase c }) [] few (closing_moves c, (λ _. refl), tt)
 leaving c frame (next ∷ below) few agree = going_on c.done c.opened next below (omega arith) agree
 
-beginning : (c : Core) (kind : Kind) (state : FrameState) (frame : Frame) (below : List Frame) → frame.kind ≡ kind → frame.state ≡ state → length (frame ∷ below) ≤ MAX_FRAMES → FramesAgree (frame ∷ below) → StackKept (after_begin kind state c frame below)
+beginning : (c : Core) (kind : Purpose) (state : Progress) (frame : Frame) (below : List Frame) → frame.kind ≡ kind → frame.state ≡ state → length (frame ∷ below) ≤ MAX_FRAMES → FramesAgree (frame ∷ below) → StackKept (after_begin kind state c frame below)
 beginning c (for_record moment len) waiting frame below kind_is state_is few agree =
-    going_on c.done c.opened (record frame { phase = idle }) below few (subst (λ (s : FrameState). MayBeIn frame.kind s idle) (sym state_is) ((λ e. cc), (λ e. cc)), agree.1, agree.2)
+    going_on c.done c.opened (record frame { phase = idle }) below few (subst (λ (s : Progress). MayBeIn frame.kind s idle) (sym state_is) ((λ e. cc), (λ e. cc)), agree.1, agree.2)
 beginning c for_close waiting frame below kind_is state_is few agree = leaving c frame below few agree.2
 beginning c kind (reserved number) frame below kind_is state_is few agree =
     going_on c.done c.opened (record frame { phase = idle }) below few
-    (subst (λ (s : FrameState). MayBeIn frame.kind s idle) (sym state_is) ((subst (λ (s : FrameState). MayBeIn frame.kind s frame.phase) state_is agree.0).0, refl), agree.1, agree.2)
+    (subst (λ (s : Progress). MayBeIn frame.kind s idle) (sym state_is) ((subst (λ (s : Progress). MayBeIn frame.kind s frame.phase) state_is agree.0).0, refl), agree.1, agree.2)
 beginning c kind left frame below kind_is state_is few agree =
     going_on c.done c.opened (record frame { phase = closing_phase c }) below few (left_on frame.kind frame.state (closing_phase c) state_is (closing_moves c), agree.1, agree.2)
 
@@ -90,13 +90,13 @@ module _ (n size : ℕ) (c : Core) (frame : Frame) (below : List Frame) (answer 
   stack_next next owner noted page top moves is = stack_goes next (clearing noted page) top moves (λ e. cc) (λ e. cc) (λ e. cc) is
   stack_next next helper noted page top moves is = stack_goes next (opening noted page) top moves (λ e. cc) (λ e. cc) (λ e. cc) is
 
-  stack_idle : (state : FrameState) → frame.state ≡ state → StackKept c → IdleStep n size c frame below state answer after → StackKept after
+  stack_idle : (state : Progress) → frame.state ≡ state → StackKept c → IdleStep n size c frame below state answer after → StackKept after
   stack_idle waiting at q (reserves moment len r kind r_is fits a is) = subst StackKept (sym is)
       (going_on c.done c.opened (record frame { state = reserved _; phase = idle }) below k.few ((subst IsForRecord (sym kind) tt, refl), (λ e. absurd (waits_on _ e)), k.agree.2))
   stack_idle waiting at q (finds_nothing kind none a is) = stack_leaves None is
   stack_idle waiting at q (is_crowded needs full a is) = stack_leaves None is
   stack_idle waiting at q (is_worn needs room last a is) = stack_leaves None is
-  stack_idle waiting at q (notes needs room small a is) = stack_in _ (looking c.opened) refl (subst (λ (s : FrameState). MayBeIn frame.kind s (looking c.opened)) (sym at) ((λ e. cc), (λ e. cc))) is
+  stack_idle waiting at q (notes needs room small a is) = stack_in _ (looking c.opened) refl (subst (λ (s : Progress). MayBeIn frame.kind s (looking c.opened)) (sym at) ((λ e. cc), (λ e. cc))) is
   stack_idle (reserved number) at q step = subst StackKept (sym step.1) q
   stack_idle left at q step = absurd step
 
@@ -137,7 +137,7 @@ stack_read n c (storing_spare_link page fill) answer after q step = subst StackK
 stack_read n c (swapping page fill) answer after q (swaps at a is) = subst StackKept (sym is) q
 stack_read n c (swapping page fill) answer after q (swap_fails at a is) = subst StackKept (sym is) q
 
-stack_pushed : (c after next : Core) (kind : Kind) → length c.frames < MAX_FRAMES → StackKept c → next.frames ≡ record { kind = kind; state = waiting; phase = idle } ∷ c.frames → after ≡ next → StackKept after
+stack_pushed : (c after next : Core) (kind : Purpose) → length c.frames < MAX_FRAMES → StackKept c → next.frames ≡ record { kind = kind; state = waiting; phase = idle } ∷ c.frames → after ≡ next → StackKept after
 stack_pushed c after next kind few q top is = let new : Frame = record { kind = kind; state = waiting; phase = idle } in
     subst StackKept (sym is) (subst (StackAt next.done next.opened) (sym top) (going_on next.done next.opened new c.frames (omega arith) (((λ e. cc), (λ e. cc)), (λ e. absurd (stays e)), q.agree)))
   where

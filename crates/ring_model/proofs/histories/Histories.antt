@@ -1,7 +1,7 @@
 -- The frames as the history's stack, and the fills that were passed.
 use Rattle.std.proofs.Common.{◌≡◌, ℕ, zero, suc, ◌<◌, ◌≤◌, ◌⊎◌, List, [], ◌∷◌, ◌++◌, Some, None, refl, ap, ◌∙◌, inl, inr, ⊎_elim, arith}
 use Rattle.trace_model.specs.History.{PushedFrame, MayOpen, MayLeave}
-use Rattle.trace_model.specs.Frames.{Kind, for_record, for_close, FrameState, waiting, reserved, left, Frame, pushed_frame, pushed_onto, pushed_frames}
+use Rattle.trace_model.specs.Frames.{Purpose, for_record, for_close, Progress, waiting, reserved, left, Frame, pushed_frame, pushed_onto, pushed_frames}
 use Rattle.trace_model.specs.Ring.{TakenFill, Core}
 use Rattle.trace_model.specs.Steps.{frames_after_leave}
 use Rattle.ring_model.specs.KeptLinks.{spot, passed_spot}
@@ -12,20 +12,20 @@ use Rattle.ring_model.proofs.links.FramePhases.{none_some}
 
 -- a frame that has left is not on it
 pub pushed_waiting : (frame : Frame) (below : List PushedFrame) → frame.state ≡ waiting → pushed_onto frame.kind frame.state below ≡ pushed_frame frame.kind waiting ∷ below
-pushed_waiting frame below e = ap (λ (s : FrameState). pushed_onto frame.kind s below) e
+pushed_waiting frame below e = ap (λ (s : Progress). pushed_onto frame.kind s below) e
 
 pub pushed_reserved : (frame : Frame) (below : List PushedFrame) (number : ℕ) → frame.state ≡ reserved number → pushed_onto frame.kind frame.state below ≡ pushed_frame frame.kind (reserved number) ∷ below
-pushed_reserved frame below number e = ap (λ (s : FrameState). pushed_onto frame.kind s below) e
+pushed_reserved frame below number e = ap (λ (s : Progress). pushed_onto frame.kind s below) e
 
 pub pushed_left : (frame : Frame) (below : List PushedFrame) → frame.state ≡ left → pushed_onto frame.kind frame.state below ≡ below
-pushed_left frame below e = ap (λ (s : FrameState). pushed_onto frame.kind s below) e
+pushed_left frame below e = ap (λ (s : Progress). pushed_onto frame.kind s below) e
 
 -- a frame that has no record may begin a fill, and leave with no payload
-pub may_open : (kind : Kind) (below : List PushedFrame) → MayOpen (pushed_frame kind waiting ∷ below)
+pub may_open : (kind : Purpose) (below : List PushedFrame) → MayOpen (pushed_frame kind waiting ∷ below)
 may_open (for_record moment len) below = refl
 may_open for_close below = tt
 
-pub may_leave : (kind : Kind) (below : List PushedFrame) → MayLeave (pushed_frame kind waiting ∷ below) None
+pub may_leave : (kind : Purpose) (below : List PushedFrame) → MayLeave (pushed_frame kind waiting ∷ below) None
 may_leave (for_record moment len) below = refl
 may_leave for_close below = refl
 

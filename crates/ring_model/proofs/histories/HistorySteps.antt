@@ -7,7 +7,7 @@ use Rattle.trace_model.specs.History.{HistoryEvent, push, push_close, open_fill,
 use Rattle.trace_model.proofs.histories.Allowed.{IsHistory-push}
 use Rattle.trace_model.proofs.histories.NextEvent.{writer_snoc, opened_stack, wished_stack, left_stack, reserved_stack, settled_at_rest}
 use Rattle.trace_model.specs.Links.{Link, header_link}
-use Rattle.trace_model.specs.Frames.{Kind, for_record, for_close, FrameState, waiting, reserved, left, Role, owner, helper, Phase, idle, looking, claiming, looking_next, marking, clearing, opening, releasing, wishing, Frame, pushed_frame, pushed_onto, pushed_frames}
+use Rattle.trace_model.specs.Frames.{Purpose, for_record, for_close, Progress, waiting, reserved, left, Role, owner, helper, Phase, idle, looking, claiming, looking_next, marking, clearing, opening, releasing, wishing, Frame, pushed_frame, pushed_onto, pushed_frames}
 use Rattle.trace_model.specs.Window.{RingEvent, closes, takes, loses, acts}
 use Rattle.trace_model.specs.Ring.{TakenFill, Reader, ReaderPhase, loading_head, loading_done, storing_spare_link, swapping, Core, window_of}
 use Rattle.trace_model.specs.Steps.{Event, Answer, with_link, with_history_event, in_phase, closing_phase, after_leave, frames_after_leave, with_new_tail, after_begin, after_next, taken_fill}
@@ -29,25 +29,25 @@ pub top_agrees : (c : Core) (frame : Frame) (below : List Frame) → StackKept c
 top_agrees c frame below s top = let a = subst FramesAgree top s.agree in (a.0, a.1)
 
 -- a frame that has a record has noted nothing
-pub waits_or_left : (kind : Kind) (state : FrameState) (phase : Phase) → MayBeIn kind state phase → phase ≢ idle → (state ≡ waiting) ⊎ (state ≡ left)
+pub waits_or_left : (kind : Purpose) (state : Progress) (phase : Phase) → MayBeIn kind state phase → phase ≢ idle → (state ≡ waiting) ⊎ (state ≡ left)
 waits_or_left kind waiting phase may noted = inl refl
 waits_or_left kind (reserved number) phase may noted = absurd (noted may.1)
 waits_or_left kind left phase may noted = inr refl
 
 -- one that closes fills, or looks for a wish, has left
-pub releasing_left : (kind : Kind) (state : FrameState) → MayBeIn kind state releasing → state ≡ left
+pub releasing_left : (kind : Purpose) (state : Progress) → MayBeIn kind state releasing → state ≡ left
 releasing_left kind waiting may = absurd (may.0 refl)
 releasing_left kind (reserved number) may = let e = may.1 in cc
 releasing_left kind left may = refl
 
-pub wishing_left : (kind : Kind) (state : FrameState) → MayBeIn kind state wishing → state ≡ left
+pub wishing_left : (kind : Purpose) (state : Progress) → MayBeIn kind state wishing → state ≡ left
 wishing_left kind waiting may = absurd (may.1 refl)
 wishing_left kind (reserved number) may = let e = may.1 in cc
 wishing_left kind left may = refl
 
 -- one that has a record rests
-pub reserved_idle : (kind : Kind) (state : FrameState) (number : ℕ) (phase : Phase) → MayBeIn kind state phase → state ≡ reserved number → phase ≡ idle
-reserved_idle kind state number phase may e = (subst (λ (s : FrameState). MayBeIn kind s phase) e may).1
+pub reserved_idle : (kind : Purpose) (state : Progress) (number : ℕ) (phase : Phase) → MayBeIn kind state phase → state ≡ reserved number → phase ≡ idle
+reserved_idle kind state number phase may e = (subst (λ (s : Progress). MayBeIn kind s phase) e may).1
 
 -- ---- what is known of history and lost fills
 
@@ -89,7 +89,7 @@ module _ (n start : ℕ) (c : Core) (frame : Frame) (below : List Frame) (h : Hi
   }
 
   -- a fill was begun by this frame or another
-  pub history_again : (kind : Kind) (state : FrameState) → frame.state ≡ state → ((page : ℕ) → passed_spot frame.phase ≡ Some (spot c.opened page) → ⊥) → HistoryKept n start (after_begin kind state c frame below)
+  pub history_again : (kind : Purpose) (state : Progress) → frame.state ≡ state → ((page : ℕ) → passed_spot frame.phase ≡ Some (spot c.opened page) → ⊥) → HistoryKept n start (after_begin kind state c frame below)
   history_again (for_record moment len) waiting is passes = history_goes idle (λ page at. absurd (passes page at))
   history_again for_close waiting is passes = history_leaves (pushed_frame frame.kind waiting) None (stack_waiting is) (may_leave frame.kind (pushed_frames below)) passes
   history_again kind (reserved number) is passes = history_goes idle (λ page at. absurd (passes page at))
@@ -138,13 +138,13 @@ module _ (n size start : ℕ) (c : Core) (frame : Frame) (below : List Frame) (k
   leaves_waiting : (after : Core) → frame.phase ≡ idle → frame.state ≡ waiting → after ≡ after_leave c frame below None → Owed n start c after
   leaves_waiting after same waits is = leaves after (pushed_frame frame.kind waiting) None same (stack_waiting n start c frame below h top waits) (may_leave frame.kind (pushed_frames below)) is
 
-  same_window : (kind : Kind) (state : FrameState) → window_of (after_begin kind state c frame below) ≡ window_of c
+  same_window : (kind : Purpose) (state : Progress) → window_of (after_begin kind state c frame below) ≡ window_of c
   same_window (for_record moment len) waiting = refl
   same_window for_close waiting = refl
   same_window kind (reserved number) = refl
   same_window kind left = refl
 
-  same_taken : (kind : Kind) (state : FrameState) → (after_begin kind state c frame below).reader.taken ≡ c.reader.taken
+  same_taken : (kind : Purpose) (state : Progress) → (after_begin kind state c frame below).reader.taken ≡ c.reader.taken
   same_taken (for_record moment len) waiting = refl
   same_taken for_close waiting = refl
   same_taken kind (reserved number) = refl
@@ -165,13 +165,13 @@ module _ (n size start : ℕ) (c : Core) (frame : Frame) (below : List Frame) (k
 
   reserve_owed : (answer : Answer) (after : Core) → frame.phase ≡ idle → frame.state ≡ waiting → ReserveStep n size c frame below answer after → Owed n start c after
   reserve_owed answer after same waits (reserves moment len r kind r_is fits a is) =
-      let stack = stack_waiting n start c frame below h top waits ∙ ap (λ (x : Kind). pushed_frame x waiting ∷ pushed_frames below) kind in
+      let stack = stack_waiting n start c frame below h top waits ∙ ap (λ (x : Purpose). pushed_frame x waiting ∷ pushed_frames below) kind in
       let number : ℕ = length (reserved_records c.history) in
       subst (Owed n start c) (sym is) record {
         kept = record {
           allowed = IsHistory-push c.history reserve h.allowed (subst MayReserve (sym stack) refl);
           stack = reserved_stack c.history moment len (pushed_frames below) stack
-              ∙ ap (λ (x : Kind). pushed_frame x (reserved number) ∷ pushed_frames below) (sym kind);
+              ∙ ap (λ (x : Purpose). pushed_frame x (reserved number) ∷ pushed_frames below) (sym kind);
           lost = lost_on n start c frame below h top (record frame { state = reserved number; phase = idle } ∷ below) (λ page at. absurd (none_some (sym (ap passed_spot same) ∙ at))) (λ q. inr q) h;
         };
         window = inl (refl, refl);
@@ -181,7 +181,7 @@ module _ (n size start : ℕ) (c : Core) (frame : Frame) (below : List Frame) (k
   reserve_owed answer after same waits (is_worn needs full last a is) = leaves_waiting after same waits is
   reserve_owed answer after same waits (notes needs room small a is) = goes after idle (looking c.opened) same (λ page at. absurd (none_some at)) is
 
-  idle_owed : (state : FrameState) (answer : Answer) (after : Core) → frame.phase ≡ idle → frame.state ≡ state → IdleStep n size c frame below state answer after → Owed n start c after
+  idle_owed : (state : Progress) (answer : Answer) (after : Core) → frame.phase ≡ idle → frame.state ≡ state → IdleStep n size c frame below state answer after → Owed n start c after
   idle_owed waiting answer after same is step = reserve_owed answer after same is step
   idle_owed (reserved number) answer after same is step = subst (Owed n start c) (sym step.1) record { kept = h; window = inl (refl, refl) }
   idle_owed left answer after same is step = absurd step
@@ -283,19 +283,19 @@ module _ (n size start : ℕ) (c : Core) (frame : Frame) (below : List Frame) (k
       (after_next_owed n size start c frame below k s h top role noted page (in_phase c frame below (after_next role noted page)) (marking role noted page next) same refl refl))
   mark_head_owed role noted page next answer after same (mark_fails lost goes_on sum other a is) = after_next_owed n size start c frame below k s h top role noted page after (marking role noted page next) same refl is
 
-  begun_window : (kind : Kind) (state : FrameState) (page : ℕ) → window_of (after_begin kind state (with_new_tail c page) frame below) ≡ record { head = c.head; done = c.done; opened = c.opened + 1 }
+  begun_window : (kind : Purpose) (state : Progress) (page : ℕ) → window_of (after_begin kind state (with_new_tail c page) frame below) ≡ record { head = c.head; done = c.done; opened = c.opened + 1 }
   begun_window (for_record moment len) waiting page = refl
   begun_window for_close waiting page = refl
   begun_window kind (reserved number) page = refl
   begun_window kind left page = refl
 
-  begun_front : (kind : Kind) (state : FrameState) (page : ℕ) → IsPrefix (c.history ++ open_fill ∷ []) (after_begin kind state (with_new_tail c page) frame below).history
+  begun_front : (kind : Purpose) (state : Progress) (page : ℕ) → IsPrefix (c.history ++ open_fill ∷ []) (after_begin kind state (with_new_tail c page) frame below).history
   begun_front (for_record moment len) waiting page = ([], sym (append-nil (c.history ++ open_fill ∷ [])))
   begun_front for_close waiting page = (leave None ∷ [], refl)
   begun_front kind (reserved number) page = ([], sym (append-nil (c.history ++ open_fill ∷ [])))
   begun_front kind left page = ([], sym (append-nil (c.history ++ open_fill ∷ [])))
 
-  begun_reader : (kind : Kind) (state : FrameState) (page : ℕ) → (after_begin kind state (with_new_tail c page) frame below).reader ≡ c.reader
+  begun_reader : (kind : Purpose) (state : Progress) (page : ℕ) → (after_begin kind state (with_new_tail c page) frame below).reader ≡ c.reader
   begun_reader (for_record moment len) waiting page = refl
   begun_reader for_close waiting page = refl
   begun_reader kind (reserved number) page = refl
@@ -378,7 +378,7 @@ module _ (n start : ℕ) (c : Core) (k : LinksKept n c) (h : HistoryKept n start
 
 -- ---- every step
 
-pushed_owed : (n start : ℕ) (c after : Core) (kind : Kind) (history_event : HistoryEvent) → HistoryKept n start c → MayAct (writer_after c.history).stack history_event → ((after_event (writer_after c.history).stack (writer_after c.history).records history_event).stack ≡ pushed_frame kind waiting ∷ (writer_after c.history).stack)
+pushed_owed : (n start : ℕ) (c after : Core) (kind : Purpose) (history_event : HistoryEvent) → HistoryKept n start c → MayAct (writer_after c.history).stack history_event → ((after_event (writer_after c.history).stack (writer_after c.history).records history_event).stack ≡ pushed_frame kind waiting ∷ (writer_after c.history).stack)
     → after ≡ record c { frames = record { kind = kind; state = waiting; phase = idle } ∷ c.frames; history = c.history ++ history_event ∷ [] }
     → Owed n start c after
 pushed_owed n start c after kind history_event h may pushes is = subst (Owed n start c) (sym is) record {
@@ -403,7 +403,7 @@ step_owed n size start c event answer after k s h (frame_step frame below e top 
 step_owed n size start c event answer after k s h (frame_lacks e none a is) = stays_owed n start c after h is
 step_owed n size start c event answer after k s h (end_step payload frame below number moment len e top state kind slot a is) =
     leaves n size start c frame below k s h top after (pushed_frame frame.kind (reserved number)) (Some payload) (reserved_idle frame.kind frame.state number frame.phase (top_agrees c frame below s top).0 state)
-    (stack_reserved n start c frame below h top number state) (subst (λ (x : Kind). MayLeave (pushed_frame x (reserved number) ∷ pushed_frames below) (Some payload)) (sym kind) slot) is
+    (stack_reserved n start c frame below h top number state) (subst (λ (x : Purpose). MayLeave (pushed_frame x (reserved number) ∷ pushed_frames below) (Some payload)) (sym kind) slot) is
 step_owed n size start c event answer after k s h (end_lacks payload e none a is) = stays_owed n start c after h is
 step_owed n size start c event answer after k s h (end_early payload frame below e top none a is) = stays_owed n start c after h is
 step_owed n size start c event answer after k s h (read_step e step) = read_owed n start c k h c.reader.phase answer after k.reader step

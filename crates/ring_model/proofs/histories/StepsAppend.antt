@@ -2,7 +2,7 @@
 use Rattle.std.proofs.Common.{◌≡◌, ◌≢◌, ℕ, ◌⊎◌, List, [], ◌∷◌, ◌++◌, Some, None, refl, sym, ap, ◌∙◌, subst, inl, inr, append_assoc, append-nil}
 use Rattle.trace_model.specs.History.{HistoryEvent, push, push_close, open_fill, reserve, leave, wished}
 use Rattle.trace_model.specs.Packing.{tail_of}
-use Rattle.trace_model.specs.Frames.{Kind, for_record, for_close, FrameState, waiting, reserved, left, number_of, Phase, idle, looking, claiming, looking_next, marking, clearing, opening, releasing, wishing, Role, owner, helper, noted_fill, owned_update, Frame, Refusal, too_deep, not_reserved, crowded, worn}
+use Rattle.trace_model.specs.Frames.{Purpose, for_record, for_close, Progress, waiting, reserved, left, number_of, Phase, idle, looking, claiming, looking_next, marking, clearing, opening, releasing, wishing, Role, owner, helper, noted_fill, owned_update, Frame, WriteFault, too_deep, not_reserved, crowded, worn}
 use Rattle.trace_model.specs.Ring.{ReaderPhase, loading_head, loading_done, storing_spare_link, swapping, Core}
 use Rattle.trace_model.specs.Steps.{Event, pushes, pushes_close, steps, ends, reads, wishes, Answer, going, reserved_as, gone, refused, MayContinue, IsGranted, with_new_tail, after_begin, begin_answer, leave_answer}
 use Rattle.trace_model.proofs.steps.StepSound.{cases_of}
@@ -41,7 +41,7 @@ owner_wants_on c phase noted owns (tail_is_empty at none) = none_some (sym (ap o
 owner_wants_on c phase noted owns (was_faster other is passed free) = none_some (sym free ∙ owns)
 
 module _ (n size : ℕ) (c : Core) (below : List Frame) (answer : Answer) (after : Core) where
-  abbrev Reported : Kind → FrameState → Phase → Type 0
+  abbrev Reported : Purpose → Progress → Phase → Type 0
   Reported kind state phase = (history_events : List HistoryEvent) × (after.history ≡ c.history ++ history_events) × FrameAppends n c kind state phase below answer history_events
 
   history_is : (next : Core) → after ≡ next → after.history ≡ next.history
@@ -51,14 +51,14 @@ module _ (n size : ℕ) (c : Core) (below : List Frame) (answer : Answer) (after
   nothing next is e = history_is next is ∙ e ∙ sym (append-nil c.history)
 
   -- it goes on, and appends nothing
-  stays : (kind : Kind) (state : FrameState) (phase : Phase) (next : Core) → MayBeIn kind state phase → phase ≢ idle → (IsOpening c phase → ⊥) → (HasWhatItWants c phase → ⊥) → (Grants n c phase → ⊥) → answer ≡ going → after ≡ next → next.history ≡ c.history → Reported kind state phase
+  stays : (kind : Purpose) (state : Progress) (phase : Phase) (next : Core) → MayBeIn kind state phase → phase ≢ idle → (IsOpening c phase → ⊥) → (HasWhatItWants c phase → ⊥) → (Grants n c phase → ⊥) → answer ≡ going → after ≡ next → next.history ≡ c.history → Reported kind state phase
   stays (for_record moment len) waiting phase next may moves no_fill wants no_grant a is e = ([], nothing next is e, record_goes_on no_fill a refl)
   stays for_close waiting phase next may moves no_fill wants no_grant a is e = ([], nothing next is e, close_goes_on no_fill wants a refl)
   stays kind (reserved number) phase next may moves no_fill wants no_grant a is e = absurd (moves may.1)
   stays kind left phase next may moves no_fill wants no_grant a is e = ([], nothing next is e, left_stays no_fill no_grant (inl a) refl)
 
   -- another frame has begun the fill
-  late : (kind : Kind) (state : FrameState) (phase : Phase) (noted : ℕ) → MayBeIn kind state phase → noted_fill phase ≡ Some noted → owned_update phase ≡ None → BeginsAgain c (record { kind = kind; state = state; phase = phase }) below noted answer after → Reported kind state phase
+  late : (kind : Purpose) (state : Progress) (phase : Phase) (noted : ℕ) → MayBeIn kind state phase → noted_fill phase ≡ Some noted → owned_update phase ≡ None → BeginsAgain c (record { kind = kind; state = state; phase = phase }) below noted answer after → Reported kind state phase
   late (for_record moment len) waiting phase noted may notes_it free step = ([], nothing _ step.after_is refl, record_goes_on (late_opens_none c phase noted notes_it step.passed) step.answer_is refl)
   late for_close waiting phase noted may notes_it free step = (leave None ∷ [], history_is _ step.after_is, close_leaves (was_faster noted notes_it step.passed free) step.answer_is refl)
   late kind (reserved number) phase noted may notes_it free step = absurd (none_some (sym (ap noted_fill may.1) ∙ notes_it))
@@ -66,7 +66,7 @@ module _ (n size : ℕ) (c : Core) (below : List Frame) (answer : Answer) (after
       ([], nothing _ step.after_is refl, left_stays (late_opens_none c phase noted notes_it step.passed) (λ g. noted_no_wish phase noted notes_it g.0) (inl step.answer_is) refl)
 
   -- it begins the fill
-  begins : (kind : Kind) (state : FrameState) (noted page : ℕ) → MayBeIn kind state (opening noted page) → noted ≡ c.opened → answer ≡ begin_answer kind state below
+  begins : (kind : Purpose) (state : Progress) (noted page : ℕ) → MayBeIn kind state (opening noted page) → noted ≡ c.opened → answer ≡ begin_answer kind state below
       → after ≡ after_begin kind state (with_new_tail c page) (record { kind = kind; state = state; phase = opening noted page }) below → Reported kind state (opening noted page)
   begins (for_record moment len) waiting noted page may now a is = (open_fill ∷ [], history_is _ is, record_opens (page, ap (λ (f : ℕ). opening f page) now) a refl)
   begins for_close waiting noted page may now a is = (open_fill ∷ leave None ∷ [], history_is _ is ∙ append_assoc c.history (open_fill ∷ []) (leave None ∷ []), close_opens (page, ap (λ (f : ℕ). opening f page) now) a refl)
@@ -74,7 +74,7 @@ module _ (n size : ℕ) (c : Core) (below : List Frame) (answer : Answer) (after
   begins kind left noted page may now a is = (open_fill ∷ [], history_is _ is, left_opens (page, ap (λ (f : ℕ). opening f page) now) a refl)
 
   -- it rests
-  reported_idle : (kind : Kind) (state : FrameState) → IdleStep n size c (record { kind = kind; state = state; phase = idle }) below state answer after → Reported kind state idle
+  reported_idle : (kind : Purpose) (state : Progress) → IdleStep n size c (record { kind = kind; state = state; phase = idle }) below state answer after → Reported kind state idle
   reported_idle (for_record moment len) waiting (reserves m l r kind r_is fits a is) = (reserve ∷ [], history_is _ is, record_reserved a refl)
   reported_idle (for_record moment len) waiting (finds_nothing kind none a is) = absurd (cc)
   reported_idle (for_record moment len) waiting (is_crowded needs full a is) = (leave None ∷ [], history_is _ is, record_refused (inl a) refl)
@@ -93,18 +93,18 @@ module _ (n size : ℕ) (c : Core) (below : List Frame) (answer : Answer) (after
   reported_idle kind left step = absurd step
 
   -- it looks at a link, or tries to claim the head, for the fill that it noted
-  looks : (kind : Kind) (state : FrameState) (noted : ℕ) (next : Core) → MayBeIn kind state (looking noted) → noted ≡ c.opened → answer ≡ going → after ≡ next → next.history ≡ c.history → Reported kind state (looking noted)
+  looks : (kind : Purpose) (state : Progress) (noted : ℕ) (next : Core) → MayBeIn kind state (looking noted) → noted ≡ c.opened → answer ≡ going → after ≡ next → next.history ≡ c.history → Reported kind state (looking noted)
   looks kind state noted next may now a is e = stays kind state (looking noted) next may (λ z. cc) (λ (p, z). cc) (still_wants c (looking noted) noted refl now) (λ (z, g). cc) a is e
 
-  tries : (kind : Kind) (state : FrameState) (noted page : ℕ) (next : Core) → MayBeIn kind state (claiming noted page) → noted ≡ c.opened → answer ≡ going → after ≡ next → next.history ≡ c.history → Reported kind state (claiming noted page)
+  tries : (kind : Purpose) (state : Progress) (noted page : ℕ) (next : Core) → MayBeIn kind state (claiming noted page) → noted ≡ c.opened → answer ≡ going → after ≡ next → next.history ≡ c.history → Reported kind state (claiming noted page)
   tries kind state noted page next may now a is e = stays kind state (claiming noted page) next may (λ z. cc) (λ (p, z). cc) (still_wants c (claiming noted page) noted refl now) (λ (z, g). cc) a is e
 
   -- it looks at the next link, or tries to set it
-  looks_next : (kind : Kind) (state : FrameState) (role : Role) (noted page : ℕ) (next : Core) → MayBeIn kind state (looking_next role noted page) → MayContinue role noted c.opened → answer ≡ going → after ≡ next → next.history ≡ c.history → Reported kind state (looking_next role noted page)
+  looks_next : (kind : Purpose) (state : Progress) (role : Role) (noted page : ℕ) (next : Core) → MayBeIn kind state (looking_next role noted page) → MayContinue role noted c.opened → answer ≡ going → after ≡ next → next.history ≡ c.history → Reported kind state (looking_next role noted page)
   looks_next kind state owner noted page next may on a is e = stays kind state (looking_next owner noted page) next may (λ z. cc) (λ (p, z). cc) (owner_wants_on c (looking_next owner noted page) noted refl) (λ (z, g). cc) a is e
   looks_next kind state helper noted page next may on a is e = stays kind state (looking_next helper noted page) next may (λ z. cc) (λ (p, z). cc) (still_wants c (looking_next helper noted page) noted refl on) (λ (z, g). cc) a is e
 
-  moves_on : (kind : Kind) (state : FrameState) (role : Role) (noted page second : ℕ) (next : Core) → MayBeIn kind state (marking role noted page second) → MayContinue role noted c.opened → answer ≡ going → after ≡ next → next.history ≡ c.history → Reported kind state (marking role noted page second)
+  moves_on : (kind : Purpose) (state : Progress) (role : Role) (noted page second : ℕ) (next : Core) → MayBeIn kind state (marking role noted page second) → MayContinue role noted c.opened → answer ≡ going → after ≡ next → next.history ≡ c.history → Reported kind state (marking role noted page second)
   moves_on kind state owner noted page second next may on a is e = stays kind state (marking owner noted page second) next may (λ z. cc) (λ (p, z). cc) (owner_wants_on c (marking owner noted page second) noted refl) (λ (z, g). cc) a is e
   moves_on kind state helper noted page second next may on a is e = stays kind state (marking helper noted page second) next may (λ z. cc) (λ (p, z). cc) (still_wants c (marking helper noted page second) noted refl on) (λ (z, g). cc) a is e
 
@@ -113,20 +113,20 @@ module _ (n size : ℕ) (c : Core) (below : List Frame) (answer : Answer) (after
   no_opening phase (inl at) (page, opening_at) = none_some (sym (ap noted_fill at) ∙ ap noted_fill opening_at)
   no_opening phase (inr at) (page, opening_at) = none_some (sym (ap noted_fill at) ∙ ap noted_fill opening_at)
 
-  closes : (kind : Kind) (state : FrameState) (phase : Phase) (next : Core) → MayBeIn kind state phase → (phase ≡ releasing) ⊎ (phase ≡ wishing) → (Grants n c phase → ⊥) → (answer ≡ going) ⊎ (answer ≡ gone) → after ≡ next → next.history ≡ c.history → Reported kind state phase
+  closes : (kind : Purpose) (state : Progress) (phase : Phase) (next : Core) → MayBeIn kind state phase → (phase ≡ releasing) ⊎ (phase ≡ wishing) → (Grants n c phase → ⊥) → (answer ≡ going) ⊎ (answer ≡ gone) → after ≡ next → next.history ≡ c.history → Reported kind state phase
   closes kind waiting phase next may (inl at) no_grant a is e = absurd (may.0 at)
   closes kind waiting phase next may (inr at) no_grant a is e = absurd (may.1 at)
   closes kind (reserved number) phase next may (inl at) no_grant a is e = absurd (let z : releasing ≡ idle = sym at ∙ may.1 in cc)
   closes kind (reserved number) phase next may (inr at) no_grant a is e = absurd (let z : wishing ≡ idle = sym at ∙ may.1 in cc)
   closes kind left phase next may at no_grant a is e = ([], nothing next is e, left_stays (no_opening phase at) no_grant a refl)
 
-  finds_wish : (kind : Kind) (state : FrameState) (next : Core) → MayBeIn kind state wishing → IsGranted n c → answer ≡ going → after ≡ next → next.history ≡ c.history ++ wished ∷ [] → Reported kind state wishing
+  finds_wish : (kind : Purpose) (state : Progress) (next : Core) → MayBeIn kind state wishing → IsGranted n c → answer ≡ going → after ≡ next → next.history ≡ c.history ++ wished ∷ [] → Reported kind state wishing
   finds_wish kind waiting next may granted a is e = absurd (may.1 refl)
   finds_wish kind (reserved number) next may granted a is e = absurd (let z : wishing ≡ idle = may.1 in cc)
   finds_wish kind left next may granted a is e = (wished ∷ [], history_is next is ∙ e, left_grants (refl, granted) a refl)
 
   -- in its phase
-  reported_frame : (kind : Kind) (state : FrameState) (phase : Phase) → MayBeIn kind state phase → FrameStep n size c (record { kind = kind; state = state; phase = phase }) below phase answer after → Reported kind state phase
+  reported_frame : (kind : Purpose) (state : Progress) (phase : Phase) → MayBeIn kind state phase → FrameStep n size c (record { kind = kind; state = state; phase = phase }) below phase answer after → Reported kind state phase
   reported_frame kind state idle may step = reported_idle kind state step
   reported_frame kind state (looking noted) may (load_link_late step) = late kind state (looking noted) noted may refl refl step
   reported_frame kind state (looking noted) may (sees_free page now at a is) = looks kind state noted _ may now a is refl
@@ -172,7 +172,7 @@ read_same n c after phase answer step = by phase step ∙ sym (append-nil c.hist
 reported_end : (payload : List ℕ) (frame : Frame) (below : List Frame) (answer : Answer) → number_of frame.state ≡ None → answer ≡ refused not_reserved → EndAppends payload frame.state below answer []
 reported_end payload frame below answer none a = by frame.state none
   where
-    by : (state : FrameState) → number_of state ≡ None → EndAppends payload state below answer []
+    by : (state : Progress) → number_of state ≡ None → EndAppends payload state below answer []
     by waiting e = (a, refl)
     by (reserved number) e = absurd (none_some (sym e))
     by left e = (a, refl)
@@ -191,7 +191,7 @@ case_appends n size start c event answer after kept (end_step payload frame belo
   leave (Some payload) ∷ [],
   ap (λ (d : Core). d.history) is,
   subst (λ (x : Event). Appends n c x answer (leave (Some payload) ∷ [])) (sym e)
-      (subst (λ (fs : List Frame). TopEndAppends payload fs answer (leave (Some payload) ∷ [])) (sym top) (subst (λ (s : FrameState). EndAppends payload s below answer (leave (Some payload) ∷ [])) (sym has) (a, refl))),
+      (subst (λ (fs : List Frame). TopEndAppends payload fs answer (leave (Some payload) ∷ [])) (sym top) (subst (λ (s : Progress). EndAppends payload s below answer (leave (Some payload) ∷ [])) (sym has) (a, refl))),
 )
 case_appends n size start c event answer after kept (end_lacks payload e none a is) =
     ([], same c after is, subst (λ (x : Event). Appends n c x answer []) (sym e) (subst (λ (fs : List Frame). TopEndAppends payload fs answer []) (sym none) (a, refl)))
@@ -215,23 +215,23 @@ ended_is_one : (payload : List ℕ) (frames : List Frame) (answer : Answer) (som
 ended_is_one payload [] answer some others one other = one.1 ∙ sym other.1
 ended_is_one payload (frame ∷ below) answer some others one other = by frame.state one other
   where
-    by : (state : FrameState) → EndAppends payload state below answer some → EndAppends payload state below answer others → some ≡ others
+    by : (state : Progress) → EndAppends payload state below answer some → EndAppends payload state below answer others → some ≡ others
     by waiting one other = one.1 ∙ sym other.1
     by (reserved number) one other = one.1 ∙ sym other.1
     by left one other = one.1 ∙ sym other.1
 
 -- a refusal for want of a page is no other answer
-not_refused : (answer other : Answer) → ((why : Refusal) → other ≢ refused why) → answer ≡ other → IsRefusedPage answer → ⊥
+not_refused : (answer other : Answer) → ((why : WriteFault) → other ≢ refused why) → answer ≡ other → IsRefusedPage answer → ⊥
 not_refused answer other differs is (inl a) = differs crowded (sym is ∙ a)
 not_refused answer other differs is (inr a) = differs worn (sym is ∙ a)
 
-going_not_refused : (why : Refusal) → going ≢ refused why
+going_not_refused : (why : WriteFault) → going ≢ refused why
 going_not_refused why e = cc
 
-number_not_refused : (number : ℕ) (why : Refusal) → reserved_as number ≢ refused why
+number_not_refused : (number : ℕ) (why : WriteFault) → reserved_as number ≢ refused why
 number_not_refused number why e = cc
 
-pub leave_not_refused : (below : List Frame) (why : Refusal) → leave_answer below ≢ refused why
+pub leave_not_refused : (below : List Frame) (why : WriteFault) → leave_answer below ≢ refused why
 leave_not_refused [] why e = cc
 leave_not_refused (next ∷ below) why e = cc
 
@@ -291,7 +291,7 @@ module _ (c : Core) (phase : Phase) (answer : Answer) (some others : List Histor
   left_is_one n (left_stays none denied a is) (left_grants wish b that) = absurd (denied wish)
   left_is_one n (left_stays none denied a is) (left_stays other refused_too b that) = is ∙ sym that
 
-frame_is_one : (n : ℕ) (c : Core) (kind : Kind) (state : FrameState) (phase : Phase) (below : List Frame) (answer : Answer) (some others : List HistoryEvent) → FrameAppends n c kind state phase below answer some → FrameAppends n c kind state phase below answer others → some ≡ others
+frame_is_one : (n : ℕ) (c : Core) (kind : Purpose) (state : Progress) (phase : Phase) (below : List Frame) (answer : Answer) (some others : List HistoryEvent) → FrameAppends n c kind state phase below answer some → FrameAppends n c kind state phase below answer others → some ≡ others
 frame_is_one n c (for_record moment len) waiting phase below answer some others one other = record_is_one c phase answer some others one other
 frame_is_one n c for_close waiting phase below answer some others one other = close_is_one c phase answer some others below one other
 frame_is_one n c kind (reserved number) phase below answer some others one other = one.1 ∙ sym other.1

@@ -2,7 +2,7 @@
 use Rattle.std.proofs.Common.{◌≡◌, ℕ, ◌+◌, ◌<◌, ◌≤◌, List, [], ◌∷◌, ◌++◌, None, Some, refl, sym, ap, ◌∙◌, subst, arith, append_assoc, append-nil}
 use Rattle.trace_model.specs.History.{HistoryEvent, push, push_close, open_fill, reserve, leave, wished}
 use Rattle.trace_model.proofs.histories.NextEvent.{settled_at_rest}
-use Rattle.trace_model.specs.Frames.{Kind, for_record, for_close, FrameState, waiting, reserved, left, Phase, idle, looking, claiming, looking_next, marking, clearing, opening, releasing, wishing, Frame}
+use Rattle.trace_model.specs.Frames.{Purpose, for_record, for_close, Progress, waiting, reserved, left, Phase, idle, looking, claiming, looking_next, marking, clearing, opening, releasing, wishing, Frame}
 use Rattle.trace_model.specs.Window.{first_window, closes, window_after, RingEvent, acts, takes, loses, history_events_of, MayMove, WindowRunFrom}
 use Rattle.trace_model.specs.Ring.{ReaderPhase, loading_head, loading_done, storing_spare_link, swapping, Reader, Core, IsStart, window_of}
 use Rattle.trace_model.specs.Steps.{Event, Answer, with_new_tail, after_begin, taken_fill, Exchange, Run}
@@ -35,7 +35,7 @@ no_event n c after h w t = record { events = []; history_events = h ∙ sym (app
 does : (n : ℕ) (c after : Core) (a : HistoryEvent) → MayMove n c.history (window_of c) (acts a) → after.history ≡ c.history ++ a ∷ [] → window_of after ≡ window_after (window_of c) (acts a) → numbers_of after.reader.taken ≡ numbers_of c.reader.taken → Leads n c after
 does n c after a may h w t = record { events = acts a ∷ []; history_events = h; window = (may, sym w); took = t ∙ sym (append-nil (numbers_of c.reader.taken)) }
 
-leads_again : (n : ℕ) (c : Core) (frame : Frame) (below : List Frame) (kind : Kind) (state : FrameState) → Leads n c (after_begin kind state c frame below)
+leads_again : (n : ℕ) (c : Core) (frame : Frame) (below : List Frame) (kind : Purpose) (state : Progress) → Leads n c (after_begin kind state c frame below)
 leads_again n c frame below (for_record moment len) waiting = no_event n c _ refl refl refl
 leads_again n c frame below for_close waiting = does n c _ (leave None) tt refl refl refl
 leads_again n c frame below kind (reserved number) = no_event n c _ refl refl refl
@@ -44,7 +44,7 @@ leads_again n c frame below kind left = no_event n c _ refl refl refl
 again : (n : ℕ) (c : Core) (frame : Frame) (below : List Frame) (noted : ℕ) (answer : Answer) (after : Core) → BeginsAgain c frame below noted answer after → Leads n c after
 again n c frame below noted answer after step = subst (Leads n c) (sym step.after_is) (leads_again n c frame below frame.kind frame.state)
 
-leads_begun : (n : ℕ) (c : Core) (frame : Frame) (below : List Frame) (page : ℕ) (kind : Kind) (state : FrameState) → c.opened < c.head + n → Leads n c (after_begin kind state (with_new_tail c page) frame below)
+leads_begun : (n : ℕ) (c : Core) (frame : Frame) (below : List Frame) (page : ℕ) (kind : Purpose) (state : Progress) → c.opened < c.head + n → Leads n c (after_begin kind state (with_new_tail c page) frame below)
 leads_begun n c frame below page (for_record moment len) waiting room = does n c _ open_fill room refl refl refl
 leads_begun n c frame below page for_close waiting room = record {
   events = acts open_fill ∷ acts (leave None) ∷ [];
@@ -56,7 +56,7 @@ leads_begun n c frame below page kind (reserved number) room = does n c _ open_f
 leads_begun n c frame below page kind left room = does n c _ open_fill room refl refl refl
 
 module _ (n size start : ℕ) (c : Core) (frame : Frame) (below : List Frame) (k : LinksKept n c) (s : StackKept c) (h : HistoryKept n start c) (top : c.frames ≡ frame ∷ below) where
-  leads_idle : (state : FrameState) (answer : Answer) (after : Core) → IdleStep n size c frame below state answer after → Leads n c after
+  leads_idle : (state : Progress) (answer : Answer) (after : Core) → IdleStep n size c frame below state answer after → Leads n c after
   leads_idle waiting answer after (reserves moment len r kind r_is fits a is) = subst (Leads n c) (sym is) (does n c _ reserve tt refl refl refl)
   leads_idle waiting answer after (finds_nothing kind none a is) = subst (Leads n c) (sym is) (does n c _ (leave None) tt refl refl refl)
   leads_idle waiting answer after (is_crowded needs full a is) = subst (Leads n c) (sym is) (does n c _ (leave None) tt refl refl refl)

@@ -4,7 +4,7 @@ use Rattle.std.specs.Prelude.{◌==◌}
 use Rattle.std.proofs.lemmas.Bool.{cond_both, eqb-false}
 use Rattle.trace_model.specs.History.{HistoryEvent, leave}
 use Rattle.trace_model.specs.Links.{Link}
-use Rattle.trace_model.specs.Frames.{Kind, for_record, for_close, FrameState, waiting, reserved, left, Phase, idle, releasing, wishing, Frame, owned_update}
+use Rattle.trace_model.specs.Frames.{Purpose, for_record, for_close, Progress, waiting, reserved, left, Phase, idle, releasing, wishing, Frame, owned_update}
 use Rattle.trace_model.specs.Ring.{PageRecords, Core}
 use Rattle.trace_model.specs.Steps.{after_leave, after_begin, closing_phase, held_with_payload, own_number}
 use Rattle.ring_model.specs.KeptLinks.{HasMover, MoversDiffer, PhaseKept, FramesKept, LinkKept, is_normal, is_header, is_update, LinksKept}
@@ -66,7 +66,7 @@ leaves_kept n c frame [] payload k top none =
 leaves_kept n c frame (next ∷ below) payload k top none = popped n c frame (next ∷ below) k top (map (held_with_payload (own_number frame.kind frame.state) payload) c.held) (c.history ++ leave payload ∷ []) none
 
 -- A fill was begun by another frame: the one on top tries again, or leaves, or goes on to close fills.
-pub after_begin_kept : (n : ℕ) (c : Core) (kind : Kind) (state : FrameState) (frame : Frame) (below : List Frame) → LinksKept n c → c.frames ≡ frame ∷ below → owned_update frame.phase ≡ None → LinksKept n (after_begin kind state c frame below)
+pub after_begin_kept : (n : ℕ) (c : Core) (kind : Purpose) (state : Progress) (frame : Frame) (below : List Frame) → LinksKept n c → c.frames ≡ frame ∷ below → owned_update frame.phase ≡ None → LinksKept n (after_begin kind state c frame below)
 after_begin_kept n c (for_record moment len) waiting frame below k top none = rephased n c frame below k top (record frame { phase = idle }) c.held c.history (knows_idle n c.links c.order c.head c.done c.opened) (sym none)
 after_begin_kept n c for_close waiting frame below k top none = leaves_kept n c frame below None k top none
 after_begin_kept n c kind (reserved number) frame below k top none = rephased n c frame below k top (record frame { phase = idle }) c.held c.history (knows_idle n c.links c.order c.head c.done c.opened) (sym none)

@@ -2,7 +2,7 @@
 use Rattle.std.proofs.Common.{◌≡◌, ℕ, suc, ◌+◌, List, [], ◌∷◌, ◌++◌, length, Option, Some, None, refl, sym, ap, ◌∙◌, subst, inr, ⊎_elim, arith}
 use Rattle.trace_model.specs.History.{HistoryEvent, push, push_close, wished, reserved_records}
 use Rattle.trace_model.specs.Links.{Link, normal_link, header_link}
-use Rattle.trace_model.specs.Frames.{Kind, for_record, for_close, FrameState, waiting, reserved, left, Role, owner, helper, Phase, idle, looking, claiming, looking_next, marking, clearing, opening, releasing, wishing, Frame, owned_update}
+use Rattle.trace_model.specs.Frames.{Purpose, for_record, for_close, Progress, waiting, reserved, left, Role, owner, helper, Phase, idle, looking, claiming, looking_next, marking, clearing, opening, releasing, wishing, Frame, owned_update}
 use Rattle.trace_model.specs.Ring.{Core, links_with}
 use Rattle.trace_model.specs.Steps.{Event, Answer, with_link, in_phase, after_leave, with_new_tail, after_next}
 use Rattle.trace_model.proofs.steps.StepCases.{StepCases, BeginsAgain, ReserveStep, reserves, finds_nothing, is_crowded, is_worn, notes, LoadLinkStep, load_link_late, sees_free, sees_header, sees_update, ClaimHeadStep, claim_late, claims, claim_fails, LoadNextStep, load_next_late, sees_normal, sees_other, MarkHeadStep, mark_late, marks, mark_fails, ClearUpdateStep, clears, OpenFillStep, open_late, opens, ReleaseFillStep, releases, releases_last, LoadWishStep, grants, closes_more, goes_away, IdleStep, FrameStep, push_step, push_refused, close_step, close_refused, frame_step, frame_lacks, end_step, end_lacks, end_early, read_step, store_wish_step}
@@ -42,7 +42,7 @@ module _ (n size : ℕ) (c : Core) (frame : Frame) (below : List Frame) (k : Lin
   reserve_kept answer after same (notes needs room small a is) = let behind = k.done_lt in let within = k.opened_le in let unread = k.head_le in
       goes after (looking c.opened) (knows_looking n c.links c.order c.head c.done c.opened c.opened (behind, omega arith, omega arith, small)) (sym (ap owned_update same)) is
 
-  idle_kept : (state : FrameState) (answer : Answer) (after : Core) → frame.phase ≡ idle → IdleStep n size c frame below state answer after → LinksKept n after
+  idle_kept : (state : Progress) (answer : Answer) (after : Core) → frame.phase ≡ idle → IdleStep n size c frame below state answer after → LinksKept n after
   idle_kept waiting answer after same step = reserve_kept answer after same step
   idle_kept (reserved number) answer after same step = subst (LinksKept n) (sym step.1) k
   idle_kept left answer after same step = absurd step
@@ -161,13 +161,13 @@ frame_kept n size c frame below releasing answer after k top same step = release
 frame_kept n size c frame below wishing answer after k top same step = load_wish_kept n size c frame below k top answer after same step
 
 -- a new frame knows nothing
-pushed_kept : (n : ℕ) (c after : Core) (kind : Kind) (history_event : HistoryEvent) → LinksKept n c → after ≡ record c { frames = record { kind = kind; state = waiting; phase = idle } ∷ c.frames; history = c.history ++ history_event ∷ [] } → LinksKept n after
+pushed_kept : (n : ℕ) (c after : Core) (kind : Purpose) (history_event : HistoryEvent) → LinksKept n c → after ≡ record c { frames = record { kind = kind; state = waiting; phase = idle } ∷ c.frames; history = c.history ++ history_event ∷ [] } → LinksKept n after
 pushed_kept n c after kind history_event k is = subst (LinksKept n) (sym is)
     (restacked n c (record { kind = kind; state = waiting; phase = idle } ∷ c.frames) c.held (c.history ++ history_event ∷ []) k (knows_idle n c.links c.order c.head c.done c.opened, k.frames) ((λ f own st. none_some own), k.movers) (λ f st. inr st))
 
 -- a frame that has reserved has noted nothing
 pub reserved_rests : (c : Core) (frame : Frame) (below : List Frame) (number : ℕ) → StackKept c → c.frames ≡ frame ∷ below → frame.state ≡ reserved number → frame.phase ≡ idle
-reserved_rests c frame below number stack top state = (subst (λ (s : FrameState). MayBeIn frame.kind s frame.phase) state (subst FramesAgree top stack.agree).0).1
+reserved_rests c frame below number stack top state = (subst (λ (s : Progress). MayBeIn frame.kind s frame.phase) state (subst FramesAgree top stack.agree).0).1
 
 pub step_kept : (n size : ℕ) (c : Core) (event : Event) (answer : Answer) (after : Core) → LinksKept n c → StackKept c → StepCases n size c event answer after → LinksKept n after
 step_kept n size c event answer after k stack (push_step moment len e few fits early a is) = pushed_kept n c after (for_record moment len) (push moment len) k is

@@ -4,7 +4,7 @@ use Rattle.std.proofs.lemmas.List.{get_or-set_other}
 use mathlib.Core.Logic.{dite}
 use native.Mathlib.Decide.{ℕ_discrete}
 use Rattle.trace_model.specs.Links.{Link, normal_link, header_link, update_link}
-use Rattle.trace_model.specs.Frames.{Kind, for_record, for_close, FrameState, waiting, reserved, left, owner, Phase, idle, looking, claiming, looking_next, marking, clearing, opening, releasing, wishing, Frame, owned_update}
+use Rattle.trace_model.specs.Frames.{Purpose, for_record, for_close, Progress, waiting, reserved, left, owner, Phase, idle, looking, claiming, looking_next, marking, clearing, opening, releasing, wishing, Frame, owned_update}
 use Rattle.trace_model.specs.Ring.{link_into, links_with, page_at, ReaderPhase, loading_head, loading_done, storing_spare_link, swapping, Core}
 use Rattle.trace_model.specs.Steps.{Event, steps, reads, Answer, with_new_tail, after_begin, Step, Exchange, Run}
 use Rattle.trace_model.proofs.steps.StepCases.{StepCases, BeginsAgain, reserves, finds_nothing, is_crowded, is_worn, notes, load_link_late, sees_free, sees_header, sees_update, claim_late, claims, claim_fails, load_next_late, sees_normal, sees_other, mark_late, marks, mark_fails, clears, open_late, opens, releases, releases_last, grants, closes_more, goes_away, IdleStep, FrameStep, push_step, push_refused, close_step, close_refused, frame_step, frame_lacks, end_step, end_lacks, end_early, read_step, store_wish_step, loads_header, loads_update, loads_owed, loads_passed, finds_none, finds_closed, swaps, swap_fails, ReadStep}
@@ -46,7 +46,7 @@ pub data Relinks (n : ℕ) (c : Core) (event : Event) (after : Core) : Type 0 wh
       → after.links ≡ links_with n (links_with n c.links c.head (normal_link c.spare (c.head + n))) (suc c.head) (header_link next (suc c.head))
       → Relinks n c event after
 
-links_after_begin : (kind : Kind) (state : FrameState) (c : Core) (frame : Frame) (below : List Frame) → (after_begin kind state c frame below).links ≡ c.links
+links_after_begin : (kind : Purpose) (state : Progress) (c : Core) (frame : Frame) (below : List Frame) → (after_begin kind state c frame below).links ≡ c.links
 links_after_begin (for_record moment len) waiting c frame below = refl
 links_after_begin for_close waiting c frame below = refl
 links_after_begin kind (reserved number) c frame below = refl
@@ -59,7 +59,7 @@ stays : (n : ℕ) (c : Core) (event : Event) (after d : Core) → after ≡ d �
 stays n c event after d is same = leaves_links (ap (λ (x : Core). x.links) is ∙ same)
 
 module _ (n size : ℕ) (c : Core) (event : Event) (frame : Frame) (below : List Frame) (k : LinksKept n c) (steps_is : event ≡ steps) (top : c.frames ≡ frame ∷ below) where
-  relinks_idle : (state : FrameState) (answer : Answer) (after : Core) → IdleStep n size c frame below state answer after → Relinks n c event after
+  relinks_idle : (state : Progress) (answer : Answer) (after : Core) → IdleStep n size c frame below state answer after → Relinks n c event after
   relinks_idle waiting answer after (reserves moment len r kind r_is fits a is) = stays n c event after _ is refl
   relinks_idle waiting answer after (finds_nothing kind none a is) = stays n c event after _ is refl
   relinks_idle waiting answer after (is_crowded needs full a is) = stays n c event after _ is refl

@@ -4,7 +4,7 @@ use mathlib.Core.Logic.{dite}
 use native.Mathlib.Decide.{ℕ_discrete}
 use Rattle.trace_model.specs.declared.limits.TheConstants.{MAX_PAGES}
 use Rattle.trace_model.specs.Links.{Link, normal_link, header_link, update_link}
-use Rattle.trace_model.specs.Frames.{Kind, for_record, for_close, FrameState, waiting, reserved, left, Role, owner, helper, Phase, idle, looking, claiming, looking_next, marking, clearing, opening, releasing, wishing, Frame}
+use Rattle.trace_model.specs.Frames.{Purpose, for_record, for_close, Progress, waiting, reserved, left, Role, owner, helper, Phase, idle, looking, claiming, looking_next, marking, clearing, opening, releasing, wishing, Frame}
 use Rattle.trace_model.specs.Ring.{Core, link_into, page_at, links_with, ReaderPhase, loading_head, loading_done, storing_spare_link, swapping}
 use Rattle.trace_model.specs.Steps.{Event, Answer, closing_phase, frames_after_leave, after_next, after_begin, with_new_tail, Exchange, Run}
 use Rattle.trace_model.proofs.steps.StepCases.{StepCases, BeginsAgain, IdleStep, reserves, finds_nothing, is_crowded, is_worn, notes, FrameStep, load_link_late, sees_free, sees_header, sees_update, claim_late, claims, claim_fails, load_next_late, sees_normal, sees_other, mark_late, marks, mark_fails, clears, open_late, opens, releases, releases_last, grants, closes_more, goes_away, ReadStep, loads_header, loads_update, loads_owed, loads_passed, finds_none, finds_closed, swaps, swap_fails, push_step, push_refused, close_step, close_refused, frame_step, frame_lacks, end_step, end_lacks, end_early, read_step, store_wish_step}
@@ -85,7 +85,7 @@ module _ (n : ℕ) (links : List Link) (head : ℕ) where
   left_sees c frame [] all = (closing_sees c, tt)
   left_sees c frame (next ∷ below) all = all
 
-begun_sees : (n : ℕ) (kind : Kind) (state : FrameState) (c : Core) (frame : Frame) (below : List Frame) → AllSee n c.links c.head below → FramesSee n (after_begin kind state c frame below)
+begun_sees : (n : ℕ) (kind : Purpose) (state : Progress) (c : Core) (frame : Frame) (below : List Frame) → AllSee n c.links c.head below → FramesSee n (after_begin kind state c frame below)
 begun_sees n (for_record moment len) waiting c frame below all = (tt, all)
 begun_sees n for_close waiting c frame below all = left_sees n c.links c.head c frame below all
 begun_sees n kind (reserved number) c frame below all = (tt, all)
@@ -115,7 +115,7 @@ module _ (n : ℕ) (c : Core) (k : LinksKept n c) where
     rest_moved : (links' : List Link) (head' : ℕ) → Holds n c.opened c.links links' c.head head' → AllSee n links' head' below
     rest_moved links' head' holds = all_moved n c.links links' c.order c.head head' c.done c.opened holds below (below_kept n c frame below k top) rest
 
-    idle_sees : (state : FrameState) → IdleStep n size c frame below state answer after → FramesSee n after
+    idle_sees : (state : Progress) → IdleStep n size c frame below state answer after → FramesSee n after
     idle_sees waiting (reserves moment len r kind r_is fits a is) = become n after _ is (tt, rest)
     idle_sees waiting (finds_nothing kind none a is) = become n after _ is (left_sees n c.links c.head c frame below rest)
     idle_sees waiting (is_crowded needs full a is) = become n after _ is (left_sees n c.links c.head c frame below rest)

@@ -3,7 +3,7 @@ use Rattle.std.proofs.Common.{◌≡◌, ℕ, ◌+◌, ◌-◌, ◌≤◌, List,
 use Rattle.trace_model.specs.History.{HistoryEvent, push, push_close, open_fill, reserve, leave, wished, Reservation, reserved_records}
 use Rattle.trace_model.specs.Packing.{opens_of, first_of_fill}
 use Rattle.trace_model.specs.Fitting.{IsRising}
-use Rattle.trace_model.specs.Frames.{Kind, for_record, for_close, FrameState, waiting, reserved, left, Phase, idle, looking, claiming, looking_next, marking, clearing, opening, releasing, wishing, Frame}
+use Rattle.trace_model.specs.Frames.{Purpose, for_record, for_close, Progress, waiting, reserved, left, Phase, idle, looking, claiming, looking_next, marking, clearing, opening, releasing, wishing, Frame}
 use Rattle.trace_model.specs.Ring.{ReaderPhase, loading_head, loading_done, storing_spare_link, swapping, Core, page_at}
 use Rattle.trace_model.specs.Steps.{Event, Answer, with_new_tail, after_begin, taken_fill, contents_of}
 use Rattle.trace_model.proofs.steps.StepCases.{StepCases, BeginsAgain, reserves, finds_nothing, is_crowded, is_worn, notes, load_link_late, sees_free, sees_header, sees_update, claim_late, claims, claim_fails, load_next_late, sees_normal, sees_other, mark_late, marks, mark_fails, clears, open_late, opens, releases, releases_last, grants, closes_more, goes_away, IdleStep, FrameStep, push_step, push_refused, close_step, close_refused, frame_step, frame_lacks, end_step, end_lacks, end_early, read_step, store_wish_step, loads_header, loads_update, loads_owed, loads_passed, finds_none, finds_closed, swaps, swap_fails, ReadStep}
@@ -36,7 +36,7 @@ module _ (n start : ℕ) (c : Core) (k : LinksKept n c) (t : ContentsKept n star
   partition_acts : (a : HistoryEvent) → PartitionAt start (c.history ++ a ∷ []) c.head c.reader.expected c.reader.taken
   partition_acts a = partition_more start c.history a c.head c.reader.expected c.reader.taken counted t.rising head_settled q
 
-  partition_begun : (kind : Kind) (state : FrameState) (frame : Frame) (below : List Frame) → PartitionKept start (after_begin kind state c frame below)
+  partition_begun : (kind : Purpose) (state : Progress) (frame : Frame) (below : List Frame) → PartitionKept start (after_begin kind state c frame below)
   partition_begun (for_record moment len) waiting frame below = q
   partition_begun for_close waiting frame below = partition_acts (leave None)
   partition_begun kind (reserved number) frame below = q
@@ -51,7 +51,7 @@ module _ (n start : ℕ) (c : Core) (k : LinksKept n c) (t : ContentsKept n star
       (first_more c.history open_fill (c.head - start) counted head_settled)
       (partition_acts open_fill)
 
-  partition_begins : (kind : Kind) (state : FrameState) (page : ℕ) (frame : Frame) (below : List Frame) → PartitionKept start (after_begin kind state (with_new_tail c page) frame below)
+  partition_begins : (kind : Purpose) (state : Progress) (page : ℕ) (frame : Frame) (below : List Frame) → PartitionKept start (after_begin kind state (with_new_tail c page) frame below)
   partition_begins (for_record moment len) waiting page frame below = partition_acts open_fill
   partition_begins for_close waiting page frame below = partition_closes
   partition_begins kind (reserved number) page frame below = partition_acts open_fill
@@ -61,7 +61,7 @@ module _ (n start : ℕ) (c : Core) (k : LinksKept n c) (t : ContentsKept n star
   again frame below noted answer after step = subst (PartitionKept start) (sym step.after_is) (partition_begun frame.kind frame.state frame below)
 
 module _ (n size start : ℕ) (c : Core) (frame : Frame) (below : List Frame) (k : LinksKept n c) (h : HistoryKept n start c) (t : ContentsKept n start c) (z : ClosedKept start c) (q : PartitionKept start c) (top : c.frames ≡ frame ∷ below) where
-  partition_idle : (state : FrameState) (answer : Answer) (after : Core) → IdleStep n size c frame below state answer after → PartitionKept start after
+  partition_idle : (state : Progress) (answer : Answer) (after : Core) → IdleStep n size c frame below state answer after → PartitionKept start after
   partition_idle waiting answer after (reserves moment len r kind r_is fits a is) = subst (PartitionKept start) (sym is) (partition_acts n start c k t z q reserve)
   partition_idle waiting answer after (finds_nothing kind none a is) = subst (PartitionKept start) (sym is) (partition_acts n start c k t z q (leave None))
   partition_idle waiting answer after (is_crowded needs full a is) = subst (PartitionKept start) (sym is) (partition_acts n start c k t z q (leave None))

@@ -8,7 +8,7 @@ use Rattle.trace_model.specs.History.{HistoryEvent, open_fill, Reservation, rese
 use Rattle.trace_model.specs.Packing.{cut_from, opens_of, tail_of, FitsBehind, is_wished}
 use Rattle.trace_model.specs.Fitting.{tail_at, NeedsFill}
 use Rattle.trace_model.specs.Links.{Mark, normal, header, update, Link, header_link}
-use Rattle.trace_model.specs.Frames.{Kind, for_record, for_close, FrameState, waiting, reserved, left, number_of, Role, owner, helper, Phase, idle, looking, claiming, looking_next, marking, clearing, opening, releasing, wishing, Frame, pushed_frames}
+use Rattle.trace_model.specs.Frames.{Purpose, for_record, for_close, Progress, waiting, reserved, left, number_of, Role, owner, helper, Phase, idle, looking, claiming, looking_next, marking, clearing, opening, releasing, wishing, Frame, pushed_frames}
 use Rattle.trace_model.specs.Ring.{link_into, Core}
 use Rattle.trace_model.specs.Steps.{Answer, NeedsPage, closing_phase, in_phase, after_leave, after_next, with_link, with_new_tail, after_begin}
 use Rattle.trace_model.proofs.steps.EventSteps.{top_step, top_ends}
@@ -56,7 +56,7 @@ tail_held : (records : List Reservation) → records ≢ [] → tail_rank record
 tail_held [] holds = absurd (holds refl)
 tail_held (r ∷ records) holds = refl
 
-closing_le : (n : ℕ) (c : Core) (state : FrameState) → phase_rank n c state (closing_phase c) ≤ wish_rank c + 1
+closing_le : (n : ℕ) (c : Core) (state : Progress) → phase_rank n c state (closing_phase c) ≤ wish_rank c + 1
 closing_le n c state = cond_both ((c.done + 1) == c.opened) wishing releasing (λ (p : Phase). phase_rank n c state p ≤ wish_rank c + 1) (λ _. omega arith) (λ _. omega arith)
 
 pub opened_tail : (h : List HistoryEvent) → tail_of (h ++ open_fill ∷ []) ≡ []
@@ -79,23 +79,23 @@ leave_le n c frame [] payload same = let low = closing_le n c left in
 leave_le n c frame (next ∷ below) payload same = absurd (let wrong : suc (length below) ≡ suc (suc (length below)) = same in omega arith)
 
 -- what a frame that begins again has before it, if an idle one has at most i, and one that closes fills at most w
-abbrev pub again_rank : ℕ → ℕ → FrameState → ℕ
+abbrev pub again_rank : ℕ → ℕ → Progress → ℕ
 again_rank i w waiting = i
 again_rank i w (reserved number) = 15
 again_rank i w left = w
 
-begin_le : (n : ℕ) (c : Core) (kind : Kind) (state : FrameState) (frame : Frame) (below : List Frame) (i w : ℕ) → frame.state ≡ state → tail_rank (tail_of c.history) ≤ i → wish_rank c + 1 ≤ w → w ≤ i → length (after_begin kind state c frame below).frames ≡ suc (length below) → frame_rank n (after_begin kind state c frame below) ≤ 3 * (c.opened - c.done) + again_rank i w state
-begin_le n c (for_record moment len) waiting frame below i w same low wish_low le stays = subst (λ (s : FrameState). 3 * (c.opened - c.done) + idle_rank c s ≤ 3 * (c.opened - c.done) + i) (sym same) (omega arith)
+begin_le : (n : ℕ) (c : Core) (kind : Purpose) (state : Progress) (frame : Frame) (below : List Frame) (i w : ℕ) → frame.state ≡ state → tail_rank (tail_of c.history) ≤ i → wish_rank c + 1 ≤ w → w ≤ i → length (after_begin kind state c frame below).frames ≡ suc (length below) → frame_rank n (after_begin kind state c frame below) ≤ 3 * (c.opened - c.done) + again_rank i w state
+begin_le n c (for_record moment len) waiting frame below i w same low wish_low le stays = subst (λ (s : Progress). 3 * (c.opened - c.done) + idle_rank c s ≤ 3 * (c.opened - c.done) + i) (sym same) (omega arith)
 begin_le n c for_close waiting frame below i w same low wish_low le stays = let less = leave_le n c frame below None stays in omega arith
-begin_le n c kind (reserved number) frame below i w same low wish_low le stays = subst (λ (s : FrameState). 3 * (c.opened - c.done) + idle_rank c s ≤ 3 * (c.opened - c.done) + 15) (sym same) (omega arith)
+begin_le n c kind (reserved number) frame below i w same low wish_low le stays = subst (λ (s : Progress). 3 * (c.opened - c.done) + idle_rank c s ≤ 3 * (c.opened - c.done) + 15) (sym same) (omega arith)
 begin_le n c kind left frame below i w same low wish_low le stays = let less = closing_le n c frame.state in omega arith
 
-pub again_lt : (state : FrameState) → again_rank 34 13 state < state_rank state + 25
+pub again_lt : (state : Progress) → again_rank 34 13 state < state_rank state + 25
 again_lt waiting = omega arith
 again_lt (reserved number) = omega arith
 again_lt left = omega arith
 
-pub opened_lt : (state : FrameState) → again_rank 16 1 state + 3 < state_rank state + 5
+pub opened_lt : (state : Progress) → again_rank 16 1 state + 3 < state_rank state + 5
 opened_lt waiting = omega arith
 opened_lt (reserved number) = omega arith
 opened_lt left = omega arith
@@ -179,13 +179,13 @@ module _ (n size start : ℕ) (c : Core) (frame : Frame) (below : List Frame) (r
       (subst (λ (m : ℕ). frame_rank n begun < m) (sym (old phase same)) (omega arith))
 
   -- a page is needed only where the tail holds a record
-  pub needs_tail : (kind : Kind) → frame.kind ≡ kind → frame.state ≡ waiting → NeedsPage size c kind → tail_of c.history ≢ []
+  pub needs_tail : (kind : Purpose) → frame.kind ≡ kind → frame.state ≡ waiting → NeedsPage size c kind → tail_of c.history ≢ []
   needs_tail kind kind_is state_is needs =
       let p : PackedAt size c.history c.opened (frame ∷ below) = subst (PackedAt size c.history c.opened) top r.packed in
       (fit_open size c.history frame.kind frame.state (pushed_frames below) (top_stack n start c frame below r.history top) (λ gone. ap pushed_frames ((top_agrees c frame below r.stack top).1 gone)) p.needs.0
-      (subst (NeedsFill size (opens_of c.history) (reserved_records c.history) (is_wished c.history) frame.kind) (sym state_is) (subst (λ (x : Kind). NeedsFill size (opens_of c.history) (reserved_records c.history) (is_wished c.history) x waiting) (sym kind_is) (fill_for kind needs)))).0
+      (subst (NeedsFill size (opens_of c.history) (reserved_records c.history) (is_wished c.history) frame.kind) (sym state_is) (subst (λ (x : Purpose). NeedsFill size (opens_of c.history) (reserved_records c.history) (is_wished c.history) x waiting) (sym kind_is) (fill_for kind needs)))).0
     where
-      fill_for : (kind : Kind) → NeedsPage size c kind → NeedsFill size (opens_of c.history) (reserved_records c.history) (is_wished c.history) kind waiting
+      fill_for : (kind : Purpose) → NeedsPage size c kind → NeedsFill size (opens_of c.history) (reserved_records c.history) (is_wished c.history) kind waiting
       fill_for (for_record moment len) needs = λ fits. needs (subst (λ (l : List Reservation). FitsBehind size l (reservation_for moment len (reserved_records c.history))) (sym (tail_is c.history)) fits)
       fill_for for_close needs = λ none. needs (tail_is c.history ∙ none)
 
@@ -287,7 +287,7 @@ module _ (n size start : ℕ) (c : Core) (frame : Frame) (below : List Frame) (r
   load_wish_lowers answer after same stays (closes_more alone denied more a is) = goes after wishing releasing same (omega arith) is
   load_wish_lowers answer after same stays (goes_away alone denied none_left a is) = absurd (let none : 0 ≡ suc (length below) = stands after (record c { frames = [] }) is stays in omega arith)
 
-  idle_lowers : (state : FrameState) (answer : Answer) (after : Core) → frame.phase ≡ idle → frame.state ≡ state → number_of state ≡ None → length after.frames ≡ length c.frames → IdleStep n size c frame below state answer after → frame_rank n after < frame_rank n c
+  idle_lowers : (state : Progress) (answer : Answer) (after : Core) → frame.phase ≡ idle → frame.state ≡ state → number_of state ≡ None → length after.frames ≡ length c.frames → IdleStep n size c frame below state answer after → frame_rank n after < frame_rank n c
   idle_lowers waiting answer after same at none stays step = reserve_lowers answer after same at stays step
   idle_lowers (reserved number) answer after same at none stays step = absurd cc
   idle_lowers left answer after same at none stays step = absurd step
@@ -311,26 +311,26 @@ pub ends_lower : EndsComeToAnEnd
 ends_lower n size start c frame below number payload answer after r top own step stays =
     let end = top_ends payload frame below number top own step in
     leaves n size start c frame below r top after idle (Some payload) (idle_of frame.kind frame.state own (top_agrees c frame below r.stack top).0)
-    (subst (λ (x : FrameState). 13 < idle_rank c x) (sym own) (omega arith)) stays end.after_is
+    (subst (λ (x : Progress). 13 < idle_rank c x) (sym own) (omega arith)) stays end.after_is
   where
-    idle_of : (kind : Kind) (state : FrameState) → state ≡ reserved number → MayBeIn kind state frame.phase → frame.phase ≡ idle
+    idle_of : (kind : Purpose) (state : Progress) → state ≡ reserved number → MayBeIn kind state frame.phase → frame.phase ≡ idle
     idle_of kind waiting at may = absurd cc
     idle_of kind (reserved m) at may = may.1
     idle_of kind left at may = absurd cc
 
 -- ---- the limit
 
-pub state_le : (state : FrameState) → state_rank state ≤ 20
+pub state_le : (state : Progress) → state_rank state ≤ 20
 state_le waiting = omega arith
 state_le (reserved number) = omega arith
 state_le left = omega arith
 
-idle_le : (c : Core) (state : FrameState) → idle_rank c state ≤ 32
+idle_le : (c : Core) (state : Progress) → idle_rank c state ≤ 32
 idle_le c waiting = tail_le (tail_of c.history)
 idle_le c (reserved number) = omega arith
 idle_le c left = omega arith
 
-phase_le : (n : ℕ) (c : Core) (state : FrameState) (phase : Phase) → phase_rank n c state phase ≤ 51
+phase_le : (n : ℕ) (c : Core) (state : Progress) (phase : Phase) → phase_rank n c state phase ≤ 51
 phase_le n c state idle = let low = idle_le c state in omega arith
 phase_le n c state (looking noted) = let a = state_le state in let b = late_le noted c.opened in omega arith
 phase_le n c state (claiming noted page) = let a = state_le state in let b = late_le noted c.opened in let d = claim_le (link_into n c.links noted).mark ((link_into n c.links noted).page == page) in omega arith

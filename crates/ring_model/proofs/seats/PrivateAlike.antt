@@ -1,7 +1,7 @@
 -- A private step is one wherever the writer's part is the same: it reads nothing else, and leaves the same there.
 use Rattle.std.proofs.Common.{◌≡◌, ℕ, List, [], ◌∷◌, length, Option, Some, None, refl, sym, subst}
 use Rattle.trace_model.specs.History.{push, push_close, reserved_records}
-use Rattle.trace_model.specs.Frames.{Kind, for_record, for_close, FrameState, waiting, reserved, left, owner, helper, Phase, idle, looking, claiming, looking_next, marking, clearing, opening, releasing, wishing, Frame, Refusal}
+use Rattle.trace_model.specs.Frames.{Purpose, for_record, for_close, Progress, waiting, reserved, left, owner, helper, Phase, idle, looking, claiming, looking_next, marking, clearing, opening, releasing, wishing, Frame, WriteFault}
 use Rattle.trace_model.specs.Ring.{Core}
 use Rattle.trace_model.specs.Steps.{Event, pushes, pushes_close, steps, ends, reads, wishes, Answer, with_history_event, with_frame, in_phase, in_reserved, with_reservation, NeedsPage, after_leave, after_begin, Step, step_of}
 use Rattle.trace_model.proofs.steps.StepCases.{StepCases, BeginsAgain, reserves, finds_nothing, is_crowded, is_worn, notes, load_link_late, sees_free, sees_header, sees_update, claim_late, claims, claim_fails, load_next_late, sees_normal, sees_other, mark_late, marks, mark_fails, open_late, opens, IdleStep, FrameStep, PushRefused, all_stand, has_no_room, comes_late, push_step, push_refused, close_step, close_refused, frame_step, frame_lacks, end_step, end_lacks, end_early, read_step, store_wish_step}
@@ -46,7 +46,7 @@ module _ (n size : ℕ) (c other : Core) where
   phase_same : (frame : Frame) (below : List Frame) (phase : Phase) → WriterStays (in_phase c frame below phase) (in_phase d frame below phase)
   phase_same frame below phase = record { frames = refl; open_pages = refl; history = refl; done = refl; opened = refl }
 
-  begin_same : (kind : Kind) (state : FrameState) (frame : Frame) (below : List Frame) → WriterStays (after_begin kind state c frame below) (after_begin kind state d frame below)
+  begin_same : (kind : Purpose) (state : Progress) (frame : Frame) (below : List Frame) → WriterStays (after_begin kind state c frame below) (after_begin kind state d frame below)
   begin_same (for_record moment len) waiting frame below = phase_same frame below idle
   begin_same for_close waiting frame below = leave_same frame below None
   begin_same kind (reserved number) frame below = phase_same frame below idle
@@ -55,11 +55,11 @@ module _ (n size : ℕ) (c other : Core) where
   stays_same : WriterStays c d
   stays_same = record { frames = refl; open_pages = refl; history = refl; done = refl; opened = refl }
 
-  needs_same : (kind : Kind) → NeedsPage size c kind → NeedsPage size d kind
+  needs_same : (kind : Purpose) → NeedsPage size c kind → NeedsPage size d kind
   needs_same (for_record moment len) needs = needs
   needs_same for_close needs = needs
 
-  refused_same : (moment len : ℕ) (why : Refusal) → PushRefused size c moment len why → PushRefused size d moment len why
+  refused_same : (moment len : ℕ) (why : WriteFault) → PushRefused size c moment len why → PushRefused size d moment len why
   refused_same moment len why (all_stand many) = all_stand many
   refused_same moment len why (has_no_room few long) = has_no_room few long
   refused_same moment len why (comes_late few short late) = comes_late few short late
@@ -75,7 +75,7 @@ module _ (n size : ℕ) (c other : Core) where
     leaves_same : after ≡ after_leave c frame below None → WriterStays after (after_leave d frame below None)
     leaves_same is = same_there after _ _ is (leave_same frame below None)
 
-    idle_same : (state : FrameState) → IdleStep n size c frame below state answer after → Made (IdleStep n size d frame below state answer) after
+    idle_same : (state : Progress) → IdleStep n size c frame below state answer after → Made (IdleStep n size d frame below state answer) after
     idle_same waiting (reserves moment len r kind r_is fits a is) = (
       in_reserved (with_reservation d r) frame below (length (reserved_records c.history)),
       reserves moment len r kind r_is fits a refl,

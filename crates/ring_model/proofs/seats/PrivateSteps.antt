@@ -4,7 +4,7 @@ use Rattle.std.proofs.Common.{◌≡◌, ℕ, List, [], ◌∷◌, ◌++◌, len
 use Rattle.std.specs.Prelude.{slice_index_or, slice_set}
 use Rattle.trace_model.specs.History.{HistoryEvent, push, push_close, Reservation, reserved_records}
 use Rattle.trace_model.specs.Links.{Link}
-use Rattle.trace_model.specs.Frames.{Kind, for_record, for_close, FrameState, waiting, reserved, left, owner, helper, Phase, idle, looking, claiming, looking_next, marking, clearing, opening, releasing, wishing, Frame, Refusal}
+use Rattle.trace_model.specs.Frames.{Purpose, for_record, for_close, Progress, waiting, reserved, left, owner, helper, Phase, idle, looking, claiming, looking_next, marking, clearing, opening, releasing, wishing, Frame, WriteFault}
 use Rattle.trace_model.specs.Ring.{PageRecords, empty_page, Reader, Core}
 use Rattle.trace_model.specs.Steps.{Event, pushes, pushes_close, steps, ends, reads, wishes, Answer, with_history_event, with_frame, in_phase, in_reserved, with_reservation, tail_page, held_with_payload, own_number, closing_phase, NeedsPage, after_leave, after_begin, Step}
 use Rattle.trace_model.proofs.steps.StepCases.{StepCases, BeginsAgain, reserves, finds_nothing, is_crowded, is_worn, notes, load_link_late, sees_free, sees_header, sees_update, claim_late, claims, claim_fails, load_next_late, sees_normal, sees_other, mark_late, marks, mark_fails, open_late, opens, IdleStep, FrameStep, PushRefused, all_stand, has_no_room, comes_late, push_step, push_refused, close_step, close_refused, frame_step, frame_lacks, end_step, end_lacks, end_early, read_step, store_wish_step}
@@ -21,12 +21,12 @@ private_state c frames history held = record c { frames = frames; history = hist
 -- leaves.
 pub data PrivateResult (c after : Core) : Type 0 where
   stays : after ≡ c → PrivateResult c after
-  pushed_one : (kind : Kind) (history_event : HistoryEvent) → after ≡ with_history_event (with_frame c kind) history_event → PrivateResult c after
+  pushed_one : (kind : Purpose) (history_event : HistoryEvent) → after ≡ with_history_event (with_frame c kind) history_event → PrivateResult c after
   reserved_one : (frame : Frame) (below : List Frame) (r : Reservation) (number : ℕ) → after ≡ in_reserved (with_reservation c r) frame below number → PrivateResult c after
   goes_on : (frame : Frame) (below : List Frame) (phase : Phase) → after ≡ in_phase c frame below phase → PrivateResult c after
   leaves : (frame : Frame) (below : List Frame) (payload : Option (List ℕ)) → c.frames ≡ frame ∷ below → after ≡ after_leave c frame below payload → PrivateResult c after
 
-begin_result : (c : Core) (kind : Kind) (state : FrameState) (frame : Frame) (below : List Frame) (after : Core) → c.frames ≡ frame ∷ below → after ≡ after_begin kind state c frame below → PrivateResult c after
+begin_result : (c : Core) (kind : Purpose) (state : Progress) (frame : Frame) (below : List Frame) (after : Core) → c.frames ≡ frame ∷ below → after ≡ after_begin kind state c frame below → PrivateResult c after
 begin_result c (for_record moment len) waiting frame below after top is = goes_on frame below idle is
 begin_result c for_close waiting frame below after top is = leaves frame below None top is
 begin_result c kind (reserved number) frame below after top is = goes_on frame below idle is
@@ -36,7 +36,7 @@ module _ (n size : ℕ) (c : Core) (frame : Frame) (below : List Frame) (answer 
   again_result : (noted : ℕ) → BeginsAgain c frame below noted answer after → PrivateResult c after
   again_result noted step = begin_result c frame.kind frame.state frame below after top step.after_is
 
-  idle_result : (state : FrameState) → IdleStep n size c frame below state answer after → PrivateResult c after
+  idle_result : (state : Progress) → IdleStep n size c frame below state answer after → PrivateResult c after
   idle_result waiting (reserves moment len r kind r_is fits a is) = reserved_one frame below r (length (reserved_records c.history)) is
   idle_result waiting (finds_nothing kind none a is) = leaves frame below None top is
   idle_result waiting (is_crowded needs full a is) = leaves frame below None top is
@@ -145,17 +145,17 @@ module _ (n size : ℕ) (words : ReaderWords) (turned : List PageRecords → Lis
   leave_there frame [] payload = ap (λ (b : List PageRecords). record (after_leave (there c) frame [] payload) { held = b }) (alike.ended (own_number frame.kind frame.state) payload)
   leave_there frame (next ∷ below) payload = ap (λ (b : List PageRecords). record (after_leave (there c) frame (next ∷ below) payload) { held = b }) (alike.ended (own_number frame.kind frame.state) payload)
 
-  begin_there : (kind : Kind) (state : FrameState) (frame : Frame) (below : List Frame) → there (after_begin kind state c frame below) ≡ after_begin kind state (there c) frame below
+  begin_there : (kind : Purpose) (state : Progress) (frame : Frame) (below : List Frame) → there (after_begin kind state c frame below) ≡ after_begin kind state (there c) frame below
   begin_there (for_record moment len) waiting frame below = refl
   begin_there for_close waiting frame below = leave_there frame below None
   begin_there kind (reserved number) frame below = refl
   begin_there kind left frame below = refl
 
-  needs_there : (kind : Kind) → NeedsPage size c kind → NeedsPage size (there c) kind
+  needs_there : (kind : Purpose) → NeedsPage size c kind → NeedsPage size (there c) kind
   needs_there (for_record moment len) needs = needs
   needs_there for_close needs = needs
 
-  refused_there : (moment len : ℕ) (why : Refusal) → PushRefused size c moment len why → PushRefused size (there c) moment len why
+  refused_there : (moment len : ℕ) (why : WriteFault) → PushRefused size c moment len why → PushRefused size (there c) moment len why
   refused_there moment len why (all_stand many) = all_stand many
   refused_there moment len why (has_no_room few long) = has_no_room few long
   refused_there moment len why (comes_late few short late) = comes_late few short late
@@ -164,7 +164,7 @@ module _ (n size : ℕ) (words : ReaderWords) (turned : List PageRecords → Lis
     again_there : (noted : ℕ) → BeginsAgain c frame below noted answer after → BeginsAgain (there c) frame below noted answer (there after)
     again_there noted step = record { passed = step.passed; answer_is = step.answer_is; after_is = ap there step.after_is ∙ begin_there frame.kind frame.state frame below }
 
-    idle_there : (state : FrameState) → IdleStep n size c frame below state answer after → IdleStep n size (there c) frame below state answer (there after)
+    idle_there : (state : Progress) → IdleStep n size c frame below state answer after → IdleStep n size (there c) frame below state answer (there after)
     idle_there waiting (reserves moment len r kind r_is fits a is) = reserves moment len r kind r_is fits a
         (ap there is ∙ ap (λ (b : List PageRecords). record (in_reserved (with_reservation (there c) r) frame below (length (reserved_records c.history))) { held = b }) (alike.reserved r))
     idle_there waiting (finds_nothing kind none a is) = finds_nothing kind none a (ap there is ∙ leave_there frame below None)

@@ -5,7 +5,7 @@ use Rattle.std.specs.Prelude.{nat_lt}
 use Rattle.std.proofs.lemmas.Bool.{cond_both}
 use Rattle.std.proofs.lemmas.List.{get_or-set_other}
 use Rattle.trace_model.specs.History.{Reservation, PushedFrame, records_with_payload}
-use Rattle.trace_model.specs.Frames.{Kind, for_record, for_close, FrameState, waiting, reserved, left, Frame, pushed_onto, pushed_frames}
+use Rattle.trace_model.specs.Frames.{Purpose, for_record, for_close, Progress, waiting, reserved, left, Frame, pushed_onto, pushed_frames}
 use Rattle.trace_model.specs.Ring.{PageRecords, empty_page, page_at, link_into, ReaderPhase, loading_head, loading_done, storing_spare_link, swapping, Core}
 use Rattle.trace_model.specs.Links.{header_link}
 use Rattle.trace_model.specs.Steps.{Event, Answer, tail_page, held_with_payload, own_number, Step}
@@ -94,7 +94,7 @@ untouched (Some k) payload h low = let before = low k refl in
     (λ _. refl) (λ _. beyond (k - h.first) payload h.records (omega arith)))
 
 -- the record of the frame on top isn't committed
-own_behind : (least : ℕ) (kind : Kind) (state : FrameState) (stack : List PushedFrame) → Behind least (pushed_onto kind state stack) → (k : ℕ) → own_number kind state ≡ Some k → least ≤ k
+own_behind : (least : ℕ) (kind : Purpose) (state : Progress) (stack : List PushedFrame) → Behind least (pushed_onto kind state stack) → (k : ℕ) → own_number kind state ≡ Some k → least ≤ k
 own_behind least (for_record moment len) waiting stack b k e = absurd (none_some e)
 own_behind least (for_record moment len) (reserved number) stack b k e = b.0 k e
 own_behind least (for_record moment len) left stack b k e = absurd (none_some e)

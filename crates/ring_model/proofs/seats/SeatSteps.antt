@@ -1,7 +1,7 @@
 -- What each of a ring's two seats reads and changes: a step of the writer reads nothing of the reader's part, and
 -- leaves it; a step of the reader leaves the writer's part; and a private step of the writer touches no word.
 use Rattle.std.proofs.Common.{◌≡◌, ℕ, List, [], ◌∷◌, Option, Some, None, refl, sym, ap, ◌∙◌, subst}
-use Rattle.trace_model.specs.Frames.{Kind, for_record, for_close, FrameState, waiting, reserved, left, Phase, idle, looking, claiming, looking_next, marking, clearing, opening, releasing, wishing, Frame, Refusal}
+use Rattle.trace_model.specs.Frames.{Purpose, for_record, for_close, Progress, waiting, reserved, left, Phase, idle, looking, claiming, looking_next, marking, clearing, opening, releasing, wishing, Frame, WriteFault}
 use Rattle.trace_model.specs.Ring.{ReaderPhase, loading_head, loading_done, storing_spare_link, swapping, Core}
 use Rattle.trace_model.specs.Steps.{Event, Answer, NeedsPage, with_new_tail, after_leave, after_begin, IsGranted, Step}
 use Rattle.trace_model.proofs.steps.StepCases.{StepCases, BeginsAgain, reserves, finds_nothing, is_crowded, is_worn, notes, load_link_late, sees_free, sees_header, sees_update, claim_late, claims, claim_fails, load_next_late, sees_normal, sees_other, mark_late, marks, mark_fails, clears, open_late, opens, releases, releases_last, grants, closes_more, goes_away, IdleStep, FrameStep, loads_header, loads_update, loads_owed, loads_passed, finds_none, finds_closed, swaps, swap_fails, ReadStep, PushRefused, all_stand, has_no_room, comes_late, push_step, push_refused, close_step, close_refused, frame_step, frame_lacks, end_step, end_lacks, end_early, read_step, store_wish_step}
@@ -15,13 +15,13 @@ module _ (n size : ℕ) (part : ReaderPart) where
   leave_seen c frame [] payload = refl
   leave_seen c frame (next ∷ below) payload = refl
 
-  begin_seen : (kind : Kind) (state : FrameState) (c : Core) (frame : Frame) (below : List Frame) → seen_by part (after_begin kind state c frame below) ≡ after_begin kind state (seen_by part c) frame below
+  begin_seen : (kind : Purpose) (state : Progress) (c : Core) (frame : Frame) (below : List Frame) → seen_by part (after_begin kind state c frame below) ≡ after_begin kind state (seen_by part c) frame below
   begin_seen (for_record moment len) waiting c frame below = refl
   begin_seen for_close waiting c frame below = leave_seen c frame below None
   begin_seen kind (reserved number) c frame below = refl
   begin_seen kind left c frame below = refl
 
-  needs_seen : (c : Core) (kind : Kind) → NeedsPage size c kind → NeedsPage size (seen_by part c) kind
+  needs_seen : (c : Core) (kind : Purpose) → NeedsPage size c kind → NeedsPage size (seen_by part c) kind
   needs_seen c (for_record moment len) needs = needs
   needs_seen c for_close needs = needs
 
@@ -31,7 +31,7 @@ module _ (n size : ℕ) (part : ReaderPart) where
   granted_before : (c : Core) → IsGranted n (seen_by part c) → IsGranted n c
   granted_before c g = record { asks_tail = g.asks_tail; holds_record = g.holds_record; numbers_left = g.numbers_left }
 
-  refused_seen : (c : Core) (moment len : ℕ) (why : Refusal) → PushRefused size c moment len why → PushRefused size (seen_by part c) moment len why
+  refused_seen : (c : Core) (moment len : ℕ) (why : WriteFault) → PushRefused size c moment len why → PushRefused size (seen_by part c) moment len why
   refused_seen c moment len why (all_stand many) = all_stand many
   refused_seen c moment len why (has_no_room few long) = has_no_room few long
   refused_seen c moment len why (comes_late few short late) = comes_late few short late
@@ -43,7 +43,7 @@ module _ (n size : ℕ) (part : ReaderPart) where
     leaves_seen : after ≡ after_leave c frame below None → seen_by part after ≡ after_leave (seen_by part c) frame below None
     leaves_seen is = ap (seen_by part) is ∙ leave_seen c frame below None
 
-    idle_seen : (state : FrameState) → IdleStep n size c frame below state answer after → IdleStep n size (seen_by part c) frame below state answer (seen_by part after)
+    idle_seen : (state : Progress) → IdleStep n size c frame below state answer after → IdleStep n size (seen_by part c) frame below state answer (seen_by part after)
     idle_seen waiting (reserves moment len r kind r_is fits a is) = reserves moment len r kind r_is fits a (ap (seen_by part) is)
     idle_seen waiting (finds_nothing kind none a is) = finds_nothing kind none a (leaves_seen is)
     idle_seen waiting (is_crowded needs full a is) = is_crowded (needs_seen c frame.kind needs) full a (leaves_seen is)
@@ -100,7 +100,7 @@ reader_side : Core → ReaderSide
 reader_side c = record { part = record { order = c.order; spare = c.spare; spare_link = c.spare_link; reader = c.reader }; wish = c.wish }
 
 module _ (n size : ℕ) where
-  begin_side : (kind : Kind) (state : FrameState) (c : Core) (frame : Frame) (below : List Frame) → reader_side (after_begin kind state c frame below) ≡ reader_side c
+  begin_side : (kind : Purpose) (state : Progress) (c : Core) (frame : Frame) (below : List Frame) → reader_side (after_begin kind state c frame below) ≡ reader_side c
   unfolding reader_side
   begin_side (for_record moment len) waiting c frame below = refl
   begin_side for_close waiting c frame below = refl
@@ -111,7 +111,7 @@ module _ (n size : ℕ) where
     again_side : (noted : ℕ) → BeginsAgain c frame below noted answer after → reader_side after ≡ reader_side c
     again_side noted step = ap reader_side step.after_is ∙ begin_side frame.kind frame.state c frame below
 
-    idle_side : (state : FrameState) → IdleStep n size c frame below state answer after → reader_side after ≡ reader_side c
+    idle_side : (state : Progress) → IdleStep n size c frame below state answer after → reader_side after ≡ reader_side c
     unfolding reader_side
     idle_side waiting (reserves moment len r kind r_is fits a is) = ap reader_side is
     idle_side waiting (finds_nothing kind none a is) = ap reader_side is

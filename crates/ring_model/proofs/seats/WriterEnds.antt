@@ -5,7 +5,7 @@ use Rattle.std.proofs.lemmas.Bool.{cond_both, lt-ltb, le-ltb}
 use Rattle.trace_model.specs.History.{HistoryEvent, leave, Reservation}
 use Rattle.trace_model.specs.Packing.{tail_of}
 use Rattle.trace_model.specs.Links.{header_link}
-use Rattle.trace_model.specs.Frames.{Kind, for_record, for_close, FrameState, waiting, reserved, left, number_of, Role, owner, helper, Phase, idle, looking, claiming, looking_next, marking, clearing, opening, releasing, wishing, Frame}
+use Rattle.trace_model.specs.Frames.{Purpose, for_record, for_close, Progress, waiting, reserved, left, number_of, Role, owner, helper, Phase, idle, looking, claiming, looking_next, marking, clearing, opening, releasing, wishing, Frame}
 use Rattle.trace_model.specs.Ring.{Core}
 use Rattle.trace_model.specs.Steps.{Answer, closing_phase, in_phase, after_leave, after_next, with_link, with_new_tail, with_released, after_begin}
 use Rattle.trace_model.proofs.steps.EventSteps.{top_step}
@@ -54,7 +54,7 @@ grant_held : (records : List Reservation) → records ≢ [] → grant_rank reco
 grant_held [] holds = absurd (holds refl)
 grant_held (r ∷ records) holds = refl
 
-closing_le : (n passed opened : ℕ) (history : List HistoryEvent) (c : Core) (state : FrameState) → own_rank n passed opened history state (closing_phase c) ≤ grant_rank (tail_of history) + 1
+closing_le : (n passed opened : ℕ) (history : List HistoryEvent) (c : Core) (state : Progress) → own_rank n passed opened history state (closing_phase c) ≤ grant_rank (tail_of history) + 1
 closing_le n passed opened history c state = cond_both ((c.done + 1) == c.opened) wishing releasing (λ (p : Phase). own_rank n passed opened history state p ≤ grant_rank (tail_of history) + 1) (λ _. omega arith) (λ _. omega arith)
 
 -- ---- a frame that leaves, or begins again
@@ -66,11 +66,11 @@ leave_le n passed c frame [] payload same =
     let le : 3 * (c.opened - c.done) + own_rank n passed c.opened history left (closing_phase c) ≤ 3 * (c.opened - c.done) + 13 = omega arith in le
 leave_le n passed c frame (next ∷ below) payload same = absurd (let wrong : suc (length below) ≡ suc (suc (length below)) = same in omega arith)
 
-begin_le : (n passed : ℕ) (c : Core) (kind : Kind) (state : FrameState) (frame : Frame) (below : List Frame) (i w : ℕ) → frame.state ≡ state → need_rank (tail_of c.history) ≤ i → grant_rank (tail_of c.history) + 1 ≤ w → 13 ≤ i → length (after_begin kind state c frame below).frames ≡ suc (length below)
+begin_le : (n passed : ℕ) (c : Core) (kind : Purpose) (state : Progress) (frame : Frame) (below : List Frame) (i w : ℕ) → frame.state ≡ state → need_rank (tail_of c.history) ≤ i → grant_rank (tail_of c.history) + 1 ≤ w → 13 ≤ i → length (after_begin kind state c frame below).frames ≡ suc (length below)
     → rank_in n passed (after_begin kind state c frame below) ≤ 3 * (c.opened - c.done) + again_rank i w state
-begin_le n passed c (for_record moment len) waiting frame below i w same low wish_low le stays = subst (λ (s : FrameState). 3 * (c.opened - c.done) + fresh_rank c.history s ≤ 3 * (c.opened - c.done) + i) (sym same) (omega arith)
+begin_le n passed c (for_record moment len) waiting frame below i w same low wish_low le stays = subst (λ (s : Progress). 3 * (c.opened - c.done) + fresh_rank c.history s ≤ 3 * (c.opened - c.done) + i) (sym same) (omega arith)
 begin_le n passed c for_close waiting frame below i w same low wish_low le stays = let less = leave_le n passed c frame below None stays in omega arith
-begin_le n passed c kind (reserved number) frame below i w same low wish_low le stays = subst (λ (s : FrameState). 3 * (c.opened - c.done) + fresh_rank c.history s ≤ 3 * (c.opened - c.done) + 15) (sym same) (omega arith)
+begin_le n passed c kind (reserved number) frame below i w same low wish_low le stays = subst (λ (s : Progress). 3 * (c.opened - c.done) + fresh_rank c.history s ≤ 3 * (c.opened - c.done) + 15) (sym same) (omega arith)
 begin_le n passed c kind left frame below i w same low wish_low le stays = let less = closing_le n passed c.opened c.history c frame.state in omega arith
 
 -- ---- the steps of a frame
@@ -195,7 +195,7 @@ module _ (n size start : ℕ) (c : Core) (frame : Frame) (below : List Frame) (r
   load_wish_lowers answer after same stays (closes_more alone denied more a is) = goes after wishing releasing same (omega arith) is
   load_wish_lowers answer after same stays (goes_away alone denied none_left a is) = absurd (let none : 0 ≡ suc (length below) = stands after (record c { frames = [] }) is stays in omega arith)
 
-  idle_lowers : (state : FrameState) (answer : Answer) (after : Core) → frame.phase ≡ idle → frame.state ≡ state → number_of state ≡ None → length after.frames ≡ length c.frames → IdleStep n size c frame below state answer after → rank_in n knows after < rank_in n passed c
+  idle_lowers : (state : Progress) (answer : Answer) (after : Core) → frame.phase ≡ idle → frame.state ≡ state → number_of state ≡ None → length after.frames ≡ length c.frames → IdleStep n size c frame below state answer after → rank_in n knows after < rank_in n passed c
   idle_lowers waiting answer after same at none stays step = reserve_lowers answer after same at stays step
   idle_lowers (reserved number) answer after same at none stays step = absurd cc
   idle_lowers left answer after same at none stays step = absurd step
@@ -218,12 +218,12 @@ writer_steps_lower n size start c frame below answer after passed knows r top no
 
 -- ---- the limit
 
-fresh_le : (history : List HistoryEvent) (state : FrameState) → fresh_rank history state ≤ 34
+fresh_le : (history : List HistoryEvent) (state : Progress) → fresh_rank history state ≤ 34
 fresh_le history waiting = need_le (tail_of history)
 fresh_le history (reserved number) = omega arith
 fresh_le history left = omega arith
 
-own_le : (n passed opened : ℕ) (history : List HistoryEvent) (state : FrameState) (phase : Phase) → own_rank n passed opened history state phase ≤ 52
+own_le : (n passed opened : ℕ) (history : List HistoryEvent) (state : Progress) (phase : Phase) → own_rank n passed opened history state phase ≤ 52
 own_le n passed opened history state idle = let low = fresh_le history state in omega arith
 own_le n passed opened history state (looking noted) = let a = state_le state in let b = late_le noted opened in let d = look_le n passed noted in omega arith
 own_le n passed opened history state (claiming noted page) = let a = state_le state in let b = late_le noted opened in omega arith

@@ -1,7 +1,7 @@
 -- By which steps the head and the count of closed fills move.
 use Rattle.std.proofs.Common.{◌≡◌, ℕ, ◌+◌, ◌⊎◌, IsTrue, List, ◌∷◌, refl, ap, ◌∙◌, inl, inr, ⊎_elim, arith}
 use Rattle.trace_model.specs.History.{push, push_close, open_fill, reserve, leave, wished, is_settled}
-use Rattle.trace_model.specs.Frames.{Kind, for_record, for_close, FrameState, waiting, reserved, left, Role, Phase, Frame}
+use Rattle.trace_model.specs.Frames.{Purpose, for_record, for_close, Progress, waiting, reserved, left, Role, Phase, Frame}
 use Rattle.trace_model.specs.Ring.{ReaderPhase, loading_head, loading_done, storing_spare_link, swapping, Core, window_of}
 use Rattle.trace_model.specs.Window.{Window, RingEvent, closes, takes, loses, WindowStep, acts}
 use Rattle.trace_model.specs.Steps.{Event, Answer, with_new_tail, after_begin, taken_fill}
@@ -12,7 +12,7 @@ use Rattle.ring_model.specs.WindowLaws.{HeadIsTaken, HeadIsLost, LossesNeedAFull
 use Rattle.ring_model.proofs.links.LinkFills.{header_reports, header_inside, fill_at}
 use Rattle.ring_model.proofs.histories.HistorySteps.{step_owed}
 
-after_begin_head : (kind : Kind) (state : FrameState) (c : Core) (frame : Frame) (below : List Frame) → (after_begin kind state c frame below).head ≡ c.head
+after_begin_head : (kind : Purpose) (state : Progress) (c : Core) (frame : Frame) (below : List Frame) → (after_begin kind state c frame below).head ≡ c.head
 after_begin_head (for_record moment len) waiting c frame below = refl
 after_begin_head for_close waiting c frame below = refl
 after_begin_head kind (reserved number) c frame below = refl
@@ -75,7 +75,7 @@ module _ (n size : ℕ) (c : Core) (frame : Frame) (below : List Frame) (answer 
   release_fill_moves (releases alone more a is) = stays _ refl is
   release_fill_moves (releases_last alone last a is) = stays _ refl is
 
-  idle_moves : (state : FrameState) → IdleStep n size c frame below state answer after → HeadMoves n c answer after
+  idle_moves : (state : Progress) → IdleStep n size c frame below state answer after → HeadMoves n c answer after
   idle_moves waiting step = reserve_moves step
   idle_moves (reserved number) step = stays c refl step.1
   idle_moves left step = absurd step

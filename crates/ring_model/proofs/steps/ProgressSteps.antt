@@ -5,7 +5,7 @@ use Rattle.std.proofs.lemmas.Bool.{cond_both}
 use mathlib.Core.Logic.{dite}
 use native.Mathlib.Decide.{ℕ_discrete}
 use Rattle.trace_model.specs.Links.{Link, normal_link, header_link, update_link}
-use Rattle.trace_model.specs.Frames.{Kind, for_record, for_close, FrameState, waiting, reserved, left, Role, owner, helper, Phase, idle, looking, claiming, looking_next, marking, clearing, opening, releasing, wishing, Frame}
+use Rattle.trace_model.specs.Frames.{Purpose, for_record, for_close, Progress, waiting, reserved, left, Role, owner, helper, Phase, idle, looking, claiming, looking_next, marking, clearing, opening, releasing, wishing, Frame}
 use Rattle.trace_model.specs.Ring.{ReaderPhase, loading_head, loading_done, storing_spare_link, swapping, Core, IsStart, link_into, links_with, page_at}
 use Rattle.trace_model.specs.Steps.{Event, Answer, in_phase, closing_phase, after_leave, after_begin, with_new_tail, after_next}
 use Rattle.trace_model.proofs.steps.StepCases.{StepCases, BeginsAgain, ReserveStep, reserves, finds_nothing, is_crowded, is_worn, notes, LoadLinkStep, load_link_late, sees_free, sees_header, sees_update, ClaimHeadStep, claim_late, claims, claim_fails, LoadNextStep, load_next_late, sees_normal, sees_other, MarkHeadStep, mark_late, marks, mark_fails, ClearUpdateStep, clears, OpenFillStep, open_late, opens, ReleaseFillStep, releases, releases_last, LoadWishStep, grants, closes_more, goes_away, IdleStep, FrameStep, LoadHeadStep, loads_header, loads_update, loads_owed, loads_passed, LoadDoneStep, finds_none, finds_closed, SwapHeadStep, swaps, swap_fails, ReadStep, push_step, push_refused, close_step, close_refused, frame_step, frame_lacks, end_step, end_lacks, end_early, read_step, store_wish_step}
@@ -67,7 +67,7 @@ leave_advances : (n : ℕ) (c : Core) (frame : Frame) (below : List Frame) (payl
 leave_advances n c frame [] payload room stack = record { room = room; advance = (closing_advances n c, tt) }
 leave_advances n c frame (next ∷ below) payload room stack = record { room = room; advance = stack }
 
-pub after_begin_advances : (n : ℕ) (c : Core) (kind : Kind) (state : FrameState) (frame : Frame) (below : List Frame) → Room n c → FramesAdvance n c.links c.head below → ProgressKept n (after_begin kind state c frame below)
+pub after_begin_advances : (n : ℕ) (c : Core) (kind : Purpose) (state : Progress) (frame : Frame) (below : List Frame) → Room n c → FramesAdvance n c.links c.head below → ProgressKept n (after_begin kind state c frame below)
 after_begin_advances n c (for_record moment len) waiting frame below room stack = record { room = room; advance = (tt, stack) }
 after_begin_advances n c for_close waiting frame below room stack = leave_advances n c frame below None room stack
 after_begin_advances n c kind (reserved number) frame below room stack = record { room = room; advance = (tt, stack) }
@@ -190,7 +190,7 @@ module _ (n size : ℕ) (c : Core) (frame : Frame) (below : List Frame) (k : Lin
   load_wish_advances answer after (closes_more alone denied more a is) = on after releasing tt is
   load_wish_advances answer after (goes_away alone denied none_left a is) = subst (ProgressKept n) (sym is) record { room = r.room; advance = tt }
 
-  idle_advances : (state : FrameState) (answer : Answer) (after : Core) → IdleStep n size c frame below state answer after → ProgressKept n after
+  idle_advances : (state : Progress) (answer : Answer) (after : Core) → IdleStep n size c frame below state answer after → ProgressKept n after
   idle_advances waiting answer after step = reserve_advances answer after step
   idle_advances (reserved number) answer after step = subst (ProgressKept n) (sym step.1) r
   idle_advances left answer after step = absurd step

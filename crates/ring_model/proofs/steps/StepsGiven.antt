@@ -6,7 +6,7 @@ use native.Mathlib.Decide.{ℕ_discrete, dec_lt}
 use Rattle.trace_model.specs.declared.limits.TheConstants.{MOMENT_LIMIT, LINK_FILLS}
 use Rattle.trace_model.specs.Words.{slot_len}
 use Rattle.trace_model.specs.Links.{Mark, normal, header, update, normal_link, header_link, update_link}
-use Rattle.trace_model.specs.Frames.{Kind, for_record, for_close, FrameState, waiting, reserved, left, number_of, Role, owner, helper, Phase, idle, looking, claiming, looking_next, marking, clearing, opening, releasing, wishing, Frame}
+use Rattle.trace_model.specs.Frames.{Purpose, for_record, for_close, Progress, waiting, reserved, left, number_of, Role, owner, helper, Phase, idle, looking, claiming, looking_next, marking, clearing, opening, releasing, wishing, Frame}
 use Rattle.trace_model.specs.Ring.{ReaderPhase, loading_head, loading_done, storing_spare_link, swapping, Core, link_into}
 use Rattle.trace_model.specs.Links.{same_link}
 use Rattle.trace_model.specs.Events.{Event, pushes, pushes_close, steps, ends, reads, wishes, Answer, Outcome, only_if}
@@ -43,7 +43,7 @@ module _ (n size : ℕ) (c : Core) (frame : Frame) (below : List Frame) (k : Lin
   needs_page_given : Given (note_fill n c frame below)
   needs_page_given = given_if (c.opened == c.done + n) _ _ (λ e. tt) (λ e. given_if (nat_le LINK_FILLS (c.opened + n)) _ _ (λ s. tt) (λ s. tt))
 
-  reserve_given : (kind : Kind) → Given (reserve n size c frame below kind)
+  reserve_given : (kind : Purpose) → Given (reserve n size c frame below kind)
   reserve_given (for_record moment len) = given_if (fits_in_tail size c (new_reservation c moment len)) _ _ (λ e. tt) (λ e. needs_page_given)
   reserve_given for_close = given_if (tail_holds c) _ _ (λ e. needs_page_given) (λ e. tt)
 
@@ -131,7 +131,7 @@ module _ (n size : ℕ) (c : Core) (frame : Frame) (below : List Frame) (k : Lin
   load_wish_given (next ∷ fs) alone = let z = ap (λ (l : List Frame). length l) alone in absurd (omega arith)
 
   -- a frame that rests hasn't left
-  idle_given : (state : FrameState) → MayBeIn frame.kind state idle → Given (idle_step n size c frame below state)
+  idle_given : (state : Progress) → MayBeIn frame.kind state idle → Given (idle_step n size c frame below state)
   idle_given waiting may = reserve_given frame.kind
   idle_given (reserved number) may = tt
   idle_given left may = may refl
@@ -193,12 +193,12 @@ steps_given n size c [] k q r none = tt
 steps_given n size c (frame ∷ below) k q r top = let agree = top_agrees c frame below top q in
     frame_given n size c frame below k r top frame.phase (top_kept n c frame below k top) (subst (FramesAdvance n c.links c.head) top r.advance).0 agree.0 agree.1
 
-end_frame_given : (c : Core) (frame : Frame) (below : List Frame) (payload : List ℕ) (number : ℕ) (kind : Kind) → IsForRecord kind → ((moment len : ℕ) → kind ≡ for_record moment len → slot_len (length payload) ≡ slot_len len)
+end_frame_given : (c : Core) (frame : Frame) (below : List Frame) (payload : List ℕ) (number : ℕ) (kind : Purpose) → IsForRecord kind → ((moment len : ℕ) → kind ≡ for_record moment len → slot_len (length payload) ≡ slot_len len)
     → Given (end_frame c payload frame below kind (Some number))
 end_frame_given c frame below payload number (for_record moment len) is fits = given_only (slot_len (length payload) == slot_len len) _ (λ e. eqb-false (slot_len (length payload)) (slot_len len) e (fits moment len refl)) tt
 end_frame_given c frame below payload number for_close is fits = absurd is
 
-end_in_given : (c : Core) (frame : Frame) (below : List Frame) (payload : List ℕ) (state : FrameState) → MayBeIn frame.kind state frame.phase → frame.state ≡ state
+end_in_given : (c : Core) (frame : Frame) (below : List Frame) (payload : List ℕ) (state : Progress) → MayBeIn frame.kind state frame.phase → frame.state ≡ state
     → ((number moment len : ℕ) → frame.state ≡ reserved number → frame.kind ≡ for_record moment len → slot_len (length payload) ≡ slot_len len)
     → Given (end_frame c payload frame below frame.kind (number_of state))
 end_in_given c frame below payload waiting may at fits = tt

@@ -5,7 +5,7 @@ use native.Mathlib.Decide.{ℕ_discrete, dec_le}
 use Rattle.trace_model.specs.declared.limits.TheConstants.{LINK_FILLS}
 use Rattle.trace_model.specs.History.{HistoryEvent, Reservation}
 use Rattle.trace_model.specs.Packing.{tail_of}
-use Rattle.trace_model.specs.Frames.{Kind, for_record, for_close, FrameState, waiting, reserved, left, Phase, idle, looking, claiming, looking_next, marking, clearing, opening, releasing, wishing, Frame}
+use Rattle.trace_model.specs.Frames.{Purpose, for_record, for_close, Progress, waiting, reserved, left, Phase, idle, looking, claiming, looking_next, marking, clearing, opening, releasing, wishing, Frame}
 use Rattle.trace_model.specs.Ring.{ReaderPhase, loading_head, loading_done, storing_spare_link, swapping, Core, window_of}
 use Rattle.trace_model.specs.Steps.{Event, Answer, gone, empty, IsGranted, with_new_tail, frames_after_leave, after_begin, Step, Exchange, Run}
 use Rattle.trace_model.proofs.steps.EventSteps.{reader_wishes}
@@ -32,7 +32,7 @@ leave_stays : (c : Core) (frame : Frame) (below : List Frame) → frames_after_l
 leave_stays c frame [] = some_stands _ []
 leave_stays c frame (next ∷ below) = some_stands next below
 
-begin_stays : (c : Core) (frame : Frame) (below : List Frame) (kind : Kind) (state : FrameState) → (after_begin kind state c frame below).frames ≢ []
+begin_stays : (c : Core) (frame : Frame) (below : List Frame) (kind : Purpose) (state : Progress) → (after_begin kind state c frame below).frames ≢ []
 begin_stays c frame below (for_record moment len) waiting = some_stands _ below
 begin_stays c frame below for_close waiting = leave_stays c frame below
 begin_stays c frame below kind (reserved number) = some_stands _ below
@@ -59,7 +59,7 @@ module _ (n size : ℕ) (c : Core) (frame : Frame) (below : List Frame) (answer 
   gone_frame : (phase : Phase) → FrameStep n size c frame below phase answer after → HasLooked n c below phase answer
   gone_frame idle step = absurd (idle_stays frame.state step)
     where
-      idle_stays : (state : FrameState) → IdleStep n size c frame below state answer after → ⊥
+      idle_stays : (state : Progress) → IdleStep n size c frame below state answer after → ⊥
       idle_stays waiting (reserves moment len r kind r_is fits a is) = goes _ _ refl is
       idle_stays waiting (finds_nothing kind nothing a is) = stands _ is (leave_stays c frame below)
       idle_stays waiting (is_crowded needs full a is) = stands _ is (leave_stays c frame below)
@@ -134,7 +134,7 @@ gone_has_looked n size c event answer after frame below top step none = let l = 
 
 -- ---- the wish is answered
 
-begin_wish : (c : Core) (frame : Frame) (below : List Frame) (kind : Kind) (state : FrameState) → (after_begin kind state c frame below).wish ≡ c.wish
+begin_wish : (c : Core) (frame : Frame) (below : List Frame) (kind : Purpose) (state : Progress) → (after_begin kind state c frame below).wish ≡ c.wish
 begin_wish c frame below (for_record moment len) waiting = refl
 begin_wish c frame below for_close waiting = refl
 begin_wish c frame below kind (reserved number) = refl
@@ -146,7 +146,7 @@ wish_is c after next is same = ap (λ (x : Core). x.wish) is ∙ same
 again_wish : (c : Core) (frame : Frame) (below : List Frame) (noted : ℕ) (answer : Answer) (after : Core) → BeginsAgain c frame below noted answer after → after.wish ≡ c.wish
 again_wish c frame below noted answer after step = wish_is c after _ step.after_is (begin_wish c frame below frame.kind frame.state)
 
-idle_wish : (n size : ℕ) (c : Core) (frame : Frame) (below : List Frame) (state : FrameState) (answer : Answer) (after : Core) → IdleStep n size c frame below state answer after → after.wish ≡ c.wish
+idle_wish : (n size : ℕ) (c : Core) (frame : Frame) (below : List Frame) (state : Progress) (answer : Answer) (after : Core) → IdleStep n size c frame below state answer after → after.wish ≡ c.wish
 idle_wish n size c frame below waiting answer after (reserves moment len r kind r_is fits a is) = wish_is c after _ is refl
 idle_wish n size c frame below waiting answer after (finds_nothing kind none a is) = wish_is c after _ is refl
 idle_wish n size c frame below waiting answer after (is_crowded needs full a is) = wish_is c after _ is refl

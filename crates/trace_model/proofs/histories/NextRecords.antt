@@ -1,7 +1,7 @@
 -- The reserved records after one more event.
 use Rattle.std.proofs.Common.{◌≡◌, ◌≢◌, ℕ, zero, suc, ◌≤◌, List, [], ◌∷◌, ◌++◌, length, Option, Some, None, refl, ap, ◌∙◌, arith, length-append}
 use Rattle.trace_model.specs.History.{HistoryEvent, push, push_close, open_fill, reserve, leave, wished, Reservation, PushedFrame, record_frame, close_frame, WriterState, reservation_for, records_with_payload, records_after_leave, after_event, writer_after, reserved_records}
-use Rattle.trace_model.specs.Frames.{Kind, for_record, for_close, FrameState, waiting, reserved, left, pushed_frame, pushed_onto}
+use Rattle.trace_model.specs.Frames.{Purpose, for_record, for_close, Progress, waiting, reserved, left, pushed_frame, pushed_onto}
 use Rattle.trace_model.specs.Steps.{own_number}
 use Rattle.trace_model.proofs.histories.NextEvent.{writer_snoc}
 
@@ -15,7 +15,7 @@ pub records_reserved : (h : List HistoryEvent) (moment len : ℕ) (stack : List 
 records_reserved h moment len stack e = records_snoc h reserve ∙ ap (λ (s : List PushedFrame). (after_event s (writer_after h).records reserve).records) e
 
 -- the frame on top of these leaves
-pub records_left_by : (h : List HistoryEvent) (kind : Kind) (state : FrameState) (below : List PushedFrame) (payload : Option (List ℕ)) → (writer_after h).stack ≡ pushed_onto kind state below → state ≢ left → reserved_records (h ++ leave payload ∷ []) ≡ records_with_payload (own_number kind state) payload (reserved_records h)
+pub records_left_by : (h : List HistoryEvent) (kind : Purpose) (state : Progress) (below : List PushedFrame) (payload : Option (List ℕ)) → (writer_after h).stack ≡ pushed_onto kind state below → state ≢ left → reserved_records (h ++ leave payload ∷ []) ≡ records_with_payload (own_number kind state) payload (reserved_records h)
 records_left_by h (for_record moment len) waiting below payload stack stands = records_left h (pushed_frame (for_record moment len) waiting) below payload stack
 records_left_by h for_close waiting below payload stack stands = records_left h (pushed_frame for_close waiting) below payload stack
 records_left_by h (for_record moment len) (reserved number) below payload stack stands = records_left h (pushed_frame (for_record moment len) (reserved number)) below payload stack

@@ -10,7 +10,7 @@ use native.Mathlib.Decide.{ℕ_discrete, dec_le}
 use Rattle.trace_model.specs.Words.{slot_len, encoded_len}
 use Rattle.trace_model.specs.History.{HistoryEvent, push, push_close, open_fill, reserve, leave, wished, Reservation, PushedFrame, record_frame, close_frame, last_moment, reservation_for, records_with_payload, writer_after, reserved_records}
 use Rattle.trace_model.specs.Packing.{opens_of, cut_from, fills_of, tail_of, len_behind, fill_len, FitsBehind, next_reservation_of, next_reservation, is_wished, MayCloseTail, IsPacked}
-use Rattle.trace_model.specs.Frames.{Kind, for_record, for_close, FrameState, waiting, reserved, left, pushed_onto}
+use Rattle.trace_model.specs.Frames.{Purpose, for_record, for_close, Progress, waiting, reserved, left, pushed_onto}
 use Rattle.trace_model.specs.Fitting.{IsRising, tail_at, HaveRoom, IsFit, AreFit, FitsPage, NeedsFill}
 use Rattle.trace_model.proofs.words.Lengths.{slot_len_ge_four, slot_len-slot_len}
 use Rattle.trace_model.proofs.packing.FillCuts.{length-cut_from, reserved_before, reserved_last, opened_before, opened_last}
@@ -210,7 +210,7 @@ plain_nil (x ∷ xs) e = cc
 tail_holds_alike : (cuts : List ℕ) (xs ys : List Reservation) → map plain ys ≡ map plain xs → tail_at cuts xs ≢ [] → tail_at cuts ys ≢ []
 tail_holds_alike cuts xs ys same holds none = holds (plain_nil (tail_at cuts xs) (sym (cut-plain 0 cuts xs (length cuts)) ∙ ap (λ (l : List Reservation). tail_at cuts l) (sym same) ∙ cut-plain 0 cuts ys (length cuts) ∙ ap (map plain) none))
 
-pub needs_alike : (size : ℕ) (cuts : List ℕ) (xs ys : List Reservation) (found : Bool) (kind : Kind) (state : FrameState) → map plain ys ≡ map plain xs → NeedsFill size cuts xs found kind state → NeedsFill size cuts ys found kind state
+pub needs_alike : (size : ℕ) (cuts : List ℕ) (xs ys : List Reservation) (found : Bool) (kind : Purpose) (state : Progress) → map plain ys ≡ map plain xs → NeedsFill size cuts xs found kind state → NeedsFill size cuts ys found kind state
 needs_alike size cuts xs ys found (for_record moment len) waiting same needs = λ fits. needs (
     let tails : map plain (tail_at cuts ys) ≡ map plain (tail_at cuts xs) = sym (cut-plain 0 cuts ys (length cuts)) ∙ ap (λ (l : List Reservation). tail_at cuts l) same ∙ cut-plain 0 cuts xs (length cuts) in
     let lasts : last_moment ys ≡ last_moment xs = sym (last_moment-plain ys) ∙ ap last_moment same ∙ last_moment-plain xs in
@@ -232,7 +232,7 @@ snoc_some (x ∷ xs) r e = cc
 tail_holds_reserved : (cuts : List ℕ) (xs : List Reservation) (s : Reservation) → IsRising 0 cuts (length xs) → tail_at cuts (xs ++ s ∷ []) ≢ []
 tail_holds_reserved cuts xs s rising none = snoc_some (tail_at cuts xs) s (sym (reserved_last 0 cuts xs s rising) ∙ none)
 
-pub needs_reserved : (size : ℕ) (cuts : List ℕ) (xs : List Reservation) (s : Reservation) (found : Bool) (kind : Kind) (state : FrameState) → IsRising 0 cuts (length xs) → NeedsFill size cuts xs found kind state → NeedsFill size cuts (xs ++ s ∷ []) found kind state
+pub needs_reserved : (size : ℕ) (cuts : List ℕ) (xs : List Reservation) (s : Reservation) (found : Bool) (kind : Purpose) (state : Progress) → IsRising 0 cuts (length xs) → NeedsFill size cuts xs found kind state → NeedsFill size cuts (xs ++ s ∷ []) found kind state
 needs_reserved size cuts xs s found (for_record moment len) waiting rising needs = λ fits. needs (
     let more = fill_more (tail_at cuts xs) s (max moment (last_moment xs)) (max moment (last_moment (xs ++ s ∷ []))) (slot_len len) in
     let behind : tail_at cuts (xs ++ s ∷ []) ++ reservation_for moment len (xs ++ s ∷ []) ∷ [] ≡ tail_at cuts xs ++ (s ∷ reservation_for moment len (xs ++ s ∷ []) ∷ []) =
@@ -274,7 +274,7 @@ fit_open_wished size h stack needs found = (
 )
 
 -- a frame on top of these opens the fill that it needs
-pub fit_open : (size : ℕ) (h : List HistoryEvent) (kind : Kind) (state : FrameState) (below : List PushedFrame) → (writer_after h).stack ≡ pushed_onto kind state below → (state ≡ left → below ≡ []) → FitsPage size kind
+pub fit_open : (size : ℕ) (h : List HistoryEvent) (kind : Purpose) (state : Progress) (below : List PushedFrame) → (writer_after h).stack ≡ pushed_onto kind state below → (state ≡ left → below ≡ []) → FitsPage size kind
     → NeedsFill size (opens_of h) (reserved_records h) (is_wished h) kind state
     → IsFit size h open_fill
 fit_open size h (for_record moment len) waiting below stack alone fits needs = fit_open_record size h moment len below stack fits needs

@@ -2,7 +2,7 @@
 use Rattle.std.proofs.Common.{◌≡◌, ℕ, List, [], ◌∷◌, length, ◌==◌, Some, refl, sym, ap, ◌∙◌, subst}
 use Rattle.std.proofs.lemmas.Bool.{eqb-true}
 use Rattle.trace_model.specs.Words.{slot_len}
-use Rattle.trace_model.specs.Frames.{Kind, for_record, for_close, FrameState, reserved, number_of, Phase, Frame, no_frame}
+use Rattle.trace_model.specs.Frames.{Purpose, for_record, for_close, Progress, reserved, number_of, Phase, Frame, no_frame}
 use Rattle.trace_model.specs.Ring.{Core}
 use Rattle.trace_model.specs.Events.{steps, ends, reads, wishes, Answer, refused, wished_for, Outcome}
 use Rattle.trace_model.specs.WriterSteps.{after_leave, end_answer, end_frame, end_top}
@@ -20,7 +20,7 @@ pub record Ends (c : Core) (payload : List ℕ) (frame : Frame) (below : List Fr
   pub answer_is : answer ≡ end_answer below
   pub after_is : after ≡ after_leave c frame below (Some payload)
 
-ends_sound : (c : Core) (payload : List ℕ) (frame : Frame) (below : List Frame) (number : ℕ) (kind : Kind) → frame.kind ≡ kind → Sound (Ends c payload frame below) (end_frame c payload frame below kind (Some number))
+ends_sound : (c : Core) (payload : List ℕ) (frame : Frame) (below : List Frame) (number : ℕ) (kind : Purpose) → frame.kind ≡ kind → Sound (Ends c payload frame below) (end_frame c payload frame below kind (Some number))
 ends_sound c payload frame below number (for_record moment len) is = by_only (Ends c payload frame below) (slot_len (length payload) == slot_len len) _
     (λ e. record { moment = moment; len = len; kind_is = is; slot_is = eqb-true (slot_len (length payload)) (slot_len len) e; answer_is = refl; after_is = refl })
 ends_sound c payload frame below number for_close is = tt
@@ -45,7 +45,7 @@ module _ {n size : ℕ} {c : Core} {answer : Answer} {after : Core} where
   pub top_ends : (payload : List ℕ) (frame : Frame) (below : List Frame) (number : ℕ) → c.frames ≡ frame ∷ below → frame.state ≡ reserved number → Step n size c (ends payload) answer after → Ends c payload frame below answer after
   top_ends payload frame below number top at s =
       made (Ends c payload frame below) (end_frame c payload frame below frame.kind (Some number)) answer after
-      (sym (ap (λ (state : FrameState). end_frame c payload frame below frame.kind (number_of state)) at) ∙ sym (ap (end_top c payload) top) ∙ s.is)
+      (sym (ap (λ (state : Progress). end_frame c payload frame below frame.kind (number_of state)) at) ∙ sym (ap (end_top c payload) top) ∙ s.is)
       (ends_sound c payload frame below number frame.kind refl)
 
   -- the reader makes the step of its phase

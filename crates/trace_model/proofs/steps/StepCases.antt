@@ -6,7 +6,7 @@ use Rattle.trace_model.specs.Words.{slot_len}
 use Rattle.trace_model.specs.History.{push, push_close, wished, Reservation, reserved_records}
 use Rattle.trace_model.specs.Packing.{tail_of, FitsBehind}
 use Rattle.trace_model.specs.Links.{normal_link, header_link, update_link}
-use Rattle.trace_model.specs.Frames.{for_record, for_close, FrameState, waiting, reserved, left, number_of, Role, owner, helper, Phase, idle, looking, claiming, looking_next, marking, clearing, opening, releasing, wishing, Frame, Refusal, too_deep, too_long, late_moment, crowded, worn, no_frame, not_reserved}
+use Rattle.trace_model.specs.Frames.{for_record, for_close, Progress, waiting, reserved, left, number_of, Role, owner, helper, Phase, idle, looking, claiming, looking_next, marking, clearing, opening, releasing, wishing, Frame, WriteFault, too_deep, too_long, late_moment, crowded, worn, no_frame, not_reserved}
 use Rattle.trace_model.specs.Ring.{link_into, ReaderPhase, loading_head, loading_done, storing_spare_link, swapping, Core}
 use Rattle.trace_model.specs.Events.{Event, pushes, pushes_close, steps, ends, reads, wishes, Answer, pushed, going, reserved_as, gone, refused, reading, empty, moving, page_taken, wished_for}
 use Rattle.trace_model.specs.WriterSteps.{with_history_event, in_phase, with_link, leave_answer, after_leave, with_frame, new_reservation, with_reservation, in_reserved, with_new_tail, end_answer, with_released}
@@ -224,7 +224,7 @@ pub data LoadWishStep (n : ℕ) (c : Core) (frame : Frame) (below : List Frame) 
       → LoadWishStep n c frame below answer after
 
 -- the step of a frame on top that has noted nothing
-abbrev pub IdleStep : ℕ → ℕ → Core → Frame → List Frame → FrameState → Answer → Core → Type 0
+abbrev pub IdleStep : ℕ → ℕ → Core → Frame → List Frame → Progress → Answer → Core → Type 0
 IdleStep n size c frame below waiting answer after = ReserveStep n size c frame below answer after
 IdleStep n size c frame below (reserved number) answer after = (answer ≡ reserved_as number) × (after ≡ c)
 IdleStep n size c frame below left answer after = ⊥
@@ -340,7 +340,7 @@ abbrev pub HasRoom : Core → Type 0
 HasRoom c = length c.frames < MAX_FRAMES
 
 -- why a record frame isn't pushed, the first of these that holds
-pub data PushRefused (size : ℕ) (c : Core) (moment len : ℕ) : Refusal → Type 0 where
+pub data PushRefused (size : ℕ) (c : Core) (moment len : ℕ) : WriteFault → Type 0 where
   all_stand :
       MAX_FRAMES ≤ length c.frames
       → PushRefused size c moment len too_deep
@@ -364,7 +364,7 @@ pub data StepCases (n size : ℕ) (c : Core) (event : Event) (answer : Answer) (
       → answer ≡ pushed
       → after ≡ with_history_event (with_frame c (for_record moment len)) (push moment len)
       → StepCases n size c event answer after
-  push_refused : (moment len : ℕ) (why : Refusal)
+  push_refused : (moment len : ℕ) (why : WriteFault)
       → event ≡ pushes moment len
       → PushRefused size c moment len why
       → answer ≡ refused why

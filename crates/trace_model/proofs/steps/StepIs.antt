@@ -6,7 +6,7 @@ use Rattle.trace_model.specs.Words.{encoded_len, slot_len}
 use Rattle.trace_model.specs.History.{Reservation, wished, reserved_records}
 use Rattle.trace_model.specs.Packing.{fill_len, FitsBehind, tail_of}
 use Rattle.trace_model.specs.Links.{Link, normal_link, header_link, update_link, same_link}
-use Rattle.trace_model.specs.Frames.{Kind, for_record, for_close, FrameState, waiting, reserved, left, number_of, Role, owner, helper, Phase, looking, looking_next, marking, releasing, wishing, Frame, Refusal}
+use Rattle.trace_model.specs.Frames.{Purpose, for_record, for_close, Progress, waiting, reserved, left, number_of, Role, owner, helper, Phase, looking, looking_next, marking, releasing, wishing, Frame, WriteFault}
 use Rattle.trace_model.specs.Ring.{ReaderPhase, loading_head, loading_done, storing_spare_link, swapping, Core, link_into}
 use Rattle.trace_model.specs.Events.{Event, Answer, refused, Outcome, only_if}
 use Rattle.trace_model.specs.WriterSteps.{with_history_event, in_phase, with_link, new_reservation, with_reservation, in_reserved, with_released, with_new_tail, tail_holds, unless_begun, push_record, note_fill, reserve, sees_link, load_link, open_fill, idle_step, end_frame, end_top, release_fill, is_granted, load_wish}
@@ -40,7 +40,7 @@ same_no a b ne = false_from_ne_true (same_link a b) (λ e. ne (same_link_true a 
 -- ---- the steps of a frame
 
 module _ (n size : ℕ) (c : Core) (frame : Frame) (below : List Frame) (answer : Answer) (after : Core) where
-  needs_is : (kind : Kind) → NeedsPage size c kind → reserve n size c frame below kind ≡ note_fill n c frame below
+  needs_is : (kind : Purpose) → NeedsPage size c kind → reserve n size c frame below kind ≡ note_fill n c frame below
   needs_is (for_record moment len) needs =
       let r = new_reservation c moment len in
       if_no (fits_in_tail size c r) _ _ (false_from_ne_true (fits_in_tail size c r) (λ e. needs (leb-true (fill_len (tail_of c.history ++ r ∷ [])) size e)))
@@ -185,7 +185,7 @@ module _ (n size : ℕ) (c : Core) (frame : Frame) (below : List Frame) (answer 
   load_wish_is (goes_away alone denied last a is) = ap (load_wish n c frame) alone ∙ if_no (is_granted n c) _ _ (denied_is denied)
       ∙ if_yes (c.done + 1 == c.opened) _ _ (eq-eqb (c.done + 1) c.opened last) ∙ here _ answer _ after a is
 
-  idle_is : (state : FrameState) → IdleStep n size c frame below state answer after → Is (idle_step n size c frame below state) answer after
+  idle_is : (state : Progress) → IdleStep n size c frame below state answer after → Is (idle_step n size c frame below state) answer after
   idle_is waiting step = reserve_is step
   idle_is (reserved number) step = here _ answer _ after step.0 step.1
   idle_is left step = absurd step
@@ -236,7 +236,7 @@ too_long_yes size len long =
 too_long_no : (size len : ℕ) → (IsTooLong size len → ⊥) → is_too_long size len ≡ false
 too_long_no size len short = false_from_ne_true (is_too_long size len) (λ e. short (too_long_true size len e))
 
-refused_is : (size : ℕ) (c : Core) (moment len : ℕ) (why : Refusal) → PushRefused size c moment len why → push_record size c moment len ≡ Some (refused why, c)
+refused_is : (size : ℕ) (c : Core) (moment len : ℕ) (why : WriteFault) → PushRefused size c moment len why → push_record size c moment len ≡ Some (refused why, c)
 refused_is size c moment len why (all_stand many) = if_yes (is_full c) _ _ (le-leb MAX_FRAMES (length c.frames) many)
 refused_is size c moment len why (has_no_room few long) = if_no (is_full c) _ _ (lt-leb MAX_FRAMES (length c.frames) few) ∙ if_yes (is_too_long size len) _ _ (too_long_yes size len long)
 refused_is size c moment len why (comes_late few short late) =
@@ -252,8 +252,8 @@ step_is n size c event answer after (close_refused e many a is) = ap (step_of n 
 step_is n size c event answer after (frame_step frame below e top step) = ap (step_of n size c) e ∙ ap (top_step_of n size c) top ∙ frame_is n size c frame below answer after frame.phase step
 step_is n size c event answer after (frame_lacks e none a is) = ap (step_of n size c) e ∙ ap (top_step_of n size c) none ∙ here _ answer _ after a is
 step_is n size c event answer after (end_step payload frame below number moment len e top at kind size_is a is) =
-    ap (step_of n size c) e ∙ ap (end_top c payload) top ∙ ap (λ (s : FrameState). end_frame c payload frame below frame.kind (number_of s)) at
-    ∙ ap (λ (k : Kind). end_frame c payload frame below k (Some number)) kind
+    ap (step_of n size c) e ∙ ap (end_top c payload) top ∙ ap (λ (s : Progress). end_frame c payload frame below frame.kind (number_of s)) at
+    ∙ ap (λ (k : Purpose). end_frame c payload frame below k (Some number)) kind
     ∙ only (slot_len (length payload) == slot_len len) _ (eq-eqb (slot_len (length payload)) (slot_len len) size_is) ∙ here _ answer _ after a is
 step_is n size c event answer after (end_lacks payload e none a is) = ap (step_of n size c) e ∙ ap (end_top c payload) none ∙ here _ answer _ after a is
 step_is n size c event answer after (end_early payload frame below e top none a is) =

@@ -6,7 +6,7 @@ use Rattle.trace_model.specs.Words.{encoded_len, slot_len}
 use Rattle.trace_model.specs.History.{Reservation}
 use Rattle.trace_model.specs.Packing.{fill_len, tail_of}
 use Rattle.trace_model.specs.Links.{Mark, normal, header, update, Link, normal_link, header_link, update_link, mark_code, same_link}
-use Rattle.trace_model.specs.Frames.{Kind, for_record, for_close, FrameState, waiting, reserved, left, number_of, Role, owner, helper, Phase, idle, looking, claiming, looking_next, marking, clearing, opening, releasing, wishing, Frame, too_deep, too_long, late_moment}
+use Rattle.trace_model.specs.Frames.{Purpose, for_record, for_close, Progress, waiting, reserved, left, number_of, Role, owner, helper, Phase, idle, looking, claiming, looking_next, marking, clearing, opening, releasing, wishing, Frame, too_deep, too_long, late_moment}
 use Rattle.trace_model.specs.Ring.{ReaderPhase, loading_head, loading_done, storing_spare_link, swapping, Core, link_into}
 use Rattle.trace_model.specs.Events.{Event, pushes, pushes_close, steps, ends, reads, wishes, Answer, Outcome, only_if}
 use Rattle.trace_model.specs.WriterSteps.{begins_again, with_new_tail, new_reservation, tail_holds, unless_begun, push_record, push_close_frame, note_fill, reserve, sees_link, load_link, open_fill, idle_step, end_frame, end_top, release_fill, is_granted, load_wish}
@@ -80,7 +80,7 @@ module _ (n size : ℕ) (c : Core) (frame : Frame) (below : List Frame) where
       (λ last. is_worn needs (eqb-false c.opened (c.done + n) room) (leb-true LINK_FILLS (c.opened + n) last) refl refl)
       (λ small. notes needs (eqb-false c.opened (c.done + n) room) (leb-false LINK_FILLS (c.opened + n) small) refl refl))
 
-  reserve_sound : (kind : Kind) → frame.kind ≡ kind → Sound (ReserveStep n size c frame below) (reserve n size c frame below kind)
+  reserve_sound : (kind : Purpose) → frame.kind ≡ kind → Sound (ReserveStep n size c frame below) (reserve n size c frame below kind)
   reserve_sound (for_record moment len) e =
       let r = new_reservation c moment len in
       by_if (ReserveStep n size c frame below) (fits_in_tail size c r) _ _
@@ -207,7 +207,7 @@ load_wish_sound n c frame [] = let P = LoadWishStep n c frame [] in by_if P (is_
     (λ some. by_only P (nat_lt (c.done + 1) c.opened) _ (λ more. closes_more refl denied (ltb-true (c.done + 1) c.opened more) refl refl)))
 load_wish_sound n c frame (next ∷ below) = tt
 
-idle_sound : (n size : ℕ) (c : Core) (frame : Frame) (below : List Frame) (state : FrameState) → Sound (IdleStep n size c frame below state) (idle_step n size c frame below state)
+idle_sound : (n size : ℕ) (c : Core) (frame : Frame) (below : List Frame) (state : Progress) → Sound (IdleStep n size c frame below state) (idle_step n size c frame below state)
 idle_sound n size c frame below waiting = reserve_sound n size c frame below frame.kind refl
 idle_sound n size c frame below (reserved number) = (refl, refl)
 idle_sound n size c frame below left = tt
@@ -281,13 +281,13 @@ top_sound n size c (frame ∷ below) top = sound_as (FrameStep n size c frame be
     (λ answer after step. frame_step frame below refl top step) (frame_sound n size c frame below frame.phase)
 
 module _ (n size : ℕ) (c : Core) (payload : List ℕ) where
-  end_reserved_sound : (frame : Frame) (below : List Frame) (number : ℕ) (kind : Kind) → c.frames ≡ frame ∷ below → frame.state ≡ reserved number → frame.kind ≡ kind
+  end_reserved_sound : (frame : Frame) (below : List Frame) (number : ℕ) (kind : Purpose) → c.frames ≡ frame ∷ below → frame.state ≡ reserved number → frame.kind ≡ kind
       → Sound (StepCases n size c (ends payload)) (end_frame c payload frame below kind (Some number))
   end_reserved_sound frame below number (for_record moment len) top at is = by_only (StepCases n size c (ends payload)) (slot_len (length payload) == slot_len len) _
       (λ e. end_step payload frame below number moment len refl top at is (eqb-true (slot_len (length payload)) (slot_len len) e) refl refl)
   end_reserved_sound frame below number for_close top at is = tt
 
-  end_frame_sound : (frame : Frame) (below : List Frame) (state : FrameState) → c.frames ≡ frame ∷ below → frame.state ≡ state
+  end_frame_sound : (frame : Frame) (below : List Frame) (state : Progress) → c.frames ≡ frame ∷ below → frame.state ≡ state
       → Sound (StepCases n size c (ends payload)) (end_frame c payload frame below frame.kind (number_of state))
   end_frame_sound frame below waiting top at = end_early payload frame below refl top (ap number_of at) refl refl
   end_frame_sound frame below (reserved number) top at = end_reserved_sound frame below number frame.kind top at refl

@@ -4,7 +4,7 @@ use Rattle.trace_model.specs.declared.limits.TheConstants.{MAX_FRAMES}
 use Rattle.trace_model.specs.Words.{encoded_len}
 use Rattle.trace_model.specs.History.{Reservation}
 use Rattle.trace_model.specs.Packing.{fill_len, tail_of}
-use Rattle.trace_model.specs.Frames.{Kind, for_record, for_close, FrameState, waiting, reserved, left, Frame}
+use Rattle.trace_model.specs.Frames.{Purpose, for_record, for_close, Progress, waiting, reserved, left, Frame}
 use Rattle.trace_model.specs.Ring.{Core}
 use Rattle.trace_model.specs.WriterSteps.{begins_again}
 use Rattle.trace_model.specs.StepConditions.{begin_answer, after_begin}
@@ -21,7 +21,7 @@ is_too_long size len = nat_lt size len || nat_lt size (encoded_len len 0 true)
 abbrev pub fits_in_tail : (size : ℕ) → Core → Reservation → Bool
 fits_in_tail size c r = nat_le (fill_len (tail_of c.history ++ r ∷ [])) size
 
-pub begins_as : (kind : Kind) (state : FrameState) (c : Core) (frame : Frame) (below : List Frame)
+pub begins_as : (kind : Purpose) (state : Progress) (c : Core) (frame : Frame) (below : List Frame)
     → begins_again kind state c frame below ≡ Some (begin_answer kind state below, after_begin kind state c frame below)
 begins_as (for_record moment len) waiting c frame below = refl
 begins_as for_close waiting c frame below = refl
