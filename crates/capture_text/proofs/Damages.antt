@@ -4,7 +4,7 @@ use Rattle.trace_model.specs.Faults.{cut, bad_length, time_overflow}
 use Rattle.trace_model.specs.Image.{ImageCause, too_short, bad_size, bad_count, bad_word}
 use Rattle.text_model.specs.Printing.{image_fault_text}
 use Rattle.page_numbers.specs.Faults.{image_fault}
-use Rattle.image_dump.specs.ImageFaults.{reader_fault_text}
+use Rattle.dump_command.specs.ImageFaults.{reader_fault_text}
 use Rattle.capture.specs.Pages.{Damage}
 use Rattle.capture.specs.Captures.{IsDamage, AreDamages}
 use Rattle.capture.specs.declared.pages.Damaged.{Damaged}

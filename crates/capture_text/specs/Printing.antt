@@ -12,7 +12,7 @@ use Rattle.text_values.specs.Digits.{pairs_of}
 use Rattle.world_model.specs.Printing.{printed_line, printed_missing, printed_runs}
 use Rattle.kernel_texts.specs.Names.{Event, event_of}
 use Rattle.kernel_texts.specs.FirstBytes.{common_fields_in}
-use Rattle.image_dump.specs.ImageFaults.{reader_fault_text}
+use Rattle.dump_command.specs.ImageFaults.{reader_fault_text}
 use Rattle.capture.specs.Pages.{Damage}
 use Rattle.capture.specs.declared.pages.Damaged.{Damaged}
 use Rattle.capture.specs.declared.part.Part.{Part}

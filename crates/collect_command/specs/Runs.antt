@@ -4,12 +4,12 @@ use Rattle.trace_model.specs.declared.limits.TheConstants.{MAX_CPUS}
 use Rattle.trace_dat.specs.Contents.{EventFormat}
 use Rattle.command_io.specs.declared.command.TheConstants.{MEMORY_LINE}
 use Rattle.capture.specs.Pages.{Page}
-use Rattle.trace_inputs.specs.declared.captured.Input.{Input}
-use Rattle.trace_inputs.specs.declared.fault.InputFault.{InputFault}
-use Rattle.trace_inputs.specs.declared.fault.InputFault.TheVariants as faults
-use Rattle.trace_inputs.specs.Files.{File, ModelPart, ArePartsOf, all_formats, all_instances}
-use Rattle.trace_inputs.specs.Losses.{overrun_in}
-use Rattle.trace_inputs.specs.Inputs.{AreRead, IsUnread}
+use Rattle.collect_inputs.specs.declared.captured.Input.{Input}
+use Rattle.collect_inputs.specs.declared.fault.InputFault.{InputFault}
+use Rattle.collect_inputs.specs.declared.fault.InputFault.TheVariants as faults
+use Rattle.collect_inputs.specs.Files.{File, ModelPart, ArePartsOf, all_formats, all_instances}
+use Rattle.collect_inputs.specs.Losses.{overrun_in}
+use Rattle.collect_inputs.specs.Inputs.{AreRead, IsUnread}
 use Rattle.capture_text.specs.declared.form.Form.{Form}
 use Rattle.collect_command.specs.declared.ending.Collected.{Collected}
 use Rattle.collect_command.specs.declared.ending.Ending.{Ending}

@@ -4,8 +4,8 @@ ghost use Rattle.trace_model.specs.declared.limits.TheConstants.{MAX_CPUS};
 ghost use Rattle.trace_dat.specs.Contents.{EventFormat};
 ghost use Rattle.kernel_texts.specs.Names.{HasEvents};
 ghost use Rattle.capture_text.specs.Printed.{AreNames};
-ghost use Rattle.trace_inputs.specs.Files.{File};
-ghost use Rattle.trace_inputs.specs.Captures.{AreCaptured};
+ghost use Rattle.collect_inputs.specs.Files.{File};
+ghost use Rattle.collect_inputs.specs.Captures.{AreCaptured};
 ghost use Rattle.collect_command.specs.Asking.{asked_by};
 ghost use Rattle.collect_command.specs.Listings.{IsWritten};
 ghost use Rattle.collect_command.specs.Runs.{ListsFiles, TellsFault, IsMemoryLine, IsCollectRun};
@@ -18,7 +18,7 @@ use command_io::{MEMORY_LINE, Sink, Source, write_all};
 use kernel_texts::EventNames;
 use std::alloc::Global;
 use trace_dat::Format;
-use trace_inputs::{Captured, FileFault, Input, InputFault, Unread, read_inputs};
+use collect_inputs::{Captured, FileFault, Input, InputFault, Unread, read_inputs};
 use trace_model::NoMemory;
 
 /// The only line if the numbers of a CPU don't fit 64 bits.

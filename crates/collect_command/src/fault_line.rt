@@ -6,7 +6,7 @@ ghost use Rattle.collect_command.specs.Faults.{cause_text, fault_text, fault_lin
 use std::alloc::Global;
 use text_values::put_number;
 use trace_dat::Cause;
-use trace_inputs::FileFault;
+use collect_inputs::FileFault;
 use trace_model::NoMemory;
 
 /// What is wrong with a file of trace-cmd.

@@ -4,7 +4,7 @@ ghost use Rattle.trace_model.specs.Collection.{Agree, IsSame};
 ghost use Rattle.page_numbers.specs.Parcels.{as_parcels};
 ghost use Rattle.capture.specs.Pages.{Page};
 ghost use Rattle.capture.specs.Rings.{parcels_of_captures};
-ghost use Rattle.trace_inputs.specs.Files.{ModelPart};
+ghost use Rattle.collect_inputs.specs.Files.{ModelPart};
 ghost use Rattle.collect_command.specs.Gathered.{AreReadFrom};
 
 use capture::laws::captures_agree;
@@ -12,7 +12,7 @@ use collector::Collector;
 use deliveries::collect;
 use page_numbers::Parcel;
 use std::alloc::Global;
-use trace_inputs::CpuCapture;
+use collect_inputs::CpuCapture;
 use trace_model::NoMemory;
 
 /// Adds these parcels, whose pages are shared. They contradict neither those that are kept nor each other. If memory is

@@ -2,7 +2,7 @@
 ghost use Rattle.std.specs.Prelude.{◌≡◌, ◌==◌, false, List, Option, length, IfOk, OnErr};
 ghost use Rattle.trace_dat.specs.Contents.{EventFormat};
 ghost use Rattle.capture.specs.Pages.{Page};
-ghost use Rattle.trace_inputs.specs.Files.{ModelPart};
+ghost use Rattle.collect_inputs.specs.Files.{ModelPart};
 ghost use Rattle.capture_text.specs.Printed.{failed_of, AreNames, Prints};
 ghost use Rattle.collect_command.specs.Gathered.{AreReadFrom};
 ghost use Rattle.collect_command.specs.Listings.{all_unknown, all_damaged, are_all_intact, ending_of, IsListed};
@@ -15,7 +15,7 @@ use command_io::Sink;
 use kernel_texts::EventNames;
 use std::alloc::Global;
 use time_merge::walk_lines;
-use trace_inputs::CpuCapture;
+use collect_inputs::CpuCapture;
 use trace_model::NoMemory;
 
 /// Prints the losses of unknown number of each CPU.

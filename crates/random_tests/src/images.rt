@@ -1,7 +1,7 @@
 //! Random page images, and what holds of any: by the rules of an image's first fault.
 use crate::numbers::Numbers;
 use command_io::{DONE, REFUSED, Std};
-use image_dump::dump_to;
+use dump_command::dump_to;
 use std::alloc::Global;
 use std::process::Abort;
 use std::test::Fail;

@@ -2,7 +2,7 @@
 use crate::numbers::Numbers;
 use collector_text::put_collectors;
 use command_io::{DONE, REFUSED};
-use replay_log::put_log;
+use log_text::put_log;
 use std::alloc::Global;
 use std::process::Abort;
 use std::test::Fail;

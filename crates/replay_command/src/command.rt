@@ -8,12 +8,12 @@ ghost use Rattle.collector_text.specs.Prints.{IsPrintOf};
 ghost use Rattle.command_io.specs.CommandRun.{IsCommandRun, WritesOutput, source_run, sink_run};
 ghost use Rattle.command_io.specs.Output.{bytes_of, status_of};
 ghost use Rattle.trace_script.specs.ScriptFaults.{GivesAt, ReportsFirstFault, script_fault_text};
-ghost use Rattle.replay_log.specs.LogTypes.{shown_log};
+ghost use Rattle.log_text.specs.LogTypes.{shown_log};
 ghost use Rattle.replay_command.specs.Commands.{AccountGives, IsPrinting, ReplayGives};
 
 use collector_text::put_collectors;
 use command_io::{Command, DONE, Output, Sink, Source, carry_out};
-use replay_log::put_log;
+use log_text::put_log;
 use script_replay::{World, world_of};
 use std::alloc::Global;
 use trace_model::NoMemory;

@@ -8,7 +8,7 @@ use Rattle.text_model.specs.Script.{Script, ParsesScript}
 use Rattle.world_model.specs.RunEvents.{AreEventsOfSteps}
 use Rattle.line_model.specs.WriterCalls.{exchanges_to}
 use Rattle.line_model.specs.Shown.{IsShownOf}
-use Rattle.run_audit.specs.Audit.{taken_in}
+use Rattle.ledger_audit.specs.Audit.{taken_in}
 use Rattle.threaded_run.specs.Runs.{IsRunHistory, IsOneRunOf, IsRan}
 use Rattle.threaded_run.specs.declared.running.Ran.{Ran}
 use Rattle.run_text.specs.Verdicts.{yes}

@@ -4,13 +4,13 @@ ghost use Rattle.std.specs.List.{AllZip};
 ghost use Rattle.std.specs.Thread.{IsSync};
 ghost use Rattle.command_io.specs.CommandRun.{IsCommandRun, WritesOutput, source_run, sink_run};
 ghost use Rattle.command_io.specs.Output.{bytes_of, status_of};
-ghost use Rattle.run_audit.specs.Audit.{taken_in};
+ghost use Rattle.ledger_audit.specs.Audit.{taken_in};
 ghost use Rattle.run_text.specs.Printing.{AuditedShown, IsAuditedPrintOf, printed_run};
 ghost use Rattle.threaded_run.specs.Runs.{IsRan};
 ghost use Rattle.run_command.specs.Runs.{IsRunOutput, RunGives, HeadlineGives};
 
 use command_io::{Command, DONE, Output, Sink, Source, carry_out};
-use line_writer::OpenGate;
+use writer_thread::OpenGate;
 use replay_command::{fault_line, read_text};
 use run_text::put_run;
 use std::alloc::Global;

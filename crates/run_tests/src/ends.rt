@@ -5,7 +5,7 @@ ghost use Rattle.ring_shared.specs.Calls.{IsWriter};
 ghost use Rattle.ring_shared.specs.Takes.{SameRing};
 
 use page_numbers::Parcel;
-use reader_end::{Found, Ledger, ReaderEnd, settle};
+use reader_thread::{Found, Ledger, ReaderEnd, settle};
 use ring_shared::{Writer, ring};
 use std::alloc::Global;
 use std::process::Abort;

@@ -3,10 +3,10 @@ use Rattle.std.proofs.Common.{◌≡◌, ◌↔◌, List, Result, Ok, Err, IsOk,
 use Rattle.trace_model.specs.Parcel.{Parcel}
 use Rattle.trace_model.specs.declared.numbers.CpuId.{CpuId}
 use Rattle.trace_model.specs.declared.numbers.FillNo.{FillNo}
-use Rattle.run_audit.specs.Audit.{WereTaken, IsAudited, IsStray, IsLacking, IsLeast}
-use Rattle.run_audit.specs.declared.fault.Audited.{Audited}
-use Rattle.run_audit.specs.declared.fault.AuditFault.{AuditFault}
-use Rattle.run_audit.specs.declared.fault.AuditFault.TheVariants.{Stray, Lacks}
+use Rattle.ledger_audit.specs.Audit.{WereTaken, IsAudited, IsStray, IsLacking, IsLeast}
+use Rattle.ledger_audit.specs.declared.fault.Audited.{Audited}
+use Rattle.ledger_audit.specs.declared.fault.AuditFault.{AuditFault}
+use Rattle.ledger_audit.specs.declared.fault.AuditFault.TheVariants.{Stray, Lacks}
 use Rattle.run_text.specs.Verdicts.{IsVerdict, verdict_of}
 
 pub answered : (kept taken : List Parcel) (answer : Result Audited AuditFault) → IsOk answer ↔ IsAudited kept taken

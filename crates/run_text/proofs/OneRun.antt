@@ -2,7 +2,7 @@
 use Rattle.std.proofs.Common.{◌≡◌, ℕ, ◌+◌, List, [], ◌∷◌, ◌++◌, flat_map, refl, ap, ◌∙◌, arith}
 use Rattle.std.specs.List.{AllZip, enumerate_from}
 use Rattle.trace_model.specs.Parcel.{Parcel}
-use Rattle.run_audit.specs.Audit.{IsLeast}
+use Rattle.ledger_audit.specs.Audit.{IsLeast}
 use Rattle.collector_text.proofs.OneText.{one_text}
 use Rattle.world_model.specs.Printing.{printed_collector}
 use Rattle.run_text.specs.Verdicts.{Verdict, IsVerdict, yes, stray, lacks}

@@ -1,10 +1,10 @@
 -- What an audit of a collector finds.
 use Rattle.std.specs.Prelude.{ℕ, List, Result, Ok, Err}
 use Rattle.trace_model.specs.Parcel.{Parcel}
-use Rattle.run_audit.specs.Audit.{WereTaken, IsAudited, IsStray, IsLacking, IsLeast}
-use Rattle.run_audit.specs.declared.fault.Audited.{Audited}
-use Rattle.run_audit.specs.declared.fault.AuditFault.{AuditFault}
-use Rattle.run_audit.specs.declared.fault.AuditFault.TheVariants.{Stray, Lacks}
+use Rattle.ledger_audit.specs.Audit.{WereTaken, IsAudited, IsStray, IsLacking, IsLeast}
+use Rattle.ledger_audit.specs.declared.fault.Audited.{Audited}
+use Rattle.ledger_audit.specs.declared.fault.AuditFault.{AuditFault}
+use Rattle.ledger_audit.specs.declared.fault.AuditFault.TheVariants.{Stray, Lacks}
 
 -- The collector is the one of the run; or it keeps the parcel of this CPU and fill, which wasn't taken; or it lacks a
 -- part of the parcel of this CPU and fill, which was.

@@ -4,7 +4,7 @@ ghost use Rattle.trace_model.specs.Sublist.{IsPrefix};
 ghost use Rattle.run_text.specs.Verdicts.{verdict_of};
 ghost use Rattle.run_text.specs.Printing.{key_text, printed_audit, verdict_text};
 
-use run_audit::{AuditFault, Audited};
+use ledger_audit::{AuditFault, Audited};
 use text_values::{drop_if_refused, put_number};
 use trace_model::{CpuId, FillNo, NoMemory};
 

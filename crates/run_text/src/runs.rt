@@ -3,14 +3,14 @@ ghost use Rattle.std.specs.Prelude.{◌≡◌, ◌++◌, List, OnOk, OnErr, IfOk
 ghost use Rattle.std.specs.List.{AllZip};
 ghost use Rattle.trace_model.specs.Sublist.{IsPrefix};
 ghost use Rattle.collector_text.specs.Prints.{StandsBetween};
-ghost use Rattle.run_audit.specs.Audit.{taken_in};
+ghost use Rattle.ledger_audit.specs.Audit.{taken_in};
 ghost use Rattle.run_text.specs.Verdicts.{IsVerdict, verdict_of};
 ghost use Rattle.run_text.specs.Printing.{AuditedShown, IsAuditedPrintOf, printed_audited, printed_run};
 
 use crate::audits::put_audit;
 use collector::Collector;
 use collector_text::{Span, put_collector};
-use run_audit::{AuditFault, Audited, Ledger, audit};
+use ledger_audit::{AuditFault, Audited, Ledger, audit};
 use std::alloc::Global;
 use text_values::drop_if_refused;
 use trace_model::NoMemory;

@@ -24,10 +24,10 @@ use Rattle.world_model.proofs.OneWorld.{lane_of, behind_next}
 use Rattle.world_model.proofs.GenuineWorlds.{world_genuine, taken_agree}
 use Rattle.collector.specs.declared.added.Added.{Added}
 use Rattle.collector.specs.declared.added.Added.TheVariants.{New, Known}
-use Rattle.replay_log.specs.declared.line.LogLine.{LogLine}
+use Rattle.log_text.specs.declared.line.LogLine.{LogLine}
 use Rattle.page_numbers.specs.Parcels.{as_parcels}
 use Rattle.script_replay.specs.declared.replaying.ReplayState.{ReplayState}
-use Rattle.replay_log.specs.LogTypes.{shown_log, shown_log_line}
+use Rattle.log_text.specs.LogTypes.{shown_log, shown_log_line}
 use Rattle.script_replay.specs.Value.{LaneValue}
 use Rattle.script_replay.specs.RingCommands.{IsOfRing, cpu_of}
 use Rattle.script_replay.specs.Lanes.{IsReportedLane, HasLine}

@@ -7,7 +7,7 @@ use Rattle.trace_model.specs.Steps as model
 use Rattle.trace_model.specs.Steps.{Step, Exchange}
 use Rattle.text_model.specs.Log.{LogLine}
 use Rattle.world_model.specs.Log.{logged, log_of}
-use Rattle.replay_log.specs.LogTypes.{shown_log}
+use Rattle.log_text.specs.LogTypes.{shown_log}
 use Rattle.step_model.specs.StepTexts.{step_text}
 use Rattle.step_model.specs.RunTexts.{Tells}
 use Rattle.ring_core.specs.Value.{CoreValue}

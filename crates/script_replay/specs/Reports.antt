@@ -8,8 +8,8 @@ use Rattle.text_model.specs.Printing.{printed_log_line}
 use Rattle.world_model.specs.Log.{log_of}
 use Rattle.ring_core.specs.Value.{CoreValue}
 use Rattle.ring_frames.specs.declared.answer.Answer.{Answer}
-use Rattle.replay_log.specs.declared.line.LogLine.{LogLine}
-use Rattle.replay_log.specs.LogTypes.{shown_log, shown_log_line}
+use Rattle.log_text.specs.declared.line.LogLine.{LogLine}
+use Rattle.log_text.specs.LogTypes.{shown_log, shown_log_line}
 use Rattle.step_model.specs.RunTexts.{Tells, gain_text, gains_of}
 use Rattle.step_text.specs.declared.asked.Asked.{Asked}
 use Rattle.step_text.specs.Known.{StepTextValue, Knows, KnowsOthers}

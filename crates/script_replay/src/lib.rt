@@ -12,6 +12,6 @@ mod replaying;
 mod reports;
 mod world;
 
-pub use replay_log::LogLine;
+pub use log_text::LogLine;
 pub use replaying::{replay, steps_of, world_of};
 pub use world::World;

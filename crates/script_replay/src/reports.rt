@@ -6,7 +6,7 @@ ghost use Rattle.step_text.specs.declared.asked.Asked.{Asked as AskedSeen};
 ghost use Rattle.script_replay.specs.Reports.{GainsAreReported, IsReported, IsStepTold, LineIsReported, MayReport};
 
 use page_numbers::Parcel;
-use replay_log::{At, LogLine, report, report_any};
+use log_text::{At, LogLine, report, report_any};
 use ring_core::{Answer, Core};
 use step_text::{Asked, StepText};
 use trace_model::NoMemory;

@@ -1,6 +1,6 @@
 //! What the replay of a script answers.
 use collector::Collector;
-use replay_log::LogLine;
+use log_text::LogLine;
 
 /// What the replay of a script leaves: its collectors, by their numbers, and the log.
 #[derive(Debug, Drop)]

@@ -20,7 +20,7 @@ use crate::seen::{FrameSeen, FrameState, Parts};
 use crate::teller::Known;
 use link_marks::Link;
 use nested_writer::Ended;
-use replay_log::{At, put_fault, put_front};
+use log_text::{At, put_fault, put_front};
 use ring_core::Answer;
 use ring_frames::{Phase, ReaderPhase, Role};
 use trace_model::NoMemory;

@@ -3,7 +3,7 @@ ghost use Rattle.std.specs.Prelude.{◌≡◌, ℕ, ◌++◌, ◌<◌, List, len
 ghost use Rattle.text_model.specs.ScriptLimits.{IsWithinLimits};
 ghost use Rattle.text_model.specs.Printing.{printed_log_line};
 ghost use Rattle.world_model.specs.Lanes.{Lane, IsNewLane};
-ghost use Rattle.replay_log.specs.LogTypes.{shown_log_line};
+ghost use Rattle.log_text.specs.LogTypes.{shown_log_line};
 ghost use Rattle.page_numbers.specs.Parcels.{as_parcel};
 ghost use Rattle.step_model.specs.RunTexts.{gain_text, gains_of, new_rings_text, trace_line};
 ghost use Rattle.step_text.specs.Known.{StepTextValue, known_in, step_text_of, Knows, KnowsOthers};
@@ -17,7 +17,7 @@ use crate::seen::Parts;
 use crate::step_line::put_step_line;
 use link_marks::Link;
 use page_numbers::Parcel;
-use replay_log::{At, LogLine, put_log_line};
+use log_text::{At, LogLine, put_log_line};
 use ring_core::{Answer, Core};
 use std::alloc::Global;
 use std::marker::Model;

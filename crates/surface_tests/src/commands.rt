@@ -1,7 +1,7 @@
 //! The commands of the program, from an input to an output.
 use crate::scripts::SCRIPT;
 use command_io::{DONE, REFUSED, Std};
-use image_dump::dump_to;
+use dump_command::dump_to;
 use replay_command::replay_to;
 use std::alloc::Global;
 

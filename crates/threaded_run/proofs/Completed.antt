@@ -8,13 +8,13 @@ use Rattle.page_numbers.specs.Parcels.{as_parcels}
 use Rattle.ring_steps.specs.declared.rule.Shape.{Shape}
 use Rattle.ring_steps.specs.Views.{Writing}
 use Rattle.ring_shared.specs.Value.{WriterValue}
-use Rattle.run_audit.specs.declared.ledger.Ledger.{Ledger}
-use Rattle.run_audit.specs.Audit.{taken_of}
-use Rattle.line_writer.specs.declared.gate.Who.{Who}
-use Rattle.line_writer.specs.declared.gate.Who.TheVariants as who
-use Rattle.line_writer.specs.Asking.{HavePassed}
-use Rattle.reader_end.specs.Value.{ReaderEndValue}
-use Rattle.reader_end.specs.Ledgers.{writer_in, IsLedger}
+use Rattle.ledger_audit.specs.declared.ledger.Ledger.{Ledger}
+use Rattle.ledger_audit.specs.Audit.{taken_of}
+use Rattle.writer_thread.specs.declared.gate.Who.{Who}
+use Rattle.writer_thread.specs.declared.gate.Who.TheVariants as who
+use Rattle.writer_thread.specs.Asking.{HavePassed}
+use Rattle.reader_thread.specs.Value.{ReaderEndValue}
+use Rattle.reader_thread.specs.Ledgers.{writer_in, IsLedger}
 use Rattle.threaded_run.specs.declared.reading.Stop.{Stop}
 use Rattle.threaded_run.specs.declared.reading.Stop.TheVariants.{Shut}
 use Rattle.threaded_run.specs.Runs.{shape_of}

@@ -19,12 +19,12 @@ use Rattle.ring_shared.specs.NewEnds.{AreNewEnds}
 use Rattle.ring_shared.proofs.WholeAppends.{writers_have_histories}
 use Rattle.trace_script.specs.declared.replay_fault.ReplayFault.{ReplayFault}
 use Rattle.trace_script.specs.declared.replay_fault.ReplayFault.TheVariants.{GateShut}
-use Rattle.line_writer.specs.declared.gate.Who.{Who}
-use Rattle.line_writer.specs.declared.gate.Who.TheVariants as who
-use Rattle.line_writer.specs.LineWriters.{writer_in, made_in}
-use Rattle.line_writer.specs.Asking.{HavePassed}
-use Rattle.line_writer.specs.Obeying.{HasObeyed}
-use Rattle.reader_end.specs.Value.{ReaderEndValue}
+use Rattle.writer_thread.specs.declared.gate.Who.{Who}
+use Rattle.writer_thread.specs.declared.gate.Who.TheVariants as who
+use Rattle.writer_thread.specs.LineWriters.{writer_in, made_in}
+use Rattle.writer_thread.specs.Asking.{HavePassed}
+use Rattle.writer_thread.specs.Obeying.{HasObeyed}
+use Rattle.reader_thread.specs.Value.{ReaderEndValue}
 use Rattle.threaded_run.specs.declared.reading.Stop.{Stop}
 use Rattle.threaded_run.specs.declared.reading.Stop.TheVariants.{Shut}
 use Rattle.threaded_run.specs.Runs.{shape_of, lines_of, IsRunHistory}

@@ -10,11 +10,11 @@ use Rattle.world_model.specs.World.{parcel_of}
 use Rattle.text_model.specs.Script.{Script}
 use Rattle.ring_model.specs.Reached.{IsReached}
 use Rattle.ring_steps.specs.Views.{Writing}
-use Rattle.run_audit.specs.declared.ledger.Ledger.{Ledger}
-use Rattle.run_audit.specs.Audit.{taken_of}
+use Rattle.ledger_audit.specs.declared.ledger.Ledger.{Ledger}
+use Rattle.ledger_audit.specs.Audit.{taken_of}
 use Rattle.threaded_run.specs.declared.running.Ran.{Ran}
-use Rattle.line_writer.specs.declared.gate.Who.{Who}
-use Rattle.reader_end.specs.Ledgers.{writer_in}
+use Rattle.writer_thread.specs.declared.gate.Who.{Who}
+use Rattle.reader_thread.specs.Ledgers.{writer_in}
 use Rattle.threaded_run.specs.Runs.{IsRunHistory, ring_of, IsRan}
 use Rattle.threaded_run.specs.Asked.{IsPassedLedger, HaveAllPassed}
 use Rattle.threaded_run.specs.Threads.{AreRunLedgers}

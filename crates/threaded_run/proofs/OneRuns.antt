@@ -6,10 +6,10 @@ use Rattle.trace_model.specs.Steps.{Event, Exchange, Run}
 use Rattle.text_model.specs.Script.{Script}
 use Rattle.line_model.specs.WriterCalls.{exchanges_to}
 use Rattle.ring_steps.specs.Made.{writer_made, reader_made, trace_of, is_by_reader, is_by_writer, kept_if, made_by}
-use Rattle.run_audit.specs.declared.ledger.Ledger.{Ledger}
-use Rattle.line_writer.specs.LineWriters.{made_in}
-use Rattle.reader_end.specs.TakesMade.{AreTakes}
-use Rattle.reader_end.specs.Ledgers.{writer_in, reader_in, IsLedger}
+use Rattle.ledger_audit.specs.declared.ledger.Ledger.{Ledger}
+use Rattle.writer_thread.specs.LineWriters.{made_in}
+use Rattle.reader_thread.specs.TakesMade.{AreTakes}
+use Rattle.reader_thread.specs.Ledgers.{writer_in, reader_in, IsLedger}
 use Rattle.threaded_run.specs.Runs.{shape_of, exchanges_by, IsOneRunOf, IsRunHistory}
 
 -- the exchanges of a run that are an end's, as that end has them in what it made

@@ -9,13 +9,13 @@ use Rattle.world_model.specs.World.{parcel_of}
 use Rattle.world_model.proofs.Lookups.{element_at}
 use Rattle.ring_shared.specs.Value.{ReaderValue}
 use Rattle.ring_shared.specs.Takes.{SameRing}
-use Rattle.line_writer.specs.declared.gate.Who.{Who}
-use Rattle.line_writer.specs.declared.gate.Who.TheVariants as who
-use Rattle.reader_end.specs.Value.{ReaderEndValue}
-use Rattle.reader_end.specs.declared.end.Found.{Found}
-use Rattle.reader_end.specs.declared.end.Found.TheVariants.{Page, Empty, Moving}
-use Rattle.reader_end.specs.Takes.{IsFound}
-use Rattle.reader_end.proofs.TakesMore.{last_same}
+use Rattle.writer_thread.specs.declared.gate.Who.{Who}
+use Rattle.writer_thread.specs.declared.gate.Who.TheVariants as who
+use Rattle.reader_thread.specs.Value.{ReaderEndValue}
+use Rattle.reader_thread.specs.declared.end.Found.{Found}
+use Rattle.reader_thread.specs.declared.end.Found.TheVariants.{Page, Empty, Moving}
+use Rattle.reader_thread.specs.Takes.{IsFound}
+use Rattle.reader_thread.proofs.TakesMore.{last_same}
 use Rattle.threaded_run.specs.declared.reading.Stop.{Stop}
 use Rattle.threaded_run.specs.declared.reading.Stop.TheVariants.{NoMemory, Shut}
 use Rattle.threaded_run.specs.Asked.{HaveReadersPassed}

@@ -5,8 +5,8 @@ use Rattle.std.proofs.Common.{◌≡◌, ℕ, suc, ◌+◌, List, [], ◌∷◌,
 use Rattle.text_model.specs.Script.{Script}
 use Rattle.trace_script.specs.declared.replay_fault.ReplayFault.{ReplayFault}
 use Rattle.trace_script.specs.declared.replay_fault.ReplayFault.TheVariants.{NoMemory}
-use Rattle.run_audit.specs.declared.ledger.Ledger.{Ledger}
-use Rattle.line_writer.specs.declared.gate.Who.{Who}
+use Rattle.ledger_audit.specs.declared.ledger.Ledger.{Ledger}
+use Rattle.writer_thread.specs.declared.gate.Who.{Who}
 use Rattle.threaded_run.specs.Asked.{IsPassedLedger}
 use Rattle.threaded_run.specs.Threads.{RunningValue, IsRunningAt, AreRunning, AreRunLedgers}
 use Rattle.threaded_run.specs.Joining.{IsOneMore, IsFirstFault}

@@ -3,11 +3,11 @@ use Rattle.std.specs.Prelude.{◌≡◌, ℕ, Bool, true, List, Contains, Some}
 use Rattle.std.specs.List.{slice_get}
 use Rattle.trace_model.specs.Parcel.{Parcel}
 use Rattle.text_model.specs.Script.{Script}
-use Rattle.run_audit.specs.declared.ledger.Ledger.{Ledger}
-use Rattle.run_audit.specs.Audit.{taken_of}
-use Rattle.line_writer.specs.declared.gate.Who.{Who}
-use Rattle.line_writer.specs.declared.gate.Who.TheVariants as who
-use Rattle.line_writer.specs.Asking.{HavePassed}
+use Rattle.ledger_audit.specs.declared.ledger.Ledger.{Ledger}
+use Rattle.ledger_audit.specs.Audit.{taken_of}
+use Rattle.writer_thread.specs.declared.gate.Who.{Who}
+use Rattle.writer_thread.specs.declared.gate.Who.TheVariants as who
+use Rattle.writer_thread.specs.Asking.{HavePassed}
 use Rattle.threaded_run.specs.declared.running.Ran.{Ran}
 use Rattle.threaded_run.specs.Runs.{IsRunLedger, ring_of}
 

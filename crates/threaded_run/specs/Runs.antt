@@ -13,11 +13,11 @@ use Rattle.line_model.specs.WrittenRecords.{AllWriteOrClose, records_of_lines}
 use Rattle.line_model.specs.ReplayedLines.{commands_of}
 use Rattle.ring_steps.specs.declared.rule.Shape.{Shape}
 use Rattle.ring_steps.specs.Made.{is_by_reader, is_by_writer}
-use Rattle.line_writer.specs.LineWriters.{made_in}
-use Rattle.run_audit.specs.declared.ledger.Ledger.{Ledger}
-use Rattle.run_audit.specs.Headline.{AreOfRings}
-use Rattle.reader_end.specs.TakesMade.{AreTakes}
-use Rattle.reader_end.specs.Ledgers.{writer_in, reader_in, IsLedger}
+use Rattle.writer_thread.specs.LineWriters.{made_in}
+use Rattle.ledger_audit.specs.declared.ledger.Ledger.{Ledger}
+use Rattle.ledger_audit.specs.Headline.{AreOfRings}
+use Rattle.reader_thread.specs.TakesMade.{AreTakes}
+use Rattle.reader_thread.specs.Ledgers.{writer_in, reader_in, IsLedger}
 use Rattle.threaded_run.specs.declared.running.Ran.{Ran}
 
 -- the shape of the rings of a script

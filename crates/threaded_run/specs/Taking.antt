@@ -3,9 +3,9 @@ use Rattle.std.specs.Prelude.{◌≡◌, ℕ, Bool, true, false, List, [], ◌�
 use Rattle.trace_model.specs.Parcel.{Parcel}
 use Rattle.page_numbers.specs.Parcels.{as_parcels}
 use Rattle.ring_shared.specs.Takes.{SameRing}
-use Rattle.line_writer.specs.declared.gate.Who.{Who}
-use Rattle.line_writer.specs.declared.gate.Who.TheVariants as who
-use Rattle.reader_end.specs.Value.{ReaderEndValue}
+use Rattle.writer_thread.specs.declared.gate.Who.{Who}
+use Rattle.writer_thread.specs.declared.gate.Who.TheVariants as who
+use Rattle.reader_thread.specs.Value.{ReaderEndValue}
 use Rattle.threaded_run.specs.declared.reading.Stop.{Stop}
 use Rattle.threaded_run.specs.declared.reading.Stop.TheVariants.{NoMemory, Shut}
 use Rattle.threaded_run.specs.Asked.{HaveReadersPassed}

@@ -8,12 +8,12 @@ use Rattle.line_model.specs.WriterCalls.{exchanges_to}
 use Rattle.page_numbers.specs.Parcels.{as_parcels}
 use Rattle.ring_shared.specs.Value.{WriterValue}
 use Rattle.ring_shared.specs.Calls.{IsWriter}
-use Rattle.run_audit.specs.declared.ledger.Ledger.{Ledger}
-use Rattle.line_writer.specs.declared.gate.Who.{Who}
-use Rattle.line_writer.specs.LineWriters.{made_in}
-use Rattle.line_writer.specs.Asking.{HavePassed}
-use Rattle.line_writer.specs.Obeying.{AreLinesOf}
-use Rattle.reader_end.specs.Value.{ReaderEndValue}
+use Rattle.ledger_audit.specs.declared.ledger.Ledger.{Ledger}
+use Rattle.writer_thread.specs.declared.gate.Who.{Who}
+use Rattle.writer_thread.specs.LineWriters.{made_in}
+use Rattle.writer_thread.specs.Asking.{HavePassed}
+use Rattle.writer_thread.specs.Obeying.{AreLinesOf}
+use Rattle.reader_thread.specs.Value.{ReaderEndValue}
 use Rattle.threaded_run.specs.Runs.{shape_of, IsRunHistory}
 use Rattle.threaded_run.specs.Asked.{HaveReadersPassed, IsPassedLedger}
 

@@ -2,8 +2,8 @@
 ghost use Rattle.std.specs.Prelude.{List};
 ghost use Rattle.trace_model.specs.Parcel.{Parcel};
 ghost use Rattle.text_model.specs.Script.{Script as ScriptSeen};
-ghost use Rattle.run_audit.specs.Audit.{taken_in, IsAudited};
-ghost use Rattle.run_audit.specs.Headline.{IsAuditHeadline};
+ghost use Rattle.ledger_audit.specs.Audit.{taken_in, IsAudited};
+ghost use Rattle.ledger_audit.specs.Headline.{IsAuditHeadline};
 ghost use Rattle.threaded_run.specs.Runs.{IsRan};
 ghost use Rattle.threaded_run.specs.declared.running.Ran.{Ran as RanSeen};
 

@@ -5,8 +5,8 @@ ghost use Rattle.threaded_run.specs.Taking.{IsStop, IsPassedLast, HasTaken};
 
 use crate::sharing::PassesOn;
 use crossbeam_utils::Backoff;
-use line_writer::Gate;
-use reader_end::{Found, ReaderEnd};
+use writer_thread::Gate;
+use reader_thread::{Found, ReaderEnd};
 use std::alloc::Global;
 use std::snapshot::Snapshot;
 use std::sync::Wait;

@@ -6,9 +6,9 @@ ghost use Rattle.threaded_run.specs.Threads.{AreIndexes, AreRunning, AreRunLedge
 use crate::joining::with_next;
 use crate::threads::{Job, Running, complete, start};
 use crossbeam_channel::Sender;
-use line_writer::{Gate, LineIndexes};
+use writer_thread::{Gate, LineIndexes};
 use page_numbers::Parcel;
-use run_audit::Ledger;
+use ledger_audit::Ledger;
 use std::alloc::Global;
 use std::sync::Wait;
 use std::sync::atomic::AtomicBool;

@@ -1,7 +1,7 @@
 //! The run of a script by threads.
 ghost use Rattle.std.specs.Prelude.{◌≡◌, ◌≢◌, ℕ, ◌<◌, ◌≤◌, length, vec_len, vec_capacity, false, OnOk, IfOk, IfErr};
 ghost use Rattle.trace_script.specs.declared.replay_fault.ReplayFault.TheVariants.{GateShut};
-ghost use Rattle.line_writer.specs.declared.gate.Who.{Who as WhoSeen};
+ghost use Rattle.writer_thread.specs.declared.gate.Who.{Who as WhoSeen};
 ghost use Rattle.threaded_run.specs.Runs.{IsRan};
 ghost use Rattle.threaded_run.specs.Asked.{HaveAllPassed};
 ghost use Rattle.threaded_run.specs.Threads.{AreIndexes, AreRunLedgers, IsByGate};
@@ -10,9 +10,9 @@ use crate::collecting::{Collecting, join_collectors, start_collectors};
 use crate::rings::run_rings;
 use collector::Collector;
 use crossbeam_channel::Sender;
-use line_writer::{Gate, LineIndexes, lines_by_cpu};
+use writer_thread::{Gate, LineIndexes, lines_by_cpu};
 use page_numbers::Parcel;
-use run_audit::Ledger;
+use ledger_audit::Ledger;
 use std::alloc::Global;
 use std::sync::Wait;
 use std::sync::atomic::AtomicBool;

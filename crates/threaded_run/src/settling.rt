@@ -2,16 +2,16 @@
 ghost use Rattle.std.specs.Prelude.{◌≡◌, [], IfOk, IfErr};
 ghost use Rattle.page_numbers.specs.Parcels.{as_parcels};
 ghost use Rattle.ring_shared.specs.Calls.{IsWriter};
-ghost use Rattle.run_audit.specs.Audit.{taken_of};
-ghost use Rattle.reader_end.specs.Ledgers.{writer_in, IsLedger};
+ghost use Rattle.ledger_audit.specs.Audit.{taken_of};
+ghost use Rattle.reader_thread.specs.Ledgers.{writer_in, IsLedger};
 ghost use Rattle.threaded_run.specs.Asked.{HaveReadersPassed};
 ghost use Rattle.threaded_run.specs.Taking.{IsStop};
 
 use crate::reading::{Stop, pass_on};
 use crate::sharing::PassesOn;
-use reader_end::{Found, ReaderEnd, settle};
+use reader_thread::{Found, ReaderEnd, settle};
 use ring_shared::Writer;
-use run_audit::Ledger;
+use ledger_audit::Ledger;
 use std::alloc::Global;
 use std::sync::Wait;
 use trace_model::CpuId;

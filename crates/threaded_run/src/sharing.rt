@@ -1,6 +1,6 @@
 //! What becomes of a page that was taken: every collector gets it, and then the gate is asked.
 use crossbeam_channel::{SendError, Sender};
-use line_writer::{Gate, Who};
+use writer_thread::{Gate, Who};
 use page_numbers::Parcel;
 use std::sync::Wait;
 use trace_model::{CpuId, NoMemory};
@@ -9,8 +9,8 @@ use trace_model::{CpuId, NoMemory};
 pub(crate) trait PassesOn {
     ghost use Rattle.std.specs.Prelude.{ℕ, Bool, IfOk};
     ghost use Rattle.page_numbers.specs.Parcels.{as_parcel};
-    ghost use Rattle.line_writer.specs.declared.gate.Who.{Who as WhoSeen};
-    ghost use Rattle.line_writer.specs.declared.gate.Who.TheVariants as who;
+    ghost use Rattle.writer_thread.specs.declared.gate.Who.{Who as WhoSeen};
+    ghost use Rattle.writer_thread.specs.declared.gate.Who.TheVariants as who;
 
     // Which answers the gate may give.
     ghost answers: { Self → WhoSeen → (cpu fill : ℕ) → Bool → Type 0 };

@@ -1,9 +1,9 @@
 //! A writer's thread.
 ghost use Rattle.std.specs.Prelude.{◌≡◌};
 ghost use Rattle.ring_steps.specs.NewRings.{first_writing};
-ghost use Rattle.line_writer.specs.Obeying.{AreLinesOf, ObeysLines};
+ghost use Rattle.writer_thread.specs.Obeying.{AreLinesOf, ObeysLines};
 
-use line_writer::{Gate, LineIndexes, WriterEnd, obey_lines};
+use writer_thread::{Gate, LineIndexes, WriterEnd, obey_lines};
 use std::snapshot::Snapshot;
 use std::sync::atomic::{AtomicBool, Ordering};
 use std::thread::Promise;

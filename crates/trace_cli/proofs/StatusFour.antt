@@ -5,7 +5,7 @@ use Rattle.trace_model.specs.declared.limits.TheConstants.{MAX_INPUT}
 use Rattle.command_io.specs.CommandRun.{SourceRun, SinkRun, IsInputTooLong, IsCommandRun, WritesOutput}
 use Rattle.command_io.specs.declared.output.TheConstants.{THREAD_LINE}
 use Rattle.command_io.specs.declared.status.TheConstants.{END_FAILED}
-use Rattle.image_dump.specs.Dumps.{DumpGives}
+use Rattle.dump_command.specs.Dumps.{DumpGives}
 use Rattle.replay_command.specs.Commands.{PrintsReplay, PrintsFault, ReplayGives}
 use Rattle.replay_command.proofs.OneOutput.{cases_given}
 use Rattle.text_model.specs.Script.{Script}

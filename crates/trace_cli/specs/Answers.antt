@@ -3,7 +3,7 @@ use Rattle.std.specs.Prelude.{◌≡◌, ℕ, false, List}
 use Rattle.command_io.specs.CommandRun.{SourceRun, SinkRun}
 use Rattle.command_line.specs.declared.call.Call.{Call}
 use Rattle.command_line.specs.declared.call.Call.TheVariants.{Replay, Run, Steps, Dump, Collect}
-use Rattle.image_dump.specs.Dumps.{DumpGives}
+use Rattle.dump_command.specs.Dumps.{DumpGives}
 use Rattle.replay_command.specs.Commands.{ReplayGives}
 use Rattle.run_command.specs.Runs.{RunGives}
 use Rattle.steps_command.specs.Steps.{StepsGives}

@@ -7,7 +7,7 @@ ghost use Rattle.trace_cli.specs.Answers.{CallGives};
 
 use command_io::{Sink, Source, USAGE, print_memory_line};
 use command_line::{Call, CallFault};
-use image_dump::dump_to;
+use dump_command::dump_to;
 use replay_command::replay_to;
 use run_command::run_to;
 use std::alloc::Global;

@@ -10,7 +10,7 @@ use crate::streams::collect_pieces;
 use command_io::{END_FAILED, Std, USAGE, print_memory_line};
 use command_line::CollectCall;
 use std::io::IsTerminal;
-use trace_inputs::Input;
+use collect_inputs::Input;
 
 /// What the command line asks for that can't be done.
 const BOTH: &str = "tracering: --keep and --parcels exclude each other";

@@ -14,7 +14,7 @@ use command_io::WRITE_FAILED;
 use command_line::{CollectCall, CpuFile};
 use host_files::{FileMessage, FormatText, Trouble, formats_below};
 use trace_dat::{Cause, Format};
-use trace_inputs::{FileFault, Input};
+use collect_inputs::{FileFault, Input};
 
 /// The formats below the folder that is named, if one is.
 fn given_formats<'b>(

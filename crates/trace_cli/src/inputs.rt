@@ -10,7 +10,7 @@ use piece_source::Peeked;
 use std::fs::File;
 use std::io::{ErrorKind, Stdin, Stdout};
 use std::{fs, io};
-use trace_inputs::Input;
+use collect_inputs::Input;
 
 /// What an input is read from, of which the first bytes were looked at.
 pub(crate) type Reader<'a> = Peeked<Opened<'a>>;

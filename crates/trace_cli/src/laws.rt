@@ -3,7 +3,7 @@
 ghost use Rattle.std.specs.Prelude.{◌<◌, ◌≤◌, Bool};
 ghost use Rattle.std.specs.Io.KnownBytes.{Appends};
 ghost use Rattle.command_io.specs.CommandRun.{IsCommandRun, SinkRun, SourceRun};
-ghost use Rattle.image_dump.specs.Dumps.{DumpGives};
+ghost use Rattle.dump_command.specs.Dumps.{DumpGives};
 ghost use Rattle.replay_command.specs.Commands.{ReplayGives};
 ghost use Rattle.trace_cli.specs.Answers.{AreSound};
 ghost use Rattle.run_command.specs.Runs.{RunGives};

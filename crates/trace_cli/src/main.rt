@@ -16,7 +16,7 @@ pub use collect_command::collect_to;
 use command_io::message_for;
 pub use command_io::{Sink, Source, Std};
 use command_line::{Call, given_call, given_words};
-pub use image_dump::dump_to;
+pub use dump_command::dump_to;
 pub use replay_command::replay_to;
 pub use run_command::run_to;
 use std::process::ExitCode;

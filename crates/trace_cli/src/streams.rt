@@ -13,7 +13,7 @@ use host_files::{FileMessage, Trouble};
 use piece_source::PieceReader;
 use std::fs;
 use stream_command::{Collected, Ending, collect_streams, print_pieces};
-use trace_inputs::Input;
+use collect_inputs::Input;
 
 /// Readers of the inputs' pieces.
 fn readers_of<'a>(

@@ -1,7 +1,7 @@
 //! What a line of a script asks of the lane of its CPU, and how it is done.
 use crate::lane::Lane;
 use crate::reports::Reports;
-use replay_log::At;
+use log_text::At;
 use std::alloc::Global;
 use trace_model::NoMemory;
 use trace_script::Command;

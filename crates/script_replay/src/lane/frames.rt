@@ -2,7 +2,7 @@
 use crate::lane::Lane;
 use crate::reports::Reports;
 use nested_writer::WriteFault;
-use replay_log::At;
+use log_text::At;
 use ring_core::{Answer, Event};
 use ring_frames::write_padded;
 use step_text::Asked;

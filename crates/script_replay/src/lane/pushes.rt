@@ -2,7 +2,7 @@
 use crate::lane::Lane;
 use crate::lane::frames::{Told, Untold};
 use crate::reports::Reports;
-use replay_log::At;
+use log_text::At;
 use ring_core::{Answer, Event};
 use step_text::Asked;
 use trace_model::NoMemory;

@@ -4,7 +4,7 @@ use crate::lane::frames::MOST_STEPS;
 use crate::reports::Reports;
 use page_image::{Body, Page};
 use page_numbers::Parcel;
-use replay_log::At;
+use log_text::At;
 use ring_core::{Answer, Event};
 use std::alloc::Global;
 use step_text::Asked;

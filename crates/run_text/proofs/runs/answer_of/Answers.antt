@@ -1,4 +1,4 @@
-use Rattle.run_audit.specs.Audit.{taken_in}
+use Rattle.ledger_audit.specs.Audit.{taken_in}
 use Rattle.run_text.proofs.Answered.{answered}
 use Rattle.run_text.proofs.runs.answer_of.Goals as goal
 

@@ -2,7 +2,7 @@ use Rattle.std.proofs.Common.{List}
 use Rattle.trace_model.specs.Parcel.{Parcel}
 use Rattle.text_values.proofs.Behind.{behind_behind}
 use Rattle.collector_text.proofs.Appended.{put_none, put_more, put_all}
-use Rattle.run_audit.specs.Audit.{taken_in}
+use Rattle.ledger_audit.specs.Audit.{taken_in}
 use Rattle.run_text.specs.Printing.{AuditedShown, IsAuditedPrintOf, printed_audited}
 use Rattle.run_text.proofs.runs.put_all.Goals as goal
 

@@ -2,7 +2,7 @@ use Rattle.std.proofs.Common.{List, IfSome, take}
 use Rattle.trace_model.specs.Parcel.{Parcel}
 use Rattle.collector_text.specs.Prints.{StandsBetween}
 use Rattle.collector_text.proofs.Appended.{ArePut}
-use Rattle.run_audit.specs.Audit.{taken_in}
+use Rattle.ledger_audit.specs.Audit.{taken_in}
 use Rattle.run_text.specs.Printing.{AuditedShown, IsAuditedPrintOf, printed_audited}
 use Rattle.run_text.proofs.runs.put_all.Given as goal
 

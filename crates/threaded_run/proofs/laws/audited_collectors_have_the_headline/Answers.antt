@@ -1,5 +1,5 @@
-use Rattle.run_audit.specs.Audit.{taken_in}
-use Rattle.run_audit.proofs.Sums.{is_sum, headline}
+use Rattle.ledger_audit.specs.Audit.{taken_in}
+use Rattle.ledger_audit.proofs.Sums.{is_sum, headline}
 use Rattle.threaded_run.proofs.laws.audited_collectors_have_the_headline.Goals as goal
 
 pub returns : goal.returns

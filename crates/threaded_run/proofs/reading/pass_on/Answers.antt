@@ -1,7 +1,7 @@
 use Rattle.std.specs.Prelude.{ℕ, Bool, false}
 use Rattle.std.proofs.Common.{sym, subst}
 use Rattle.page_numbers.specs.Parcels.{as_parcel}
-use Rattle.line_writer.specs.declared.gate.Who.TheVariants as who
+use Rattle.writer_thread.specs.declared.gate.Who.TheVariants as who
 use Rattle.threaded_run.proofs.reading.pass_on.Goals as goal
 
 pub returns-clause-shut : goal.returns-clause-shut

@@ -3,7 +3,7 @@ use Rattle.std.specs.declared.alloc.Global.{Global}
 use Rattle.std.proofs.Common.{◌≡◌, ◌+◌, ◌-◌, subst, arith}
 use Rattle.std.specs.Vec.Iter.{into_iter_items, into_iter_len}
 use Rattle.text_model.specs.Script.{Script}
-use Rattle.run_audit.specs.declared.ledger.Ledger.{Ledger}
+use Rattle.ledger_audit.specs.declared.ledger.Ledger.{Ledger}
 use Rattle.threaded_run.specs.Asked.{IsPassedLedger}
 use Rattle.threaded_run.specs.Threads.{AreRunLedgers, IsByGate}
 use Rattle.threaded_run.proofs.Rows.{running_next, ledger_pushed, joined_on}

@@ -1,7 +1,7 @@
 use Rattle.std.proofs.Common.{subst, sym}
 use Rattle.ring_shared.specs.Value.{WriterValue}
-use Rattle.line_writer.specs.Asking.{HavePassed}
-use Rattle.line_writer.specs.Obeying.{HasObeyed}
+use Rattle.writer_thread.specs.Asking.{HavePassed}
+use Rattle.writer_thread.specs.Obeying.{HasObeyed}
 use Rattle.threaded_run.proofs.Ends.{writer_by_gate, reader_by_gate, ends_joined, ends_passed}
 use Rattle.threaded_run.proofs.threads.join.Goals as goal
 

@@ -1,7 +1,7 @@
 use Rattle.std.proofs.Common.{◌++◌, ◌∙◌}
 use Rattle.std.proofs.lemmas.Result.{on_ok_weaker}
 use Rattle.world_model.specs.Log.{logged}
-use Rattle.replay_log.specs.LogTypes.{shown_log}
+use Rattle.log_text.specs.LogTypes.{shown_log}
 use Rattle.script_replay.proofs.Reporting.{step_reported}
 use Rattle.script_replay.proofs.reports.Reports.report_told.Goals as goal
 
