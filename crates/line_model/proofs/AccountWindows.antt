@@ -1,15 +1,15 @@
 -- The window that events lead to, by the events alone: runs lead to it, and the events of an account are a run.
-use Rattle.std.proofs.Common.{◌≡◌, ◌≢◌, ℕ, zero, suc, ◌+◌, ◌<◌, ◌⊎◌, List, [], ◌∷◌, ◌++◌, length, Some, refl, sym, ap, ◌∙◌, subst, inl, inr, ⊎_elim, arith, append_assoc, append-nil}
+use Rattle.std.proofs.Common.{◌≡◌, ℕ, zero, suc, ◌<◌, ◌⊎◌, List, [], ◌∷◌, ◌++◌, length, Some, refl, sym, ap, ◌∙◌, subst, inl, inr, ⊎_elim, arith, append_assoc, append-nil}
 use Rattle.std.specs.Prelude.{IsTrue, fold}
 use Rattle.std.specs.List.{slice_get}
 use Rattle.std.proofs.lemmas.List.Sums.{fold-append}
 use Rattle.std.proofs.lemmas.Option.{slice_get_cases}
-use Rattle.trace_model.specs.History.{HistoryEvent, push, push_close, open_fill, reserve, leave, wished, PushedFrame, writer_after, is_settled}
+use Rattle.trace_model.specs.History.{HistoryEvent, push, push_close, open_fill, reserve, leave, wished, writer_after, is_settled}
 use Rattle.trace_model.specs.Window.{Window, first_window, closes, takes, loses, window_after, MayMove, RingEvent, acts, history_events_of, WindowRun, WindowRunFrom}
 use Rattle.ring_model.proofs.histories.WindowRuns.{history_events-append, run-append}
 use Rattle.text_model.specs.Script.{Command, begin_frame, step_frame, finish_frame, write, close, step_reader, take_page, wish, deliver, Script}
 use Rattle.line_model.specs.Due.{window_at, situation_after, IsDue}
-use Rattle.line_model.specs.Accounts.{CpuState, IsIdle, Begins, refuses_frame, pushes_frame, MayGo, stays_on, is_gone, StepsTop, lacks_to_step, steps_on, FinishesTop, lacks_to_finish, finishes_it, WritesWhole, refuses_whole, writes_it, TakesPage, ReadsOn, Asks, Adds, IsLine, IsAccount}
+use Rattle.line_model.specs.Accounts.{CpuState, IsIdle, Begins, refuses_frame, pushes_frame, stays_on, is_gone, StepsTop, lacks_to_step, steps_on, FinishesTop, lacks_to_finish, finishes_it, WritesWhole, refuses_whole, writes_it, TakesPage, ReadsOn, Asks, Adds, IsAccount}
 use Rattle.line_model.proofs.Standing.{AreDue}
 
 act_moves : (w : Window) (a : HistoryEvent) → window_after w (acts a) ≡ window_after w (acts a)

@@ -1,8 +1,6 @@
 -- Each line of a script, from a ring that stands beside an account: a line of the account, and it stands again.
-use Rattle.std.proofs.Common.{◌≡◌, ◌≢◌, ℕ, ◌≤◌, List, [], ◌∷◌, length, refl, sym, subst, inl, inr, arith}
+use Rattle.std.proofs.Common.{◌≡◌, ◌≢◌, ℕ, List, [], refl, inl, inr, arith}
 use Rattle.std.specs.Prelude.{⊤}
-use Rattle.text_model.specs.declared.script_limits.TheConstants.{MIN_LINE_STEPS}
-use Rattle.trace_model.specs.declared.limits.TheConstants.{MAX_FRAMES}
 use Rattle.trace_model.specs.Window.{RingEvent}
 use Rattle.trace_model.specs.Steps.{Exchange}
 use Rattle.text_model.specs.Script.{Command, begin_frame, step_frame, finish_frame, write, close, step_reader, take_page, wish, deliver, Script}

@@ -1,6 +1,6 @@
 -- What a line has a frame do, if there are others below it, ends with its leave.
-use Rattle.std.proofs.Common.{◌≡◌, ◌≢◌, ℕ, ◌⊎◌, List, [], ◌∷◌, ◌++◌, Option, Some, None, refl, sym, ap, ◌∙◌, inl, inr}
-use Rattle.trace_model.specs.History.{HistoryEvent, push, push_close, open_fill, reserve, leave, wished}
+use Rattle.std.proofs.Common.{◌≡◌, ℕ, List, [], ◌∷◌, ◌++◌, Option, Some, None, refl, sym, ap, ◌∙◌, inl, inr}
+use Rattle.trace_model.specs.History.{push, push_close, open_fill, reserve, leave, wished}
 use Rattle.trace_model.specs.Window.{RingEvent, acts, closes, takes, loses}
 use Rattle.line_model.specs.Accounts.{LineFrame, IsThere, IsOwn, Does}
 

@@ -1,12 +1,11 @@
 -- What is printed of a script whose lines ask for no single steps, without a log, is one text.
-use Rattle.std.proofs.Common.{◌≡◌, ℕ, zero, suc, ◌+◌, ◌<◌, ◌≤◌, false, List, [], ◌∷◌, ◌++◌, length, flat_map, Some, Contains, refl, sym, ap, ◌∙◌, subst, arith}
+use Rattle.std.proofs.Common.{◌≡◌, ℕ, suc, ◌+◌, ◌<◌, ◌≤◌, false, List, [], ◌∷◌, ◌++◌, length, flat_map, Some, Contains, refl, sym, ap, ◌∙◌, subst, arith}
 use Rattle.std.specs.Prelude.{slice_index_or}
 use Rattle.std.specs.List.{slice_get, AllZip, enumerate_from}
-use Rattle.std.proofs.lemmas.Option.{none-some, slice_get_within, get_or_from_slice_get, slice_get-get_or}
+use Rattle.std.proofs.lemmas.Option.{slice_get_within, get_or_from_slice_get, slice_get-get_or}
 use Rattle.trace_model.specs.History.{committed_records}
 use Rattle.trace_model.specs.Window.{RingEvent, history_events_of}
-use Rattle.trace_model.specs.Listing.{Line, IsTimeOrdered}
-use Rattle.trace_model.proofs.collections.Elements.{some_is}
+use Rattle.trace_model.specs.Listing.{Line}
 use Rattle.trace_model.proofs.collections.Listings.{Stands, same_lines}
 use Rattle.ring_model.specs.RunsAsEvents.{fills_taken}
 use Rattle.text_model.specs.Script.{Command, deliver, Script}

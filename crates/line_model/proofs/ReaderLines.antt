@@ -256,8 +256,10 @@ module _ (c between after : Core) (first : GoesOn c between) (stays : Stays c be
   answers_behind a = record {
     takes = ⊎_elim
         (λ one. inl (one_behind one))
-        (λ (none, why). inr (none_behind none,
-        ⊎_elim (λ way. inl (way_behind way)) (λ all. inr (sym first.none.head ∙ all ∙ stays.done)) why))
+        (λ (none, why). inr (
+          none_behind none,
+          ⊎_elim (λ way. inl (way_behind way)) (λ all. inr (sym first.none.head ∙ all ∙ stays.done)) why,
+        ))
         a.takes;
     sees = sees_behind a.sees;
     knows = λ looked. ⊎_elim
@@ -364,11 +366,13 @@ module _ (n size start : ℕ) where
       let left = all_left core.frames before.payloads fit in
       let (rest, payloads) = reader_stays (lane_behind before core) after xs
       (reached_further n size start before.core reads x.answer core reached step)
-      (ap (λ (l : List (List ℕ)). length l) left ∙ fit) run in
-      (record {
-        frames = rest.frames ∙ stays.frames;
-        history = rest.history ∙ stays.history;
-        done = rest.done ∙ stays.done;
-        opened = rest.opened ∙ stays.opened;
-        wish = rest.wish ∙ stays.wish;
-      }, payloads ∙ left)
+      (ap (λ (l : List (List ℕ)). length l) left ∙ fit) run in (
+        record {
+          frames = rest.frames ∙ stays.frames;
+          history = rest.history ∙ stays.history;
+          done = rest.done ∙ stays.done;
+          opened = rest.opened ∙ stays.opened;
+          wish = rest.wish ∙ stays.wish;
+        },
+        payloads ∙ left,
+      )

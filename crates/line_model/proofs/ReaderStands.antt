@@ -1,21 +1,21 @@
 -- The lines of a reader, from a ring that stands beside an account: they are lines of the account, and it stands again.
-use Rattle.std.proofs.Common.{◌≡◌, ◌≢◌, ℕ, suc, ◌+◌, ◌<◌, ◌⊎◌, Bool, true, false, List, [], ◌∷◌, ◌++◌, length, refl, sym, ap, ◌∙◌, subst, inl, inr, ⊎_elim, arith, append_assoc, append-nil}
+use Rattle.std.proofs.Common.{◌≡◌, ℕ, ◌+◌, ◌<◌, ◌⊎◌, Bool, true, false, List, [], ◌∷◌, ◌++◌, length, refl, sym, ap, ◌∙◌, subst, inl, inr, ⊎_elim, arith, append_assoc, append-nil}
 use Rattle.std.proofs.lemmas.List.{length-append}
 use Rattle.trace_model.specs.Frames.{Frame}
-use Rattle.trace_model.specs.Window.{Window, RingEvent, takes, history_events_of}
-use Rattle.trace_model.specs.Ring.{ReaderPhase, loading_head, TakenFill, Core, window_of}
+use Rattle.trace_model.specs.Window.{Window, RingEvent, takes}
+use Rattle.trace_model.specs.Ring.{ReaderPhase, loading_head, Core, window_of}
 use Rattle.trace_model.specs.ReaderSteps.{with_wish}
 use Rattle.trace_model.specs.Steps.{Exchange}
 use Rattle.trace_model.proofs.steps.StepSound.{cases_of}
 use Rattle.ring_model.specs.Reached.{IsReached}
 use Rattle.ring_model.specs.RunsAsEvents.{AreEventsOfRun}
-use Rattle.text_model.specs.Script.{Command, step_reader, take_page, wish, Script}
-use Rattle.world_model.specs.Lanes.{Lane, HasPayloads, ReaderRun, HasTakeAnswer, Wishes, LineRun}
+use Rattle.text_model.specs.Script.{Command, wish, Script}
+use Rattle.world_model.specs.Lanes.{Lane, HasPayloads, ReaderRun, HasTakeAnswer, LineRun}
 use Rattle.world_model.proofs.LanePayloads.{line_fits}
 use Rattle.world_model.proofs.LineRuns.{line_run}
 use Rattle.world_model.proofs.WorldsKept.{reached_on}
 use Rattle.line_model.specs.Due.{window_at, situation_after, IsDue}
-use Rattle.line_model.specs.Accounts.{LineFrame, CpuState, IsMoving, TakesPage, ReadsOn, Asks}
+use Rattle.line_model.specs.Accounts.{CpuState, IsMoving, TakesPage, ReadsOn, Asks}
 use Rattle.line_model.proofs.Standing.{FramesStand, Stands, AreDue}
 use Rattle.line_model.proofs.StandingKept.{window_stands, way_moves, payloads_many, all_left, run_rests, run_takes}
 use Rattle.line_model.proofs.ReaderLines.{Knows, HasLooked, Sees, TakesNone, TakesOne, Stays, Answers, IsInTheWay, wish_is, reader_takes, take_answers, reader_stays}
@@ -209,8 +209,10 @@ module _ (script : Script) (lane next : Lane) (state : CpuState) (stands : Stand
             own = [];
             after = with_seen [] false;
             part = record {
-              own_is = inr (refl,
-              ⊎_elim (λ way. inl (is_moving way)) (λ all. inr (sym head_now ∙ all ∙ done_now)) why);
+              own_is = inr (
+                refl,
+                ⊎_elim (λ way. inl (is_moving way)) (λ all. inr (sym head_now ∙ all ∙ done_now)) why,
+              );
               seen = next.core.reader.seen;
               seen_is = seen_at [] (λ none. refl);
               after_is = refl;

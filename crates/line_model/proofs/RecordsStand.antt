@@ -1,12 +1,12 @@
 -- Between two lines all frames on the stack are record frames.
-use Rattle.std.proofs.Common.{◌≡◌, ℕ, suc, ◌-◌, ◌<◌, ◌≤◌, ◌⊎◌, List, [], ◌∷◌, length, refl, sym, ap, ◌∙◌, subst, inl, inr, arith}
+use Rattle.std.proofs.Common.{◌≡◌, ℕ, suc, ◌≤◌, List, [], ◌∷◌, length, refl, sym, ap, ◌∙◌, subst, inr, arith}
 use Rattle.trace_model.specs.History.{HistoryEvent}
-use Rattle.trace_model.specs.Frames.{Purpose, for_record, for_close, Frame}
+use Rattle.trace_model.specs.Frames.{Purpose, for_record, Frame}
 use Rattle.trace_model.specs.Ring.{Core}
-use Rattle.trace_model.specs.Steps.{Event, pushes, pushes_close, steps, ends, reads, wishes, Answer, pushed, going, reserved_as, pending, full, gone, refused, reading, empty, moving, page_taken, wished_for, Step, Exchange}
+use Rattle.trace_model.specs.Steps.{reads, wishes, Answer, Exchange}
 use Rattle.trace_model.proofs.steps.StepSound.{cases_of}
 use Rattle.text_model.specs.Script.{Command, begin_frame, step_frame, finish_frame, write, close, step_reader, take_page, wish, deliver}
-use Rattle.world_model.specs.Lanes.{Lane, lane_behind, event_on_top, FrameRun, StepsFrame, lacks_to_step, steps_on, FinishesFrame, lacks_to_finish, finishes, PushesFrame, FinishesPushed, WritesFrame, ReaderRun, Wishes, LineRun}
+use Rattle.world_model.specs.Lanes.{Lane, lane_behind, FrameRun, StepsFrame, lacks_to_step, steps_on, FinishesFrame, lacks_to_finish, finishes, FinishesPushed, ReaderRun, LineRun}
 use Rattle.world_model.proofs.FramesMove.{Moves, PushesNone, step_moves}
 use Rattle.world_model.proofs.LanePayloads.{pushes_none}
 use Rattle.line_model.specs.LineParts.{AreForRecords}

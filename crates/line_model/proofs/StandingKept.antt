@@ -1,20 +1,19 @@
 -- A ring beside an account: how many frames there are, which window its events lead to, and that its events go on.
-use Rattle.std.proofs.Common.{◌≡◌, ◌≢◌, ℕ, zero, suc, ◌+◌, ◌-◌, ◌<◌, ◌⊎◌, true, List, [], ◌∷◌, ◌++◌, length, drop, Option, Some, None, refl, sym, ap, ◌∙◌, subst, arith, append-nil}
-use Rattle.std.specs.Prelude.{Contains}
+use Rattle.std.proofs.Common.{◌≡◌, ◌≢◌, ℕ, zero, suc, ◌+◌, ◌-◌, ◌<◌, List, [], ◌∷◌, ◌++◌, length, drop, Some, refl, sym, ap, ◌∙◌, subst, arith, append-nil}
 use Rattle.std.specs.List.{slice_get}
 use Rattle.std.proofs.lemmas.Option.{none-some}
 use Rattle.trace_model.specs.History.{HistoryEvent}
 use Rattle.trace_model.specs.Window.{Window, first_window, RingEvent, acts, takes, history_events_of, window_after, MayMove, WindowRunFrom}
 use Rattle.trace_model.specs.Frames.{owned_update, Frame}
-use Rattle.trace_model.specs.Ring.{TakenFill, Core, Moves, IsMoved, window_of}
+use Rattle.trace_model.specs.Ring.{TakenFill, Core, IsMoved, window_of}
 use Rattle.trace_model.proofs.collections.Elements.{some_is}
 use Rattle.ring_model.specs.RunsAsEvents.{fills_taken, numbers_of, AreEventsOfRun}
 use Rattle.ring_model.proofs.histories.WindowRuns.{history_events-append, run-append, taken-append, numbers-push}
 use Rattle.text_model.specs.Script.{Script}
-use Rattle.world_model.specs.Lanes.{Lane, payloads_left, lane_behind}
+use Rattle.world_model.specs.Lanes.{Lane, payloads_left}
 use Rattle.line_model.specs.Due.{window_at}
 use Rattle.line_model.specs.Accounts.{LineFrame, CpuState, IsMoving}
-use Rattle.line_model.proofs.Standing.{FrameStands, FramesStand, Stands}
+use Rattle.line_model.proofs.Standing.{FramesStand, Stands}
 use Rattle.line_model.proofs.AccountWindows.{run_leads}
 
 -- ---- frames

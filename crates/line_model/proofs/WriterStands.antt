@@ -1,24 +1,23 @@
 -- The lines of a writer, from a ring that stands beside an account: they are lines of the account, and it stands again.
-use Rattle.std.proofs.Common.{◌≡◌, ◌≢◌, ℕ, zero, suc, ◌+◌, ◌<◌, ◌≤◌, ◌⊎◌, Bool, true, false, List, [], ◌∷◌, ◌++◌, length, Option, Some, None, refl, sym, ap, ◌∙◌, subst, inl, inr, ⊎_elim, arith, append_assoc, append-nil}
+use Rattle.std.proofs.Common.{◌≡◌, ◌≢◌, ℕ, ◌≤◌, Bool, true, false, List, [], ◌∷◌, ◌++◌, length, Some, None, refl, sym, ap, ◌∙◌, subst, inl, inr, ⊎_elim, arith, append_assoc}
 use Rattle.trace_model.specs.declared.limits.TheConstants.{MAX_FRAMES}
-use Rattle.trace_model.specs.Words.{padded}
 use Rattle.trace_model.specs.History.{HistoryEvent, push, push_close, open_fill, reserve, leave, wished}
 use Rattle.trace_model.specs.Frames.{Purpose, for_record, for_close, idle, noted_fill, Frame, WriteFault}
-use Rattle.trace_model.specs.Window.{Window, RingEvent, acts, closes, takes, loses, history_events_of}
+use Rattle.trace_model.specs.Window.{RingEvent, acts, closes, takes, loses, history_events_of}
 use Rattle.trace_model.specs.Ring.{Core}
-use Rattle.trace_model.specs.Steps.{Event, pushes, pushes_close, Answer, pushed, refused, with_history_event, with_frame, Step, Exchange}
+use Rattle.trace_model.specs.Steps.{pushes, pushes_close, Answer, pushed, refused, with_history_event, with_frame, Exchange}
 use Rattle.trace_model.proofs.steps.StepSound.{cases_of}
 use Rattle.ring_model.specs.Reached.{IsReached}
 use Rattle.ring_model.proofs.partition.RingsKept.{reached_further}
 use Rattle.text_model.specs.Script.{Script}
-use Rattle.world_model.specs.Lanes.{Lane, HasPayloads, FitsKind, payloads_with, lane_with, FrameRun, IsGone, IsStepped, StepsFrame, lacks_to_step, steps_on, FinishesFrame, lacks_to_finish, finishes, PushesFrame, FinishesPushed, WritesFrame}
-use Rattle.line_model.specs.Due.{Situation, situation_after, window_at, NeedsPage, IsDue}
-use Rattle.line_model.specs.Accounts.{LineFrame, CpuState, IsThere, IsOwn, frame_after, Does, HasGone, with_own, IsIdle, new_frame, IsRefused, Begins, refuses_frame, pushes_frame, MayGo, stays_on, is_gone, StepsTop, FinishesTop, finishes_it, WritesWhole, refuses_whole, writes_it}
+use Rattle.world_model.specs.Lanes.{Lane, FitsKind, lane_with, FrameRun, IsGone, StepsFrame, lacks_to_step, steps_on, FinishesFrame, lacks_to_finish, finishes, PushesFrame, FinishesPushed, WritesFrame}
+use Rattle.line_model.specs.Due.{Situation, situation_after, IsDue}
+use Rattle.line_model.specs.Accounts.{LineFrame, CpuState, IsOwn, frame_after, Does, HasGone, with_own, IsIdle, new_frame, IsRefused, Begins, refuses_frame, pushes_frame, MayGo, stays_on, is_gone, StepsTop, FinishesTop, finishes_it, WritesWhole, refuses_whole, writes_it}
 use Rattle.line_model.specs.CallEvents.{IsRecordOnTop}
 use Rattle.line_model.specs.LineParts.{AreForRecords}
 use Rattle.line_model.proofs.Standing.{FramesStand, Stands, AreDue, IsFresh, StaysOrGoes, TopDoes}
 use Rattle.line_model.proofs.TopsDo.{tops_do}
-use Rattle.line_model.proofs.StandingKept.{frames_many, no_lines, some_lines, frames_count, BeginsNone, run_acts}
+use Rattle.line_model.proofs.StandingKept.{no_lines, some_lines, frames_count, BeginsNone, run_acts}
 use Rattle.line_model.proofs.PushCases.{PushCases, is_pushed, is_refused, Refuses, record_push, close_push}
 use Rattle.line_model.proofs.RecordsStand.{HasRecords}
 use Rattle.line_model.proofs.ReaderStands.{PartStands, none_due, more_due}
