@@ -232,15 +232,6 @@ module _ (c between after : Core) (first : GoesOn c between) (stays : Stays c be
     taken = t.taken ∙ ap (λ (l : List TakenFill). l ++ t.page ∷ []) first.none.taken;
   }
 
-  stays_behind : Stays between after → Stays c after
-  stays_behind s = record {
-    frames = s.frames ∙ stays.frames;
-    history = s.history ∙ stays.history;
-    done = s.done ∙ stays.done;
-    opened = s.opened ∙ stays.opened;
-    wish = s.wish ∙ stays.wish;
-  }
-
   sees_behind : Sees between after → Sees c after
   sees_behind (inl all) = inl (all ∙ stays.done)
   sees_behind (inr same) = ⊎_elim (λ all. inl (same ∙ all)) (λ old. inr (same ∙ old)) first.sees
@@ -295,10 +286,6 @@ module _ (n size start : ℕ) where
   -- an answered step ends a take, or takes none
   may_take : (c after : Core) → Answers c after → MayTake c after
   may_take c after a = (⊎_elim (λ one. inl one) (λ (none, why). inr none) a.takes, a.sees)
-
-  -- the lane that a step leads to, and the run behind it, as the last lane
-  abbrev Leads : (Core → Core → Type 0) → Lane → Lane → Type 0
-  Leads P before after = P before.core after.core
 
   some : (x : Exchange) (xs : List Exchange) → ◌≢◌ {A = List Exchange} (x ∷ xs) []
   some x xs none = let e = ap (λ (l : List Exchange). length l) none in let no : ⊥ = omega (arith, e) in no

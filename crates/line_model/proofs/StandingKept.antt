@@ -106,16 +106,10 @@ module _ (script : Script) (lane : Lane) (state : CpuState) (stands : Stands scr
   window_stands =
       run_leads script.pages [] (first_window script.start) (window_of lane.core) state.events stands.run.window
 
-  pub history_stands : history_events_of state.events ≡ lane.core.history
-  history_stands = stands.run.history_events
-
   pub frames_count : length state.frames ≡ length lane.core.frames
   frames_count = frames_many lane.core.frames lane.payloads state.frames stands.frames
 
 module _ (n start : ℕ) (c after : Core) (events : List RingEvent) (run : AreEventsOfRun n start c events) where
-  abbrev window_moves : List RingEvent → Type 0
-  window_moves own = WindowRunFrom n c.history (window_of c) own (window_of after)
-
   -- events that go on with the run
   pub run_on : (own : List RingEvent)
       → after.history ≡ c.history ++ history_events_of own

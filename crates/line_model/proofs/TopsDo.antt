@@ -262,23 +262,3 @@ tops_do script before state top below exchanges after stands is fresh run =
           r.first on_top some (new_stand before.core.frames before.payloads top below stack new) free;
       ends = r.ends;
     }
-
--- ---- when the frame on top is fresh
-
-abbrev first_frame : Frame → List Frame → Frame
-first_frame other [] = other
-first_frame other (frame ∷ frames) = frame
-
--- a record frame is
-pub record_fresh : (c : Core) → IsRecordOnTop c.frames → IsFresh c
-record_fresh c on_top frame below o top closing waits noted = absurd (subst IsRecordOnTop top on_top closing)
-
--- so is a frame that was just pushed
-pub pushed_fresh : (c : Core) (kind : Purpose) (under : List Frame)
-    → c.frames ≡ record { kind = kind; state = waiting; phase = idle } ∷ under
-    → IsFresh c
-pushed_fresh c kind under is frame below o top closing waits noted =
-    let same : frame ≡ record { kind = kind; state = waiting; phase = idle } =
-    ap (first_frame frame) (sym top ∙ is) in
-    let both : None ≡ Some o = sym (ap (λ (f : Frame). noted_fill f.phase) same) ∙ noted in
-    absurd (let no : ⊥ = cc in no)
