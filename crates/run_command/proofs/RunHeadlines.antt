@@ -36,7 +36,7 @@ use Rattle.ledger_audit.proofs.Sums.{own, is_sum, headline}
 use Rattle.run_text.specs.Verdicts.{Verdict, IsVerdict}
 use Rattle.run_text.specs.Printing.{AuditedShown, IsAuditedPrintOf}
 use Rattle.threaded_run.specs.declared.running.Ran.{Ran}
-use Rattle.threaded_run.specs.Runs.{IsRunHistory, IsOneRunOf, IsRunLedger, ring_of, IsRan}
+use Rattle.threaded_run.specs.Runs.{IsRunHistory, IsOneRunOf, IsRunLedger, ring_of, IsRunOfScript}
 use Rattle.reader_thread.specs.Ledgers.{writer_in, reader_in}
 use Rattle.run_command.specs.Runs.{IsRunPrinting, IsRunOutput, RunGives, IsRingRun, IsRunHeadline, HeadlineGives}
 
@@ -56,7 +56,7 @@ same_runs holds other runs both are = record {
   whole = λ number has. are.whole number ((both number).1 has);
 }
 
-module _ (script : Script) (ran : Ran) (run : IsRan script ran) where
+module _ (script : Script) (ran : Ran) (run : IsRunOfScript script ran) where
   abbrev ledgers : List Ledger
   ledgers = ran.ledgers.items
 

@@ -9,7 +9,7 @@ use Rattle.world_model.specs.RunEvents.{AreEventsOfSteps}
 use Rattle.line_model.specs.WriterCalls.{exchanges_to}
 use Rattle.line_model.specs.Shown.{IsShownOf}
 use Rattle.ledger_audit.specs.Audit.{taken_in}
-use Rattle.threaded_run.specs.Runs.{IsRunHistory, IsOneRunOf, IsRan}
+use Rattle.threaded_run.specs.Runs.{IsRunHistory, IsOneRunOf, IsRunOfScript}
 use Rattle.threaded_run.specs.declared.running.Ran.{Ran}
 use Rattle.run_text.specs.Verdicts.{yes}
 use Rattle.run_text.specs.Printing.{AuditedShown, IsAuditedPrintOf, printed_run}
@@ -21,7 +21,7 @@ use Rattle.replay_command.specs.Commands.{PrintsFault}
 -- what its audit against the parcels of the run's ledgers answers.
 pub record IsRunPrinting (script : Script) (bytes : List ℕ) : Type 0 where
   pub ran : Ran
-  pub of_script : IsRan script ran
+  pub of_script : IsRunOfScript script ran
   pub shown : List AuditedShown
   pub reported : AllZip (IsAuditedPrintOf (taken_in ran.ledgers.items)) ran.collectors.items shown
   pub printed : bytes ≡ printed_run shown

@@ -6,11 +6,10 @@ ghost use Rattle.command_io.specs.CommandRun.{IsCommandRun, WritesOutput, source
 ghost use Rattle.command_io.specs.Output.{bytes_of, status_of};
 ghost use Rattle.ledger_audit.specs.Audit.{taken_in};
 ghost use Rattle.run_text.specs.Printing.{AuditedShown, IsAuditedPrintOf, printed_run};
-ghost use Rattle.threaded_run.specs.Runs.{IsRan};
+ghost use Rattle.threaded_run.specs.Runs.{IsRunOfScript};
 ghost use Rattle.run_command.specs.Runs.{IsRunOutput, RunGives, HeadlineGives};
 
 use command_io::{Command, DONE, Output, Sink, Source, carry_out};
-use writer_thread::OpenGate;
 use replay_command::{fault_line, read_text};
 use run_text::put_run;
 use std::alloc::Global;
@@ -19,6 +18,7 @@ use std::thread::Threads;
 use threaded_run::{Ran, run};
 use trace_model::NoMemory;
 use trace_script::{ReplayFault, Script, ScriptFault};
+use writer_thread::OpenGate;
 
 /// What a run of the script leaves, or nothing if a thread can't be started.
 fn ran<R: Threads + Wait + Sync>(
@@ -26,7 +26,7 @@ fn ran<R: Threads + Wait + Sync>(
     alloc: Global,
     script: &Script,
 ) -> Result<Option<Ran>, NoMemory>
-    ensures { IfOk result (λ found. IfSome found (λ ran. IsRan script.now ran)) }
+    ensures { IfOk result (λ found. IfSome found (λ ran. IsRunOfScript script.now ran)) }
 {
     match run(rt, alloc, script, &OpenGate) {
         Ok(ran) => Ok(Some(ran)),

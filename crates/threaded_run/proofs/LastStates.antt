@@ -15,7 +15,7 @@ use Rattle.ledger_audit.specs.Audit.{taken_of}
 use Rattle.threaded_run.specs.declared.running.Ran.{Ran}
 use Rattle.writer_thread.specs.declared.gate.Who.{Who}
 use Rattle.reader_thread.specs.Ledgers.{writer_in}
-use Rattle.threaded_run.specs.Runs.{IsRunHistory, ring_of, IsRan}
+use Rattle.threaded_run.specs.Runs.{IsRunHistory, ring_of, IsRunOfScript}
 use Rattle.threaded_run.specs.Asked.{IsPassedLedger, HaveAllPassed}
 use Rattle.threaded_run.specs.Threads.{AreRunLedgers}
 
@@ -113,7 +113,7 @@ module _ {Gate : Type 0} (answers : Gate → Who → (cpu fill : ℕ) → Bool �
 
   pub is_ran : vec_len ran.collectors ≡ script.collectors
       → vec_len ran.ledgers ≡ script.cpus
-      → IsRan script ran
+      → IsRunOfScript script ran
   is_ran collectors cpus =
       let known : (cpu : ℕ) → cpu < script.cpus → (ledger : Ledger) × (slice_get ledgers cpu ≡ Some ledger) =
       λ cpu low. there ledgers cpu (omega (arith, ran.ledgers.ok.0)) in

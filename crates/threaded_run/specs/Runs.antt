@@ -78,7 +78,7 @@ ring_of run = run.is_ledger.settled.one_run.last
 
 -- A run leaves as many collectors as its script has, and a ledger for each CPU, in their order. The ledgers are those
 -- of rings, whose last states are these: so the headline holds of each collector that is audited against them.
-pub record IsRan (script : Script) (ran : Ran) : Type 0 where
+pub record IsRunOfScript (script : Script) (ran : Ran) : Type 0 where
   pub collectors : vec_len ran.collectors ≡ script.collectors
   pub cpus : vec_len ran.ledgers ≡ script.cpus
   pub rings : ℕ → Core

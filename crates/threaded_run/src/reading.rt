@@ -5,7 +5,6 @@ ghost use Rattle.threaded_run.specs.Taking.{IsStop, IsPassedLast, HasTaken};
 
 use crate::sharing::PassesOn;
 use crossbeam_utils::Backoff;
-use writer_thread::Gate;
 use reader_thread::{Found, ReaderEnd};
 use std::alloc::Global;
 use std::snapshot::Snapshot;
@@ -13,6 +12,7 @@ use std::sync::Wait;
 use std::sync::atomic::{AtomicBool, Ordering};
 use std::thread::Promise;
 use trace_model::{CpuId, FillNo, NoMemory};
+use writer_thread::Gate;
 
 /// Why a reader's thread has stopped before its last take: one that began after its writer was over, and found nothing.
 #[derive(Clone, Copy, Debug)]

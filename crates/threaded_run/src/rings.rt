@@ -6,9 +6,8 @@ ghost use Rattle.threaded_run.specs.Threads.{AreIndexes, AreRunning, AreRunLedge
 use crate::joining::with_next;
 use crate::threads::{Job, Running, complete, start};
 use crossbeam_channel::Sender;
-use writer_thread::{Gate, LineIndexes};
-use page_numbers::Parcel;
 use ledger_audit::Ledger;
+use page_numbers::Parcel;
 use std::alloc::Global;
 use std::sync::Wait;
 use std::sync::atomic::AtomicBool;
@@ -16,6 +15,7 @@ use std::thread;
 use std::thread::{Scope, Threads};
 use trace_model::CpuId;
 use trace_script::{ReplayFault, Script};
+use writer_thread::{Gate, LineIndexes};
 
 /// Starts the threads of each CPU's ring. On a fault, those that were started before it are among the threads.
 fn start_rings<'s, E, R: Threads + Wait + Sync, G: Gate>(

@@ -2,7 +2,7 @@
 ghost use Rattle.std.specs.Prelude.{◌≡◌, ◌≢◌, ℕ, ◌<◌, ◌≤◌, length, vec_len, vec_capacity, false, OnOk, IfOk, IfErr};
 ghost use Rattle.trace_script.specs.declared.replay_fault.ReplayFault.TheVariants.{GateShut};
 ghost use Rattle.writer_thread.specs.declared.gate.Who.{Who as WhoSeen};
-ghost use Rattle.threaded_run.specs.Runs.{IsRan};
+ghost use Rattle.threaded_run.specs.Runs.{IsRunOfScript};
 ghost use Rattle.threaded_run.specs.Asked.{HaveAllPassed};
 ghost use Rattle.threaded_run.specs.Threads.{AreIndexes, AreRunLedgers, IsByGate};
 
@@ -10,15 +10,15 @@ use crate::collecting::{Collecting, join_collectors, start_collectors};
 use crate::rings::run_rings;
 use collector::Collector;
 use crossbeam_channel::Sender;
-use writer_thread::{Gate, LineIndexes, lines_by_cpu};
-use page_numbers::Parcel;
 use ledger_audit::Ledger;
+use page_numbers::Parcel;
 use std::alloc::Global;
 use std::sync::Wait;
 use std::sync::atomic::AtomicBool;
 use std::thread;
 use std::thread::{Scope, Threads};
 use trace_script::{ReplayFault, Script};
+use writer_thread::{Gate, LineIndexes, lines_by_cpu};
 
 /// What a run leaves.
 #[derive(Debug, Drop)]
@@ -82,7 +82,7 @@ fn run_with<'s, E, R: Threads + Wait + Sync, G: Gate>(
 ) -> Result<Ran, ReplayFault>
     requires indexes { AreIndexes script.now indexes.now }
     requires over { length over.now ≡ script.now.cpus }
-    ensures ran { IfOk result (IsRan script.now) }
+    ensures ran { IfOk result (IsRunOfScript script.now) }
     ensures passed { IfOk result (HaveAllPassed G.answers gate.now script.now) }
     ensures shut { IfErr result (IsByGate G.answers gate.now script.now.cpus) }
 {
@@ -125,7 +125,7 @@ pub fn run<R: Threads + Wait + Sync, G: Gate>(
     gate: &G,
 ) -> Result<Ran, ReplayFault>
     // The collectors and the ledgers are as many as the script says; each ledger is that of its CPU's lines.
-    ensures ran { IfOk result (IsRan script.now) }
+    ensures ran { IfOk result (IsRunOfScript script.now) }
     // Each writer asked the gate for each fill that it closed, and each reader for each page that it took.
     ensures passed { IfOk result (HaveAllPassed G.answers gate.now script.now) }
     // The gate is blamed only if it may answer false to a thread of one of the script's CPUs.
@@ -141,7 +141,7 @@ pub fn run<R: Threads + Wait + Sync, G: Gate>(
         rt,
         |scope| -> Result<Ran, ReplayFault>
             requires { AreIndexes script.now indexes.now × (length over.now ≡ script.now.cpus) }
-            ensures { IfOk result (IsRan script.entry.now)
+            ensures { IfOk result (IsRunOfScript script.entry.now)
                 × IfOk result (HaveAllPassed G.answers gate.entry.now script.entry.now)
                 × IfErr result (IsByGate G.answers gate.entry.now script.entry.now.cpus) }
         { run_with(rt, scope, alloc, script, gate, indexes, over) },

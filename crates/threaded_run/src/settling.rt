@@ -9,9 +9,9 @@ ghost use Rattle.threaded_run.specs.Taking.{IsStop};
 
 use crate::reading::{Stop, pass_on};
 use crate::sharing::PassesOn;
+use ledger_audit::Ledger;
 use reader_thread::{Found, ReaderEnd, settle};
 use ring_shared::Writer;
-use ledger_audit::Ledger;
 use std::alloc::Global;
 use std::sync::Wait;
 use trace_model::CpuId;

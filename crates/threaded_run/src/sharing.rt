@@ -1,9 +1,9 @@
 //! What becomes of a page that was taken: every collector gets it, and then the gate is asked.
 use crossbeam_channel::{SendError, Sender};
-use writer_thread::{Gate, Who};
 use page_numbers::Parcel;
 use std::sync::Wait;
 use trace_model::{CpuId, NoMemory};
+use writer_thread::{Gate, Who};
 
 /// To what a reader's pages are passed on.
 pub(crate) trait PassesOn {

@@ -14,11 +14,10 @@ use crate::settling::settle_ends;
 use crate::sharing::Passing;
 use crate::writing::{Writes, write_lines};
 use crossbeam_channel::Sender;
-use writer_thread::{Gate, LineIndexes, WriterEnd};
+use ledger_audit::Ledger;
 use page_numbers::Parcel;
 use reader_thread::ReaderEnd;
 use ring_shared::{Writer, ring_at};
-use ledger_audit::Ledger;
 use std::alloc::Global;
 use std::marker::Model;
 use std::snapshot::Snapshot;
@@ -27,6 +26,7 @@ use std::sync::atomic::{AtomicBool, Ordering};
 use std::thread::{PromisedHandle, Scope, Threads};
 use trace_model::{CpuId, FillNo};
 use trace_script::{ReplayFault, Script};
+use writer_thread::{Gate, LineIndexes, WriterEnd};
 
 /// What the rings' threads share.
 #[derive(Drop)]

@@ -3,12 +3,12 @@ ghost use Rattle.std.specs.Prelude.{◌≡◌};
 ghost use Rattle.ring_steps.specs.NewRings.{first_writing};
 ghost use Rattle.writer_thread.specs.Obeying.{AreLinesOf, ObeysLines};
 
-use writer_thread::{Gate, LineIndexes, WriterEnd, obey_lines};
 use std::snapshot::Snapshot;
 use std::sync::atomic::{AtomicBool, Ordering};
 use std::thread::Promise;
 use trace_model::{CpuId, FillNo};
 use trace_script::Script;
+use writer_thread::{Gate, LineIndexes, WriterEnd, obey_lines};
 
 /// The promise of a writer's thread, kept by what it returns: the lines of its CPU are obeyed, or the gate stopped it.
 #[derive(Drop)]

@@ -7,10 +7,10 @@ ghost use Rattle.piece_source.specs.Readers.{peeked_unread};
 use crate::collect::collect_captures;
 use crate::inputs::{Reader, Trial, open_inputs};
 use crate::streams::collect_pieces;
+use collect_inputs::Input;
 use command_io::{END_FAILED, Std, USAGE, print_memory_line};
 use command_line::CollectCall;
 use std::io::IsTerminal;
-use collect_inputs::Input;
 
 /// What the command line asks for that can't be done.
 const BOTH: &str = "tracering: --keep and --parcels exclude each other";

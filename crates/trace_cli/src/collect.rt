@@ -10,11 +10,11 @@ ghost use Rattle.trace_cli.specs.Formats.{format_read};
 use crate::inputs::{Reader, Trial, name_of, open_output, trial_of};
 use capture_text::Form;
 use collect_command::{Collected, Collecting, Ending, collect_to};
+use collect_inputs::{FileFault, Input};
 use command_io::WRITE_FAILED;
 use command_line::{CollectCall, CpuFile};
 use host_files::{FileMessage, FormatText, Trouble, formats_below};
 use trace_dat::{Cause, Format};
-use collect_inputs::{FileFault, Input};
 
 /// The formats below the folder that is named, if one is.
 fn given_formats<'b>(

@@ -3,6 +3,7 @@ ghost use Rattle.std.specs.Prelude.{◌≡◌, false, map, All, IfOk};
 ghost use Rattle.command_io.specs.Ends.{has_failed};
 ghost use Rattle.piece_source.specs.Readers.{peeked_reader};
 
+use collect_inputs::Input;
 use command_io::Std;
 use command_line::CpuFile;
 use host_files::{Feed, FileMessage, Progress, Trouble, Watched};
@@ -10,7 +11,6 @@ use piece_source::Peeked;
 use std::fs::File;
 use std::io::{ErrorKind, Stdin, Stdout};
 use std::{fs, io};
-use collect_inputs::Input;
 
 /// What an input is read from, of which the first bytes were looked at.
 pub(crate) type Reader<'a> = Peeked<Opened<'a>>;

@@ -12,16 +12,9 @@ mod unkept;
 
 use crate::answer::answer_to;
 use crate::choose::collect;
-pub use collect_command::collect_to;
-use command_io::message_for;
-pub use command_io::{Sink, Source, Std};
+use command_io::{Std, message_for};
 use command_line::{Call, given_call, given_words};
-pub use dump_command::dump_to;
-pub use replay_command::replay_to;
-pub use run_command::run_to;
 use std::process::ExitCode;
-pub use steps_command::steps_to;
-pub use stream_command::{collect_streams, print_pieces};
 
 // What is chosen here, `answer_to` and `message_for` say, and of `collect` the functions that it calls. The rest has no
 // contract: that the line goes to standard error, and that the process ends with the status.

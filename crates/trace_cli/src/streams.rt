@@ -7,13 +7,13 @@ ghost use Rattle.stream_command.specs.Reading.{IsFresh};
 use crate::inputs::{Reader, Trial, name_of, open_output, trial_of};
 use crate::unkept::Unkept;
 use capture_text::Form;
+use collect_inputs::Input;
 use command_io::{Std, WRITE_FAILED};
 use command_line::{CollectCall, CpuFile};
 use host_files::{FileMessage, Trouble};
 use piece_source::PieceReader;
 use std::fs;
 use stream_command::{Collected, Ending, collect_streams, print_pieces};
-use collect_inputs::Input;
 
 /// Readers of the inputs' pieces.
 fn readers_of<'a>(

@@ -4,3 +4,5 @@ pub mod Parcels
 pub mod Collectors
 pub mod Streams
 pub mod Fleets
+pub mod Scripts
+pub mod Commands

@@ -1,4 +1,5 @@
-//! One door to the libraries: a program in Rattle that records and collects names this crate alone in `crates.txt`.
+//! One door to the libraries: a program in Rattle that records, collects or replays names this crate alone in
+//! `crates.txt`.
 //!
 //! - `rings`: the two ends of a running ring, one for a writer's thread and one for a reader's.
 //! - `pages`: what a reader takes, with its records; page images.
@@ -6,6 +7,8 @@
 //! - `collectors`: what several parcels have and miss together, and its listing by time.
 //! - `streams`: parcels and marks as bytes, one after the other, and what is known of one stream.
 //! - `fleets`: what is known of many streams, and its listing by time.
+//! - `scripts`: the text of a script read, replayed step by step or run by threads, and a run audited.
+//! - `commands`: what the commands of the program `tracering` do, over any sources and sinks.
 //! - Here: the plain numbers of all of these, their limits, and `NoMemory`.
 //!
 //! Each item is that of the crate which has its code, under the same name. So a page is recorded, taken, collected and
@@ -44,10 +47,12 @@
 #![tactic(auto)]
 
 pub mod collectors;
+pub mod commands;
 pub mod fleets;
 pub mod pages;
 pub mod parcels;
 pub mod rings;
+pub mod scripts;
 pub mod streams;
 
 pub use trace_model::{
