@@ -14,11 +14,11 @@ use crate::ending::{Collected, Ending};
 use crate::fault_line::fault_line;
 use crate::listing::print_listing;
 use capture_text::Form;
+use collect_inputs::{Captured, FileFault, Input, InputFault, Unread, read_inputs};
 use command_io::{MEMORY_LINE, Sink, Source, write_all};
 use kernel_texts::EventNames;
 use std::alloc::Global;
 use trace_dat::Format;
-use collect_inputs::{Captured, FileFault, Input, InputFault, Unread, read_inputs};
 use trace_model::NoMemory;
 
 /// The only line if the numbers of a CPU don't fit 64 bits.

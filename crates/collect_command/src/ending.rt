@@ -1,7 +1,7 @@
 //! How `collect` ends.
 
-use command_io::{DONE, END_FAILED, NO_MEMORY, REFUSED};
 use collect_inputs::FileFault;
+use command_io::{DONE, END_FAILED, NO_MEMORY, REFUSED};
 
 /// How `collect` ends.
 #[derive(Clone, Copy, Debug, PartialEq, Eq)]

@@ -3,10 +3,10 @@ ghost use Rattle.std.specs.Prelude.{◌≡◌, ◌++◌, IfOk, OnOk};
 ghost use Rattle.std.specs.Fmt.{decimal};
 ghost use Rattle.collect_command.specs.Faults.{cause_text, fault_text, fault_line};
 
+use collect_inputs::FileFault;
 use std::alloc::Global;
 use text_values::put_number;
 use trace_dat::Cause;
-use collect_inputs::FileFault;
 use trace_model::NoMemory;
 
 /// What is wrong with a file of trace-cmd.

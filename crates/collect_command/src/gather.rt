@@ -8,11 +8,11 @@ ghost use Rattle.collect_inputs.specs.Files.{ModelPart};
 ghost use Rattle.collect_command.specs.Gathered.{AreReadFrom};
 
 use capture::laws::captures_agree;
+use collect_inputs::CpuCapture;
 use collector::Collector;
 use deliveries::collect;
 use page_numbers::Parcel;
 use std::alloc::Global;
-use collect_inputs::CpuCapture;
 use trace_model::NoMemory;
 
 /// Adds these parcels, whose pages are shared. They contradict neither those that are kept nor each other. If memory is

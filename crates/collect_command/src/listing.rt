@@ -11,11 +11,11 @@ use crate::ending::Ending;
 use crate::gather::gather;
 use capture::Capture;
 use capture_text::{Form, Printer};
+use collect_inputs::CpuCapture;
 use command_io::Sink;
 use kernel_texts::EventNames;
 use std::alloc::Global;
 use time_merge::walk_lines;
-use collect_inputs::CpuCapture;
 use trace_model::NoMemory;
 
 /// Prints the losses of unknown number of each CPU.

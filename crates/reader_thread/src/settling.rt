@@ -5,8 +5,8 @@ ghost use Rattle.ring_shared.specs.Settling.{AreEndsOf, IsSettled};
 ghost use Rattle.reader_thread.specs.Ledgers.{IsLedger};
 
 use crate::end::ReaderEnd;
-use ring_shared::Writer;
 use ledger_audit::Ledger;
+use ring_shared::Writer;
 use std::alloc::Global;
 
 /// Joins the two ends of a ring: its ledger is the ring, settled, and the parcels that the reader took. The writer has

@@ -5,8 +5,8 @@ ghost use Rattle.ring_core.specs.Value.{CoreValue};
 ghost use Rattle.step_text.specs.declared.asked.Asked.{Asked as AskedSeen};
 ghost use Rattle.script_replay.specs.Reports.{GainsAreReported, IsReported, IsStepTold, LineIsReported, MayReport};
 
-use page_numbers::Parcel;
 use log_text::{At, LogLine, report, report_any};
+use page_numbers::Parcel;
 use ring_core::{Answer, Core};
 use step_text::{Asked, StepText};
 use trace_model::NoMemory;

@@ -2,8 +2,8 @@
 //! audit of what a run took.
 #![tactic(auto)]
 
-pub use writer_thread::{Gate, OpenGate, Who};
 pub use ledger_audit::{AuditFault, Audited, Ledger, audit};
 pub use script_replay::{LogLine, World, replay};
 pub use threaded_run::{Ran, run};
 pub use trace_script::ReplayFault;
+pub use writer_thread::{Gate, OpenGate, Who};

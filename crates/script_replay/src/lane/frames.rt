@@ -1,8 +1,8 @@
 //! The steps of the frame on top.
 use crate::lane::Lane;
 use crate::reports::Reports;
-use nested_writer::WriteFault;
 use log_text::At;
+use nested_writer::WriteFault;
 use ring_core::{Answer, Event};
 use ring_frames::write_padded;
 use step_text::Asked;

@@ -2,9 +2,9 @@
 use crate::lane::Lane;
 use crate::lane::frames::MOST_STEPS;
 use crate::reports::Reports;
+use log_text::At;
 use page_image::{Body, Page};
 use page_numbers::Parcel;
-use log_text::At;
 use ring_core::{Answer, Event};
 use std::alloc::Global;
 use step_text::Asked;
