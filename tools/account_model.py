@@ -67,7 +67,7 @@ def pushed_in(s):
     return s.history.stack
 
 
-def needs(s, stack):
+def is_fill_needed_for(s, stack):
     tail = tail_of(s.history)
     if not stack:
         return clause("needs: a wish is found", s.history.is_wished) and clause(
@@ -82,22 +82,22 @@ def needs(s, stack):
     return clause("needs: never with a record", False)
 
 
-def needs_page(s):
-    return needs(s, pushed_in(s))
+def is_fill_needed(s):
+    return is_fill_needed_for(s, pushed_in(s))
 
 
-def has_no_page(s):
+def has_no_fill(s):
     return choice("has no page: none is closed", s.window.opened == s.window.done + s.pages) or choice(
         "has no page: no number is left", LINK_FILLS <= s.window.opened + s.pages
     )
 
 
-def is_granted(s):
+def is_wish_to_find(s):
     return (
         clause("is granted: for the fill after the tail", s.wish == s.window.opened)
         and clause("is granted: the tail has a record", tail_of(s.history) != ())
         and clause("is granted: a number is left", s.window.opened + s.pages < LINK_FILLS)
-        and clause("is granted: not found yet", not needs_page(s))
+        and clause("is granted: not found yet", not is_fill_needed(s))
     )
 
 
@@ -114,12 +114,12 @@ def leaves(s, stack, payload):
         return clause("leaves: a frame", False)
     top = stack[0]
     if isinstance(top, CloseFrame) and payload is None:
-        return clause("leaves: a close frame that needs no page or has none", not needs_page(s) or has_no_page(s))
+        return clause("leaves: a close frame that needs no page or has none", not is_fill_needed(s) or has_no_fill(s))
     if isinstance(top, CloseFrame):
         return clause("leaves: a close frame has no payload", False)
     if top.number is None and payload is None:
-        return clause("leaves: without a record, if it needs a page", needs_page(s)) and clause(
-            "leaves: without a record, if no page can be had", has_no_page(s)
+        return clause("leaves: without a record, if it needs a page", is_fill_needed(s)) and clause(
+            "leaves: without a record, if no page can be had", has_no_fill(s)
         )
     if top.number is None:
         return clause("leaves: without a record, without payload", False)
@@ -132,19 +132,19 @@ def is_due(s, event):
         return True
     if event == OPEN_FILL:
         return (
-            clause("open_fill is due: a page is needed", needs_page(s))
-            and clause("open_fill is due: a page can be had", not has_no_page(s))
+            clause("open_fill is due: a page is needed", is_fill_needed(s))
+            and clause("open_fill is due: a page can be had", not has_no_fill(s))
             and clause("open_fill is due: not full", opened < head + s.pages)
         )
     if event == RESERVE:
         return clause("reserve is due: has no record", has_no_record(pushed_in(s))) and clause(
-            "reserve is due: needs no page", not needs_page(s)
+            "reserve is due: needs no page", not is_fill_needed(s)
         )
     if event.name == "leave":
         return clause("leave is due: leaves", leaves(s, pushed_in(s), event.payload))
     if event == WISHED:
         return clause("wished is due: all have left", pushed_in(s) == ()) and clause(
-            "wished is due: is granted", is_granted(s)
+            "wished is due: is granted", is_wish_to_find(s)
         )
     if event == CLOSES:
         return clause("closes is due: all have left", pushed_in(s) == ()) and clause(
@@ -153,8 +153,8 @@ def is_due(s, event):
     if event == TAKES:
         return clause("takes is due: closed", head < done)
     return (
-        clause("loses is due: a page is needed", needs_page(s))
-        and clause("loses is due: a page can be had", not has_no_page(s))
+        clause("loses is due: a page is needed", is_fill_needed(s))
+        and clause("loses is due: a page can be had", not has_no_fill(s))
         and clause("loses is due: closed", head < done)
         and clause("loses is due: full", opened == head + s.pages)
     )
@@ -283,7 +283,7 @@ def steps_top(script, count, before):
     top, *below = before.frames
     below, s_before = tuple(below), situation_after(script, before.wish, before.events)
     is_first = clause("steps top: has made no step", not top.stepped)
-    fits = clause("steps top: needs no page", not needs_page(s_before))
+    fits = clause("steps top: needs no page", not is_fill_needed(s_before))
     for own, after in does(script, before, (), below, top._replace(stepped=True)):
         few = clause("steps top: so many at most", len(history_events_of(own)) <= count)
         if few and clause("steps top: reserves first", not (is_first and fits) or own[:1] == (RESERVE,)):

@@ -11,7 +11,7 @@ use Rattle.trace_model.specs.Window.{Window, first_window, RingEvent, acts, clos
 use Rattle.trace_model.proofs.packing.PackedHistories.{is_wished-push, is_wished-push_close, is_wished-open_fill, is_wished-reserve, is_wished-leave, is_wished-wished}
 use Rattle.ring_model.proofs.histories.WindowRuns.{history_events-append}
 use Rattle.text_model.specs.Script.{Command, begin_frame, step_frame, finish_frame, write, close, step_reader, take_page, wish, deliver, Script}
-use Rattle.line_model.specs.Due.{window_at, Situation, situation_after, pushed_in, Needs, NeedsPage, HasNoPage, HasNoRecord, Leaves, IsDue}
+use Rattle.line_model.specs.Due.{window_at, Situation, situation_after, pushed_in, IsFillNeededFor, IsFillNeeded, HasNoFill, HasNoRecord, Leaves, IsDue}
 use Rattle.line_model.specs.Accounts.{LineFrame, CpuState, new_cpu, IsOwn, frame_after, Does, HasGone, with_own, IsIdle, new_frame, Begins, refuses_frame, pushes_frame, FinishesTop, lacks_to_finish, finishes_it, WritesWhole, refuses_whole, writes_it, IsMoving, TakesPage, Asks, Adds, IsLine, IsAccount}
 use Rattle.line_model.specs.WholeScripts.{IsWholeLine, HasWholeLines, OneAccount}
 use Rattle.line_model.proofs.Standing.{AreDue}
@@ -138,7 +138,7 @@ kept_all script asked seen before (event ∷ own) due k =
 -- ---- at most one event is due
 
 -- a frame that leaves without a record though it needs a page can have none
-leaves_short : (s : Situation) (stack : List PushedFrame) → Leaves s stack None → NeedsPage s → HasNoPage s
+leaves_short : (s : Situation) (stack : List PushedFrame) → Leaves s stack None → IsFillNeeded s → HasNoFill s
 leaves_short s [] leaving needs = absurd leaving
 leaves_short s (record_frame moment len None ∷ below) leaving needs = leaving.1
 leaves_short s (record_frame moment len (Some number) ∷ below) leaving needs = absurd leaving
@@ -147,7 +147,7 @@ leaves_short s (close_frame ∷ below) leaving needs = leaving needs
 -- a frame that leaves with its record needs no page
 leaves_served : (s : Situation) (stack : List PushedFrame) (bytes : List ℕ)
     → Leaves s stack (Some bytes)
-    → Needs s stack
+    → IsFillNeededFor s stack
     → ⊥
 leaves_served s [] bytes leaving needs = leaving
 leaves_served s (record_frame moment len None ∷ below) bytes leaving needs = leaving
@@ -155,7 +155,7 @@ leaves_served s (record_frame moment len (Some number) ∷ below) bytes leaving 
 leaves_served s (close_frame ∷ below) bytes leaving needs = leaving
 
 -- a record frame without a record leaves without one only if it needs a page
-waits_short : (s : Situation) (stack : List PushedFrame) → HasNoRecord stack → Leaves s stack None → NeedsPage s
+waits_short : (s : Situation) (stack : List PushedFrame) → HasNoRecord stack → Leaves s stack None → IsFillNeeded s
 waits_short s [] waits leaving = absurd waits
 waits_short s (record_frame moment len None ∷ below) waits leaving = leaving.0
 waits_short s (record_frame moment len (Some number) ∷ below) waits leaving = absurd waits
@@ -187,21 +187,21 @@ module _ (s : Situation) (seen : ℕ) (holds : Holds s.wish seen s.window (is_wi
   written : (own : List ℕ) → frame.payload ≡ Some own → frame.payload ≡ None → ⊥
   written own some none = let both : None ≡ Some own = sym none ∙ some in cc
 
-  fill-reserve : NeedsPage s → IsDue s (acts reserve) → ⊥
+  fill-reserve : IsFillNeeded s → IsDue s (acts reserve) → ⊥
   fill-reserve needs due = due.1 needs
 
-  fill-short : NeedsPage s → (HasNoPage s → ⊥) → IsDue s (acts (leave None)) → ⊥
+  fill-short : IsFillNeeded s → (HasNoFill s → ⊥) → IsDue s (acts (leave None)) → ⊥
   fill-short needs can due = can (leaves_short s (pushed_in s) due needs)
 
-  fill-served : (bytes : List ℕ) → NeedsPage s → IsDue s (acts (leave (Some bytes))) → ⊥
+  fill-served : (bytes : List ℕ) → IsFillNeeded s → IsDue s (acts (leave (Some bytes))) → ⊥
   fill-served bytes needs due = leaves_served s (pushed_in s) bytes due needs
 
-  fill-wished : NeedsPage s → IsDue s (acts wished) → ⊥
+  fill-wished : IsFillNeeded s → IsDue s (acts wished) → ⊥
   fill-wished needs due = due.1.3 needs
 
-  fill-closes : NeedsPage s → IsDue s closes → ⊥
+  fill-closes : IsFillNeeded s → IsDue s closes → ⊥
   fill-closes needs due =
-      let asked : Needs s [] = subst (Needs s) due.0 needs in
+      let asked : IsFillNeededFor s [] = subst (IsFillNeededFor s) due.0 needs in
       let low = holds.tail_only asked.0 in
       let high = due.1 in omega arith
 

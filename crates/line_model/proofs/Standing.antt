@@ -11,7 +11,7 @@ use Rattle.text_model.specs.Script.{Script}
 use Rattle.ring_model.specs.RunsAsEvents.{AreEventsOfRun}
 use Rattle.ring_model.specs.Reached.{IsReached}
 use Rattle.world_model.specs.Lanes.{Lane, HasPayloads, FrameRun}
-use Rattle.line_model.specs.Due.{situation_after, NeedsPage, IsDue}
+use Rattle.line_model.specs.Due.{situation_after, IsFillNeeded, IsDue}
 use Rattle.line_model.specs.Accounts.{LineFrame, CpuState, IsThere, Does, HasGone, with_own}
 use Rattle.line_model.specs.CallEvents.{IsRecordOnTop}
 
@@ -81,7 +81,7 @@ pub record TopDoes (script : Script) (before : Lane) (state : CpuState) (top : L
   pub first : IsRecordOnTop before.core.frames
       → exchanges ≢ []
       → top.stepped ≡ false
-      → (NeedsPage (situation_after script state.wish state.events) → ⊥)
+      → (IsFillNeeded (situation_after script state.wish state.events) → ⊥)
       → (rest : List RingEvent) × (own ≡ acts reserve ∷ rest)
   pub ends : StaysOrGoes script before state own next below after
 

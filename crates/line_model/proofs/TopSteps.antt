@@ -12,7 +12,7 @@ use Rattle.trace_model.specs.Fitting.{NeedsFill}
 use Rattle.trace_model.specs.Window.{Window, RingEvent, acts, closes, takes, loses, history_events_of, window_after, WindowRunFrom}
 use Rattle.trace_model.specs.Frames.{Purpose, for_record, for_close, Progress, waiting, reserved, left, Role, owner, helper, Phase, idle, looking, claiming, looking_next, marking, clearing, opening, releasing, wishing, noted_fill, owned_update, pushed_frame, pushed_onto, Frame, pushed_frames}
 use Rattle.trace_model.specs.Ring.{Reader, Core, window_of}
-use Rattle.trace_model.specs.Steps.{Event, ends, Answer, Step, closing_phase, frames_after_leave, with_new_tail, after_begin, after_next, IsGranted, NeedsPage as NeedsPageThere}
+use Rattle.trace_model.specs.Steps.{Event, ends, Answer, Step, closing_phase, frames_after_leave, with_new_tail, after_begin, after_next, IsGranted, NeedsPage}
 use Rattle.trace_model.proofs.packing.PackedHistories.{tail_is}
 use Rattle.trace_model.proofs.steps.StepCases.{BeginsAgain, IdleStep, reserves, finds_nothing, is_crowded, is_worn, notes, FrameStep, load_link_late, sees_free, sees_header, sees_update, claim_late, claims, claim_fails, load_next_late, sees_normal, sees_other, mark_late, marks, mark_fails, clears, open_late, opens, releases, releases_last, grants, closes_more, goes_away}
 use Rattle.trace_model.proofs.steps.StepSound.{cases_of}
@@ -35,7 +35,7 @@ use Rattle.world_model.specs.RunEvents.{AreEventsOf}
 use Rattle.world_model.proofs.FramesMove.{PushesNone, step_moves}
 use Rattle.world_model.proofs.LanePayloads.{fit_moved}
 use Rattle.line_model.specs.CallEvents.{IsRecordOnTop}
-use Rattle.line_model.specs.Due.{Situation, situation_after, Needs, NeedsPage, HasNoPage, HasNoRecord, Leaves, IsDue}
+use Rattle.line_model.specs.Due.{Situation, situation_after, IsFillNeededFor, IsFillNeeded, HasNoFill, HasNoRecord, Leaves, IsDue}
 use Rattle.line_model.specs.Accounts.{LineFrame, CpuState, IsThere, IsOwn, Does, with_own}
 use Rattle.line_model.proofs.Standing.{FrameStands, FramesStand, Stands, IsFresh, StaysOrGoes}
 use Rattle.line_model.proofs.WishesKept.{Serves, reached_serves}
@@ -62,7 +62,7 @@ pub record StepDoes (script : Script) (before : Lane) (state : CpuState) (payloa
   pub few : IsRecordOnTop before.core.frames → length (history_events_of own) ≤ 1
   pub first : IsRecordOnTop before.core.frames
       → IsNew before.core.frames
-      → (NeedsPage (situation_after script state.wish state.events) → ⊥)
+      → (IsFillNeeded (situation_after script state.wish state.events) → ⊥)
       → own ≡ acts reserve ∷ []
   pub fresh : length after.core.frames ≡ length before.core.frames → IsFresh after.core
   pub record_kept : length after.core.frames ≡ length before.core.frames
@@ -179,7 +179,7 @@ module _ (script : Script) (before : Lane) (state : CpuState) (p : Option (List 
   needs_of : (kind : Purpose) (st : Progress)
       → (st ≡ left → fs ≡ [])
       → NeedsFill size (opens_of c.history) (reserved_records c.history) (is_wished c.history) kind st
-      → Needs s (pushed_onto kind st (pushed_frames fs))
+      → IsFillNeededFor s (pushed_onto kind st (pushed_frames fs))
   needs_of (for_record moment len) waiting alone needs =
       let r : Reservation = reservation_for moment len (reserved_records c.history) in
       let same = ap (λ (xs : List Reservation). fill_len (xs ++ r ∷ [])) (tail_is c.history) in
@@ -190,21 +190,21 @@ module _ (script : Script) (before : Lane) (state : CpuState) (p : Option (List 
   needs_of (for_record moment len) (reserved number) alone needs = absurd needs
   needs_of for_close (reserved number) alone needs = absurd needs
   needs_of kind left alone (some, holds) =
-      subst (λ (xs : List Frame). Needs s (pushed_frames xs)) (sym (alone refl))
+      subst (λ (xs : List Frame). IsFillNeededFor s (pushed_frames xs)) (sym (alone refl))
       (holds, λ bare. some (sym (tail_is c.history) ∙ bare))
 
   -- a frame that has noted the next fill needs it, and it has a number
-  needed : noted_fill frame.phase ≡ Some c.opened → NeedsPage s × (c.opened + n < LINK_FILLS)
+  needed : noted_fill frame.phase ≡ Some c.opened → IsFillNeeded s × (c.opened + n < LINK_FILLS)
   needed noted =
       let needs = (subst
       (FramesNeed size (opens_of c.history) (reserved_records c.history) (is_wished c.history) c.opened)
       top kept.packed.needs).1 noted in (
-        subst (Needs s) (sym (top_stack n script.start c frame fs kept.history top))
+        subst (IsFillNeededFor s) (sym (top_stack n script.start c frame fs kept.history top))
             (needs_of frame.kind frame.state (top_agrees c frame fs kept.stack top).1 needs),
         ((top_kept n c frame fs kept.links top).noted c.opened noted).3,
       )
 
-  can_have : c.opened < c.done + n → c.opened + n < LINK_FILLS → HasNoPage s → ⊥
+  can_have : c.opened < c.done + n → c.opened + n < LINK_FILLS → HasNoFill s → ⊥
   can_have room small (inl full) = omega (arith, room, full)
   can_have room small (inr last) = omega (arith, small, last)
 
@@ -218,22 +218,22 @@ module _ (script : Script) (before : Lane) (state : CpuState) (p : Option (List 
   needs_there : (kind : Purpose)
       → frame.kind ≡ kind
       → frame.state ≡ waiting
-      → NeedsPageThere size c kind
-      → NeedsPage s
+      → NeedsPage size c kind
+      → IsFillNeeded s
   needs_there (for_record moment len) is waits needs =
-      subst (Needs s) (sym (stack_of_kind (for_record moment len) is waits))
+      subst (IsFillNeededFor s) (sym (stack_of_kind (for_record moment len) is waits))
       (let r : Reservation = reservation_for moment len (reserved_records c.history) in
       dite (dec_le (fill_len (tail_of c.history ++ r ∷ [])) size)
       (λ fits. absurd (needs fits))
       (λ high. omega (arith, high)))
-  needs_there for_close is waits needs = subst (Needs s) (sym (stack_of_kind for_close is waits)) needs
+  needs_there for_close is waits needs = subst (IsFillNeededFor s) (sym (stack_of_kind for_close is waits)) needs
 
   -- a leave without a record is due
   leave_due : (kind : Purpose)
       → frame.kind ≡ kind
       → frame.state ≡ waiting
-      → NeedsPage s
-      → HasNoPage s
+      → IsFillNeeded s
+      → HasNoFill s
       → IsDue s (acts (leave None))
   leave_due (for_record moment len) is waits needs full =
       subst (λ (st : List PushedFrame). Leaves s st None) (sym (stack_of_kind (for_record moment len) is waits))
@@ -283,7 +283,7 @@ module _ (script : Script) (before : Lane) (state : CpuState) (p : Option (List 
       × (frame.kind ≢ for_close
       → frame.state ≡ waiting
       → frame.phase ≡ idle
-      → (NeedsPage s → ⊥)
+      → (IsFillNeeded s → ⊥)
       → own ≡ acts reserve ∷ [])
 
   few_of : (own : List RingEvent) → Brief own → IsRecordOnTop c.frames → length (history_events_of own) ≤ 1
@@ -293,11 +293,11 @@ module _ (script : Script) (before : Lane) (state : CpuState) (p : Option (List 
       → Brief own
       → IsRecordOnTop c.frames
       → IsNew c.frames
-      → (NeedsPage (situation_after script state.wish state.events) → ⊥)
+      → (IsFillNeeded (situation_after script state.wish state.events) → ⊥)
       → own ≡ acts reserve ∷ []
   first_of own brief on_top new free =
       let (waits, rests) = subst IsNew top new in
-      brief.1 (subst IsRecordOnTop top on_top) waits rests (λ needs. free (subst NeedsPage (sym sit) needs))
+      brief.1 (subst IsRecordOnTop top on_top) waits rests (λ needs. free (subst IsFillNeeded (sym sit) needs))
 
   -- it is still there
   stays_with : (own : List RingEvent) (q : Option (List ℕ)) (m : Bool) (next : Frame)
@@ -403,7 +403,7 @@ module _ (script : Script) (before : Lane) (state : CpuState) (p : Option (List 
 
   -- it needs a page
   in_need : (own : List RingEvent)
-      → NeedsPage s
+      → IsFillNeeded s
       → (frame.kind ≢ for_close → length (history_events_of own) ≤ 1)
       → Brief own
   in_need own needs few = (few, λ k w rests free. absurd (free needs))
@@ -533,7 +533,7 @@ module _ (script : Script) (before : Lane) (state : CpuState) (p : Option (List 
       → Made
   begins page noted at now active after_is = by_kind frame.kind frame.state refl refl active after_is
     where
-      needs : NeedsPage s × (c.opened + n < LINK_FILLS)
+      needs : IsFillNeeded s × (c.opened + n < LINK_FILLS)
       needs = needed (ap noted_fill at ∙ ap (λ (o : ℕ). Some o) now)
 
       room : c.opened < c.head + n
@@ -582,7 +582,7 @@ module _ (script : Script) (before : Lane) (state : CpuState) (p : Option (List 
           afterwards : IsDue (situation_moved s (acts open_fill)) (acts (leave None))
           afterwards = let st = opened_stack c.history (close_frame ∷ pushed_frames fs) (stack_of_kind for_close k w) in
               subst (λ (xs : List PushedFrame). Leaves (situation_moved s (acts open_fill)) xs None) (sym st)
-              (λ again. absurd (subst (Needs (situation_moved s (acts open_fill))) st again (opened_tail c.history)))
+              (λ again. absurd (subst (IsFillNeededFor (situation_moved s (acts open_fill))) st again (opened_tail c.history)))
 
           second : IsDue (situation_after script state.wish (state.events ++ acts open_fill ∷ [])) (acts (leave None))
           second = subst (λ (x : Situation). IsDue x (acts (leave None)))
@@ -610,7 +610,7 @@ module _ (script : Script) (before : Lane) (state : CpuState) (p : Option (List 
       stays_with (acts reserve ∷ []) p false (record frame { state = reserved number; phase = idle })
       (events_are (acts reserve ∷ []) refl (ap (λ (d : Core). d.history) is ∙ h) (tt, sym (ap window_of is ∙ win)))
       (held (not_left waiting (λ e. cc) w), refl)
-      (due_one (acts reserve) (subst (λ (st : List PushedFrame). HasNoRecord st × (Needs s st → ⊥))
+      (due_one (acts reserve) (subst (λ (st : List PushedFrame). HasNoRecord st × (IsFillNeededFor s st → ⊥))
       (sym (stack_of_kind (for_record moment len) k w)) (
         tt,
         λ needs.
@@ -637,7 +637,7 @@ module _ (script : Script) (before : Lane) (state : CpuState) (p : Option (List 
   idle_does waiting w active at (finds_nothing k bare a is) =
       leaves_none for_close _ k w ((λ not. absurd (not k)), (λ not. absurd (not k)))
       (subst (λ (st : List PushedFrame). Leaves s st None) (sym (stack_of_kind for_close k w))
-      (λ needs. absurd (subst (Needs s) (stack_of_kind for_close k w) needs bare)))
+      (λ needs. absurd (subst (IsFillNeededFor s) (stack_of_kind for_close k w) needs bare)))
       is refl refl refl
   idle_does waiting w active at (is_crowded needs full a is) =
       let here = needs_there frame.kind refl w needs in
@@ -682,10 +682,10 @@ module _ (script : Script) (before : Lane) (state : CpuState) (p : Option (List 
       (λ closing waits o e. absurd (let both : left ≡ waiting = sym is_left ∙ waits in let no : ⊥ = cc in no))
 
   -- it looks for the wish, so it wasn't found
-  unneeded : frame.phase ≡ wishing → fs ≡ [] → NeedsPage s → ⊥
+  unneeded : frame.phase ≡ wishing → fs ≡ [] → IsFillNeeded s → ⊥
   unneeded at alone needs =
       let is_left = wishing_left frame.kind frame.state (may_be wishing at) in
-      let found = (subst (Needs s) (stack_empty n script.start c frame fs kept.history top is_left alone) needs).0 in
+      let found = (subst (IsFillNeededFor s) (stack_empty n script.start c frame fs kept.history top is_left alone) needs).0 in
       let serves = subst (Serves c.opened) (top ∙ ap (λ (xs : List Frame). frame ∷ xs) alone)
       (reached_serves n size script.start c stands.reached found) in
       let both : None ≡ Some c.opened = sym (ap noted_fill at) ∙ serves.1 in cc

@@ -12,7 +12,7 @@ use Rattle.world_model.specs.Lanes.{Lane, lane_behind, event_in, event_on_top, F
 use Rattle.world_model.proofs.FramesMove.{PushesNone}
 use Rattle.world_model.proofs.LanePayloads.{pushes_none}
 use Rattle.line_model.specs.CallEvents.{IsRecordOnTop}
-use Rattle.line_model.specs.Due.{situation_after, NeedsPage}
+use Rattle.line_model.specs.Due.{situation_after, IsFillNeeded}
 use Rattle.line_model.specs.Accounts.{LineFrame, CpuState, IsThere, frame_after, Does, HasGone}
 use Rattle.line_model.proofs.Standing.{FrameStands, FramesStand, Stands, IsFresh, StaysOrGoes, TopsDo}
 use Rattle.line_model.proofs.DueRuns.{DueFrom, due_append, are_due}
@@ -31,7 +31,7 @@ record RunDoes (script : Script) (before : Lane) (state : CpuState) (payload : O
   first : IsRecordOnTop before.core.frames
       → exchanges ≢ []
       → IsNew before.core.frames
-      → (NeedsPage (situation_after script state.wish state.events) → ⊥)
+      → (IsFillNeeded (situation_after script state.wish state.events) → ⊥)
       → (rest : List RingEvent) × (own ≡ acts reserve ∷ rest)
   ends : StaysOrGoes script before state own (line payload_after losing_after) below after
 

@@ -8,7 +8,7 @@ use Rattle.trace_model.specs.Words.{padded, encoded_len}
 use Rattle.trace_model.specs.History.{HistoryEvent, push, push_close, open_fill, reserve, leave, wished}
 use Rattle.trace_model.specs.Window.{RingEvent, acts, closes, takes, loses, history_events_of}
 use Rattle.text_model.specs.Script.{Command, begin_frame, step_frame, finish_frame, write, close, step_reader, take_page, wish, deliver, Script}
-use Rattle.line_model.specs.Due.{Situation, situation_after, window_at, NeedsPage, IsDue}
+use Rattle.line_model.specs.Due.{Situation, situation_after, window_at, IsFillNeeded, IsDue}
 
 -- ---- one CPU between two lines
 
@@ -21,8 +21,8 @@ pub record LineFrame : Type 0 where
   pub losing : Bool
 
 -- events: what was done to the ring so far, in one order. frames: the stack, the top first. seen: the reader knows the
--- fills below this one to be closed. in_take: an `r` line may have left a take under way. wish: the fill that the reader
--- wishes for, 0 before its first wish.
+-- fills below this one to be closed. in_take: an `r` line may have left a take under way. wish: one more than the number
+-- of the fill that the reader asks for, 0 before its first wish.
 pub record CpuState : Type 0 where
   pub events : List RingEvent
   pub frames : List LineFrame
@@ -41,8 +41,8 @@ abbrev pub IsThere : (below : List LineFrame) → LineFrame → Type 0
 IsThere below frame = (frame.payload ≢ None) ⊎ (below ≡ [])
 
 -- What the frame on top, with these below it, may do: it pushes none, and leaves with the payload of its line, in whole
--- words, or without a record. When it has left it does nothing more, unless it is the bottom one, which closes fills, and
--- begins one for the reader.
+-- words, or without a record. When it has left it does nothing more, unless it is the bottom one, which closes fills, finds the
+-- reader's wish, and begins a fill or loses one for it.
 abbrev pub IsOwn : (below : List LineFrame) → LineFrame → RingEvent → Type 0
 IsOwn below frame (acts (push moment len)) = ⊥
 IsOwn below frame (acts push_close) = ⊥
@@ -105,16 +105,15 @@ pub data Begins (Refused : Type 0) (event : HistoryEvent) (payload : List ℕ) (
       → after ≡ with_own before own (new_frame payload ∷ before.frames)
       → Begins Refused event payload before own after
 
--- The frame on top does these, and then it is still there or has gone. It is still there when it has left only if it is
--- the bottom one.
+-- After these events the frame is still there, if it may be, or is off the stack, if it has gone.
 pub data MayGo (s : Situation) (before : CpuState) (own : List RingEvent) (below : List LineFrame) (frame : LineFrame)
     (after : CpuState)
     : Type 0 where
   stays_on : IsThere below frame → after ≡ with_own before own (frame ∷ below) → MayGo s before own below frame after
   is_gone : HasGone s below frame → after ≡ with_own before own below → MayGo s before own below frame after
 
--- `s`: at most this many things are added to the history by the frame on top. If it has made no step, and needs no page,
--- it reserves first.
+-- `s`: the frame on top adds at most this many history events. If it has made no step, and needs no fill, it reserves
+-- first.
 pub data StepsTop (script : Script) (count : ℕ) (before : CpuState) (own : List RingEvent) (after : CpuState)
     : Type 0 where
   lacks_to_step : before.frames ≡ [] → IsIdle before own after → StepsTop script count before own after
@@ -122,7 +121,7 @@ pub data StepsTop (script : Script) (count : ℕ) (before : CpuState) (own : Lis
       → before.frames ≡ top ∷ below
       → length (history_events_of own) ≤ count
       → (top.stepped ≡ false
-      → (NeedsPage (situation_after script before.wish before.events) → ⊥)
+      → (IsFillNeeded (situation_after script before.wish before.events) → ⊥)
       → (rest : List RingEvent) × (own ≡ acts reserve ∷ rest))
       → Does below (record top { stepped = true }) own next
       → MayGo (situation_after script before.wish (before.events ++ own)) before own below next after
@@ -155,9 +154,9 @@ pub data WritesWhole (script : Script) (Refused : Type 0) (event : HistoryEvent)
 abbrev pub IsMoving : List LineFrame → Type 0
 IsMoving frames = (frame : LineFrame) × Contains frames frame × (frame.losing ≡ true)
 
--- `t`: the oldest fill is taken, unless none is left that is closed and unread, or a frame moves the head. The reader
--- then knows which fills are closed; it may not, if nothing was taken for the second reason, or if an `r` line had looked
--- before.
+-- `t`: the oldest fill is taken; nothing only if no closed fill is unread, or a frame may be amid a move of the head, in
+-- which a fill may be taken or not. The reader then knows which fills are closed; or no more than before, only if nothing
+-- was taken in such a move, or an `r` line came before.
 pub record TakesPage (start : ℕ) (before : CpuState) (own : List RingEvent) (after : CpuState) : Type 0 where
   pub own_is : (own ≡ takes ∷ [])
       ⊎ ((own ≡ []) × (IsMoving before.frames
@@ -174,7 +173,7 @@ pub record ReadsOn (start : ℕ) (before : CpuState) (own : List RingEvent) (aft
   pub seen_is : (seen ≡ (window_at start before.events).done) ⊎ (seen ≡ before.seen)
   pub after_is : after ≡ record before { events = before.events ++ own; seen = seen; in_take = true }
 
--- `a`: the reader wishes for the fill after those that it knows to be closed
+-- `a`: the reader asks for the first fill that it doesn't know to be closed; its wish is one more than that one's number
 abbrev pub Asks : CpuState → List RingEvent → CpuState → Type 0
 Asks before own after = (own ≡ []) × (after ≡ record before { wish = before.seen + 1 })
 
@@ -209,7 +208,7 @@ pub record IsLine (script : Script) (cpu : ℕ) (command : Command) (before afte
       → own ≡ front ++ event ∷ rest
       → IsDue (situation_after script before.wish (before.events ++ front)) event
 
--- One CPU of a script, after its first k lines.
+-- One CPU of a script: `states k` is that CPU after the first k lines, new at first, and then as each line makes it.
 pub record IsAccount (script : Script) (cpu : ℕ) (states : ℕ → CpuState) : Type 0 where
   pub first : states 0 ≡ new_cpu script.start
   pub lines : (k line : ℕ) (command : Command)
