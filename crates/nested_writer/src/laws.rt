@@ -2,7 +2,7 @@
 ghost use Rattle.nested_writer.specs.Runs.{RunsHoldLastFills};
 
 /// After any list of calls, refused ones among them, the open pages hold the last fills of the reserved records of a
-/// history, and that history is packed.
+/// history, a payload that is being written included, and that history is packed.
 pub fn open_pages_hold_last_fills()
     ensures { RunsHoldLastFills }
 {}

@@ -66,13 +66,14 @@ impl Older {
         self.pages.push_back_reserved(page);
     }
 
-    /// Takes the oldest page out, if there is one.
+    /// Takes the oldest page out, if there is one. All its records are committed, and it states so.
     pub(crate) fn pop(&mut self) -> Option<Page>
         ensures pages { self.old.pages ≡ option_to_list result ++ self.new.pages }
         ensures none { result ≡ None → self.old.pages ≡ [] }
         ensures room { self.new.room ≡ self.old.room }
     {
-        let payload = self.pages.pop_front()?;
+        let mut payload = self.pages.pop_front()?;
+        payload.store_commit();
         Some(payload.into_page())
     }
 

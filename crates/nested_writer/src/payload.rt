@@ -176,4 +176,12 @@ impl Payload {
     {
         self.page.put_payload(prev, moment, payload)
     }
+
+    /// `Page::store_commit`.
+    #[inline(always)]
+    pub(crate) fn store_commit(&mut self)
+        ensures { self.new ≡ self.old }
+    {
+        self.page.store_commit();
+    }
 }

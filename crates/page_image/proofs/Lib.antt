@@ -1,6 +1,9 @@
 mod Blank
+mod Slots
+mod Bodies
 mod Behind
 mod Putting
+mod PagePut
 mod Overwriting
 mod Sought
 mod Left

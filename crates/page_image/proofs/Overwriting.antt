@@ -1,5 +1,5 @@
 -- A part of a body overwritten, as a page's data sees it.
-use Rattle.std.proofs.Common.{◌≡◌, ℕ, ◌+◌, ◌-◌, ◌≤◌, List, [], ◌∷◌, ◌++◌, length, take, drop, refl, sym, ap, ◌∙◌, subst, arith, rules}
+use Rattle.std.proofs.Common.{◌≡◌, ℕ, ◌+◌, ◌-◌, ◌≤◌, List, [], ◌∷◌, ◌++◌, length, take, drop, refl, sym, ap, ◌∙◌, subst, arith, rules, length-append, length-drop, length-take-le}
 use Rattle.std.proofs.lemmas.List.{same_lists, places, take_all}
 use Rattle.trace_model.specs.Record.{Record}
 use Rattle.trace_model.specs.Words.{Word, Decodes, records_of, records_behind, moment_after}
@@ -10,13 +10,17 @@ use Rattle.trace_model.proofs.words.Unique.{records_in-Decodes, words_in-IsJoine
 use Rattle.trace_model.proofs.words.Overwritten.{length-overwritten, overwritten-IsJoined, records_of-around, records_of-replaced, with_payload}
 use Rattle.trace_model.proofs.words.Places.{words_in-IsPlaceIn, overwritten-reads, EndsInRecord-overwritten, IsPlaceOf-overwritten, Decodes-overwritten, records_in-overwritten_end}
 use Rattle.page_image.specs.Contents.{Contents, IsPage, is_blank, records_of_page}
-use Rattle.page_image.specs.Lending.{PayloadWritten}
+use Rattle.page_image.specs.Lending.{PayloadWritten, with_part}
 use Rattle.page_image.proofs.Putting.{place_of}
 
-pub written_within : (items part : List ℕ) (end start n : ℕ) → start ≤ end → end ≤ length items → n ≡ length items →
-    take end (take n ((take start items ++ (part ++ drop (length part) (drop start items))) ++ drop (length (take start items ++ (part ++ drop (length part) (drop start items)))) items)) ≡ take (length (take end items)) (overwritten (take end items) start part)
-written_within items part end start n low high n_is =
+-- a part of a body overwritten, as far as the data reaches, is that part of the data
+pub part_within : (items part : List ℕ) (end start : ℕ) → start ≤ end → end ≤ length items → take end (with_part items start part) ≡ with_part (take end items) start part
+part_within items part end start low high =
     same_lists _ _ (search (rules, places)) (λ k d h. grind (arith, places))
+
+pub length-with_part : (items part : List ℕ) (start : ℕ) → start ≤ length items → length (with_part items start part) ≡ length items
+length-with_part items part start low =
+    length-take-le (length items) (overwritten items start part) (omega (arith, length-append (take start items) (part ++ drop (start + length part) items), length-append part (drop (start + length part) items), length-drop (start + length part) items, length-take-le start items low))
 
 -- a part of the data is that part of the body
 pub range_within : (items : List ℕ) (end start len : ℕ) → start + len ≤ end → take (start + len - start) (drop start items) ≡ take (start + len - start) (drop start (take end items))

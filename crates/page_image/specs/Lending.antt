@@ -6,11 +6,20 @@ use Rattle.trace_model.specs.Reading.{EndsInRecord, IsPlaceIn}
 use Rattle.trace_model.specs.Order.{moment_of_last}
 use Rattle.trace_model.specs.Overwriting.{overwritten, bytes_at, IsReplacedAt, IsPlaceOf}
 use Rattle.page_image.specs.Contents.{Contents, IsPage, is_blank, records_of_page}
+use Rattle.page_image.specs.contracts.body.Body as body_rows
 use Rattle.page_image.specs.contracts.page.Page.{the_row}
+
+-- the bytes with these from start on, as far as they reach
+abbrev pub with_part : List ℕ → ℕ → List ℕ → List ℕ
+with_part bytes start part = take (length bytes) (overwritten bytes start part)
+
+-- the body ends with the part from start on set to the last bytes of the result
+abbrev pub LendsPart : MutBor (List ℕ) → ℕ → MutBor (List ℕ) → Fml
+LendsPart body start result = Lends body_rows.the_row (Array u8 0) body result (with_part body.now start)
 
 -- the page whose bytes from start on are these, as far as the data reaches
 abbrev pub with_payload : Contents → ℕ → List ℕ → Contents
-with_payload page start part = record page { bytes = take (length page.bytes) (overwritten page.bytes start part) }
+with_payload page start part = record page { bytes = with_part page.bytes start part }
 
 -- the page ends with the payload from start on set to the last bytes of the result
 abbrev pub LendsPayload : MutBor Contents → ℕ → MutBor (List ℕ) → Fml

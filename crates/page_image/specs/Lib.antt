@@ -5,3 +5,4 @@ pub mod Walk
 pub mod Counting
 pub mod Images
 pub mod Plain
+pub mod Slot

@@ -11,6 +11,7 @@ ghost use Rattle.page_image.specs.declared.image.ImageFault.TheVariants.{Word as
 
 mod header;
 
+use crate::body::Body;
 use crate::count::count_records;
 use crate::page::Page;
 pub(crate) use header::{Commit, HEADER};
@@ -120,8 +121,8 @@ impl Outline {
         ensures page { IfOk result (λ page. IsPage page) }
         ensures contents { IfOk result (λ page. page ≡ page_in bytes.now self.time self.size) }
     {
-        let body = Vec::from_slice(alloc, &bytes[HEADER..])?;
-        Ok(Page::of_bytes(body, self.time, self.size, self.count))
+        let body = Body::of(alloc, &bytes[HEADER..])?;
+        Ok(Page::of_body(body, self.time, self.size, self.count))
     }
 }
 

@@ -43,6 +43,7 @@ pub mod laws;
 mod page;
 mod places;
 mod put;
+mod slot;
 mod walk;
 
 pub use body::Body;
@@ -52,4 +53,5 @@ pub use image::{
 };
 pub use page::Page;
 pub use record_words::Place;
+pub use slot::SLOT_HEADER;
 pub use walk::{Passed, Reached, step_over_word};

@@ -6,7 +6,7 @@ mod read;
 mod write;
 
 use crate::body::Body;
-use crate::put::{PutKind, put_behind_as, put_payload_behind};
+use crate::put::PutKind;
 use record_words::{Place, size_of};
 use std::marker::Model;
 use trace_model::{FillNo, RecordNo};
@@ -21,7 +21,7 @@ use trace_model::{FillNo, RecordNo};
 /// ```
 #[derive(Debug, Drop)]
 pub struct Page {
-    body: Vec<u8>,
+    body: Body,
     time: u64,
     end: usize,
     first: RecordNo,
@@ -41,12 +41,12 @@ impl Model for Page {
       first = p.first.0;
       count = p.count;
       fill = p.fill.0;
-      size = length p.body.items;
-      bytes = take p.end p.body.items;
+      size = length p.body;
+      bytes = take p.end p.body;
     } };
 
-    ghost invariant = { λ p. (p.end ≤ length p.body.items)
-        × (length p.body.items ≤ MAX_SIZE)
+    ghost invariant = { λ p. (p.end ≤ length p.body)
+        × (length p.body ≤ MAX_SIZE)
         × (4 * p.count ≤ p.end) };
 }
 
@@ -64,7 +64,7 @@ impl Page {
     ghost use Rattle.trace_model.specs.declared.limits.TheConstants.{MOMENT_LIMIT};
 
     /// A page without a record, its time 0, in this body.
-    pub fn fresh(body: Body, first: RecordNo, fill: FillNo) -> Page
+    pub fn fresh(mut body: Body, first: RecordNo, fill: FillNo) -> Page
         ensures page { IsPage result }
         ensures blank { result ≡ record {
           time = 0;
@@ -75,8 +75,9 @@ impl Page {
           bytes = [];
         } }
     {
+        body.store_begin(fill, first);
         Page {
-            body: body.into_bytes(),
+            body,
             time: 0,
             end: 0,
             first,
@@ -132,15 +133,10 @@ impl Page {
         ensures { HasPut self.old self.new prev moment len (replicate (slot_len len) 0) result }
     {
         let is_first = self.is_first(records);
-        let place = put_behind_as(
-            records,
-            &mut self.body,
-            self.end,
-            moment - prev,
-            is_first,
-            len,
-        );
-        self.time = if is_first { moment } else { self.time };
+        let place = self
+            .body
+            .put_as(records, self.end, moment - prev, is_first, len);
+        self.time = self.body.time_with(is_first, moment, self.time);
         self.end = place.start + place.len;
         self.count += 1;
         place
@@ -156,10 +152,11 @@ impl Page {
         let end = self.end;
         let is_first = end == 0;
         let delta = moment - prev;
-        self.time = if is_first { moment } else { self.time };
+        let place = self.body.put_payload(end, delta, is_first, payload);
+        self.time = self.body.time_with(is_first, moment, self.time);
         self.end = end + size_of(payload.len(), delta, is_first);
         self.count += 1;
-        put_payload_behind(&mut self.body, end, delta, is_first, payload)
+        place
     }
 
     /// The payload at this place, to be written. All other bytes of the page stay as they are.
@@ -185,10 +182,21 @@ impl Page {
         ensures len { length result.now ≡ place.len }
     {
         let body = &mut self.body;
-        body.slice_mut(place.start..place.start + place.len)
+        body.part_mut(place)
     }
 
-    /// The same page under another first number and fill.
+    /// Stores how many bytes of data there are as commit in the header of the body's slot, for whoever reads the memory
+    /// of a ring that is in use, or whose process was killed: the records in them are committed from here on. So it is
+    /// called when none of the page's records is still to be written. What the page is doesn't change.
+    #[inline(always)]
+    pub fn store_commit(&mut self)
+        ensures { self.new ≡ self.old }
+    {
+        self.body.store_commit(self.end);
+    }
+
+    /// The same page under another first number and fill. The header of the body's slot keeps those that it was begun
+    /// with.
     pub fn numbered(self, first: RecordNo, fill: FillNo) -> Page
         ensures { result ≡ record self { first = first.0; fill = fill.0 } }
     {
@@ -204,6 +212,6 @@ impl Page {
         ensures { length result ≡ self.size }
     {
         let Page { body, .. } = self;
-        Body::of_bytes(body)
+        body
     }
 }

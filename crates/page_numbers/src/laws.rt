@@ -2,7 +2,8 @@
 ghost use Rattle.std.specs.Prelude.{◌≡◌};
 ghost use Rattle.page_numbers.specs.declared.numbers.TheConstants.{MIN_PARCEL, NUMBERS};
 
-/// The numbers have these values. The contracts name them, so that one that is changed is refused here.
+/// Each number of a parcel's bytes has the value that is stated here; contracts name it, so that one that is changed is
+/// refused here.
 pub fn constants_are()
     ensures numbers { NUMBERS ≡ 32 }
     ensures min_parcel { MIN_PARCEL ≡ 48 }

@@ -2,7 +2,8 @@
 ghost use Rattle.std.specs.Prelude.{◌≡◌, ◌^◌};
 ghost use Rattle.record_words.specs.declared.format.TheConstants.{EXTEND_FROM, LEAST_LENGTH, MAX_PAYLOAD, PADDING, SHORT_LIMIT, TIME_EXTEND, TIME_STAMP};
 
-/// The numbers have these values. The contracts name most of them, so that one that is changed is refused here.
+/// The numbers of the format have the values that are stated here; contracts name most of them, so that one that is
+/// changed is refused here.
 pub fn constants_are()
     ensures padding { PADDING ≡ 29 }
     ensures time_extend { TIME_EXTEND ≡ 30 }

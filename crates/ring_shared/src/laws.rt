@@ -1,12 +1,13 @@
-//! What holds of any call of a running ring's ends, and of all calls of both.
+//! What holds of any call on an end of a running ring, and of all calls on both ends.
 ghost use Rattle.ring_shared.specs.Laws.{CallsAppend, ClosesAppend, EndsAppend, NumbersAreReportedAgain, PushesAppend, RefusalsAppend, ReservationsAppend};
 ghost use Rattle.ring_shared.specs.RunLaws.{ReaderStepsEndRuns, ReaderStepsStand, RunsAreReached, WriterCallsEndRuns, WriterStepsStand};
 ghost use Rattle.ring_shared.specs.TailLaws.{TailsAreTheRest};
 ghost use Rattle.ring_shared.specs.TakenLaws.{TakesAreMade};
 ghost use Rattle.ring_shared.specs.WholeLaws.{FinishesClose, FinishesLeft, FinishesRefused, FinishesReserve, PaddedTwice, RefusedWritesAppend, RefusedWritesKeepFrames, RefusedWritesReserveNone, WritersHaveHistories, WritesAppend, WritesReserve};
 
-/// A call appends to the history of its writer's frames what its answer, in a state with that writer's part before it,
-/// stands for, and nothing else.
+/// A call appends to the history of its writer's frames exactly what its answer, in a state with that writer's part
+/// before it, stands for: an answered push its push, an end its leave with the payload, a number that is answered to a
+/// waiting frame one reservation, and one that is answered again nothing.
 pub fn calls_append()
     ensures calls { CallsAppend }
     ensures pushes { PushesAppend }
@@ -17,7 +18,10 @@ pub fn calls_append()
     ensures refusals { RefusalsAppend }
 {}
 
-/// What `finish_top` appends, by the frame on top, and what `write` does, whatever other frames are below.
+/// `finish_top` of a waiting record frame begins fills and then reserves, or leaves without a record; a close frame
+/// begins fills and leaves, and then, as a frame that has left does alone, does what the reader's wish asks for.
+/// `write` appends its push, fills that are begun, one reservation, the leave with the padded payload, and then what
+/// the wish asks for; refused it appends nothing, or the same with no reservation and a leave without a record.
 pub fn whole_calls_append()
     ensures reserves { FinishesReserve }
     ensures refused { FinishesRefused }
@@ -27,8 +31,8 @@ pub fn whole_calls_append()
     ensures refused_writes { RefusedWritesAppend }
 {}
 
-/// A write adds exactly its record to the reserved ones; one that is refused adds none, and keeps the frames that there
-/// were. A payload that was padded stays as it is.
+/// A write adds exactly its record to the reserved ones, its moment raised to the last one's; a refused write adds
+/// none, and leaves exactly the frames that were there. Padding a payload that is padded changes nothing.
 pub fn writes_reserve_their_record()
     ensures writes { WritesReserve }
     ensures refused { RefusedWritesReserveNone }
@@ -36,34 +40,35 @@ pub fn writes_reserve_their_record()
     ensures padded { PaddedTwice }
 {}
 
-/// The history of a writer's end keeps the discipline of the stack and is packed, and the writer reports its counts.
+/// The history of a writer's end keeps the discipline of the stack and is packed. The writer reports the number of the
+/// oldest fill that isn't closed, and how many frames it has; with no frame, all fills that are begun but the tail are
+/// closed.
 pub fn writers_have_histories()
     ensures { WritersHaveHistories }
 {}
 
-/// A take adds to what its reader made its steps, of which the last one has the take's answer, or none has, and nothing
-/// else.
+/// A take adds to what its reader made exactly its steps, the last of which has the take's answer, or none has it.
 pub fn takes_are_made()
     ensures { TakesAreMade }
 {}
 
 /// If a take has found that all closed fills are passed, the writer has no frame, and neither end has made a step
-/// since, the pages that were taken, and then the tail as it can be read, have all records that are committed, except
-/// those that are counted as missed.
+/// since, then the pages that were taken, followed by the tail, have all committed records but those that are counted
+/// as missed.
 pub fn tails_are_the_rest()
     ensures { TailsAreTheRest }
 {}
 
 /// Whatever calls were made on the two ends of a ring, in whatever threads: once the ends are settled, the steps of all
 /// calls are one run of the ring's model, and after each step of an end the run has come to a state with that end's
-/// part. So each theorem on states that steps reach, and on runs, holds of them all together.
+/// part. So what is proved of states that steps reach, and of runs, holds of it.
 pub fn both_ends_made_one_run()
     ensures reached { RunsAreReached }
     ensures writer { WriterStepsStand }
     ensures reader { ReaderStepsStand }
 {}
 
-/// Of an end, whether it is settled or not: after each step of it there is a run of a new ring in which it made exactly
+/// After each step of an end, whether it is settled or not, there is a run of a new ring in which this end made exactly
 /// its steps up to this one.
 pub fn calls_end_runs()
     ensures writer { WriterCallsEndRuns }

@@ -5,8 +5,8 @@ ghost use Rattle.trace_model.specs.Words.{Word, is_stamp, joined, word_time_limi
 ghost use Rattle.trace_model.specs.Image.{le64, Commit, commit_word, HasParts};
 ghost use Rattle.stamp_times.specs.Restored.{time_until, restored_words, restored_data, restored_image};
 
-/// The time that a stamp leads to has the stamp's 59 bits, and is the first such one that isn't before the time before
-/// it: that with the bits above them taken from the time before, or 2^59 later if that would be earlier.
+/// The time that a stamp leads to is the first one, from the time before it on, whose low 59 bits are the stamp's: the
+/// bits above them are those of the time before, and if that would be earlier, 2^59 is added.
 pub fn stamps_lead_to_the_next_time()
     ensures low_bits { (before stamp : ℕ) → stamp < word_time_limit
         → (before + time_until before stamp) % word_time_limit ≡ stamp }
@@ -19,12 +19,12 @@ pub fn stamps_lead_to_the_next_time()
         → before + time_until before stamp ≡ before - before % word_time_limit + stamp + word_time_limit }
 {}
 
-/// Where no stamp is, nothing is restored.
+/// Words without a stamp stay as they are.
 pub fn without_stamps_nothing_changes()
     ensures { (time : ℕ) (words : List Word) → list_any is_stamp words ≡ false → restored_words time words ≡ words }
 {}
 
-/// Of an image the data is restored alone, and of data that is cut into words these alone.
+/// Of an image only the data is changed, and of data only the words into which it is cut.
 pub fn only_words_are_restored()
     ensures parts { (limit : ℕ) (bytes : List ℕ) (time : ℕ) (commit : Commit) (contents behind : List ℕ)
         → HasParts limit bytes time commit contents behind

@@ -99,6 +99,7 @@ impl WriterStack {
         ensures kept { SamePages self.old self.new }
         ensures none { self.new.frames ≡ [] }
     {
+        self.tail.store_commit();
         self.top.clear();
     }
 }

@@ -43,6 +43,7 @@ impl WriterStack {
         let prev = self.last_moment;
         self.last_moment = raised;
         self.tail.put_payload(prev, raised, payload);
+        self.tail.store_commit();
     }
 
     /// `write_alone`, whatever the record.

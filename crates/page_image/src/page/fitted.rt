@@ -1,4 +1,5 @@
 //! A page in a body as long as its data.
+use crate::body::Body;
 use crate::page::Page;
 use std::alloc::Global;
 use trace_model::NoMemory;
@@ -12,7 +13,7 @@ impl Page {
         ensures page { IfOk result (λ page. page ≡ record self.now { size = length self.now.bytes }) }
         ensures reads { IfOk result (λ page. IsPage self.now → IsPage page) }
     {
-        let body = Vec::from_slice(alloc, self.data())?;
+        let body = Body::of(alloc, self.body.front(self.end))?;
         Ok(Page { body, ..*self })
     }
 }

@@ -52,13 +52,13 @@ impl Page {
     pub fn size(&self) -> usize
         ensures { result ≡ self.now.size }
     {
-        self.body.len()
+        self.body.size()
     }
 
     /// The bytes of data: the words that were put, or as much as an image states.
     pub fn data(&self) -> &[u8]
         ensures { result.now ≡ self.now.bytes }
     {
-        &self.body[..self.end]
+        self.body.front(self.end)
     }
 }

@@ -1,4 +1,5 @@
-//! A page of given bytes.
+//! A page of a given body.
+use crate::body::Body;
 use crate::page::Page;
 use trace_model::{FillNo, RecordNo};
 
@@ -8,17 +9,17 @@ impl Page {
 
     /// The page of this time whose data is the first `end` bytes of the body, with `count` records. Its first
     /// number and its fill are 0.
-    pub(crate) fn of_bytes(body: Vec<u8>, time: u64, end: usize, count: u64) -> Page
-        requires end { end ≤ length body.items }
-        requires limit { length body.items ≤ MAX_SIZE }
+    pub(crate) fn of_body(body: Body, time: u64, end: usize, count: u64) -> Page
+        requires end { end ≤ length body }
+        requires limit { length body ≤ MAX_SIZE }
         requires few { 4 * count ≤ end }
         ensures { result ≡ record {
           time = time;
           first = 0;
           count = count;
           fill = 0;
-          size = length body.items;
-          bytes = take end body.items;
+          size = length body;
+          bytes = take end body;
         } }
     {
         Page {

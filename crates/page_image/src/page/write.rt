@@ -25,8 +25,8 @@ impl Page {
             → DecodesImage image.items self.now.time (length self.now.bytes)
             (missed_reported self.now.bytes missed self.now.size) (records_of_page self.now)) }
     {
-        let size = HEADER + self.body.len();
-        let commit = Commit::written(self.end, missed, self.body.len());
+        let size = HEADER + self.body.size();
+        let commit = Commit::written(self.end, missed, self.body.size());
         let mut image = Vec::with_capacity(alloc, size)?;
         image.extend_from_slice(&self.time.to_le_bytes())?;
         image.extend_from_slice(&commit.word().to_le_bytes())?;

@@ -2,7 +2,7 @@
 ghost use Rattle.ring_model.specs.Examples.{FirstRecord, HaltedHeadMove, HelpersAtTheHead, InnerReservesFirst, LateSwap, NestedWriter, WishAnswered, WishWaitsForTheOutermost};
 ghost use Rattle.ring_model.specs.WrongSteps.{ClosesWithoutAWish, HelperClearsTheUpdate, InnerEndPublishes, LosesWhileAPositionIsFree, SwapIgnoresTheFill, TakesTheTail, TwoHeads, WishClosesAnEmptyPage};
 
-/// The worked examples are runs of steps from the new ring.
+/// The eight worked examples are runs of steps from the new ring, with their answers.
 pub fn examples_are_runs()
     ensures first_record { FirstRecord }
     ensures nested_writer { NestedWriter }
@@ -14,7 +14,7 @@ pub fn examples_are_runs()
     ensures wish_waits_for_the_outermost { WishWaitsForTheOutermost }
 {}
 
-/// Wrong steps make no rings, so none of them is a step.
+/// Six wrong steps lead to states that aren't rings, so none of them is a step.
 pub fn wrong_steps_are_refused()
     ensures loses_while_a_position_is_free { LosesWhileAPositionIsFree }
     ensures takes_the_tail { TakesTheTail }
@@ -24,8 +24,8 @@ pub fn wrong_steps_are_refused()
     ensures inner_end_publishes { InnerEndPublishes }
 {}
 
-/// A frame that begins a page for the reader where it has no wish, or where the page holds no record, makes
-/// what isn't packed in pages, so neither is a step.
+/// A frame that begins a page for the reader without a wish, or after a page without a record, makes a history that
+/// isn't packed, so neither is a step.
 pub fn wrong_closes_are_refused()
     ensures closes_without_a_wish { ClosesWithoutAWish }
     ensures wish_closes_an_empty_page { WishClosesAnEmptyPage }

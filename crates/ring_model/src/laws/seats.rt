@@ -3,9 +3,9 @@ ghost use Rattle.ring_model.specs.SeatLaws.{PrivateCommutes, PrivateLeavesOtherP
 ghost use Rattle.ring_model.specs.SeenLinks.{FramesHaveSeenLinks};
 ghost use Rattle.ring_model.specs.WriterRanks.{ClaimsFailOnceTheHeadMoved};
 
-/// A step of the writer reads nothing of the reader's part, and leaves it as it is; and a step of the reader reads
-/// nothing of the writer's part, and leaves it as it is, with the words that the writer alone stores and the pages
-/// that it holds.
+/// A step of the writer reads nothing of the reader's part and leaves it as it is; a step of the reader reads nothing
+/// of the writer's part and leaves it as it is, with the words that the writer alone stores and the pages that it
+/// holds. So two threads may have the two parts.
 pub fn seats_are_apart()
     ensures writer_reads { WriterReadsNoReader }
     ensures writer_leaves { WriterLeavesReader }
@@ -22,8 +22,9 @@ pub fn private_steps_commute()
     ensures commute { PrivateCommutes }
 {}
 
-/// The page that a frame has seen in the link that it is about to claim, or to mark, has room in a word. A head that it
-/// is about to claim has its HEADER while it is the head; so a claim that fails shows that the head was moved on.
+/// The page that a frame has seen in the link that it is about to claim, or to mark, fits a word, if the ring has at
+/// most `MAX_PAGES` pages. A head that it is about to claim has its HEADER while it is the head; so a claim that fails
+/// shows that the head was moved on.
 pub fn frames_have_seen_links()
     ensures seen { FramesHaveSeenLinks }
     ensures claims { ClaimsFailOnceTheHeadMoved }

@@ -1,25 +1,24 @@
 //! Laws of a ring's window: how the counts of fills move, and which fills are taken or lost.
 ghost use Rattle.ring_model.specs.WindowLaws.{ClosesNeedNoFrame, CountsRise, LossesNeedAFullRing, LostAreClosed, NoneIsTakenAndLost, NothingHappens, OneWindowEvent, PassedAreTakenOrLost, RunsExtendEvents, RunsMoveWindow, StepsMoveWindow, TakenAreClosed};
 
-/// Every step is one step of the window, the one that the history and the taken pages show, or leaves the
-/// window and what was taken as they were: so no fill is both taken and lost, and none is lost but a closed
-/// one, in a full ring.
+/// Every step is one step of the window, the one that the history and the taken pages show, or leaves the window and
+/// what was taken as they were. So no fill is both taken and lost, and none is lost but a closed one, in a full ring.
 pub fn steps_move_window()
     ensures window { StepsMoveWindow }
     ensures one { OneWindowEvent }
     ensures none { NothingHappens }
 {}
 
-/// Every run from a new ring is a run of its window, which states each event of the frames and each fill
-/// that the reader took; a longer run goes on from there; and its counts only rise.
+/// Every run from a new ring is a run of its window, which states each event of the frames and each fill that the
+/// reader took; a longer run continues a shorter one, and the counts only rise.
 pub fn runs_move_window()
     ensures runs { RunsMoveWindow }
     ensures extends { RunsExtendEvents }
     ensures rises { CountsRise }
 {}
 
-/// Over a run of the window each fill below the head was taken or lost, never both; and either way it had
-/// been closed, and one that was lost was so in a full ring.
+/// In a run of the window each fill below the head was taken or lost, and never both; either way it had been closed,
+/// and one that was lost was lost in a full ring.
 pub fn passed_fills_are_taken_or_lost()
     ensures passed { PassedAreTakenOrLost }
     ensures apart { NoneIsTakenAndLost }
@@ -27,8 +26,7 @@ pub fn passed_fills_are_taken_or_lost()
     ensures lost { LostAreClosed }
 {}
 
-/// The head moves by a take of it, or in a full ring; and a fill is closed only where each push has its
-/// leave.
+/// The head moves by a take of it, or in a full ring; and a fill is closed only if each push has its leave.
 pub fn fills_are_lost_in_a_full_ring()
     ensures losses { LossesNeedAFullRing }
     ensures closes { ClosesNeedNoFrame }

@@ -1,10 +1,10 @@
 //! Laws of the reader's wish for the tail page.
 ghost use Rattle.ring_model.specs.WishLaws.{EndsOnTheWishedPage, GoneHasLooked, WishBehindEmptyLosesNone, WishedTailsAreClosed, WishesAreAnswered, WishesAreHeld};
 
-/// The reader wishes for the fill after those that it has seen closed; the last frame leaves the stack by its look for
-/// that wish alone; and so a wish for the first fill that isn't closed is answered by the next outermost end that
-/// finds a record in the tail, the last fill aside. The end's own record is on that page, if it has no fill to close
-/// before.
+/// A wish for the first fill that isn't closed is answered by the next outermost end that finds a record in the tail,
+/// unless the tail is the last fill. The reader wishes for the fill after those that it has seen closed; the last frame
+/// leaves the stack by its look for that wish alone; and the end's own record is on that page, if it has no fill to
+/// close before.
 pub fn wishes_are_answered()
     ensures held { WishesAreHeld }
     ensures gone { GoneHasLooked }

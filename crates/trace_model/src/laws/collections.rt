@@ -5,8 +5,8 @@ ghost use Rattle.trace_model.specs.Parcel.{Parcel};
 ghost use Rattle.trace_model.specs.Collection.{Agree, IsBelow, IsSame, IsLeastUpperBound};
 ghost use Rattle.trace_model.specs.Listing.{Line, IsListing};
 
-/// Two lists of parcels have a least collection above both if and only if all of them agree; and then it
-/// is what they have and miss together.
+/// Two lists of parcels have a least collection above both if and only if all of them agree, and then it is what they
+/// have and miss together. So a merge of two collectors is their join.
 pub fn joined_is_least()
     ensures least { (parcels others : List Parcel) →
         Agree (parcels ++ others) → IsLeastUpperBound parcels others (parcels ++ others) }
@@ -14,8 +14,7 @@ pub fn joined_is_least()
         IsLeastUpperBound parcels others join → Agree (parcels ++ others) }
 {}
 
-/// Collections are ordered by what they have and miss, up to having and missing the same; that is an
-/// equivalence.
+/// Collections are ordered by what they have and miss, up to having and missing the same, which is an equivalence.
 pub fn collections_are_ordered()
     ensures below_itself { (parcels : List Parcel) → IsBelow parcels parcels }
     ensures below_below { (parcels others above : List Parcel) →
@@ -28,9 +27,9 @@ pub fn collections_are_ordered()
         IsSame parcels others → IsSame others more → IsSame parcels more }
 {}
 
-/// The order and the repeats of parcels change nothing: the same parcels are the same collection, one that
-/// comes once more leaves it the same, and joining commutes, regroups and forgets what is joined twice.
-/// Parcels are below more parcels, and what is below parcels that agree agrees too.
+/// The order and the repeats of parcels change nothing: the same parcels are the same collection, one that comes once
+/// more leaves it the same, and joining commutes, regroups, and forgets what is joined twice. Parcels are below more
+/// parcels, and what is below parcels that agree agrees too.
 pub fn order_and_repeats_change_nothing()
     ensures below_more { (parcels others : List Parcel) →
         ((p : Parcel) → Contains parcels p → Contains others p) → IsBelow parcels others }
@@ -49,8 +48,8 @@ pub fn order_and_repeats_change_nothing()
         IsBelow parcels others → Agree others → Agree parcels }
 {}
 
-/// What parcels have decides their listing, in which each record is once. Parcels that agree have a
-/// listing, and in it a CPU and a number have one line at most.
+/// What parcels have decides their listing, in which each record is once; parcels that agree have a listing, and in it
+/// a CPU and a number have one line at most.
 pub fn listings_are_one()
     ensures one { (parcels others : List Parcel) (lines other_lines : List Line) →
         IsSame parcels others → IsListing parcels lines → IsListing others other_lines → lines ≡ other_lines }

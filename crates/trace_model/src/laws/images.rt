@@ -6,8 +6,7 @@ ghost use Rattle.trace_model.specs.declared.limits.TheConstants.{MAX_IMAGE};
 ghost use Rattle.trace_model.specs.Record.{Record};
 ghost use Rattle.trace_model.specs.Words.{Decodes};
 
-/// A page image has a reading or a first fault: one of the two and never both. The reading is one, and the
-/// fault is one.
+/// A page image has one reading or one first fault, and never both.
 pub fn image_reading_or_fault()
     ensures one { (bytes : List ℕ) → AreBytes bytes
         → ((time size : ℕ) × (missed : Missed) × (records : List Record)
@@ -25,9 +24,9 @@ pub fn image_reading_or_fault()
         → FirstImageFault bytes fault → FirstImageFault bytes other → fault ≡ other }
 {}
 
-/// The limit decides only how long an image may be: an image that reads within a limit reads as the same
-/// within a larger one, and one that reads within the larger one alone is longer than the smaller. So a page
-/// of 4,096 bytes, as most kernels have them, reads as it would if no longer image were read.
+/// The limit decides only how long an image may be: an image that reads within a limit reads as the same within a
+/// larger one, and one that reads within the larger one alone is longer than the smaller. So a page of 4,096 bytes, as
+/// most kernels have them, reads as it would under a limit of 4,096.
 pub fn image_limit_may_grow()
     ensures reads_within_a_larger_limit { (small large : ℕ) (bytes : List ℕ) (time size : ℕ)
         (missed : Missed) (records : List Record) → small ≤ large
@@ -47,8 +46,9 @@ pub fn image_limit_may_grow()
         → DecodesImage bytes time size missed records }
 {}
 
-/// The image that is written has as many bytes as its page and the header, and reads as what it was
-/// written for.
+/// The image that is written (`image_of`) has as many bytes as its header and its page, and reads as the time, the
+/// records and the missed records that it was written for: a count for which the page has no room reads as an unknown
+/// one.
 pub fn image_reads_back()
     ensures length_is { (time : ℕ) (contents : List ℕ) (missed size : ℕ) → length contents ≤ size
         → length (image_of time contents missed size) ≡ 16 + size }

@@ -2,8 +2,8 @@
 ghost use Rattle.std.specs.Prelude.{◌≡◌, ◌^◌};
 ghost use Rattle.trace_model.specs.declared.limits.TheConstants.{LINK_FILLS, LINK_PAGES, MAX_CPUS, MAX_FRAMES, MAX_IMAGE, MAX_INPUT, MAX_PAGES, MAX_SIZE, MIN_PAGES, MIN_SIZE, MOMENT_LIMIT, START_FILL};
 
-/// The limits have these values. Contracts and definitions name them. What else a changed limit touches is listed in
-/// `docs/ARCHITECTURE.md`, "Where to change what".
+/// Each limit has the value that is stated here; contracts and definitions name it. What else a changed limit touches
+/// is listed in `docs/ARCHITECTURE.md`, "Where to change what".
 pub fn constants_are()
     ensures min_pages { MIN_PAGES ≡ 2 }
     ensures max_pages { MAX_PAGES ≡ 1024 }

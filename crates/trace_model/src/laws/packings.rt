@@ -2,8 +2,8 @@
 ghost use Rattle.trace_model.specs.HistoryLaws.{PackedFillsAreFull};
 ghost use Rattle.trace_model.specs.Packing.{FillHasItsLength};
 
-/// What the writer reckons for the records of a fill is the length of the page's data that holds them, as
-/// they are read: with their payloads, or with zeros where these are still open.
+/// What the writer computes for the records of a fill is the length of the page's data that holds them, as they are
+/// read: with their payloads, or with zeros where these are still open.
 pub fn fill_len_is_encoding_len()
     ensures reckoned { FillHasItsLength }
 {}

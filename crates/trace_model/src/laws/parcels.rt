@@ -6,8 +6,7 @@ ghost use Rattle.trace_model.specs.ParcelBytes.{IsParcel, bytes_of_parcel, Decod
 ghost use Rattle.trace_model.specs.Words.{Decodes};
 ghost use Rattle.trace_model.specs.declared.limits.TheConstants.{MAX_IMAGE};
 
-/// Bytes read as a parcel or have a first fault: one of the two and never both. The parcel is one, and the
-/// fault is one.
+/// Bytes read as one parcel or have one first fault, and never both.
 pub fn parcel_reading_or_fault()
     ensures one { (bytes : List ℕ) → AreBytes bytes
         → ((parcel : Parcel) × DecodesParcel bytes parcel) ⊎ ((fault : ParcelCause) × FirstParcelFault bytes fault) }

@@ -5,8 +5,8 @@ ghost use Rattle.trace_model.specs.Partition.{Piece, IsPartition, IsNumberedFrom
 ghost use Rattle.trace_model.specs.Parcel.{Parcel, AreGenuine};
 ghost use Rattle.trace_model.specs.Collection.{Agree, Has, Misses};
 
-/// Each piece of a partition has a first number, which is how many records of the whole list are before
-/// the piece's own; from that number on these are the records of the whole list.
+/// Each piece of a partition has a first number, which is how many records of the whole list are before the piece's
+/// own; from that number on these are the records of the whole list.
 pub fn pieces_have_first_numbers()
     ensures some { (records : List Record) (pieces : List Piece) (rest : List Record) (index : ℕ) (piece : Piece) →
         IsPartition records pieces rest → slice_get pieces index ≡ Some piece →
@@ -22,8 +22,8 @@ pub fn pieces_have_first_numbers()
         slice_get piece.records i ≡ Some r → slice_get records (first + i) ≡ Some r }
 {}
 
-/// Parcels that are genuine for the partition of their CPU's records have and miss only those records, under
-/// their numbers, and agree: no number has two records, and none has one and is missing.
+/// Parcels that are genuine for the partition of their CPU's records have and miss only those records, under their
+/// numbers, and never clash: no number has two records, and none has one and is missing.
 pub fn genuine_parcels_agree()
     ensures has { (records : ℕ → List Record) (pieces : ℕ → List Piece) (rest : ℕ → List Record)
         (parcels : List Parcel) (cpu number : ℕ) (r : Record) →

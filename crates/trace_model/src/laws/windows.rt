@@ -3,8 +3,8 @@ ghost use Rattle.std.specs.Prelude.{ℕ, ◌≤◌, List};
 ghost use Rattle.trace_model.specs.History.{HistoryEvent};
 ghost use Rattle.trace_model.specs.Window.{Window, RingEvent, window_after, MayMove, WindowRun, IsWindow};
 
-/// The counts of a ring's window keep their order, and no more fills are begun from the head on than the
-/// ring has positions: over each event, and so over every run from the start.
+/// Over each event, and so over every run from the start, the counts of a ring's window keep their order, and no more
+/// fills are begun from the head on than the ring has positions.
 pub fn windows_keep_order()
     ensures event { (n : ℕ) (history : List HistoryEvent) (window : Window) (event : RingEvent) →
         IsWindow n window → MayMove n history window event → IsWindow n (window_after window event) }

@@ -6,12 +6,13 @@ ghost use Rattle.trace_model.specs.Laws.{EncodingHasItsLength, EncodingsReadBack
 ghost use Rattle.trace_model.specs.Record.{Record, IsRecord};
 ghost use Rattle.trace_model.specs.Words.{Decodes};
 
-/// A payload that fills its slot takes exactly the bytes that the writer reckons with.
+/// A payload that fills its slot takes exactly the bytes that the writer computes before it writes it.
 pub fn encoding_len()
     ensures reckoned { EncodingHasItsLength }
 {}
 
-/// The records that the data of a page was made of are what it reads as.
+/// What is encoded is read back, if moments never fall and stay below 2^59, and each payload fills its slot and has
+/// fewer than 2^32 - 4 bytes.
 pub fn encodings_read_back()
     ensures read_back { EncodingsReadBack }
 {}
@@ -21,7 +22,7 @@ pub fn reading_is_unique()
     ensures unique { ReadingIsUnique }
 {}
 
-/// Where data reads as records, the reader that goes word by word finds those records.
+/// If data reads as records, the plain reader, which goes word by word, finds those records.
 pub fn plain_reader_agrees()
     ensures agrees { PlainReaderAgrees }
 {}
@@ -32,8 +33,8 @@ pub fn decoded_records_are_records()
         Decodes bytes time records → All IsRecord records }
 {}
 
-/// Bytes written over a record's payload change that record's bytes and nothing else of what is read.
-/// The places of all records stay, and a record may still follow.
+/// Bytes written over a record's payload change that record's bytes and nothing else of what is read; the places of all
+/// records stay, and a record may still follow.
 pub fn overwriting_changes_one_record()
     ensures replaced { OverwritingChangesOneRecord }
     ensures places { OverwritingKeepsPlaces }
@@ -45,8 +46,7 @@ pub fn places_are_unique()
     ensures unique { PlacesAreUnique }
 {}
 
-/// What is at the front of data that isn't empty: a whole word, an ending padding or a fault,
-/// one of the three and only one, and only one fault.
+/// Data that isn't empty begins with a whole word, an ending padding or one fault: one of the three and only one.
 pub fn front_of_data()
     ensures one { (bytes : List ℕ) → 1 ≤ length bytes
         → HasWord bytes ⊎ (HasEnding bytes ⊎ HasFault bytes) }
@@ -57,8 +57,7 @@ pub fn front_of_data()
         → IsWordFault bytes other → cause ≡ other }
 {}
 
-/// Data with a time has a reading or a first fault: one of the two and never both. The fault is one, in
-/// cause and in offset.
+/// Data with a time has one reading or one first fault, with its offset, and never both.
 pub fn reading_or_first_fault()
     ensures one { (bytes : List ℕ) (time : ℕ) → AreBytes bytes
         → ((records : List Record) × Decodes bytes time records)
