@@ -4,13 +4,14 @@ ghost use Rattle.std.specs.List.{range_with_len};
 ghost use Rattle.crc32c.specs.Castagnoli.{crc32c, crc32c_after};
 ghost use Rattle.crc32c.specs.Changes.{AreBytes, DifferAt, DifferInBits, DifferWithin};
 
-/// The value that checks an implementation, that of the digits 1 to 9 in ASCII. Of no bytes the sum is 0.
+/// The sum of the digits 1 to 9 in ASCII is the value by which implementations are checked, and that of no bytes is 0.
 pub fn check_value()
     ensures digits { crc32c (codes "123456789") ≡ 0xe3069283 }
     ensures empty { crc32c [] ≡ 0 }
 {}
 
-/// The test vectors of RFC 3720, appendix B.4: 32 bytes that are all 0, all 255, rising from 0, and falling to 0.
+/// The sums of the test vectors of RFC 3720, appendix B.4, are those stated there: of 32 bytes that are all 0, all 255,
+/// rising from 0, and falling to 0.
 pub fn vectors()
     ensures zeros { crc32c (replicate 32 0) ≡ 0x8a9136aa }
     ensures ones { crc32c (replicate 32 255) ≡ 0x62a8ab43 }
@@ -23,7 +24,8 @@ pub fn a_sum_has_32_bits()
     ensures { (bytes : List ℕ) → AreBytes bytes → crc32c bytes < 2 ^ 32 }
 {}
 
-/// Pieces are summed one after another: from the sum of what is before them, or from 0.
+/// Bytes may be summed in parts: the sum continued over the next part, from that of what is before it or from 0, is the
+/// sum of the parts joined.
 pub fn pieces_are_summed_in_turn()
     ensures first { (bytes : List ℕ) → crc32c_after 0 bytes ≡ crc32c bytes }
     ensures next { (front back : List ℕ) → crc32c_after (crc32c front) back ≡ crc32c (front ++ back) }

@@ -9,7 +9,7 @@ ghost use Rattle.parcel_streams.specs.Pieces.{Packed, parcel_piece, bytes_of_pie
 ghost use Rattle.parcel_streams.specs.Faults.{stream_in, body_in, HoldsParcel, IsDecided, PieceCause, FirstPieceFault, FirstStreamFault};
 ghost use Rattle.parcel_streams.specs.declared.limits.TheConstants.{HEAD, SUM, MIN_PIECE, MAX_PIECE, PARCEL_HEAD, NUMBER_BODY, RUN_BODY};
 
-/// What is written is read back: a piece, whatever follows it, is the one piece at the front. A parcel's states its
+/// What is spelled is read back: a piece, whatever follows it, is the one piece at the front; a parcel's states its
 /// stream, and its bytes read as the parcel.
 pub fn spelled_is_read()
     ensures piece { (piece other : Packed) (rest : List ℕ) → IsPiece piece
@@ -27,8 +27,7 @@ pub fn read_is_spelled()
         → bytes ≡ other }
 {}
 
-/// Bytes begin with a piece or have a first fault: one of the two and never both. The piece is one, and the fault is
-/// one.
+/// Bytes begin with one piece or have one first fault, and never both.
 pub fn bytes_have_a_piece_or_a_fault()
     ensures one { (bytes : List ℕ) → AreBytes bytes
         → ((piece : Packed) × BeginsWith bytes piece) ⊎ ((cause : PieceCause) × FirstPieceFault bytes cause) }
@@ -40,8 +39,8 @@ pub fn bytes_have_a_piece_or_a_fault()
         → FirstPieceFault bytes cause → FirstPieceFault bytes other → cause ≡ other }
 {}
 
-/// Where the bytes decide what the piece at the front is, whatever follows them changes neither the piece nor the first
-/// fault.
+/// If the bytes decide what the piece at the front is, whatever follows them changes neither the piece nor the first
+/// fault. So a source can be read piece by piece.
 pub fn more_bytes_change_nothing()
     ensures piece { (bytes more : List ℕ) (piece : Packed) → AreBytes bytes → IsDecided bytes
         → BeginsWith bytes piece ↔ BeginsWith (bytes ++ more) piece }
@@ -49,7 +48,7 @@ pub fn more_bytes_change_nothing()
         → FirstPieceFault bytes cause ↔ FirstPieceFault (bytes ++ more) cause }
 {}
 
-/// Bytes are a stream or have a first fault: one of the two and never both. The fault is one, at one place.
+/// Bytes are a stream or have one first fault, at one place, and never both.
 pub fn bytes_are_a_stream_or_have_a_fault()
     ensures one { (bytes : List ℕ) → AreBytes bytes → ((pieces : List Packed) × IsStream bytes pieces)
         ⊎ ((index at : ℕ) × (cause : PieceCause) × FirstStreamFault bytes index at cause) }
@@ -60,13 +59,14 @@ pub fn bytes_are_a_stream_or_have_a_fault()
         → (index ≡ other) × (at ≡ there) × (cause ≡ reason) }
 {}
 
-/// A stream has one cut: its bytes are those of no other pieces.
+/// Bytes are the stream of one list of pieces at most: nothing inside a piece can be taken for a piece's beginning.
 pub fn streams_have_one_cut()
     ensures { (bytes : List ℕ) (pieces others : List Packed) → IsStream bytes pieces → IsStream bytes others
         → pieces ≡ others }
 {}
 
-/// Streams that are put one after the other are the stream of the pieces of the one and then of the other.
+/// Streams that are put one after the other are the stream of the pieces of the one and then of the other. So files of
+/// streams may be joined as bytes.
 pub fn joined_streams()
     ensures bytes { (pieces others : List Packed)
         → bytes_of_pieces (pieces ++ others) ≡ bytes_of_pieces pieces ++ bytes_of_pieces others }
@@ -74,8 +74,8 @@ pub fn joined_streams()
         → IsStream behind others → IsStream (bytes ++ behind) (pieces ++ others) }
 {}
 
-/// A byte that changes alone is seen: no two pieces differ in one byte. So if a byte of a piece changes, and it isn't
-/// one of those that state the piece's length, no piece is read.
+/// No two pieces differ in one byte alone. So if one byte of a piece changes, other than those that state the piece's
+/// length, no piece is read.
 pub fn a_changed_byte_is_refused()
     ensures pieces { (piece other : Packed) (at : ℕ) → ¬ DifferAt (bytes_of_piece piece) (bytes_of_piece other) at }
     ensures reading { (bytes changed : List ℕ) (piece : Packed) (at : ℕ) → BeginsWith bytes piece
@@ -83,7 +83,8 @@ pub fn a_changed_byte_is_refused()
         → (other : Packed) → ¬ BeginsWith changed other }
 {}
 
-/// The numbers have these values. The contracts name them, so that one that is changed is refused here.
+/// Each number of a piece's form has the value that is stated here; contracts name it, so that one that is changed is
+/// refused here.
 pub fn constants_are()
     ensures head { HEAD ≡ 32 }
     ensures sum { SUM ≡ 8 }

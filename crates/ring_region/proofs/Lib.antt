@@ -1,0 +1,17 @@
+pub mod Rising
+pub mod Disjoint
+pub mod Gaps
+pub mod Together
+pub mod Taken
+pub mod OnePage
+pub mod Held
+pub mod Plain
+pub mod Slotted
+pub mod Outlined
+pub mod Keeping
+pub mod Scanning
+pub mod Told
+pub mod Written
+pub mod Reported
+pub mod ByFill
+pub mod OneRegion

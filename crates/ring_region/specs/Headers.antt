@@ -1,0 +1,115 @@
+-- The header of a region, and where its slots are. All of it is this project's own, stated in docs/FORMATS.md,
+-- "Regions".
+use Rattle.std.specs.Prelude.{◌≡◌, ◌≢◌, ℕ, ◌+◌, ◌-◌, ◌*◌, ◌/◌, ◌%◌, ◌<◌, ◌≤◌, ◌⊎◌, ◌==◌, List, [], ◌∷◌, length, take, drop, Option, Some, None}
+use Rattle.trace_model.specs.Image.{from_le64}
+use Rattle.trace_model.specs.declared.limits.TheConstants.{MAX_CPUS, MIN_PAGES, MAX_PAGES, MIN_SIZE, MAX_SIZE}
+use Rattle.ring_region.specs.declared.limits.TheConstants.{START, HEAD, ALIGN}
+use Rattle.ring_region.specs.declared.headers.Header.{Header}
+use Rattle.ring_region.specs.declared.faults.RegionFault.{RegionFault}
+use Rattle.ring_region.specs.declared.faults.RegionFault.TheVariants.{TooShort, NotARegion, BadVersion, BadPages, BadSize, BadCpu, BadEnd, NoMemory}
+
+-- ---- where the slots are
+
+-- how many bytes a slot takes: 48, and the data of a page, up to the next multiple of 64
+abbrev pub stride_of : (size : ℕ) → ℕ
+stride_of size = (HEAD + size + (ALIGN - 1)) / ALIGN * ALIGN
+
+-- where the slot of this number begins
+abbrev pub slot_at : (size number : ℕ) → ℕ
+slot_at size number = START + stride_of size * number
+
+-- how many bytes the region of a ring of so many pages has: there is a slot for each of them, and one for the reader's
+abbrev pub region_len : (pages size : ℕ) → ℕ
+region_len pages size = slot_at size (pages + 1)
+
+-- the bytes of the slot of this number
+abbrev pub slot_in : (size : ℕ) → List ℕ → (number : ℕ) → List ℕ
+slot_in size bytes number = take (HEAD + size) (drop (slot_at size number) bytes)
+
+-- ---- what the header states
+
+-- the number in the eight bytes at this offset
+abbrev pub number_in : List ℕ → (at : ℕ) → ℕ
+number_in bytes at = from_le64 (drop at bytes)
+
+-- the letters `tracring`
+abbrev pub magic : List ℕ
+magic = 116 ∷ 114 ∷ 97 ∷ 99 ∷ 114 ∷ 105 ∷ 110 ∷ 103 ∷ []
+
+abbrev pub header_in : List ℕ → Header
+header_in bytes = record {
+  pages = number_in bytes 16;
+  size = number_in bytes 24;
+  cpu = record { 0 = number_in bytes 32 };
+  stream = record { 0 = number_in bytes 40 };
+  taken = record { 0 = number_in bytes 48 };
+  ended = number_in bytes 56 == 1;
+}
+
+-- ---- what is looked at, one after the other
+
+-- a header is there, and it begins with the letters
+pub record IsMarked (bytes : List ℕ) : Type 0 where
+  pub long : START ≤ length bytes
+  pub magic_is : take 8 bytes ≡ magic
+
+-- and it is of the version that is known
+pub record HasVersion (bytes : List ℕ) : Type 0 where
+  pub marked : IsMarked bytes
+  pub version_is : number_in bytes 8 ≡ 1
+
+-- and it states as many pages as a ring may have
+pub record HasPages (bytes : List ℕ) : Type 0 where
+  pub version : HasVersion bytes
+  pub least : MIN_PAGES ≤ number_in bytes 16
+  pub most : number_in bytes 16 ≤ MAX_PAGES
+
+-- and a size that they may have
+pub record HasSize (bytes : List ℕ) : Type 0 where
+  pub pages : HasPages bytes
+  pub least : MIN_SIZE ≤ number_in bytes 24
+  pub most : number_in bytes 24 ≤ MAX_SIZE
+  pub whole : number_in bytes 24 % 4 ≡ 0
+
+-- and a CPU
+pub record HasCpu (bytes : List ℕ) : Type 0 where
+  pub size : HasSize bytes
+  pub known : number_in bytes 32 < MAX_CPUS
+
+-- and whether the ring ended
+pub record HasEnd (bytes : List ℕ) : Type 0 where
+  pub cpu : HasCpu bytes
+  pub one_or_none : number_in bytes 56 ≤ 1
+
+-- And all its slots are there. The bytes are a region.
+pub record IsWhole (bytes : List ℕ) : Type 0 where
+  pub stated : HasEnd bytes
+  pub there : region_len (number_in bytes 16) (number_in bytes 24) ≤ length bytes
+
+-- The first fault of a region, what is wrong being looked for in this order, but for the slots, which are looked for
+-- last. Memory is refused only if there is no fault.
+abbrev pub IsRegionFault : List ℕ → RegionFault → Type 0
+IsRegionFault bytes TooShort =
+    (length bytes < START)
+    ⊎ (HasEnd bytes × length bytes < region_len (number_in bytes 16) (number_in bytes 24))
+IsRegionFault bytes NotARegion = (START ≤ length bytes) × (take 8 bytes ≢ magic)
+IsRegionFault bytes BadVersion = IsMarked bytes × (number_in bytes 8 ≢ 1)
+IsRegionFault bytes BadPages =
+    HasVersion bytes × ((number_in bytes 16 < MIN_PAGES) ⊎ (MAX_PAGES < number_in bytes 16))
+IsRegionFault bytes BadSize =
+    HasPages bytes
+    × ((number_in bytes 24 < MIN_SIZE) ⊎ ((MAX_SIZE < number_in bytes 24) ⊎ (number_in bytes 24 % 4 ≢ 0)))
+IsRegionFault bytes BadCpu = HasSize bytes × (MAX_CPUS ≤ number_in bytes 32)
+IsRegionFault bytes BadEnd = HasCpu bytes × (1 < number_in bytes 56)
+IsRegionFault bytes NoMemory = IsWhole bytes
+
+-- the offset of what is wrong; none, if something isn't there
+abbrev pub fault_at : RegionFault → Option ℕ
+fault_at TooShort = None
+fault_at NotARegion = Some 0
+fault_at BadVersion = Some 8
+fault_at BadPages = Some 16
+fault_at BadSize = Some 24
+fault_at BadCpu = Some 32
+fault_at BadEnd = Some 56
+fault_at NoMemory = None
