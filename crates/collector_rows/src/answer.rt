@@ -3,6 +3,7 @@ use crate::calls::Answer;
 use collector::Added;
 use page_image::{Image, Missed};
 use page_numbers::Parcel;
+use row_text::put_bytes;
 use std::alloc::Global;
 use trace_model::NoMemory;
 
@@ -51,17 +52,16 @@ pub fn put_answer(out: &mut String, alloc: Global, answer: &Answer) -> Result<()
         Answer::Parcel(parcel, Some(bytes)) => {
             put_parcel(out, parcel)?;
             out.push_str(" bytes ")?;
-            out.push_str(hex::encode(alloc, bytes)?.as_str())?;
+            put_bytes(out, alloc, bytes)?;
         }
         Answer::Added(Added::New) => out.push_str("new")?,
         Answer::Added(Added::Known) => out.push_str("known")?,
         Answer::Merged => out.push_str("merged")?,
         Answer::Is(true) => out.push_str("yes")?,
         Answer::Is(false) => out.push_str("no")?,
-        Answer::Record(moment, payload) if payload.is_empty() => write!(out, "{moment} -")?,
         Answer::Record(moment, payload) => {
             write!(out, "{moment} ")?;
-            out.push_str(hex::encode(alloc, payload)?.as_str())?;
+            put_bytes(out, alloc, payload)?;
         }
         Answer::Missing => out.push_str("missing")?,
         Answer::Unknown => out.push_str("unknown")?,

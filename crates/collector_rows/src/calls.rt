@@ -1,6 +1,6 @@
-//! The collectors of a row, and the calls that an event makes.
+//! The collectors of a row, and the calls that a request makes.
 use crate::captures;
-use crate::event::{Event, Numbers};
+use crate::request::{Numbers, Request};
 use capture::ReadFault;
 use collector::{AddFault, Added, Collector};
 use collector_text::put_collectors;
@@ -134,29 +134,29 @@ impl Collectors {
         Ok(Collectors { alloc, collectors })
     }
 
-    /// What an event answers.
-    pub fn ask(&mut self, event: &Event) -> Result<Answer, Refusal> {
-        match event {
-            Event::Image(bytes) => Ok(Answer::Image(read_image(self.alloc, bytes)?)),
-            Event::Of(numbers, image) => parcel_of(self.alloc, numbers, image),
-            Event::Parcel(bytes) => {
+    /// What a request answers.
+    pub fn ask(&mut self, request: &Request) -> Result<Answer, Refusal> {
+        match request {
+            Request::Image(bytes) => Ok(Answer::Image(read_image(self.alloc, bytes)?)),
+            Request::Of(numbers, image) => parcel_of(self.alloc, numbers, image),
+            Request::Parcel(bytes) => {
                 let first = Parcel::from_bytes(self.alloc, bytes)?;
                 Ok(parcel(self.alloc, first, bytes)?)
             }
-            Event::Capture(cpu, size, bytes) => {
+            Request::Capture(cpu, size, bytes) => {
                 Ok(Answer::Shown(captures::read(self.alloc, *cpu, *size, bytes)?))
             }
-            Event::Add(number, bytes) => self.add(*number, bytes),
-            Event::Holds(number, bytes) => {
+            Request::Add(number, bytes) => self.add(*number, bytes),
+            Request::Holds(number, bytes) => {
                 let parcel = Parcel::from_bytes(self.alloc, bytes)?;
                 Ok(Answer::Is(self.one(*number)?.holds(&parcel)))
             }
-            Event::Merge(number, other) => self.merge(*number, *other),
-            Event::Same(number, other) => {
+            Request::Merge(number, other) => self.merge(*number, *other),
+            Request::Same(number, other) => {
                 Ok(Answer::Is(self.one(*number)?.same(self.one(*other)?)))
             }
-            Event::Get(number, cpu, record) => self.get(*number, *cpu, *record),
-            Event::Show => Ok(self.show()?),
+            Request::Get(number, cpu, record) => self.get(*number, *cpu, *record),
+            Request::Show => Ok(self.show()?),
         }
     }
 

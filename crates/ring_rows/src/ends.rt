@@ -4,8 +4,8 @@ ghost use Rattle.ring_shared.specs.Value.{WriterValue, ReaderValue};
 ghost use Rattle.ring_shared.specs.Calls.{IsWriter};
 ghost use Rattle.ring_shared.specs.Takes.{IsReader};
 
-use crate::event::Shape;
 use crate::reply::{unread_text, unsettled};
+use crate::request::Shape;
 use crate::ring::{Ring, fill};
 use nested_writer::WriteFault;
 use page_image::{Body, Page};

@@ -1,62 +1,22 @@
 //! The program `ring_rows`: reads worked exchanges with a ring, and writes them with what two rings answer.
 //!
-//! Standard input is a text of rows, as the file `stdout` of this crate, with or without answers. Each event of a row
+//! Standard input is a text of rows, as the file `stdout` of this crate, with or without answers. Each request of a row
 //! is carried out on a ring as a value (`ring_core`) and on the two ends of a running ring (`ring_shared`). If both
-//! answer the same, that is written after the event; else both answers are.
+//! answer the same, that is written after it; else both answers are.
 #![tactic(auto)]
 
 mod ends;
-mod event;
 mod reply;
+mod request;
 mod ring;
 mod rows;
 mod value;
 
-use rows::{Fault, Rows};
-use std::io;
+use row_text::answer_input;
+use rows::Rows;
 use std::process::ExitCode;
 
-/// The text was read to its end.
-const DONE: u8 = 0;
-
-/// A line of the text is neither an event nor a ring, or asks a ring that isn't there.
-const REFUSED: u8 = 1;
-
-/// Memory was refused, or a read or a write failed.
-const FAILED: u8 = 3;
-
-/// Writes the line of this number with its answer.
-fn answer_line<R: Print>(
-    rt: &R,
-    rows: &mut Rows,
-    number: u64,
-    line: io::Result<String>,
-) -> Result<(), Fault> {
-    if let Some(answered) = rows.answered(number, line?.as_str())? {
-        println!(rt; "{answered}")?;
-    }
-    Ok(())
-}
-
-// The rows are lent, so that the exits of the loop do not each drop two rings, which takes minutes to prove.
-/// Answers each line of standard input.
-fn answer_lines<R: Input + Print + AllocGlobal>(rt: &R, rows: &mut Rows) -> Result<(), Fault> {
-    for (before, line) in rt.lines(rt.alloc()).enumerate() {
-        answer_line(rt, rows, (before as u64).wrapping_add(1), line)?;
-    }
-    Ok(())
-}
-
-/// Answers standard input, from no ring on.
-fn answer_all<R: Input + Print + AllocGlobal>(rt: &R) -> Result<(), Fault> {
-    let mut rows = Rows::new(rt.alloc());
-    answer_lines(rt, &mut rows)
-}
-
 fn main(rt: HostRuntime) -> ExitCode {
-    let Err(fault) = answer_all(&rt) else {
-        return ExitCode::from(DONE);
-    };
-    let _ = eprintln!(rt; "ring_rows: {fault}");
-    ExitCode::from(fault.status())
+    let mut rows = Rows::new();
+    answer_input(&rt, "ring_rows", &mut rows)
 }

@@ -4,6 +4,7 @@ use nested_writer::{Ended, WriteFault};
 use page_borrow::records;
 use page_image::Page;
 use ring_frames::Answer;
+use row_text::put_hex;
 use std::alloc::Global;
 use trace_model::{LINK_FILLS, LINK_PAGES, NoMemory};
 
@@ -12,14 +13,6 @@ const ROW: usize = 32;
 
 /// How many are in a group.
 const WORD: usize = 4;
-
-/// Puts bytes as hexadecimal digits.
-fn put_hex(out: &mut String, bytes: &[u8]) -> Result<(), NoMemory> {
-    for byte in bytes {
-        write!(out, "{byte:02x}")?;
-    }
-    Ok(())
-}
 
 /// Puts bytes as runs of one value each.
 fn put_runs(out: &mut String, bytes: &[u8]) -> Result<(), NoMemory> {
@@ -37,25 +30,25 @@ fn put_runs(out: &mut String, bytes: &[u8]) -> Result<(), NoMemory> {
 }
 
 /// Puts a payload: a long one as runs, and 28 bytes of one value in the form in which they are read.
-fn put_payload(out: &mut String, bytes: &[u8]) -> Result<(), NoMemory> {
+fn put_payload(out: &mut String, alloc: Global, bytes: &[u8]) -> Result<(), NoMemory> {
     match bytes.first() {
         Some(value) if bytes.len() == 28 && bytes.iter().all(|byte| *byte == *value) => {
             write!(out, "A{value}")?;
         }
         _ if bytes.len() > 28 => put_runs(out, bytes)?,
-        _ => put_hex(out, bytes)?,
+        _ => put_hex(out, alloc, bytes)?,
     }
     Ok(())
 }
 
 /// Puts a line for each record of a page: its moment and its payload.
-fn put_records(out: &mut String, page: &Page) -> Result<(), NoMemory> {
+fn put_records(out: &mut String, alloc: Global, page: &Page) -> Result<(), NoMemory> {
     if page.first().0.checked_add(page.count()).is_none() {
         return Ok(());
     }
     for entry in records(page) {
         write!(out, "\n  {} ", entry.moment.0)?;
-        put_payload(out, entry.bytes)?;
+        put_payload(out, alloc, entry.bytes)?;
     }
     Ok(())
 }
@@ -70,12 +63,12 @@ fn put_page(out: &mut String, name: &str, page: &Page) -> Result<(), NoMemory> {
 /// An answer as text. A page that was taken has a line for each record.
 pub fn answer_text(alloc: Global, answer: &Answer) -> Result<String, NoMemory> {
     let mut out = String::new(alloc);
-    put_answer(&mut out, answer)?;
+    put_answer(&mut out, alloc, answer)?;
     Ok(out)
 }
 
 /// Puts the text of an answer.
-fn put_answer(out: &mut String, answer: &Answer) -> Result<(), NoMemory> {
+fn put_answer(out: &mut String, alloc: Global, answer: &Answer) -> Result<(), NoMemory> {
     match answer {
         Answer::Pushed => out.push_str("pushed")?,
         Answer::Going => out.push_str("going")?,
@@ -90,7 +83,7 @@ fn put_answer(out: &mut String, answer: &Answer) -> Result<(), NoMemory> {
         Answer::Taken(page, missed) => {
             put_page(out, "taken", page)?;
             write!(out, " missed {missed}")?;
-            put_records(out, page)?;
+            put_records(out, alloc, page)?;
         }
         Answer::Wished(fill) => write!(out, "wished {}", fill.0)?,
     }
@@ -113,7 +106,7 @@ pub fn unread_text(alloc: Global, unread: Option<&Page>) -> Result<String, NoMem
     match unread {
         Some(page) => {
             put_page(&mut out, "unread", page)?;
-            put_records(&mut out, page)?;
+            put_records(&mut out, alloc, page)?;
         }
         None => out.push_str("nothing unread")?,
     }
@@ -137,7 +130,7 @@ pub fn image_text(alloc: Global, kept: Option<(&Page, u64)>) -> Result<String, N
         if place >= 16 || place == 8 {
             out.push_str(" ")?;
         }
-        put_hex(&mut out, word)?;
+        put_hex(&mut out, alloc, word)?;
     }
     Ok(out)
 }

@@ -1,6 +1,6 @@
 //! What is asked of a ring, whichever it is.
-use crate::event::Event;
 use crate::reply::{answer_text, image_text, refused};
+use crate::request::Request;
 use nested_writer::WriteFault;
 use page_image::Page;
 use ring_frames::Answer;
@@ -68,32 +68,36 @@ pub fn kept_text<R: Ring>(ring: &mut R, alloc: Global, answer: Answer) -> Result
     text
 }
 
-/// What a ring answers to an event of its writer, or to a wish; nothing to any other event.
-fn step_answer<R: Ring>(ring: &mut R, event: &Event) -> Option<Answer> {
-    match event {
-        Event::Push { moment, len } => Some(ring.push(*moment, *len)),
-        Event::PushClose => Some(ring.push_close()),
-        Event::Step => Some(ring.step()),
-        Event::Finish => Some(ring.finish()),
-        Event::End(payload) => Some(ring.end(payload.as_slice())),
-        Event::Wish => Some(ring.wish()),
+/// What a ring answers to a request of its writer, or to a wish; nothing to any other request.
+fn step_answer<R: Ring>(ring: &mut R, request: &Request) -> Option<Answer> {
+    match request {
+        Request::Push { moment, len } => Some(ring.push(*moment, *len)),
+        Request::PushClose => Some(ring.push_close()),
+        Request::Step => Some(ring.step()),
+        Request::Finish => Some(ring.finish()),
+        Request::End(payload) => Some(ring.end(payload.as_slice())),
+        Request::Wish => Some(ring.wish()),
         _ => None,
     }
 }
 
 /// What a ring answers to a whole write, a question, or a take.
-fn whole_answer<R: Ring>(ring: &mut R, alloc: Global, event: &Event) -> Result<String, NoMemory> {
-    match event {
-        Event::Write { moment, payload } => match ring.write(*moment, payload.as_slice()) {
+fn whole_answer<R: Ring>(
+    ring: &mut R,
+    alloc: Global,
+    request: &Request,
+) -> Result<String, NoMemory> {
+    match request {
+        Request::Write { moment, payload } => match ring.write(*moment, payload.as_slice()) {
             Ok(()) => Ok(String::from_str(alloc, "written")?),
             Err(fault) => refused(alloc, fault),
         },
-        Event::Top => match ring.lent() {
+        Request::Top => match ring.lent() {
             Ok(len) => Ok(format!(in alloc; "{len} bytes")?),
             Err(fault) => refused(alloc, fault),
         },
-        Event::Depth => Ok(format!(in alloc; "{}", ring.depth())?),
-        Event::Image => image_text(alloc, ring.kept()),
+        Request::Depth => Ok(format!(in alloc; "{}", ring.depth())?),
+        Request::Image => image_text(alloc, ring.kept()),
         _ => {
             let answer = ring.take(alloc)?;
             kept_text(ring, alloc, answer)
@@ -101,11 +105,11 @@ fn whole_answer<R: Ring>(ring: &mut R, alloc: Global, event: &Event) -> Result<S
     }
 }
 
-/// What a ring answers to an event that both rings can make, and after which both go on.
-pub fn answer<R: Ring>(ring: &mut R, alloc: Global, event: &Event) -> Result<String, NoMemory> {
-    match step_answer(ring, event) {
+/// What a ring answers to a request that both rings can make, and after which both go on.
+pub fn answer<R: Ring>(ring: &mut R, alloc: Global, request: &Request) -> Result<String, NoMemory> {
+    match step_answer(ring, request) {
         Some(answer) => answer_text(alloc, &answer),
-        None => whole_answer(ring, alloc, event),
+        None => whole_answer(ring, alloc, request),
     }
 }
 

@@ -1,62 +1,19 @@
 //! The rows of the text, line by line.
 use crate::ends::Ends;
-use crate::event::{Event, Shape};
 use crate::reply::{answer_text, packed, unpacked};
+use crate::request::{Request, Shape};
 use crate::ring::{answer, kept_text};
 use crate::value::Value;
 use ring_frames::Answer;
-use std::alloc::{AllocError, Global};
-use std::io;
-use thiserror::Error;
+use row_text::{Answers, RowFault};
+use std::alloc::Global;
 use trace_model::NoMemory;
 
-/// Why the text isn't answered to its end.
-#[derive(Debug, Drop, Error)]
-pub enum Fault {
-    /// The line of this number is no event, or begins a row with no ring.
-    #[error("line {0}: neither an event nor a ring that there can be")]
-    Line(u64),
-    /// The line of this number asks a ring, and none was begun, or its ends were joined.
-    #[error("line {0}: there is no ring to ask")]
-    NoRing(u64),
-    /// A read or a write failed.
-    #[error("a read or a write failed")]
-    End,
-    /// Memory was refused.
-    #[error("no memory")]
-    NoMemory,
-}
+/// Why a line isn't answered that is no request, or begins a row with no ring.
+const NO_REQUEST: &str = "neither a request nor a ring that there can be";
 
-impl From<NoMemory> for Fault {
-    fn from(_: NoMemory) -> Fault {
-        Fault::NoMemory
-    }
-}
-
-impl From<AllocError> for Fault {
-    fn from(_: AllocError) -> Fault {
-        Fault::NoMemory
-    }
-}
-
-impl From<io::Error> for Fault {
-    fn from(error: io::Error) -> Fault {
-        match error.kind() {
-            io::ErrorKind::OutOfMemory => Fault::NoMemory,
-            _ => Fault::End,
-        }
-    }
-}
-
-impl Fault {
-    /// The exit status.
-    pub fn status(&self) -> u8 {
-        match self {
-            Fault::Line(_) | Fault::NoRing(_) => crate::REFUSED,
-            Fault::End | Fault::NoMemory => crate::FAILED,
-        }
-    }
-}
+/// Why a line isn't answered that asks a ring, if none was begun, or its ends were joined.
+const NO_RING: &str = "there is no ring to ask";
 
 /// The two rings that a row asks.
 #[derive(Drop)]
@@ -68,7 +25,6 @@ struct Rings {
 /// The text as far as it was read: the rings of the row.
 #[derive(Drop)]
 pub struct Rows {
-    alloc: Global,
     rings: Option<Rings>,
 }
 
@@ -95,17 +51,17 @@ impl Rings {
             return answer_text(alloc, &step);
         }
         let value = kept_text(&mut self.value, alloc, step)?;
-        let ends = answer(&mut self.ends, alloc, &Event::Take)?;
+        let ends = answer(&mut self.ends, alloc, &Request::Take)?;
         agreed(alloc, value, ends)
     }
 
-    /// What both answer to an event.
-    fn answer(&mut self, alloc: Global, event: &Event) -> Result<String, NoMemory> {
-        if matches!(event, Event::Read) {
+    /// What both answer to a request.
+    fn answer(&mut self, alloc: Global, request: &Request) -> Result<String, NoMemory> {
+        if matches!(request, Request::Read) {
             return self.read(alloc);
         }
-        let value = answer(&mut self.value, alloc, event)?;
-        let ends = answer(&mut self.ends, alloc, event)?;
+        let value = answer(&mut self.value, alloc, request)?;
+        let ends = answer(&mut self.ends, alloc, request)?;
         agreed(alloc, value, ends)
     }
 
@@ -120,56 +76,49 @@ impl Rings {
 
 impl Rows {
     /// A text of which nothing was read.
-    pub fn new(alloc: Global) -> Rows {
-        Rows { alloc, rings: None }
+    pub fn new() -> Rows {
+        Rows { rings: None }
     }
 
-    /// The line of this number, with the answer after it if it is an event; nothing for a line of an answer.
-    pub fn answered(&mut self, number: u64, line: &str) -> Result<Option<String>, Fault> {
-        let alloc = self.alloc;
-        if line.starts_with("  ") {
-            return Ok(None);
+    /// What is answered to a request.
+    fn answer(&mut self, alloc: Global, number: u64, request: Request) -> Result<String, RowFault> {
+        match request {
+            Request::Pack(link) => Ok(packed(alloc, link)?),
+            Request::Unpack(word) => Ok(unpacked(alloc, word)?),
+            Request::Settle => match self.rings.take() {
+                Some(rings) => Ok(rings.settled(alloc)?),
+                None => Err(RowFault::Line(number, NO_RING)),
+            },
+            request => match &mut self.rings {
+                Some(rings) => Ok(rings.answer(alloc, &request)?),
+                None => Err(RowFault::Line(number, NO_RING)),
+            },
         }
-        if line.starts_with('[') {
-            self.begin(number, line)?;
-        }
-        if line.is_empty() || line.starts_with('#') || line.starts_with('[') {
-            return Ok(Some(String::from_str(alloc, line)?));
-        }
-        let text = match line.split_once(" -> ") {
-            Some((text, _)) => text,
-            None => line,
-        };
-        let Some(event) = Event::of(alloc, text)? else {
-            return Err(Fault::Line(number));
-        };
-        let answer = self.answer(number, event)?;
-        Ok(Some(format!(in alloc; "{text} -> {answer}")?))
     }
+}
 
+impl Answers for Rows {
     /// A row begins, with new rings.
-    fn begin(&mut self, number: u64, line: &str) -> Result<(), Fault> {
+    fn begin(&mut self, alloc: Global, number: u64, line: &str) -> Result<(), RowFault> {
         let Some(shape) = Shape::of(line) else {
-            return Err(Fault::Line(number));
+            return Err(RowFault::Line(number, NO_REQUEST));
         };
-        self.rings = Some(Rings::new(self.alloc, shape)?);
+        self.rings = Some(Rings::new(alloc, shape)?);
         Ok(())
     }
 
-    /// What is answered to an event.
-    fn answer(&mut self, number: u64, event: Event) -> Result<String, Fault> {
-        let alloc = self.alloc;
-        match event {
-            Event::Pack(link) => Ok(packed(alloc, link)?),
-            Event::Unpack(word) => Ok(unpacked(alloc, word)?),
-            Event::Settle => match self.rings.take() {
-                Some(rings) => Ok(rings.settled(alloc)?),
-                None => Err(Fault::NoRing(number)),
-            },
-            event => match &mut self.rings {
-                Some(rings) => Ok(rings.answer(alloc, &event)?),
-                None => Err(Fault::NoRing(number)),
-            },
-        }
+    fn put_answer(
+        &mut self,
+        out: &mut String,
+        alloc: Global,
+        number: u64,
+        asked: &str,
+    ) -> Result<(), RowFault> {
+        let Some(request) = Request::of(alloc, asked)? else {
+            return Err(RowFault::Line(number, NO_REQUEST));
+        };
+        let answer = self.answer(alloc, number, request)?;
+        write!(out, " -> {answer}")?;
+        Ok(())
     }
 }

@@ -3,8 +3,8 @@ ghost use Rattle.std.specs.Prelude.{◌≡◌};
 ghost use Rattle.ring_core.specs.Value.{CoreValue};
 ghost use Rattle.ring_core.specs.Steps.{IsReachedCore};
 
-use crate::event::Shape;
 use crate::reply::{unread_text, unsettled};
+use crate::request::Shape;
 use crate::ring::{Ring, fill};
 use nested_writer::{Ended, WriteFault};
 use page_image::{Body, Page};

@@ -1,18 +1,12 @@
 //! What a file holds, as text.
-use crate::fault::RowFault;
 use kernel_texts::{EventName, EventNames, common_fields, ring_counters};
+use row_text::{Answers, RowFault, hex_bytes, put_bytes};
 use std::alloc::Global;
-use trace_dat::{Buffer, Cause, Fault, Format, ReadError, TraceDat, read_trace_dat};
+use trace_dat::{Buffer, Fault, Format, ReadError, TraceDat, read_trace_dat};
+use trace_model::NoMemory;
 
-/// Puts a word and bytes.
-fn put_bytes(out: &mut String, alloc: Global, word: &str, bytes: &[u8]) -> Result<(), RowFault> {
-    out.push_str(word)?;
-    if bytes.is_empty() {
-        out.push('-')?;
-    }
-    out.push_str(hex::encode(alloc, bytes)?.as_str())?;
-    Ok(())
-}
+/// Why a line isn't answered.
+const NO_FILE: &str = "neither a file nor the bytes of a record in hexadecimal digits";
 
 /// Puts the number of an event, and its names.
 fn put_event(
@@ -20,20 +14,25 @@ fn put_event(
     alloc: Global,
     id: u16,
     event: EventName<'_>,
-) -> Result<(), RowFault> {
-    write!(out, "  event {id}")?;
-    put_bytes(out, alloc, " ", event.system)?;
-    put_bytes(out, alloc, " ", event.name)?;
-    out.push('\n')?;
-    Ok(())
+) -> Result<(), NoMemory> {
+    write!(out, "\n  event {id} ")?;
+    put_bytes(out, alloc, event.system)?;
+    out.push(' ')?;
+    put_bytes(out, alloc, event.name)
+}
+
+/// Puts a format.
+fn put_format(out: &mut String, alloc: Global, format: &Format<'_>) -> Result<(), NoMemory> {
+    out.push_str("\n  format ")?;
+    put_bytes(out, alloc, format.system)?;
+    out.push(' ')?;
+    put_bytes(out, alloc, format.text)
 }
 
 /// Puts the formats, and which events they describe.
-fn put_formats(out: &mut String, alloc: Global, formats: &[Format<'_>]) -> Result<(), RowFault> {
+fn put_formats(out: &mut String, alloc: Global, formats: &[Format<'_>]) -> Result<(), NoMemory> {
     for format in formats {
-        put_bytes(out, alloc, "  format ", format.system)?;
-        put_bytes(out, alloc, " ", format.text)?;
-        out.push('\n')?;
+        put_format(out, alloc, format)?;
     }
     let mut names = EventNames::new(alloc);
     names.add(formats)?;
@@ -46,29 +45,30 @@ fn put_formats(out: &mut String, alloc: Global, formats: &[Format<'_>]) -> Resul
 }
 
 /// Puts a buffer, and the pages of each CPU.
-fn put_buffer(out: &mut String, alloc: Global, buffer: &Buffer<'_>) -> Result<(), RowFault> {
-    put_bytes(out, alloc, "  buffer ", buffer.name)?;
-    writeln!(out, " {}", buffer.page_size)?;
+fn put_buffer(out: &mut String, alloc: Global, buffer: &Buffer<'_>) -> Result<(), NoMemory> {
+    out.push_str("\n  buffer ")?;
+    put_bytes(out, alloc, buffer.name)?;
+    write!(out, " {}", buffer.page_size)?;
     for cpu in &buffer.cpus {
-        write!(out, "  pages {}", cpu.cpu)?;
-        put_bytes(out, alloc, " ", cpu.pages)?;
-        out.push('\n')?;
+        write!(out, "\n  pages {} ", cpu.cpu)?;
+        put_bytes(out, alloc, cpu.pages)?;
     }
     Ok(())
 }
 
 /// Puts the counters of a ring, and what is read of them.
-fn put_counters(out: &mut String, alloc: Global, text: &[u8]) -> Result<(), RowFault> {
-    put_bytes(out, alloc, "  counters ", text)?;
+fn put_counters(out: &mut String, alloc: Global, text: &[u8]) -> Result<(), NoMemory> {
+    out.push_str("\n  counters ")?;
+    put_bytes(out, alloc, text)?;
     match ring_counters(text) {
-        Some(counters) => writeln!(out, " {} {}", counters.cpu, counters.overrun)?,
-        None => out.push_str(" none\n")?,
+        Some(counters) => write!(out, " {} {}", counters.cpu, counters.overrun)?,
+        None => out.push_str(" none")?,
     }
     Ok(())
 }
 
 /// Puts what a file holds.
-fn put_contents(out: &mut String, alloc: Global, contents: &TraceDat<'_>) -> Result<(), RowFault> {
+fn put_contents(out: &mut String, alloc: Global, contents: &TraceDat<'_>) -> Result<(), NoMemory> {
     put_formats(out, alloc, &contents.formats)?;
     for buffer in &contents.buffers {
         put_buffer(out, alloc, buffer)?;
@@ -79,46 +79,52 @@ fn put_contents(out: &mut String, alloc: Global, contents: &TraceDat<'_>) -> Res
     Ok(())
 }
 
-/// The name of a cause.
-fn name_of(cause: Cause) -> &'static str {
-    match cause {
-        Cause::Cut => "Cut",
-        Cause::NotTraceDat => "NotTraceDat",
-        Cause::BadVersion => "BadVersion",
-        Cause::OtherMachine => "OtherMachine",
-        Cause::Compressed => "Compressed",
-        Cause::Misplaced => "Misplaced",
-        Cause::OutsideFile => "OutsideFile",
-        Cause::Backward => "Backward",
-    }
-}
-
 /// Puts what a file holds, or its first fault.
-fn put_file(out: &mut String, alloc: Global, file: &[u8]) -> Result<(), RowFault> {
+fn put_file(out: &mut String, alloc: Global, file: &[u8]) -> Result<(), NoMemory> {
     match read_trace_dat(alloc, file) {
         Ok(contents) => put_contents(out, alloc, &contents),
-        Err(ReadError::Fault(Fault { cause, at })) => Ok(writeln!(
-            out,
-            "  fault {} {at}",
-            name_of(cause)
-        )?),
-        Err(ReadError::NoMemory) => Err(RowFault::NoMemory),
+        Err(ReadError::Fault(Fault { cause, at })) => {
+            write!(out, "\n  fault {cause:?} {at}")?;
+            Ok(())
+        }
+        Err(ReadError::NoMemory) => Err(NoMemory),
     }
 }
 
 /// Puts the fields that a record of these bytes begins with.
-fn put_fields(out: &mut String, payload: &[u8]) -> Result<(), RowFault> {
+fn put_fields(out: &mut String, payload: &[u8]) -> Result<(), NoMemory> {
     match common_fields(payload) {
-        Some(fields) => writeln!(out, "  event {} pid {}", fields.event, fields.pid)?,
-        None => out.push_str("  none\n")?,
+        Some(fields) => write!(out, "\n  event {} pid {}", fields.event, fields.pid)?,
+        None => out.push_str("\n  none")?,
     }
     Ok(())
 }
 
-/// Puts what the file or the record of a line holds.
-pub fn put_answer(out: &mut String, alloc: Global, line: &str) -> Result<(), RowFault> {
-    match line.strip_prefix("record ") {
-        Some(digits) => put_fields(out, &hex::decode(alloc, digits)?),
-        None => put_file(out, alloc, &hex::decode(alloc, line)?),
+/// Answers what the files and the records of lines hold.
+#[derive(Drop)]
+pub struct FileAnswers;
+
+impl Answers for FileAnswers {
+    /// There are no rows.
+    fn begin(&mut self, _alloc: Global, number: u64, _line: &str) -> Result<(), RowFault> {
+        Err(RowFault::Line(number, NO_FILE))
+    }
+
+    fn put_answer(
+        &mut self,
+        out: &mut String,
+        alloc: Global,
+        number: u64,
+        asked: &str,
+    ) -> Result<(), RowFault> {
+        let record = asked.strip_prefix("record ");
+        let Some(bytes) = hex_bytes(alloc, record.unwrap_or(asked))? else {
+            return Err(RowFault::Line(number, NO_FILE));
+        };
+        match record {
+            Some(_) => put_fields(out, &bytes)?,
+            None => put_file(out, alloc, &bytes)?,
+        }
+        Ok(())
     }
 }

@@ -1,4 +1,5 @@
 //! The lines of the text that ask something.
+use row_text::{hex_bytes, number};
 use std::alloc::Global;
 use std::str::SplitWhitespace;
 use trace_model::{CpuId, FillNo, NoMemory, RecordNo};
@@ -14,7 +15,7 @@ pub struct Numbers {
 
 /// What a line asks. A collector of the row is named by its number, from 0.
 #[derive(Drop)]
-pub enum Event {
+pub enum Request {
     /// Which page has this image?
     Image(Vec<u8>),
     /// Which parcel is the page of this image, under these numbers?
@@ -37,19 +38,9 @@ pub enum Event {
     Show,
 }
 
-/// The next word, as a number.
-fn number(words: &mut SplitWhitespace<'_>) -> Option<u64> {
-    words.next()?.parse().ok()
-}
-
-/// The next word, as the number of a collector, or of bytes.
-fn place(words: &mut SplitWhitespace<'_>) -> Option<usize> {
-    words.next()?.parse().ok()
-}
-
 /// The next word, as the number of a CPU.
 fn cpu(words: &mut SplitWhitespace<'_>) -> Option<CpuId> {
-    Some(CpuId(words.next()?.parse().ok()?))
+    Some(CpuId(number(words)?))
 }
 
 /// The next words, as the numbers of a page.
@@ -66,85 +57,84 @@ fn numbers_in(words: &mut SplitWhitespace<'_>) -> Option<Numbers> {
 fn bytes(alloc: Global, words: SplitWhitespace<'_>) -> Result<Option<Vec<u8>>, NoMemory> {
     let mut bytes = Vec::new(alloc);
     for word in words {
-        match hex::decode(alloc, word) {
-            Ok(part) => bytes.extend_from_slice(&part)?,
-            Err(hex::FromHexError::OutOfMemory) => return Err(NoMemory),
-            Err(_) => return Ok(None),
-        }
+        let Some(part) = hex_bytes(alloc, word)? else {
+            return Ok(None);
+        };
+        bytes.extend_from_slice(&part)?;
     }
     Ok(Some(bytes))
 }
 
-impl Event {
-    /// The event of a line, if any.
-    pub fn of(alloc: Global, line: &str) -> Result<Option<Event>, NoMemory> {
+impl Request {
+    /// The request of a line, if any.
+    pub fn of(alloc: Global, line: &str) -> Result<Option<Request>, NoMemory> {
         let mut words = line.split_whitespace();
         match words.next() {
-            Some("image") => Ok(bytes(alloc, words)?.map(Event::Image)),
-            Some("parcel") => Ok(bytes(alloc, words)?.map(Event::Parcel)),
-            Some("of") => Event::of_page(alloc, words),
-            Some("capture") => Event::of_capture(alloc, words),
-            Some("add") => Event::of_parcel(alloc, true, words),
-            Some("holds") => Event::of_parcel(alloc, false, words),
-            Some(name) => Ok(Event::of_collectors(name, words)),
+            Some("image") => Ok(bytes(alloc, words)?.map(Request::Image)),
+            Some("parcel") => Ok(bytes(alloc, words)?.map(Request::Parcel)),
+            Some("of") => Request::of_page(alloc, words),
+            Some("capture") => Request::of_capture(alloc, words),
+            Some("add") => Request::of_parcel(alloc, true, words),
+            Some("holds") => Request::of_parcel(alloc, false, words),
+            Some(name) => Ok(Request::of_collectors(name, words)),
             None => Ok(None),
         }
     }
 
-    /// An event of a page with its numbers.
-    fn of_page(alloc: Global, mut words: SplitWhitespace<'_>) -> Result<Option<Event>, NoMemory> {
+    /// A request of a page with its numbers.
+    fn of_page(alloc: Global, mut words: SplitWhitespace<'_>) -> Result<Option<Request>, NoMemory> {
         let numbers = numbers_in(&mut words);
         let image = bytes(alloc, words)?;
         Ok(match (numbers, image) {
-            (Some(numbers), Some(image)) => Some(Event::Of(numbers, image)),
+            (Some(numbers), Some(image)) => Some(Request::Of(numbers, image)),
             _ => None,
         })
     }
 
-    /// An event of a capture.
+    /// A request of a capture.
     fn of_capture(
         alloc: Global,
         mut words: SplitWhitespace<'_>,
-    ) -> Result<Option<Event>, NoMemory> {
+    ) -> Result<Option<Request>, NoMemory> {
         let cpu = cpu(&mut words);
-        let size = place(&mut words);
+        let size = number(&mut words);
         let bytes = bytes(alloc, words)?;
         Ok(match (cpu, size, bytes) {
-            (Some(cpu), Some(size), Some(bytes)) => Some(Event::Capture(cpu, size, bytes)),
+            (Some(cpu), Some(size), Some(bytes)) => Some(Request::Capture(cpu, size, bytes)),
             _ => None,
         })
     }
 
-    /// An event of a collector and a parcel, which is added or asked for.
+    /// A request of a collector and a parcel, which is added or asked for.
     fn of_parcel(
         alloc: Global,
         adds: bool,
         mut words: SplitWhitespace<'_>,
-    ) -> Result<Option<Event>, NoMemory> {
-        let place = place(&mut words);
+    ) -> Result<Option<Request>, NoMemory> {
+        let collector = number(&mut words);
         let bytes = bytes(alloc, words)?;
-        Ok(match (place, bytes) {
-            (Some(place), Some(bytes)) if adds => Some(Event::Add(place, bytes)),
-            (Some(place), Some(bytes)) => Some(Event::Holds(place, bytes)),
+        Ok(match (collector, bytes) {
+            (Some(collector), Some(bytes)) if adds => Some(Request::Add(collector, bytes)),
+            (Some(collector), Some(bytes)) => Some(Request::Holds(collector, bytes)),
             _ => None,
         })
     }
 
-    /// An event of collectors alone.
-    fn of_collectors(name: &str, mut words: SplitWhitespace<'_>) -> Option<Event> {
-        let event = match name {
-            "merge" => Event::Merge(place(&mut words)?, place(&mut words)?),
-            "same" => Event::Same(place(&mut words)?, place(&mut words)?),
-            "get" => Event::Get(
-                place(&mut words)?,
+    /// A request of collectors alone.
+    fn of_collectors(name: &str, mut words: SplitWhitespace<'_>) -> Option<Request> {
+        let request = match name {
+            "merge" => Request::Merge(number(&mut words)?, number(&mut words)?),
+            "same" => Request::Same(number(&mut words)?, number(&mut words)?),
+            "get" => Request::Get(
+                number(&mut words)?,
                 cpu(&mut words)?,
                 RecordNo(number(&mut words)?),
             ),
-            "show" => Event::Show,
+            "show" => Request::Show,
             _ => return None,
         };
         if words.next().is_none() {
-            Some(event)
+            Some(request)
         } else {
             None
         }

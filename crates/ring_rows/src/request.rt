@@ -1,12 +1,13 @@
 //! The lines of the text that ask something of a ring.
 use link_marks::{Link, Mark};
+use row_text::{hex_bytes, number};
 use std::alloc::Global;
 use std::str::SplitWhitespace;
 use trace_model::{LINK_FILLS, MAX_PAGES, MAX_SIZE, MIN_PAGES, MIN_SIZE, NoMemory, START_FILL};
 
 /// What a line asks.
 #[derive(Drop)]
-pub enum Event {
+pub enum Request {
     /// A record frame is pushed, with its moment and its payload's length in bytes.
     Push { moment: u64, len: usize },
     /// A close frame is pushed.
@@ -50,15 +51,10 @@ pub struct Shape {
     ghost start_fits: { start + pages < LINK_FILLS },
 }
 
-/// The next word, as a number.
-fn number(words: &mut SplitWhitespace<'_>) -> Option<u64> {
-    words.next()?.parse().ok()
-}
-
 /// The number after this next word.
 fn named(words: &mut SplitWhitespace<'_>, name: &str) -> Option<usize> {
     if words.next()? == name {
-        words.next()?.parse().ok()
+        number(words)
     } else {
         None
     }
@@ -93,62 +89,62 @@ fn payload(alloc: Global, word: Option<&str>) -> Result<Option<Vec<u8>>, NoMemor
     if let Some((value, count)) = text.split_once('*') {
         return bytes_alike(alloc, value, count);
     }
-    match hex::decode(alloc, text) {
-        Ok(bytes) => Ok(Some(bytes)),
-        Err(hex::FromHexError::OutOfMemory) => Err(NoMemory),
-        Err(_) => Ok(None),
-    }
+    hex_bytes(alloc, text)
 }
 
-impl Event {
-    /// The event of a line, if any.
-    pub fn of(alloc: Global, line: &str) -> Result<Option<Event>, NoMemory> {
+impl Request {
+    /// The request of a line, if any.
+    pub fn of(alloc: Global, line: &str) -> Result<Option<Request>, NoMemory> {
         let mut words = line.split_whitespace();
-        let event = match words.next() {
-            Some("end") => payload(alloc, words.next())?.map(Event::End),
-            Some("write") => Event::write(alloc, &mut words)?,
-            Some(name) => Event::plain(name, &mut words),
+        let request = match words.next() {
+            Some("end") => payload(alloc, words.next())?.map(Request::End),
+            Some("write") => Request::write(alloc, &mut words)?,
+            Some(name) => Request::plain(name, &mut words),
             None => None,
         };
-        Ok(if words.next().is_none() { event } else { None })
+        Ok(if words.next().is_none() {
+            request
+        } else {
+            None
+        })
     }
 
     /// A write of this moment and payload.
-    fn write(alloc: Global, words: &mut SplitWhitespace<'_>) -> Result<Option<Event>, NoMemory> {
+    fn write(alloc: Global, words: &mut SplitWhitespace<'_>) -> Result<Option<Request>, NoMemory> {
         let moment = number(words);
         let payload = payload(alloc, words.next())?;
         match (moment, payload) {
-            (Some(moment), Some(payload)) => Ok(Some(Event::Write { moment, payload })),
+            (Some(moment), Some(payload)) => Ok(Some(Request::Write { moment, payload })),
             _ => Ok(None),
         }
     }
 
-    /// An event without a payload.
-    fn plain(name: &str, words: &mut SplitWhitespace<'_>) -> Option<Event> {
-        let event = match name {
-            "push" => Event::Push {
+    /// A request without a payload.
+    fn plain(name: &str, words: &mut SplitWhitespace<'_>) -> Option<Request> {
+        let request = match name {
+            "push" => Request::Push {
                 moment: number(words)?,
-                len: usize::try_from(number(words)?).ok()?,
+                len: number(words)?,
             },
-            "push_close" => Event::PushClose,
-            "step" => Event::Step,
-            "finish" => Event::Finish,
-            "read" => Event::Read,
-            "take" => Event::Take,
-            "wish" => Event::Wish,
-            "settle" => Event::Settle,
-            "top" => Event::Top,
-            "depth" => Event::Depth,
-            "image" => Event::Image,
-            "pack" => Event::Pack(Link {
+            "push_close" => Request::PushClose,
+            "step" => Request::Step,
+            "finish" => Request::Finish,
+            "read" => Request::Read,
+            "take" => Request::Take,
+            "wish" => Request::Wish,
+            "settle" => Request::Settle,
+            "top" => Request::Top,
+            "depth" => Request::Depth,
+            "image" => Request::Image,
+            "pack" => Request::Pack(Link {
                 mark: mark(words)?,
-                page: u16::try_from(number(words)?).ok()?,
+                page: number(words)?,
                 fill: number(words)?,
             }),
-            "unpack" => Event::Unpack(number(words)?),
+            "unpack" => Request::Unpack(number(words)?),
             _ => return None,
         };
-        Some(event)
+        Some(request)
     }
 }
 
