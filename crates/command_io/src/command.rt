@@ -16,7 +16,7 @@ use trace_model::{MAX_INPUT, NoMemory};
 pub const MEMORY_LINE: [u8; 7] = *b"memory\n";
 
 /// A command of the program, by what it prints for the whole text that it read.
-pub trait Command {
+pub trait Subcommand {
     // Whether these bytes with this exit status may be the output for a text.
     ghost gives: { Self → (text bytes : List ℕ) (status : ℕ) → Type 0 };
     // What has to hold of it before, as that threads may share what it holds.
@@ -29,7 +29,7 @@ pub trait Command {
 }
 
 // The output for all that the reader gives.
-fn output_for<C: Command, R: Source>(
+fn output_for<C: Subcommand, R: Source>(
     command: &C,
     alloc: Global,
     reader: &mut R,
@@ -79,7 +79,7 @@ pub fn print_memory_line<W: Sink>(writer: &mut W) -> u8
 
 /// Reads all of the reader and writes the command's output for it. The exit status is the output's, 3 if memory was
 /// refused, and 4 if a read or a write failed or the input was too long.
-pub fn carry_out<C: Command, R: Source, W: Sink>(
+pub fn carry_out<C: Subcommand, R: Source, W: Sink>(
     command: &C,
     alloc: Global,
     reader: &mut R,

@@ -1,4 +1,4 @@
-//! The values of the constants, as the contract of a function with an empty body.
+//! The values of the constants.
 ghost use Rattle.std.specs.Prelude.{◌≡◌, ◌∷◌, ◌++◌, [], codes};
 ghost use Rattle.std.specs.Fmt.{decimal};
 
@@ -9,8 +9,8 @@ use crate::output::THREAD_LINE;
 use crate::status::{DONE, END_FAILED, NO_MEMORY, REFUSED, USAGE};
 use trace_model::MAX_INPUT;
 
-/// The exit statuses, how many bytes are read at a time, the lines of a command that ran out of memory, or could not
-/// start a thread, and the lines of standard error, of which the last one has the longest input's length.
+/// The exit statuses, the number of bytes that are read at a time, the lines of a command that ran out of memory or
+/// couldn't start a thread, and the lines of standard error are those that are stated here.
 pub fn constants_are()
     ensures done { DONE ≡ 0 }
     ensures refused { REFUSED ≡ 1 }
@@ -21,7 +21,8 @@ pub fn constants_are()
     ensures memory_line { MEMORY_LINE ≡ codes "memory" ++ 10 ∷ [] }
     ensures thread_line { THREAD_LINE.now ≡ codes "thread" ++ 10 ∷ [] }
     ensures usage_line { USAGE_LINE.now ≡ codes "usage: tracering replay [--log] | run | dump | steps"
-        ++ codes " | collect [--page BYTES] [--names] [--formats DIR] [--json] [--keep KEPT] [--parcels] FILE.." }
+        ++ codes " | collect [--page BYTES] [--names] [--formats DIR] [--json] [--keep KEPT] [--parcels] FILE.."
+        ++ codes " | recover [--json] [--keep KEPT] FILE.." }
     ensures read_failed { READ_FAILED.now ≡ codes "tracering: reading failed" }
     ensures write_failed { WRITE_FAILED.now ≡ codes "tracering: writing failed" }
     ensures input_too_long { INPUT_TOO_LONG.now

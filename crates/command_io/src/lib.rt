@@ -11,7 +11,7 @@ mod messages;
 mod output;
 mod status;
 
-pub use command::{Command, MEMORY_LINE, carry_out, print_memory_line};
+pub use command::{MEMORY_LINE, Subcommand, carry_out, print_memory_line};
 pub use ends::{Sink, Source, Std};
 pub use input::{InputFault, READ_CHUNK, read_all};
 pub use messages::{EndFault, INPUT_TOO_LONG, READ_FAILED, USAGE_LINE, WRITE_FAILED, message_for};

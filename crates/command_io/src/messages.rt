@@ -11,6 +11,7 @@ use trace_model::MAX_INPUT;
 pub const USAGE_LINE: &str = concat!(
     "usage: tracering replay [--log] | run | dump | steps",
     " | collect [--page BYTES] [--names] [--formats DIR] [--json] [--keep KEPT] [--parcels] FILE..",
+    " | recover [--json] [--keep KEPT] FILE..",
 );
 
 /// The input couldn't be read to its end.

@@ -2,10 +2,11 @@
 use Rattle.std.proofs.Common.{◌≡◌, ◌⊎◌, inl, inr, List, ◌∷◌, [], Result, Ok, Err, Some, None, Option, ℕ, Bool, true, false, codes, is_some, refl, sym, ap, ◌∙◌}
 use Rattle.clap.specs.Words.{Row, Text, first_of}
 use Rattle.clap.proofs.OnLiterals.{clap_on_literals}
+use Rattle.command_line.proofs.Names.{collect_is_not_recover}
 use Rattle.command_line.specs.Calls.{Asked, AsksFor, AreUnread, IsAsked, asked_of, files_matched, page_matched}
 use Rattle.command_line.specs.CommandLine.{IsCallOf, IsAccepted, names_command, rows_named}
 use Rattle.command_line.specs.declared.call.Call.{Call}
-use Rattle.command_line.specs.declared.call.Call.TheVariants.{Replay, Run, Steps, Dump, Collect}
+use Rattle.command_line.specs.declared.call.Call.TheVariants.{Replay, Run, Steps, Dump, Collect, Recover}
 use Rattle.command_line.specs.declared.call.CallFault.{CallFault}
 use Rattle.command_line.specs.declared.call.CallFault.TheVariants.{Usage, NoMemory}
 
@@ -50,6 +51,7 @@ module _ (words : List Text) (named : names_command words ≡ Some (codes "colle
   asks asked (Ok Run) accepted says a = absurd (let wrong = sym named ∙ a.named Run refl in cc)
   asks asked (Ok Steps) accepted says a = absurd (let wrong = sym named ∙ a.named Steps refl in cc)
   asks asked (Ok Dump) accepted says a = absurd (let wrong = sym named ∙ a.named Dump refl in cc)
+  asks asked (Ok (Recover call)) accepted says a = absurd (collect_is_not_recover (sym named ∙ a.named (Recover call) refl))
   asks asked (Err Usage) accepted says a = absurd (unread (a.no_collect refl accepted named))
     where
       unread : AreUnread (rows_named words) → ⊥
@@ -64,6 +66,7 @@ module _ (words : List Text) (named : names_command words ≡ Some (codes "colle
   unreadable (Ok Run) none a = absurd (let wrong = sym named ∙ a.named Run refl in cc)
   unreadable (Ok Steps) none a = absurd (let wrong = sym named ∙ a.named Steps refl in cc)
   unreadable (Ok Dump) none a = absurd (let wrong = sym named ∙ a.named Dump refl in cc)
+  unreadable (Ok (Recover call)) none a = absurd (collect_is_not_recover (sym named ∙ a.named (Recover call) refl))
   unreadable (Err Usage) none a = inl refl
   unreadable (Err NoMemory) none a = inr refl
 

@@ -3,7 +3,7 @@ use Rattle.std.proofs.Common.{◌≡◌, ◌⊎◌, inl, inr, List, ◌∷◌, [
 use Rattle.clap.proofs.OnLiterals.{clap_on_literals}
 use Rattle.command_line.specs.CommandLine.{IsCallOf, IsAccepted, log_text, names_command}
 use Rattle.command_line.specs.declared.call.Call.{Call}
-use Rattle.command_line.specs.declared.call.Call.TheVariants.{Replay, Run, Steps, Dump, Collect}
+use Rattle.command_line.specs.declared.call.Call.TheVariants.{Replay, Run, Steps, Dump, Collect, Recover}
 use Rattle.command_line.specs.declared.call.CallFault.{CallFault}
 use Rattle.command_line.specs.declared.call.CallFault.TheVariants.{Usage, NoMemory}
 
@@ -70,6 +70,7 @@ call_of_replay first (Ok Run) a = absurd (let wrong = sym (replay_named first) �
 call_of_replay first (Ok Dump) a = absurd (let wrong = sym (replay_named first) ∙ a.named Dump refl in cc)
 call_of_replay first (Ok Steps) a = absurd (let wrong = sym (replay_named first) ∙ a.named Steps refl in cc)
 call_of_replay first (Ok (Collect call)) a = absurd (let wrong = sym (replay_named first) ∙ a.named (Collect call) refl in cc)
+call_of_replay first (Ok (Recover call)) a = absurd (let wrong = sym (replay_named first) ∙ a.named (Recover call) refl in cc)
 call_of_replay first (Err Usage) a = absurd (a.no_replay refl (replay_accepted first) (replay_named first))
 call_of_replay first (Err NoMemory) a = inr refl
 
@@ -80,6 +81,7 @@ call_of_replay_log first (Ok Run) a = absurd (let wrong = sym (replay_log_named 
 call_of_replay_log first (Ok Dump) a = absurd (let wrong = sym (replay_log_named first) ∙ a.named Dump refl in cc)
 call_of_replay_log first (Ok Steps) a = absurd (let wrong = sym (replay_log_named first) ∙ a.named Steps refl in cc)
 call_of_replay_log first (Ok (Collect call)) a = absurd (let wrong = sym (replay_log_named first) ∙ a.named (Collect call) refl in cc)
+call_of_replay_log first (Ok (Recover call)) a = absurd (let wrong = sym (replay_log_named first) ∙ a.named (Recover call) refl in cc)
 call_of_replay_log first (Err Usage) a = absurd (a.no_replay refl (replay_log_accepted first) (replay_log_named first))
 call_of_replay_log first (Err NoMemory) a = inr refl
 
@@ -89,6 +91,7 @@ call_of_run first (Ok (Replay log)) a = absurd (let wrong = sym (run_named first
 call_of_run first (Ok Dump) a = absurd (let wrong = sym (run_named first) ∙ a.named Dump refl in cc)
 call_of_run first (Ok Steps) a = absurd (let wrong = sym (run_named first) ∙ a.named Steps refl in cc)
 call_of_run first (Ok (Collect call)) a = absurd (let wrong = sym (run_named first) ∙ a.named (Collect call) refl in cc)
+call_of_run first (Ok (Recover call)) a = absurd (let wrong = sym (run_named first) ∙ a.named (Recover call) refl in cc)
 call_of_run first (Err Usage) a = absurd (a.no_run refl (run_accepted first) (run_named first))
 call_of_run first (Err NoMemory) a = inr refl
 
@@ -103,6 +106,7 @@ call_of_steps first (Ok Run) a = absurd (let wrong = sym (steps_named first) ∙
 call_of_steps first (Ok (Replay log)) a = absurd (let wrong = sym (steps_named first) ∙ a.named (Replay log) refl in cc)
 call_of_steps first (Ok Dump) a = absurd (let wrong = sym (steps_named first) ∙ a.named Dump refl in cc)
 call_of_steps first (Ok (Collect call)) a = absurd (let wrong = sym (steps_named first) ∙ a.named (Collect call) refl in cc)
+call_of_steps first (Ok (Recover call)) a = absurd (let wrong = sym (steps_named first) ∙ a.named (Recover call) refl in cc)
 call_of_steps first (Err Usage) a = absurd (a.no_steps refl (steps_accepted first) (steps_named first))
 call_of_steps first (Err NoMemory) a = inr refl
 
@@ -112,6 +116,7 @@ call_of_dump first (Ok Run) a = absurd (let wrong = sym (dump_named first) ∙ a
 call_of_dump first (Ok Steps) a = absurd (let wrong = sym (dump_named first) ∙ a.named Steps refl in cc)
 call_of_dump first (Ok (Replay log)) a = absurd (let wrong = sym (dump_named first) ∙ a.named (Replay log) refl in cc)
 call_of_dump first (Ok (Collect call)) a = absurd (let wrong = sym (dump_named first) ∙ a.named (Collect call) refl in cc)
+call_of_dump first (Ok (Recover call)) a = absurd (let wrong = sym (dump_named first) ∙ a.named (Recover call) refl in cc)
 call_of_dump first (Err Usage) a = absurd (a.no_dump refl (dump_accepted first) (dump_named first))
 call_of_dump first (Err NoMemory) a = inr refl
 

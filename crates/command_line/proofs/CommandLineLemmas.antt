@@ -10,11 +10,13 @@ use Rattle.clap.specs.declared.error.ErrorKind.{ErrorKind}
 use Rattle.clap.specs.declared.error.ErrorKind.TheVariants.{OutOfMemory}
 use Rattle.clap.proofs.OnLiterals.{clap_on_literals}
 use Rattle.clap.proofs.WalkLemmas.{one_text-rows}
+use Rattle.command_line.proofs.Names.{collect_is_not_recover, recover_is_not_collect}
 use Rattle.command_line.specs.CommandLine.{HasSource, IsCallOf, IsAccepted, command_line, fault_of_kind, flag_text, log_text, name_of, names_command, rows_found, rows_named}
-use Rattle.command_line.specs.Calls.{AreUnread, AsksFor, asked_of}
+use Rattle.command_line.specs.Calls.{AreUnread, AsksFor, AsksToRecover, asked_of, recovering_of, regions_matched}
 use Rattle.command_line.specs.declared.call.CollectCall.{CollectCall}
+use Rattle.command_line.specs.declared.call.RecoverCall.{RecoverCall}
 use Rattle.command_line.specs.declared.call.Call.{Call}
-use Rattle.command_line.specs.declared.call.Call.TheVariants.{Replay, Collect}
+use Rattle.command_line.specs.declared.call.Call.TheVariants.{Replay, Collect, Recover}
 use Rattle.command_line.specs.declared.call.CallFault.{CallFault}
 use Rattle.command_line.specs.declared.call.CallFault.TheVariants.{Usage, NoMemory}
 
@@ -55,15 +57,15 @@ pub rows_of_found : (matched : Option (Text × List Row)) (found : Found) → op
 rows_of_found None found is = absurd (cc)
 rows_of_found (Some p) found is = cc
 
--- what is made of the matches of another command than `collect` is an answer to the words
+-- what is made of the matches of another command than `collect` and `recover` is an answer to the words
 pub call_of_matches-words : (words : List Text) (m : ArgMatches) (call : Option Call) → HasMatchesOf command_line words m → IsAccepted words
-    → subcommand_name_of m ≢ Some (codes "collect")
+    → subcommand_name_of m ≢ Some (codes "collect") → subcommand_name_of m ≢ Some (codes "recover")
     → IfSome call (λ x. HasSource x × (subcommand_name_of m ≡ Some (name_of x)))
     → (call ≡ None → (subcommand_name_of m ≢ Some (codes "replay")) × (subcommand_name_of m ≢ Some (codes "run")) × (subcommand_name_of m ≢ Some (codes "steps")) × (subcommand_name_of m ≢ Some (codes "dump")))
     → (flag_text (subcommand_rows_of m) ≡ Some (codes "true") → call ≢ Some (Replay false))
     → (flag_text (subcommand_rows_of m) ≡ Some (codes "false") → call ≢ Some (Replay true))
     → IsCallOf words (ok_or call Usage)
-call_of_matches-words words m None has accepted other named none log no_log =
+call_of_matches-words words m None has accepted other unlike named none log no_log =
     let name = name_of_matches command_line words m refl has in
     record {
       accepted = λ x is. accepted;
@@ -76,8 +78,10 @@ call_of_matches-words words m None has accepted other named none log no_log =
       no_dump = λ _ _ is. (none refl).3 (name ∙ is);
       collect = λ x is. absurd (cc);
       no_collect = λ _ _ is. absurd (other (name ∙ is));
+      recover = λ x is. absurd (cc);
+      no_recover = λ _ _ is. absurd (unlike (name ∙ is));
     }
-call_of_matches-words words m (Some x) has accepted other named none log no_log =
+call_of_matches-words words m (Some x) has accepted other unlike named none log no_log =
     let name = name_of_matches command_line words m refl has in
     let flag = flag_of_matches command_line words m refl has in
     record {
@@ -91,6 +95,8 @@ call_of_matches-words words m (Some x) has accepted other named none log no_log 
       no_dump = λ is. absurd (cc);
       collect = λ call is. let same : x ≡ Collect call = cc in absurd (subst HasSource same named.0);
       no_collect = λ is. absurd (cc);
+      recover = λ call is. let same : x ≡ Recover call = cc in absurd (subst HasSource same named.0);
+      no_recover = λ is. absurd (cc);
     }
 
 -- and so is what is made of those of `collect`
@@ -112,6 +118,8 @@ collect_call-words words m found call has accepted named rows asks =
       no_dump = λ is. absurd (cc);
       collect = λ other is. let same : call ≡ other = cc in subst (λ (call : CollectCall). AsksFor (rows_named words) (asked_of call)) same asks_words;
       no_collect = λ is. absurd (cc);
+      recover = λ other is. absurd (cc);
+      no_recover = λ is. absurd (cc);
     }
 
 -- and refused memory is an answer to all words
@@ -127,6 +135,8 @@ no_memory-words words = record {
   no_dump = λ is. absurd (cc);
   collect = λ other is. absurd (cc);
   no_collect = λ is. absurd (cc);
+  recover = λ other is. absurd (cc);
+  no_recover = λ is. absurd (cc);
 }
 
 -- and that nothing is made of them
@@ -147,6 +157,8 @@ unread-words words m found has named rows unread =
       no_dump = λ _ _ is. let wrong = sym named ∙ name ∙ is in cc;
       collect = λ other is. absurd (cc);
       no_collect = λ _ _ _. subst AreUnread same_rows unread;
+      recover = λ other is. absurd (cc);
+      no_recover = λ _ _ is. absurd (collect_is_not_recover (sym named ∙ name ∙ is));
     }
 
 pub no_collect-words : (words : List Text) (m : ArgMatches) (found : Found) (fault : CallFault) → HasMatchesOf command_line words m
@@ -154,6 +166,56 @@ pub no_collect-words : (words : List Text) (m : ArgMatches) (found : Found) (fau
     → (fault ≡ Usage → AreUnread (rows_of found)) → IsCallOf words (Err fault)
 no_collect-words words m found NoMemory has named rows unread = no_memory-words words
 no_collect-words words m found Usage has named rows unread = unread-words words m found has named rows (unread refl)
+
+-- the same of what is made of the matches of `recover`
+pub recovered-words : (words : List Text) (m : ArgMatches) (found : Found) (call : RecoverCall) → HasMatchesOf command_line words m → IsAccepted words
+    → subcommand_name_of m ≡ Some (codes "recover") → option_map (λ p. p.1) (subcommand_rows_of m) ≡ Some (rows_of found)
+    → AsksToRecover (rows_of found) (recovering_of call) → IsCallOf words (Ok (Recover call))
+recovered-words words m found call has accepted named rows asks =
+    let name = name_of_matches command_line words m refl has in
+    let same_rows = rows_of_found (subcommand_rows_of m) found rows ∙ rows_of_matches command_line words m refl has in
+    let asks_words : AsksToRecover (rows_named words) (recovering_of call) = subst (λ (rows : List Row). AsksToRecover rows (recovering_of call)) same_rows asks in
+    record {
+      accepted = λ y is. accepted;
+      named = λ y is. sym name ∙ named ∙ (let same : Recover call ≡ y = cc in ap (λ (call : Call). Some (name_of call)) same);
+      log = λ _ is. cc;
+      no_log = λ _ is. cc;
+      no_replay = λ is. absurd (cc);
+      no_run = λ is. absurd (cc);
+      no_steps = λ is. absurd (cc);
+      no_dump = λ is. absurd (cc);
+      collect = λ other is. absurd (cc);
+      no_collect = λ is. absurd (cc);
+      recover = λ other is. let same : call ≡ other = cc in subst (λ (call : RecoverCall). AsksToRecover (rows_named words) (recovering_of call)) same asks_words;
+      no_recover = λ is. absurd (cc);
+    }
+
+no_regions-words : (words : List Text) (m : ArgMatches) (found : Found) → HasMatchesOf command_line words m
+    → subcommand_name_of m ≡ Some (codes "recover") → option_map (λ p. p.1) (subcommand_rows_of m) ≡ Some (rows_of found)
+    → regions_matched (rows_of found) ≡ None → IsCallOf words (Err Usage)
+no_regions-words words m found has named rows unread =
+    let name = name_of_matches command_line words m refl has in
+    let same_rows = rows_of_found (subcommand_rows_of m) found rows ∙ rows_of_matches command_line words m refl has in
+    record {
+      accepted = λ y is. absurd (cc);
+      named = λ y is. absurd (cc);
+      log = λ _ is. cc;
+      no_log = λ _ is. cc;
+      no_replay = λ _ _ is. let wrong = sym named ∙ name ∙ is in cc;
+      no_run = λ _ _ is. let wrong = sym named ∙ name ∙ is in cc;
+      no_steps = λ _ _ is. let wrong = sym named ∙ name ∙ is in cc;
+      no_dump = λ _ _ is. let wrong = sym named ∙ name ∙ is in cc;
+      collect = λ other is. absurd (cc);
+      no_collect = λ _ _ is. absurd (recover_is_not_collect (sym named ∙ name ∙ is));
+      recover = λ other is. absurd (cc);
+      no_recover = λ _ _ _. subst (λ (rows : List Row). regions_matched rows ≡ None) same_rows unread;
+    }
+
+pub no_recover-words : (words : List Text) (m : ArgMatches) (found : Found) (fault : CallFault) → HasMatchesOf command_line words m
+    → subcommand_name_of m ≡ Some (codes "recover") → option_map (λ p. p.1) (subcommand_rows_of m) ≡ Some (rows_of found)
+    → (fault ≡ Usage → regions_matched (rows_of found) ≡ None) → IsCallOf words (Err fault)
+no_recover-words words m found NoMemory has named rows unread = no_memory-words words
+no_recover-words words m found Usage has named rows unread = no_regions-words words m found has named rows (unread refl)
 
 -- a parse that fails answers words that it doesn't accept, or memory was refused
 pub refused-words : (words : List Text) (fault : CallFault) → (IsAccepted words → fault ≡ NoMemory) → IsCallOf words (Err fault)
@@ -168,6 +230,8 @@ refused-words words fault memory = record {
   no_dump = λ is accepted. let why = memory accepted in absurd (cc);
   collect = λ other is. absurd (cc);
   no_collect = λ is accepted. let why = memory accepted in absurd (cc);
+  recover = λ other is. absurd (cc);
+  no_recover = λ is accepted. let why = memory accepted in absurd (cc);
 }
 
 pub failed-words : (words : List Text) (result : Result Call CallFault) (kind : ErrorKind) → IsErrAnd result (λ fault. fault ≡ fault_of_kind kind)

@@ -1,14 +1,15 @@
--- What the command `collect` is asked for, and what the matches of its words say of that.
+-- What the commands `collect` and `recover` are asked for, and what the matches of their words say of that.
 use Rattle.std.specs.Prelude.{◌≡◌, ◌≤◌, ◌<◌, ◌⊎◌, ℕ, All, Bool, true, false, List, Option, None, Some, Result, Ok, Err, codes, is_some, length, map, option_and_then, option_map, ⊤}
 use Rattle.trace_model.specs.declared.limits.TheConstants.{MAX_CPUS}
 use Rattle.clap.specs.Words.{Row, Text, all_of, first_of, one_of}
-use Rattle.command_line.specs.FileWords.{file_list, page_word}
+use Rattle.command_line.specs.FileWords.{file_list, page_word, path_list}
 use Rattle.command_line.specs.declared.call.Call.{Call}
-use Rattle.command_line.specs.declared.call.Call.TheVariants.{Replay, Run, Steps, Dump, Collect}
+use Rattle.command_line.specs.declared.call.Call.TheVariants.{Replay, Run, Steps, Dump, Collect, Recover}
 use Rattle.command_line.specs.declared.call.CallFault.{CallFault}
 use Rattle.command_line.specs.declared.call.CallFault.TheVariants.{Usage, NoMemory}
 use Rattle.command_line.specs.declared.call.CollectCall.{CollectCall}
 use Rattle.command_line.specs.declared.call.CpuFile.{CpuFile}
+use Rattle.command_line.specs.declared.call.RecoverCall.{RecoverCall}
 use Rattle.command_line.specs.declared.words.TheConstants.{MIN_PAGE, MAX_PAGE}
 
 -- a FILE's CPU and path
@@ -81,5 +82,44 @@ IsAsked (Ok (Replay log)) asked = ⊥
 IsAsked (Ok Run) asked = ⊥
 IsAsked (Ok Steps) asked = ⊥
 IsAsked (Ok Dump) asked = ⊥
+IsAsked (Ok (Recover call)) asked = ⊥
 IsAsked (Err Usage) asked = ⊥
 IsAsked (Err NoMemory) asked = ⊤
+
+-- ---- `recover`
+
+-- what `recover` is asked for: whether objects are printed, the file for new pieces of streams, and the path of each
+-- file
+pub record Recovering : Type 0 where
+  pub json : Bool
+  pub keep : Option Text
+  pub files : List Text
+
+abbrev pub recovering_of : RecoverCall → Recovering
+recovering_of call = record {
+  json = call.json;
+  keep = option_map (λ file. file.now) call.keep;
+  files = map (λ file. file.now) call.files.items;
+}
+
+-- the files that the matches of `recover` name, if there may be so many
+abbrev pub regions_matched : List Row → Option (List Text)
+regions_matched rows = option_and_then path_list (all_of (codes "file") rows)
+
+-- the matches ask for this
+pub record AsksToRecover (rows : List Row) (asked : Recovering) : Type 0 where
+  pub files : regions_matched rows ≡ Some asked.files
+  pub json : one_of (codes "json") rows ≡ Some (codes "true") → asked.json ≡ true
+  pub no_json : one_of (codes "json") rows ≡ Some (codes "false") → asked.json ≡ false
+  pub keep : first_of (codes "keep") rows ≡ asked.keep
+
+-- `recover` is called for this, except that memory may be refused
+abbrev pub IsAskedToRecover : Result Call CallFault → Recovering → Type 0
+IsAskedToRecover (Ok (Recover call)) asked = recovering_of call ≡ asked
+IsAskedToRecover (Ok (Collect call)) asked = ⊥
+IsAskedToRecover (Ok (Replay log)) asked = ⊥
+IsAskedToRecover (Ok Run) asked = ⊥
+IsAskedToRecover (Ok Steps) asked = ⊥
+IsAskedToRecover (Ok Dump) asked = ⊥
+IsAskedToRecover (Err Usage) asked = ⊥
+IsAskedToRecover (Err NoMemory) asked = ⊤

@@ -5,9 +5,10 @@ use Rattle.clap.specs.declared.builder.action.ArgAction.TheVariants.{Append, Set
 use Rattle.clap.specs.declared.error.ErrorKind.{ErrorKind}
 use Rattle.clap.specs.declared.error.ErrorKind.TheVariants.{OutOfMemory}
 use Rattle.command_line.specs.declared.call.Call.{Call}
-use Rattle.command_line.specs.declared.call.Call.TheVariants.{Replay, Run, Steps, Dump, Collect}
-use Rattle.command_line.specs.Calls.{AreUnread, AsksFor, asked_of}
+use Rattle.command_line.specs.declared.call.Call.TheVariants.{Replay, Run, Steps, Dump, Collect, Recover}
+use Rattle.command_line.specs.Calls.{AreUnread, AsksFor, AsksToRecover, asked_of, recovering_of, regions_matched}
 use Rattle.command_line.specs.declared.call.CollectCall.{CollectCall}
+use Rattle.command_line.specs.declared.call.RecoverCall.{RecoverCall}
 use Rattle.command_line.specs.declared.call.CallFault.{CallFault}
 use Rattle.command_line.specs.declared.call.CallFault.TheVariants.{Usage, NoMemory}
 
@@ -51,8 +52,19 @@ abbrev pub collect_command : App
 collect_command = with_rule collect_options (values_rule (codes "file"))
 
 -- the program with its fifth command, `collect`
+abbrev pub collect_commands : App
+collect_commands = with_subcommand image_commands collect_command.top
+
+-- the command `recover`, with its flag, its option and its files
+abbrev pub recover_command : App
+recover_command =
+    let flagged = with_rule (new_app (codes "recover")) (flag_rule (codes "json")) in
+    let kept = with_rule flagged (option_rule (codes "keep")) in
+    with_rule kept (values_rule (codes "file"))
+
+-- the program with its sixth command, `recover`
 abbrev pub command_line : App
-command_line = with_subcommand image_commands collect_command.top
+command_line = with_subcommand collect_commands recover_command.top
 
 -- the parse accepts the words
 abbrev pub IsAccepted : List Text → Type 0
@@ -86,15 +98,17 @@ name_of Run = codes "run"
 name_of Steps = codes "steps"
 name_of Dump = codes "dump"
 name_of (Collect call) = codes "collect"
+name_of (Recover call) = codes "recover"
 
--- the command that is called reads one source; `collect` has files of its own
+-- the command that is called reads one source; `collect` and `recover` have files of their own
 abbrev pub HasSource : Call → Type 0
 HasSource (Collect call) = ⊥
+HasSource (Recover call) = ⊥
 HasSource _ = ⊤
 
 -- What the program makes of its words: the command and what else the parse finds, if it accepts the words; if it
--- doesn't, or finds no command, or what it finds for `collect` can't be read, the usage line. Memory is refused at any
--- of them.
+-- doesn't, or finds no command, or what it finds for `collect` or `recover` can't be read, the usage line. Memory is
+-- refused at any of them.
 pub record IsCallOf (words : List Text) (result : Result Call CallFault) : Type 0 where
   pub accepted : (call : Call) → result ≡ Ok call → IsAccepted words
   pub named : (call : Call) → result ≡ Ok call → names_command words ≡ Some (name_of call)
@@ -107,6 +121,10 @@ pub record IsCallOf (words : List Text) (result : Result Call CallFault) : Type 
   pub collect : (call : CollectCall) → result ≡ Ok (Collect call) → AsksFor (rows_named words) (asked_of call)
   pub no_collect : result ≡ Err Usage → IsAccepted words → names_command words ≡ Some (codes "collect")
       → AreUnread (rows_named words)
+  pub recover : (call : RecoverCall) → result ≡ Ok (Recover call)
+      → AsksToRecover (rows_named words) (recovering_of call)
+  pub no_recover : result ≡ Err Usage → IsAccepted words → names_command words ≡ Some (codes "recover")
+      → regions_matched (rows_named words) ≡ None
 
 -- the parse fails because memory was refused, or at the words
 abbrev pub fault_of_kind : ErrorKind → CallFault

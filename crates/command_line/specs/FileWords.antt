@@ -1,10 +1,10 @@
--- How the words of `collect` are read.
+-- How the words of `collect` and `recover` are read.
 use Rattle.std.specs.Prelude.{◌≡◌, ℕ, ◌-◌, ◌==◌, ◌&&◌, Bool, false, List, [], ◌∷◌, Option, Some, None, length, nat_lt, nat_le, if◌then◌else◌, option_map, option_and_then, ◌+◌, take, drop}
 use Rattle.std.specs.Char.{is_ascii_digit}
 use Rattle.std.specs.List.{list_all, position as first_place}
 use Rattle.std.specs.Str.Parse.{digits_value}
 use Rattle.trace_model.specs.declared.limits.TheConstants.{MAX_CPUS}
-use Rattle.command_line.specs.declared.words.TheConstants.{DEFAULT_PAGE, MIN_PAGE, MAX_PAGE}
+use Rattle.command_line.specs.declared.words.TheConstants.{DEFAULT_PAGE, MAX_FILES, MIN_PAGE, MAX_PAGE}
 
 -- the text is a number in decimal digits, one at least
 abbrev pub is_number : List ℕ → Bool
@@ -71,3 +71,17 @@ abbrev pub file_list : (words : List (List ℕ)) → Option (List (ℕ × List �
 file_list words =
     if nat_lt 0 (length words) && nat_le (length words) MAX_CPUS
     then option_and_then with_one_input (file_words 0 words) else None
+
+-- ---- the paths of regions
+
+-- how many paths are standard input
+abbrev pub count_input_paths : List (List ℕ) → ℕ
+count_input_paths [] = 0
+count_input_paths (path ∷ paths) = if is_input path then count_input_paths paths + 1 else count_input_paths paths
+
+-- The paths of a call of `recover`: all FILEs as they are, one at least and MAX_FILES at most, standard input once at
+-- most.
+abbrev pub path_list : (words : List (List ℕ)) → Option (List (List ℕ))
+path_list words =
+    if nat_lt 0 (length words) && (nat_le (length words) MAX_FILES && nat_le (count_input_paths words) 1)
+    then Some words else None

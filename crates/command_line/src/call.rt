@@ -39,6 +39,17 @@ pub struct CollectCall<'a> {
     pub files: Vec<CpuFile<'a>>,
 }
 
+/// What `recover` is asked for.
+#[derive(Debug, Drop)]
+pub struct RecoverCall<'a> {
+    /// Whether each line is an object.
+    pub json: bool,
+    /// The file that new pieces of streams are written to.
+    pub keep: Option<&'a str>,
+    /// The paths of the regions, one at least; `-` is standard input.
+    pub files: Vec<&'a str>,
+}
+
 /// What the command line asks for.
 #[derive(Debug, Drop)]
 pub enum Call<'a> {
@@ -52,6 +63,8 @@ pub enum Call<'a> {
     Dump,
     /// `tracering collect`.
     Collect(CollectCall<'a>),
+    /// `tracering recover`.
+    Recover(RecoverCall<'a>),
 }
 
 /// Why the command line asks for nothing.

@@ -67,7 +67,7 @@ fn matched_files<'a>(alloc: Global, found: &ArgMatches<'a>) -> Result<Vec<CpuFil
 }
 
 // The text of the option of this name.
-fn matched_text<'a>(found: &ArgMatches<'a>, name: &str) -> Option<&'a str>
+pub(crate) fn matched_text<'a>(found: &ArgMatches<'a>, name: &str) -> Option<&'a str>
     ensures { option_map (λ text. text.now) result ≡ first_of name.now (rows_of (found_of found.now)) }
 {
     found.get_str(name)
@@ -81,7 +81,7 @@ fn is_matched(found: &ArgMatches<'_>, name: &str) -> bool
 }
 
 // Whether the flag of this name is given.
-fn matched_flag(found: &ArgMatches<'_>, name: &str) -> bool
+pub(crate) fn matched_flag(found: &ArgMatches<'_>, name: &str) -> bool
     ensures given { one_of name.now (rows_of (found_of found.now)) ≡ Some (codes "true") → result ≡ true }
     ensures not_given { one_of name.now (rows_of (found_of found.now)) ≡ Some (codes "false") → result ≡ false }
 {

@@ -5,9 +5,10 @@ mod call;
 mod collect;
 mod given;
 mod parse;
+mod recover;
 mod words;
 
-pub use call::{Call, CallFault, CollectCall, CpuFile};
+pub use call::{Call, CallFault, CollectCall, CpuFile, RecoverCall};
 pub use given::{given_call, given_words};
 pub use parse::call_of;
-pub use words::{DEFAULT_PAGE, MAX_PAGE, MIN_PAGE};
+pub use words::{DEFAULT_PAGE, MAX_FILES, MAX_PAGE, MIN_PAGE};

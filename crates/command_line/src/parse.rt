@@ -1,13 +1,14 @@
 //! The parse of the program's command line.
 ghost use Rattle.std.specs.Prelude.{◌≡◌, ◌≢◌, ◌⊎◌, ℕ, List, ◌∷◌, [], map, codes, Some, None, Ok, Err, IfOk, IfSome, true, false};
 ghost use Rattle.clap.specs.declared.builder.command.Command.TheViews.{out-Command as fields_of};
-ghost use Rattle.clap.specs.Words.{app_of, subcommand_name_of, subcommand_rows_of, with_rule};
-ghost use Rattle.command_line.specs.Calls.{IsAsked, IsInRange};
+ghost use Rattle.clap.specs.Words.{HasMatchesOf, Text, app_of, subcommand_name_of, subcommand_rows_of, with_rule};
+ghost use Rattle.command_line.specs.Calls.{IsAsked, IsAskedToRecover, IsInRange};
 ghost use Rattle.command_line.specs.declared.call.CollectCall.{CollectCall};
-ghost use Rattle.command_line.specs.CommandLine.{HasSource, IsCallOf, collect_options, command_line, flag_rule, flag_text, image_commands, name_of, option_rule, script_commands, values_rule};
+ghost use Rattle.command_line.specs.CommandLine.{HasSource, IsAccepted, IsCallOf, collect_commands, collect_options, command_line, flag_rule, flag_text, image_commands, name_of, option_rule, recover_command, script_commands, values_rule};
 
 use crate::call::{Call, CallFault};
 use crate::collect::collect_call;
+use crate::recover::recover_call;
 use clap::{Arg, ArgAction, ArgMatches, Command};
 use std::alloc::{AllocError, Global};
 use std::convert::AsStr;
@@ -90,15 +91,33 @@ fn collect_program<'a>(alloc: Global) -> Result<Command<'a>, AllocError>
     with_flag(alloc, kept, "parcels")
 }
 
-/// The program with its five commands.
-fn program<'a>(alloc: Global) -> Result<Command<'a>, AllocError>
-    ensures { IfOk result (λ program. app_of program ≡ command_line) }
+/// The program with `collect` too.
+fn collecting_program<'a>(alloc: Global) -> Result<Command<'a>, AllocError>
+    ensures { IfOk result (λ program. app_of program ≡ collect_commands) }
 {
     let collect = with_values(alloc, collect_program(alloc)?, "file")?;
     image_program(alloc)?.subcommand(collect)
 }
 
-/// The call that these matches make, if they make one other than `collect`.
+/// The command `recover` with its flag, its option and its files.
+fn recover_program<'a>(alloc: Global) -> Result<Command<'a>, AllocError>
+    ensures command { IfOk result (λ program. app_of program ≡ recover_command) }
+    ensures local { IfOk result (λ program. (fields_of program).has_globals ≡ false) }
+{
+    let flagged = with_flag(alloc, Command::new(alloc, "recover"), "json")?;
+    let kept = with_option(alloc, flagged, "keep")?;
+    with_values(alloc, kept, "file")
+}
+
+/// The program with its six commands.
+fn program<'a>(alloc: Global) -> Result<Command<'a>, AllocError>
+    ensures { IfOk result (λ program. app_of program ≡ command_line) }
+{
+    let recover = recover_program(alloc)?;
+    collecting_program(alloc)?.subcommand(recover)
+}
+
+/// The call that these matches make, if they make one other than `collect` and `recover`.
 fn call_of_matches<'a>(matches: &ArgMatches<'a>) -> Option<Call<'a>>
     ensures named { IfSome result (λ call.
         HasSource call × (subcommand_name_of matches.now ≡ Some (name_of call))) }
@@ -124,6 +143,20 @@ fn call_of_matches<'a>(matches: &ArgMatches<'a>) -> Option<Call<'a>>
     matches.subcommand_matches("dump").map(|_| Call::Dump)
 }
 
+/// The call that these matches make, if they make one other than `collect`.
+fn other_call<'a>(alloc: Global, matches: &ArgMatches<'a>) -> Result<Call<'a>, CallFault>
+    ensures { (words : List Text) → HasMatchesOf command_line words matches.now → IsAccepted words
+        → subcommand_name_of matches.now ≢ Some (codes "collect") → IsCallOf words result }
+{
+    match matches.subcommand_matches("recover") {
+        Some(found) => match recover_call(alloc, found) {
+            Ok(call) => Ok(Call::Recover(call)),
+            Err(fault) => Err(fault),
+        },
+        None => call_of_matches(matches).ok_or(CallFault::Usage),
+    }
+}
+
 /// The parse of the words.
 fn parse_words<'a, S: AsStr>(alloc: Global, words: &'a [S]) -> Result<Call<'a>, CallFault>
     ensures { IsCallOf (map S.text words.now) result }
@@ -134,7 +167,7 @@ fn parse_words<'a, S: AsStr>(alloc: Global, words: &'a [S]) -> Result<Call<'a>, 
             Ok(call) => Ok(Call::Collect(call)),
             Err(fault) => Err(fault),
         },
-        None => call_of_matches(&matches).ok_or(CallFault::Usage),
+        None => other_call(alloc, &matches),
     }
 }
 
@@ -262,6 +295,32 @@ pub fn call_of<'a, S: AsStr>(alloc: Global, words: &'a [S]) -> Result<Call<'a>, 
         → (result ≡ Err CallFault.Usage) ⊎ (result ≡ Err CallFault.NoMemory) }
     ensures collect_small { (first : List ℕ)
         → map S.text words.now ≡ first ∷ codes "collect" ∷ codes "--page" ∷ codes "47" ∷ codes "a" ∷ []
+        → (result ≡ Err CallFault.Usage) ⊎ (result ≡ Err CallFault.NoMemory) }
+
+    // Or of `recover`, with files alone, whose words are their paths as they are, with standard input, the flag and a
+    // file for what is new.
+    ensures recover { (first : List ℕ)
+        → map S.text words.now ≡ first ∷ codes "recover" ∷ codes "3=a" ∷ codes "b" ∷ []
+        → IsAskedToRecover result (record {
+          json = false;
+          keep = None;
+          files = codes "3=a" ∷ codes "b" ∷ [];
+        }) }
+    ensures recover_keep { (first : List ℕ)
+        → map S.text words.now
+        ≡ first ∷ codes "recover" ∷ codes "--json" ∷ codes "-" ∷ codes "--keep" ∷ codes "k" ∷ []
+        → IsAskedToRecover result (record {
+          json = true;
+          keep = Some (codes "k");
+          files = codes "-" ∷ [];
+        }) }
+    ensures recover_none { (first : List ℕ) → map S.text words.now ≡ first ∷ codes "recover" ∷ []
+        → (result ≡ Err CallFault.Usage) ⊎ (result ≡ Err CallFault.NoMemory) }
+    ensures recover_inputs { (first : List ℕ)
+        → map S.text words.now ≡ first ∷ codes "recover" ∷ codes "-" ∷ codes "-" ∷ []
+        → (result ≡ Err CallFault.Usage) ⊎ (result ≡ Err CallFault.NoMemory) }
+    ensures recover_page { (first : List ℕ)
+        → map S.text words.now ≡ first ∷ codes "recover" ∷ codes "--page" ∷ codes "64" ∷ codes "a" ∷ []
         → (result ≡ Err CallFault.Usage) ⊎ (result ≡ Err CallFault.NoMemory) }
 {
     parse_words(alloc, words)

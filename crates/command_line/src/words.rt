@@ -1,4 +1,4 @@
-//! How the words of `collect` are read.
+//! How the words of `collect` and `recover` are read.
 ghost use Rattle.std.specs.Prelude.{◌≡◌, None, MatchOption, option_map};
 ghost use Rattle.std.specs.List.{position as first_place};
 ghost use Rattle.command_line.specs.FileWords.{IsSplitAt, file_word, is_equals, is_input as is_input_path, is_number as is_number_text, number_in as number_in_text, page_word};
@@ -15,6 +15,9 @@ pub const MIN_PAGE: u32 = 48;
 
 /// The most bytes of a page.
 pub const MAX_PAGE: u32 = 65552;
+
+/// The most files of regions.
+pub const MAX_FILES: usize = 256;
 
 // Whether a text has digits alone, and one at least.
 fn is_number(text: &str) -> bool

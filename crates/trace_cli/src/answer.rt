@@ -35,7 +35,7 @@ fn answer_call<Rt: Threads + Wait + Sync, R: Source, W: Sink>(
         Call::Run => run_to(rt, alloc, reader, writer),
         Call::Steps => steps_to(alloc, reader, writer),
         Call::Dump => dump_to(alloc, reader, writer),
-        Call::Collect(_) => unreachable!(),
+        Call::Collect(_) | Call::Recover(_) => unreachable!(),
     }
 }
 

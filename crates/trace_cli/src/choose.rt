@@ -21,7 +21,7 @@ const NOT_FOR_CAPTURES: &str = "tracering: --keep and --parcels are for streams 
 
 const NOT_FOR_STREAMS: &str = "tracering: --page, --names and --formats are for captures";
 
-const KEEP_IS_READ: &str = "tracering: the file of --keep is read";
+pub(crate) const KEEP_IS_READ: &str = "tracering: the file of --keep is read";
 
 /// Whether each input begins as a stream of parcels does, or has no byte: it is a stream without a piece then.
 fn are_streams(inputs: &[Input<Reader<'_>>]) -> bool
@@ -68,7 +68,7 @@ fn wrong_options(asked: &CollectCall<'_>) -> Option<&'static str> {
 }
 
 /// Says on standard error why nothing is done.
-fn refuse(rt: &HostRuntime, sentence: &str) -> u8 {
+pub(crate) fn refuse(rt: &HostRuntime, sentence: &str) -> u8 {
     let _ = eprintln!(rt; "{sentence}");
     USAGE
 }

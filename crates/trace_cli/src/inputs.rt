@@ -1,4 +1,4 @@
-//! The inputs of `collect`: files of the host, and standard input.
+//! The inputs of `collect` and `recover`: files of the host, and standard input.
 ghost use Rattle.std.specs.Prelude.{◌≡◌, false, map, All, IfOk};
 ghost use Rattle.command_io.specs.Ends.{has_failed};
 ghost use Rattle.piece_source.specs.Readers.{peeked_reader};
@@ -35,7 +35,11 @@ pub(crate) fn trial_of(error: io::Error, trouble: Trouble, name: &str) -> Trial<
 }
 
 /// The input of a file, which is watched if that is wanted.
-fn open_input<'a>(rt: &'a HostRuntime, path: &str, is_watched: bool) -> io::Result<Opened<'a>>
+pub(crate) fn open_input<'a>(
+    rt: &'a HostRuntime,
+    path: &str,
+    is_watched: bool,
+) -> io::Result<Opened<'a>>
     ensures { IfOk result (λ reader. has_failed reader ≡ false) }
 {
     let feed = if path == "-" {

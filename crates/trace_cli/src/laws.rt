@@ -1,5 +1,4 @@
-//! What makes the exit status 4 if neither end failed: an input that is too long, or a thread that could not be
-//! started. It is the contract of a function with an empty body.
+//! What the exit status 4 means if neither end failed.
 ghost use Rattle.std.specs.Prelude.{◌<◌, ◌≤◌, Bool};
 ghost use Rattle.std.specs.Io.KnownBytes.{Appends};
 ghost use Rattle.command_io.specs.CommandRun.{IsCommandRun, SinkRun, SourceRun};

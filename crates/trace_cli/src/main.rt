@@ -1,5 +1,5 @@
 //! The program `tracering`: replays scripts of writers, readers and collectors of a trace ring, tells their steps, runs
-//! them by threads, prints page images, and lists what a kernel wrote, or streams of parcels say.
+//! them by threads, prints page images, and lists what a kernel wrote, streams of parcels say, or rings left in files.
 #![tactic(auto)]
 
 mod answer;
@@ -7,22 +7,27 @@ mod choose;
 mod collect;
 mod inputs;
 mod laws;
+mod recover;
 mod streams;
 mod unkept;
 
 use crate::answer::answer_to;
 use crate::choose::collect;
+use crate::recover::recover;
 use command_io::{Std, message_for};
 use command_line::{Call, given_call, given_words};
 use std::process::ExitCode;
 
-// What is chosen here, `answer_to` and `message_for` say, and of `collect` the functions that it calls. The rest has no
-// contract: that the line goes to standard error, and that the process ends with the status.
+// What is chosen here, `answer_to` and `message_for` say, and of `collect` and `recover` the functions that these call.
+// The rest has no contract: that the line goes to standard error, and that the process ends with the status.
 fn main(rt: HostRuntime) -> ExitCode {
     let words = given_words(&rt);
     let call = given_call(rt.alloc(), &words);
     if let Ok(Call::Collect(asked)) = &call {
         return ExitCode::from(collect(&rt, asked));
+    }
+    if let Ok(Call::Recover(asked)) = &call {
+        return ExitCode::from(recover(&rt, asked));
     }
     let mut input = Std::new(rt.stdin());
     let mut output = Std::new(rt.stdout());

@@ -4,5 +4,6 @@ pub mod Parcels
 pub mod Collectors
 pub mod Streams
 pub mod Fleets
+pub mod Regions
 pub mod Scripts
 pub mod Commands

@@ -13,6 +13,6 @@ pub use Rattle.stream_collector.specs.Faults.{IsForgotten, IsNotAdded, IsWithinE
 pub use Rattle.stream_collector.specs.Forgetting.{AllAccounted, GivesUpBelow, HasBound, IsBoundFault, IsForgetFault}
 pub use Rattle.stream_collector.specs.Frontier.{IsCut, IsForgottenBefore, IsFrontier}
 pub use Rattle.stream_collector.specs.GivenUp.{AllGivenUp, GivesUp, IsUndeliveredFault}
-pub use Rattle.stream_collector.specs.Marking.{HasEnd, IsEndFault, IsReached}
+pub use Rattle.stream_collector.specs.Marking.{HasEnd, IsEndFault, IsNotOpen}
 pub use Rattle.stream_collector.specs.Merging.{FitTogether, IsMerge, IsMergeFault}
 pub use Rattle.stream_collector.specs.Same.{IsSameStream}

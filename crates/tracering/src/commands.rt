@@ -6,6 +6,7 @@ pub use command_io::{
 };
 pub use dump_command::dump_to;
 pub use piece_source::{Peeked, PieceReader, ReadPieceFault};
+pub use recover_command::{Ending as RecoverEnding, Outcome as Recovering, recover_to};
 pub use replay_command::replay_to;
 pub use run_command::run_to;
 pub use steps_command::steps_to;

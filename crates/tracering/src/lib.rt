@@ -7,6 +7,7 @@
 //! - `collectors`: what several parcels have and miss together, and its listing by time.
 //! - `streams`: parcels and marks as bytes, one after the other, and what is known of one stream.
 //! - `fleets`: what is known of many streams, and its listing by time.
+//! - `regions`: what rings left in files or shared memory whose pages others can read, as parcels.
 //! - `scripts`: the text of a script read, replayed step by step or run by threads, and a run audited.
 //! - `commands`: what the commands of the program `tracering` do, over any sources and sinks.
 //! - Here: the plain numbers of all of these, their limits, and `NoMemory`.
@@ -51,6 +52,7 @@ pub mod commands;
 pub mod fleets;
 pub mod pages;
 pub mod parcels;
+pub mod regions;
 pub mod rings;
 pub mod scripts;
 pub mod streams;

@@ -1,5 +1,6 @@
 use Rattle.command_line.proofs.CommandLineExamples.{call_of_replay, call_of_replay_log, call_of_run, call_of_run_log, call_of_steps, call_of_dump, call_of_dump_log}
 use Rattle.command_line.proofs.CollectExamples.{asked_collect, asked_cpu, asked_flags, asked_page, asked_formats, asked_keep, asked_parcels, refused_none, refused_high, refused_inputs, refused_small}
+use Rattle.command_line.proofs.RecoverExamples.{asked_recover, asked_to_keep, refused_no_region, refused_two_inputs, refused_with_page}
 use Rattle.command_line.proofs.Ranges.{asked_in_range}
 use Rattle.command_line.proofs.parse.call_of.Goals as goal
 
@@ -77,3 +78,23 @@ returns-clause-collect_small g c = λ first words.
 pub returns-clause-collect_inputs : goal.returns-clause-collect_inputs
 returns-clause-collect_inputs g c = λ first words.
     refused_inputs first c.parse_words.result (rw words at c.parse_words.ensures)
+
+pub returns-clause-recover : goal.returns-clause-recover
+returns-clause-recover g c = λ first words.
+    asked_recover first c.parse_words.result (rw words at c.parse_words.ensures)
+
+pub returns-clause-recover_keep : goal.returns-clause-recover_keep
+returns-clause-recover_keep g c = λ first words.
+    asked_to_keep first c.parse_words.result (rw words at c.parse_words.ensures)
+
+pub returns-clause-recover_none : goal.returns-clause-recover_none
+returns-clause-recover_none g c = λ first words.
+    refused_no_region first c.parse_words.result (rw words at c.parse_words.ensures)
+
+pub returns-clause-recover_inputs : goal.returns-clause-recover_inputs
+returns-clause-recover_inputs g c = λ first words.
+    refused_two_inputs first c.parse_words.result (rw words at c.parse_words.ensures)
+
+pub returns-clause-recover_page : goal.returns-clause-recover_page
+returns-clause-recover_page g c = λ first words.
+    refused_with_page first c.parse_words.result (rw words at c.parse_words.ensures)

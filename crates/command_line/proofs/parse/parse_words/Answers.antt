@@ -1,7 +1,7 @@
 use Rattle.std.proofs.Common.{◌≡◌, ap, [], map, subst, ◌∙◌, Err, rules, ◌⊎◌, inl, inr}
 use Rattle.clap.specs.Words.{App, HasMatchesOf, app_of, fault_of, found_of, is_simple_and_free, kind_of}
 use Rattle.command_line.specs.CommandLine.{IsAccepted, command_line}
-use Rattle.command_line.proofs.CommandLineLemmas.{call_of_matches-words, collect_call-words, command_line_is_free, failed-words, no_collect-words}
+use Rattle.command_line.proofs.CommandLineLemmas.{collect_call-words, command_line_is_free, failed-words, no_collect-words}
 use Rattle.command_line.proofs.parse.parse_words.Goals as goal
 
 only : {P : Type 0} → P ⊎ ⊥ → P
@@ -41,4 +41,4 @@ returns g c =
     let m = c.in_ok-matches.matches in
     let has : HasMatchesOf command_line words m = subst (λ (a : App). HasMatchesOf a words m) built c.in_ok-matches.ensures.matches in
     let accepted : IsAccepted words = subst (λ (a : App). fault_of a words ≡ []) built (c.in_ok-matches.ensures.kinds (ap is_simple_and_free built ∙ command_line_is_free)) in
-    rw c.ok_or.ensures.value (call_of_matches-words words m c.call_of_matches.result has accepted (search rules) c.call_of_matches.ensures.named c.call_of_matches.ensures.none c.call_of_matches.ensures.log c.call_of_matches.ensures.no_log)
+    c.other_call.ensures words has accepted (search rules)

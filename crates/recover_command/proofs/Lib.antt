@@ -1,0 +1,3 @@
+pub mod AllRead
+pub mod Told
+pub mod Adds

@@ -1,0 +1,6 @@
+pub mod Statuses
+pub mod Reading
+pub mod Telling
+pub mod Gathering
+pub mod Lines
+pub mod Runs
