@@ -13,7 +13,7 @@ ghost use Rattle.trace_model.specs.declared.limits.TheConstants.{MAX_IMAGE};
 ghost use Rattle.capture.specs.Pages.{PageRead, Page, intact, told, least_missed, IsPageOf, AreCut, parcels_from};
 ghost use Rattle.capture.specs.Rings.{AreReported, HaveCounts, IsAtMost, parcels_of_captures, FitsImage, images_from, page_written};
 
-/// Bytes are one list of pages at most.
+/// Bytes are cut into pages of a size in one way at most.
 pub fn captures_have_one_reading()
     ensures { (size : ℕ) (bytes : List ℕ) (pages others : List Page) → AreCut size bytes pages
         → AreCut size bytes others → pages ≡ others }
@@ -24,8 +24,8 @@ pub fn unknown_losses_stay()
     ensures { (page : Page) → told unknown page ≡ page }
 {}
 
-/// If each page reads, and states how many records were lost, the parcels are those of the ring: exactly its pieces,
-/// under the numbers of their records. Each piece has its parcel, at its own place, and there are no more.
+/// If each page reads, and states how many records were lost, the parcels are the ring's: one for each of its pieces,
+/// at its own place, with its records, its loss and its first number, and no others.
 pub fn counted_captures_are_genuine()
     ensures genuine { (cpu : ℕ) (pages : List Page) (pieces : List Piece) → AreReported pages pieces → HaveCounts pages
         → AreGenuine (parcels_from cpu 0 0 pages) (λ c. pieces) }
@@ -38,8 +38,8 @@ pub fn counted_captures_are_genuine()
 {}
 
 /// In every capture a parcel's records are those of the piece at the place of its page, its numbers are no higher than
-/// theirs, and no more is missing before it than was lost. Each page that reads has its parcel, with its records, and
-/// with its place as the fill.
+/// theirs, and no more is missing before it than was lost. Each page that reads has its parcel, with its place as the
+/// fill.
 pub fn numbers_are_least()
     ensures least { (cpu : ℕ) (pages : List Page) (pieces : List Piece) → AreReported pages pieces
         → (k : ℕ) (parcel : Parcel) → slice_get (parcels_from cpu 0 0 pages) k ≡ Some parcel
@@ -54,8 +54,8 @@ pub fn numbers_are_least()
         }) }
 {}
 
-/// The parcels of captures are at odds in no number: a collector takes them all. Over the parcels of one capture fills
-/// and numbers rise: the numbers of a parcel's records, and those that it misses, are above those of each before it.
+/// Parcels of captures contradict each other in no number, so a collector takes them all; in one capture the numbers of
+/// a later page are above those of each earlier one.
 pub fn captures_agree()
     ensures one { (cpu fill next : ℕ) (pages : List Page) → Agree (parcels_from cpu fill next pages) }
     ensures several { (cpu : ℕ) (captures : List (List Page)) → Agree (parcels_of_captures cpu captures) }
@@ -65,9 +65,9 @@ pub fn captures_agree()
         → (a.fill < b.fill) × (a.first + length a.records + b.missed ≤ b.first) }
 {}
 
-/// The images that are written of a ring's pages are pages of a capture, with their records. Each states of what was
-/// lost what agrees with its number, and the number itself where it has room for it. One after the other, the images
-/// of a ring's pieces are a capture, each page of which reads, and is reported as its piece.
+/// The images that are written of a ring's pieces, one after the other, are a capture of it, if fewer than 2^64 - 1
+/// records were lost before each: they are cut into those pages, with their records; each states of what was lost what
+/// agrees with its number, and the number itself if it has room for it.
 pub fn written_images_are_pages()
     ensures page { (records : List Record) (time missed size : ℕ) → NeverFalls records
         → AllByRecursion IsWritable records → first_moment_or time records < 2 ^ 64 → missed < 2 ^ 64 - 1

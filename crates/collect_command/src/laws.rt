@@ -1,10 +1,11 @@
-//! That files have one listing: the contract of a function with an empty body.
+//! That files have one listing.
 ghost use Rattle.std.specs.Prelude.{◌≡◌, false, ℕ, List, Some};
 ghost use Rattle.collect_inputs.specs.Files.{File};
 ghost use Rattle.collect_command.specs.declared.ending.Ending.{Ending as EndingSeen};
 ghost use Rattle.collect_command.specs.Runs.{Asked, ListsFiles};
 
-/// The files and how they are listed decide what `collect` writes of them, and how it ends, if no write fails.
+/// Files have one listing: the files, and how they are to be listed, decide what `collect` writes of them, and how it
+/// ends, if no write fails.
 pub fn one_output()
     ensures { (asked : Asked) (files : List File) (start text other : List ℕ) (ending end : EndingSeen) →
         ListsFiles asked files (Some start) (Some text) false ending →

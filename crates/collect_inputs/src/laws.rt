@@ -6,12 +6,10 @@ ghost use Rattle.capture.specs.Pages.{Page};
 ghost use Rattle.capture.specs.Rings.{AreReported, HaveCounts};
 ghost use Rattle.collect_inputs.specs.Losses.{unknown_losses, are_intact, settled};
 
-/// A settled loss is the true one. The pages of a CPU are pieces of its ring, each of them reads, and there is one loss
-/// of unknown number among them; as many records were overwritten, by the kernel's counter, as the pieces skip. Then
-/// the settled pages are the same pieces, and each states how many records were lost before it. So their parcels are
-/// exactly those of the ring (`counted_captures_are_genuine` of `capture`).
-///
-/// If there is no loss of unknown number, or there are several, the pages stay as they are.
+/// A settled loss is the true one: if the pages of a CPU are pieces of its ring, each reads, one states a loss of
+/// unknown number, and the kernel's counter says how many records the pieces skip, then the settled pages are the same
+/// pieces, and each states its loss. So their parcels are the ring's (`counted_captures_are_genuine` of `capture`).
+/// With no such loss, or several, the pages stay as they are.
 pub fn settled_losses_are_true()
     ensures one { (pages : List Page) (pieces : List Piece) (overrun : ℕ) → AreReported pages pieces
         → are_intact pages ≡ true → unknown_losses pages ≡ 1 → overrun ≡ sum_by (λ p. p.skipped) pieces

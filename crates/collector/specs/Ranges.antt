@@ -35,12 +35,12 @@ abbrev pub IsMarked : Ranges → ℕ → Type 0
 IsMarked ranges number = IsSome (get nat_cmp ranges.spans number)
 
 -- no range that begins before this place reaches over it
-abbrev pub IsCut : Ranges → ℕ → Type 0
-IsCut ranges place = (first : ℕ) (span : Span) → HasSpan ranges first span → first < place → span.end ≤ place
+abbrev pub IsEdge : Ranges → ℕ → Type 0
+IsEdge ranges place = (first : ℕ) (span : Span) → HasSpan ranges first span → first < place → span.end ≤ place
 
 -- no range begins from one place up to another one, or begins before the first and reaches over it
 pub record IsFree (ranges : Ranges) (low end : ℕ) : Type 0 where
-  pub cut : IsCut ranges low
+  pub cut : IsEdge ranges low
   pub none : (q : ℕ) → low ≤ q → q < end → get nat_cmp ranges.spans q ≡ None
 
 -- both state the same of each number
@@ -54,7 +54,7 @@ IsCopy ranges copy = copy.spans.entries ≡ ranges.spans.entries
 -- a place at which a range began, or over which none reached, is still such a place
 pub record KeepsEdges (old new : Ranges) : Type 0 where
   pub marks : (place : ℕ) → IsMarked old place → IsMarked new place
-  pub cuts : (place : ℕ) → IsCut old place → IsCut new place
+  pub cuts : (place : ℕ) → IsEdge old place → IsEdge new place
 
 -- a parcel may be laid whose missing numbers begin at `low` and whose records are numbered from `first` up to `end`
 pub record MayLay (ranges : Ranges) (low first end : ℕ) : Type 0 where

@@ -15,8 +15,8 @@ pub fn what_is_known_stays()
         IsKnown parcels cpu number → Misses (parcels ++ later) cpu number → Misses parcels cpu number }
 {}
 
-/// A bound below which all of a CPU is known stays one when parcels come, and one of either of two collections is one
-/// of their join. Below it nothing changes any more.
+/// A bound below which all of a CPU is known stays one when parcels come, one of either of two collections is one of
+/// their join, and below it nothing changes any more.
 pub fn final_bounds_stay()
     ensures stays { (parcels later : List Parcel) (cpu bound : ℕ) →
         IsFinal parcels cpu bound → IsFinal (parcels ++ later) cpu bound }

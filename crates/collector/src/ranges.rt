@@ -2,7 +2,7 @@
 ghost use Rattle.std.specs.Prelude.{◌≡◌, ◌≢◌, ℕ, ◌-◌, ◌<◌, ◌≤◌, ◌↔◌, Some, None, IsSome, IsTrue, IfSome, IfNone, OnOk, OnErr};
 ghost use Rattle.std.specs.Ordering.{nat_cmp};
 ghost use Rattle.std.specs.BTreeMap.{get};
-ghost use Rattle.collector.specs.Ranges.{HasSpan, AreApart, MayLay, HasContent, ReportSame, IsMarked, IsCut, IsFree, KeepsEdges, IsLaid, IsCopy};
+ghost use Rattle.collector.specs.Ranges.{HasSpan, AreApart, MayLay, HasContent, ReportSame, IsMarked, IsEdge, IsFree, KeepsEdges, IsLaid, IsCopy};
 ghost use Rattle.collector.specs.declared.ranges.Content.{Content};
 ghost use Rattle.collector.specs.declared.ranges.Span.{Span};
 
@@ -166,7 +166,7 @@ impl Ranges {
         requires { AreApart self.old }
         ensures apart { AreApart self.new }
         ensures same { ReportSame self.old self.new }
-        ensures cut { OnOk result (IsCut self.new place) }
+        ensures cut { OnOk result (IsEdge self.new place) }
         ensures edges { KeepsEdges self.old self.new }
     {
         let Some((first, span)) = last_up_to(&self.spans, place) else {
@@ -185,7 +185,7 @@ impl Ranges {
         requires { AreApart self.old }
         ensures apart { AreApart self.new }
         ensures same { ReportSame self.old self.new }
-        ensures cut { OnOk result (IsCut self.new place) }
+        ensures cut { OnOk result (IsEdge self.new place) }
         ensures marked { OnOk result (IsMarked self.new place) }
         ensures edges { KeepsEdges self.old self.new }
     {
@@ -205,7 +205,7 @@ impl Ranges {
         requires apart { AreApart self.old }
         requires forward { first ≤ end }
         requires marked { IsMarked self.old first }
-        requires cut { IsCut self.old end }
+        requires cut { IsEdge self.old end }
         ensures apart { AreApart self.new }
         ensures inside { (n : ℕ) → first ≤ n → n < end → HasContent self.new n content }
         ensures alone { (n : ℕ) (other : Content) → first ≤ n → n < end
@@ -215,7 +215,7 @@ impl Ranges {
         ensures behind { (n : ℕ) (other : Content) → end ≤ n
             → (HasContent self.old n other ↔ HasContent self.new n other) }
         ensures marks { (place : ℕ) → end ≤ place → IsMarked self.old place → IsMarked self.new place }
-        ensures cuts { (place : ℕ) → end ≤ place → IsCut self.old place → IsCut self.new place }
+        ensures cuts { (place : ℕ) → end ≤ place → IsEdge self.old place → IsEdge self.new place }
     {
         if first < end {
             clear_between(&mut self.spans, first, end);

@@ -1,5 +1,4 @@
-//! What is printed of collectors is decided by what they have and miss, and stays where it is: the contracts of
-//! functions with an empty body.
+//! What is printed of collectors is decided by what they have and miss, and stays where it is.
 ghost use Rattle.std.specs.Prelude.{◌≡◌, ℕ, ◌++◌, Bool, List};
 ghost use Rattle.std.specs.List.{AllZip};
 ghost use Rattle.trace_model.specs.Parcel.{Parcel};
@@ -8,8 +7,8 @@ ghost use Rattle.text_model.specs.Log.{LogLine};
 ghost use Rattle.world_model.specs.Printing.{Shown, printed_collector, printed_world};
 ghost use Rattle.collector_text.specs.Prints.{IsPrintOf, StandsBetween};
 
-/// The text of a collector is also that of each collector that is the same, and it is the only one. So what is printed
-/// of a world is one text too.
+/// What a collector has and misses decides its text: collectors that are the same have one text, and what is printed of
+/// a world is one text too.
 pub fn texts_are_one()
     ensures alike { (parcels others : List Parcel) (shown : Shown) →
         IsSame parcels others → IsPrintOf parcels shown → IsPrintOf others shown }

@@ -5,7 +5,7 @@ ghost use Rattle.command_io.specs.Output.{bytes_of, status_of};
 ghost use Rattle.dump_command.specs.Dumps.{DumpGives};
 
 use crate::printer::{print_image, print_image_fault};
-use command_io::{Command, Output, Sink, Source, carry_out};
+use command_io::{Output, Sink, Source, Subcommand, carry_out};
 use page_image::read_image;
 use std::alloc::Global;
 use trace_model::NoMemory;
@@ -13,7 +13,7 @@ use trace_model::NoMemory;
 /// The command `dump`.
 struct DumpCommand;
 
-impl Command for DumpCommand {
+impl Subcommand for DumpCommand {
     ghost gives = { λ _. DumpGives };
 
     fn output(&self, alloc: Global, text: Vec<u8>) -> Result<Output, NoMemory> {

@@ -1,4 +1,4 @@
-//! That a text has one output: the contract of a function with an empty body.
+//! That a text has one output.
 ghost use Rattle.std.specs.Prelude.{◌≡◌, ℕ, List};
 ghost use Rattle.dump_command.specs.Dumps.{DumpGives};
 

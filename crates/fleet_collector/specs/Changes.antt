@@ -6,7 +6,7 @@ use Rattle.parcel_streams.specs.declared.piece.Mark.TheVariants.{End as EndMark,
 use Rattle.parcel_streams.specs.declared.piece.Mark.TheVariants.{Undelivered as UndeliveredMark}
 use Rattle.stream_collector.specs.Stream.{Stream, bound_of, end_of, IsUpToEnd}
 use Rattle.stream_collector.specs.GivenUp.{GivesUp, AllGivenUp, IsUndeliveredFault}
-use Rattle.stream_collector.specs.Marking.{IsReached, HasEnd, IsEndFault}
+use Rattle.stream_collector.specs.Marking.{IsNotOpen, HasEnd, IsEndFault}
 use Rattle.stream_collector.specs.Forgetting.{HasBound, GivesUpBelow, AllAccounted, IsBoundFault, IsForgetFault}
 use Rattle.stream_collector.specs.declared.added.Marked.{Marked}
 use Rattle.stream_collector.specs.declared.added.Marked.TheVariants.{New, Known}
@@ -20,7 +20,7 @@ pub record SetsEnd (old new : Stream) (cpu count : ℕ) (result : Result Marked 
   pub unchanged : result ≡ Ok Known → new ≡ old
   pub first : result ≡ Ok New → end_of old cpu ≡ None
   pub ended : result ≡ Ok New → HasEnd old new cpu count
-  pub nothing_beyond : result ≡ Ok New → (number : ℕ) → IsReached old cpu number → number < count
+  pub nothing_beyond : result ≡ Ok New → (number : ℕ) → IsNotOpen old cpu number → number < count
   pub fault : IfErr result (λ fault. IsEndFault old cpu count fault)
   pub refused : OnErr result (new ≡ old)
 

@@ -11,7 +11,7 @@ use Rattle.parcel_streams.specs.declared.piece.Piece.TheVariants.{Parcel as Parc
 use Rattle.stream_collector.specs.Stream.{Stream, bound_of, end_of, IsUpToEnd}
 use Rattle.stream_collector.specs.Faults.{IsForgotten, IsWithinEnd, IsNotAdded}
 use Rattle.stream_collector.specs.GivenUp.{GivesUp, AllGivenUp, IsUndeliveredFault}
-use Rattle.stream_collector.specs.Marking.{IsReached, HasEnd, IsEndFault}
+use Rattle.stream_collector.specs.Marking.{IsNotOpen, HasEnd, IsEndFault}
 use Rattle.stream_collector.specs.Forgetting.{HasBound, IsBoundFault}
 use Rattle.collector.specs.declared.fault.AddFault.TheVariants.{NoMemory}
 use Rattle.stream_collector.specs.declared.fault.MarkFault.{MarkFault}
@@ -56,7 +56,7 @@ AddsParcel old new stream parcel IsNotKept = (new ≡ old) × IsForgotten (strea
 pub record MarksEnd (old new : Stream) (cpu end : ℕ) : Type 0 where
   pub first : end_of old cpu ≡ None
   pub ended : HasEnd old new cpu end
-  pub nothing_beyond : (number : ℕ) → IsReached old cpu number → number < end
+  pub nothing_beyond : (number : ℕ) → IsNotOpen old cpu number → number < end
 
 -- the CPU's bound is raised to this one, which isn't above the end
 pub record MarksForgotten (old new : Stream) (cpu bound : ℕ) : Type 0 where

@@ -20,8 +20,8 @@ ghost use Rattle.fleet_collector.specs.Snapshot.{IsSnapshot};
 ghost use Rattle.fleet_collector.specs.Told.{IsFleetOf, HaveSamePieces, IsListingOf};
 ghost use Rattle.fleet_collector.specs.Listing.{Line, IsListing, IsListingBefore};
 
-/// Which fleet is that of some pieces depends on which pieces there are alone: not on their order, nor on how often
-/// each is there, nor on how they are spread over files. Of no pieces it is the empty one.
+/// The fleet of some pieces depends on which pieces there are alone: not on their order, nor on their repeats, nor on
+/// how they are spread over files. Of no pieces it is the empty one.
 pub fn a_fleet_depends_on_its_pieces_alone()
     ensures none { IsFleetOf [] [] }
     ensures same { (pieces others : List Packed) (fleet : List (ℕ × Stream)) → HaveSamePieces pieces others
@@ -34,13 +34,13 @@ pub fn a_fleet_depends_on_its_pieces_alone()
         → (IsFleetOf (pieces ++ pieces) fleet ↔ IsFleetOf pieces fleet) }
 {}
 
-/// All fleets of the same pieces are the same.
+/// Fleets of the same pieces know the same.
 pub fn pieces_have_one_fleet()
     ensures { (pieces : List Packed) (fleet other : List (ℕ × Stream))
         → IsFleetOf pieces fleet → IsFleetOf pieces other → IsSameFleet fleet other }
 {}
 
-/// What is read is of CPUs that there are, so that it may be added.
+/// A piece that is read is of a CPU that there is, as `add_piece` requires.
 pub fn what_is_read_may_be_added()
     ensures { (bytes : List ℕ) (piece : Piece) → BeginsWith bytes (piece_seen piece) → HasKnownCpu piece }
 {}
@@ -51,10 +51,10 @@ pub fn a_listing_is_what_the_pieces_tell()
         → IsFleetOf pieces fleet → IsListing fleet lines → IsListingOf pieces lines }
 {}
 
-/// A listing that goes out while it grows: what is listed before a moment and then forgotten, and what is listed after
-/// that, are together the whole listing, each line in one of them. What is listed before a moment is before it. At the
-/// frontier, if each CPU's moments never fall, all that comes later is at or after it (but for CPUs of which nothing is
-/// there yet), so that the one listing is followed by the other.
+/// A listing can go out while the fleet grows: what is listed before a moment and then forgotten, and what is listed
+/// after that, are together the whole listing, each line once. At the frontier, if no CPU's moments fall, all that
+/// comes later is at or after it (but for CPUs of which nothing is there yet), so that the first is followed by the
+/// second.
 pub fn a_listing_goes_out_as_it_grows()
     ensures before { (fleet : List (ℕ × Stream)) (moment : ℕ) (lines : List Line) (line : Line)
         → IsListingBefore fleet moment lines → IsAmong lines line → line.moment < moment }

@@ -9,7 +9,7 @@ impl Fleet {
     ghost use Rattle.std.specs.Prelude.{◌≡◌, ℕ, ◌<◌, ◌≤◌, ◌↔◌, Some, None, IsSome, Ok, IfErr, OnOk, OnErr};
     ghost use Rattle.trace_model.specs.declared.limits.TheConstants.{MAX_CPUS};
     ghost use Rattle.stream_collector.specs.Stream.{bound_of, end_of, IsUpToEnd};
-    ghost use Rattle.stream_collector.specs.Marking.{IsReached, HasEnd, IsEndFault};
+    ghost use Rattle.stream_collector.specs.Marking.{IsNotOpen, HasEnd, IsEndFault};
     ghost use Rattle.stream_collector.specs.GivenUp.{GivesUp, AllGivenUp, IsUndeliveredFault};
     ghost use Rattle.stream_collector.specs.Forgetting.{HasBound, GivesUpBelow, AllAccounted};
     ghost use Rattle.stream_collector.specs.Forgetting.{IsBoundFault, IsForgetFault};
@@ -34,7 +34,7 @@ impl Fleet {
         ensures there { result ≡ Ok NewMark → IsSome (known_of self.new stream.0) }
         ensures others { KeepsOthers self.old self.new stream.0 }
         ensures nothing_beyond { result ≡ Ok NewMark → (n : ℕ)
-            → IsReached (stream_at self.old stream.0) cpu.0 n → n < count.0 }
+            → IsNotOpen (stream_at self.old stream.0) cpu.0 n → n < count.0 }
         ensures fault { IfErr result (λ fault. IsEndFault (stream_at self.old stream.0) cpu.0 count.0 fault) }
         ensures refused { OnErr result (self.new ≡ self.old) }
     {

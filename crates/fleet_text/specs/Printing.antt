@@ -1,5 +1,5 @@
--- The lines of a fleet: of its records, and of the runs of its numbers, as text or as JSON. docs/FORMATS.md, "Streams
--- of parcels".
+-- The lines of a fleet: of its records, and of the runs of its numbers, as text or as JSON. docs/FORMATS.md,
+-- "Fleets".
 use Rattle.std.specs.Prelude.{ℕ, List, [], ◌∷◌, ◌++◌, codes}
 use Rattle.std.specs.Int.{w64, to_be_bytes}
 use Rattle.std.specs.Fmt.{decimal}

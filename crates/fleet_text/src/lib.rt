@@ -11,6 +11,7 @@ mod run;
 mod runs;
 
 pub use fault::{PieceTrouble, put_fault};
+pub use lines::{put_cpu, put_json_cpu};
 pub use listed::Listed;
 pub use piece::{PiecePlace, put_piece};
 pub use run::{FleetRun, RunKind};

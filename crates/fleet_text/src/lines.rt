@@ -46,12 +46,7 @@ fn put_id<W: Sink>(buffer: &mut TextBuffer, writer: &mut W, stream: StreamId)
 }
 
 /// Puts a CPU of a stream.
-pub(crate) fn put_cpu<W: Sink>(
-    buffer: &mut TextBuffer,
-    writer: &mut W,
-    stream: StreamId,
-    cpu: CpuId,
-)
+pub fn put_cpu<W: Sink>(buffer: &mut TextBuffer, writer: &mut W, stream: StreamId, cpu: CpuId)
     requires { has_failed buffer.old ≡ W.failed writer.old }
     ensures tied { has_failed buffer.new ≡ W.failed writer.new }
     ensures put { Puts (cpu_text stream.0 cpu.0)
@@ -63,12 +58,7 @@ pub(crate) fn put_cpu<W: Sink>(
 }
 
 /// Puts a CPU of a stream as members of an object.
-pub(crate) fn put_json_cpu<W: Sink>(
-    buffer: &mut TextBuffer,
-    writer: &mut W,
-    stream: StreamId,
-    cpu: CpuId,
-)
+pub fn put_json_cpu<W: Sink>(buffer: &mut TextBuffer, writer: &mut W, stream: StreamId, cpu: CpuId)
     requires { has_failed buffer.old ≡ W.failed writer.old }
     ensures tied { has_failed buffer.new ≡ W.failed writer.new }
     ensures put { Puts (json_cpu stream.0 cpu.0)

@@ -7,7 +7,7 @@ use Rattle.trace_model.specs.Collection.{Has, Misses}
 use Rattle.trace_model.specs.Ring.{Core}
 use Rattle.ring_model.specs.Reached.{IsReached}
 use Rattle.world_model.specs.World.{parcel_of}
-use Rattle.world_model.specs.GenuineWorlds.{IsCut, IsExact}
+use Rattle.world_model.specs.GenuineWorlds.{AreParcelsOfRing, IsExact}
 use Rattle.ledger_audit.specs.declared.ledger.Ledger.{Ledger}
 use Rattle.ledger_audit.specs.Audit.{taken_of}
 
@@ -22,7 +22,7 @@ AreOfRings n size start cores ledgers = (cpu : ℕ) (ledger : Ledger)
 -- The history of a CPU's ring is cut into the parcels that were taken from it, by what happened in a run of that ring,
 -- and of that CPU exactly this is kept.
 pub record IsKept (n size start cpu : ℕ) (c : Core) (kept taken : List Parcel) : Type 0 where
-  pub cut : IsCut n size start c taken
+  pub cut : AreParcelsOfRing n size start c taken
   pub exact : IsExact c.history start cut.events cpu kept taken
 
 -- nothing of this CPU is kept

@@ -15,6 +15,8 @@ mod pages;
 #[cfg(test)]
 mod pieces;
 #[cfg(test)]
+mod regions;
+#[cfg(test)]
 mod streams;
 #[cfg(test)]
 mod words;

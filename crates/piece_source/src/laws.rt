@@ -7,8 +7,8 @@ ghost use Rattle.piece_source.specs.Reading.{AreLeft, GivesPiece, HasFaultAhead,
 ghost use Rattle.piece_source.specs.declared.limits.TheConstants.{ROOM};
 ghost use Rattle.parcel_streams.specs.declared.limits.TheConstants.{MAX_PIECE};
 
-/// Pieces that are given one after the other, up to the end, are the pieces of the stream that was there at first. And
-/// where a fault is ahead, it is the first fault of these bytes, behind the pieces that were given.
+/// The pieces that a reader gives one after the other, up to the end, are the stream that the source's bytes were at
+/// first; if a fault is ahead, it is the first fault of these bytes, after the pieces that were given.
 pub fn pieces_given_are_a_stream()
     ensures none { (first : Option (List ℕ)) → GivesPieces first first [] }
     ensures more { (first left rest : Option (List ℕ)) (pieces : List Packed) (piece : Packed)
@@ -25,7 +25,7 @@ pub fn pieces_given_are_a_stream()
         × FirstStreamFault bytes (length pieces) (length (bytes_of_pieces pieces)) cause }
 {}
 
-/// What a reader has given is counted: nothing at first, and then with each piece one more, and its bytes.
+/// A reader's counts are those of the pieces that it gave, and of their bytes.
 pub fn pieces_given_are_counted()
     ensures none { (first : Option (List ℕ)) → HasGiven first first 0 0 [] }
     ensures more { (first left rest : Option (List ℕ)) (index at : ℕ) (pieces : List Packed) (piece : Packed)
@@ -34,7 +34,8 @@ pub fn pieces_given_are_counted()
         (pieces ++ piece ∷ []) }
 {}
 
-/// The number has this value. The contracts name it, so that one that is changed is refused here.
+/// The room of a reader's buffer is that of two of the longest pieces; contracts name it, so that one that is changed
+/// is refused here.
 pub fn constants_are()
     ensures room { ROOM ≡ MAX_PIECE + MAX_PIECE }
 {}

@@ -2,6 +2,7 @@
 ghost use Rattle.std.specs.Prelude.{◌≡◌, ◌⊎◌, Bool, false, Err, Ok};
 ghost use Rattle.command_io.specs.CommandRun.{IsCommandRun, IsRefusedCall, source_run, sink_run};
 ghost use Rattle.command_line.specs.declared.call.CollectCall.{CollectCall};
+ghost use Rattle.command_line.specs.declared.call.RecoverCall.{RecoverCall};
 ghost use Rattle.replay_command.specs.Commands.{ReplayGives};
 
 use command_io::{Sink, Source, USAGE, print_memory_line};
@@ -25,14 +26,15 @@ pub fn answer_to<R: Source, W: Sink>(
         (sink_run W.contents W.failed writer.old writer.new) result }
     ensures refused { IsRefusedCall
         ((call.entry ≡ Ok Call.Run) ⊎ (call.entry ≡ Ok Call.Steps) ⊎ (call.entry ≡ Ok Call.Dump)
-        ⊎ ((asked : CollectCall) × (call.entry ≡ Ok (Call.Collect asked))) ⊎ (call.entry ≡ Err CallFault.Usage))
+        ⊎ ((asked : CollectCall) × (call.entry ≡ Ok (Call.Collect asked)))
+        ⊎ ((asked : RecoverCall) × (call.entry ≡ Ok (Call.Recover asked))) ⊎ (call.entry ≡ Err CallFault.Usage))
         (call.entry ≡ Err CallFault.NoMemory)
         (source_run R.remaining R.count R.failed reader.old reader.new)
         (sink_run W.contents W.failed writer.old writer.new) result }
 {
     match call {
         Ok(Call::Replay { log }) => replay_to(alloc, reader, writer, log),
-        Ok(Call::Run | Call::Steps | Call::Dump | Call::Collect(_)) => USAGE,
+        Ok(Call::Run | Call::Steps | Call::Dump | Call::Collect(_) | Call::Recover(_)) => USAGE,
         Err(CallFault::NoMemory) => print_memory_line(writer),
         Err(CallFault::Usage) => USAGE,
     }

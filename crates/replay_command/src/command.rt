@@ -12,7 +12,7 @@ ghost use Rattle.log_text.specs.LogTypes.{shown_log};
 ghost use Rattle.replay_command.specs.Commands.{AccountGives, IsPrinting, ReplayGives};
 
 use collector_text::put_collectors;
-use command_io::{Command, DONE, Output, Sink, Source, carry_out};
+use command_io::{DONE, Output, Sink, Source, Subcommand, carry_out};
 use log_text::put_log;
 use script_replay::{World, world_of};
 use std::alloc::Global;
@@ -63,7 +63,7 @@ struct ReplayCommand {
     log: bool,
 }
 
-impl Command for ReplayCommand {
+impl Subcommand for ReplayCommand {
     ghost gives = { λ command. ReplayGives command.log };
 
     fn output(&self, alloc: Global, text: Vec<u8>) -> Result<Output, NoMemory> {

@@ -14,7 +14,7 @@ use Rattle.ring_model.specs.RunsAsEvents.{fills_taken}
 use Rattle.text_model.specs.Script.{Script}
 use Rattle.world_model.specs.World.{parcel_of}
 use Rattle.world_model.specs.RunEvents.{AreEventsOfSteps}
-use Rattle.world_model.specs.GenuineWorlds.{StandsIn, IsOverwrittenBefore, IsOneOf, IsCut, IsExact}
+use Rattle.world_model.specs.GenuineWorlds.{StandsIn, IsOverwrittenBefore, IsOneOf, AreParcelsOfRing, IsExact}
 use Rattle.world_model.specs.Printing.{Shown}
 use Rattle.world_model.proofs.Lookups.{element_at, contains_at, get_map, get_from_map}
 use Rattle.world_model.proofs.LostFills.{overwritten_same}
@@ -102,7 +102,7 @@ module _ (script : Script) (ran : Ran) (run : IsRunOfScript script ran) where
     parcels_are = subst (λ (c : Core). taken_of ledger ≡ map (parcel_of cpu) c.reader.taken) last_is
         (run.are_of_rings cpu ledger at).1
 
-    abbrev cut_of : IsCut script.pages script.size script.start last (taken_of ledger)
+    abbrev cut_of : AreParcelsOfRing script.pages script.size script.start last (taken_of ledger)
     cut_of = is_cut script.pages script.size script.start last reached cpu (taken_of ledger) parcels_are
 
     -- its run, by this history and these pages

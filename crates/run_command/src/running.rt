@@ -9,7 +9,7 @@ ghost use Rattle.run_text.specs.Printing.{AuditedShown, IsAuditedPrintOf, printe
 ghost use Rattle.threaded_run.specs.Runs.{IsRunOfScript};
 ghost use Rattle.run_command.specs.Runs.{IsRunOutput, RunGives, HeadlineGives};
 
-use command_io::{Command, DONE, Output, Sink, Source, carry_out};
+use command_io::{DONE, Output, Sink, Source, Subcommand, carry_out};
 use replay_command::{fault_line, read_text};
 use run_text::put_run;
 use std::alloc::Global;
@@ -89,7 +89,7 @@ struct RunCommand<'a, R: Threads + Wait + Sync> {
     rt: &'a R,
 }
 
-impl<'a, R: Threads + Wait + Sync> Command for RunCommand<'a, R> {
+impl<'a, R: Threads + Wait + Sync> Subcommand for RunCommand<'a, R> {
     ghost gives = { λ _. RunGives };
 
     ghost ready = { λ _. IsSync R.row };

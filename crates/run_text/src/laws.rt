@@ -1,12 +1,12 @@
-//! What is printed of a run is decided by its collectors and by the parcels that were taken: the contract of a function
-//! with an empty body.
+//! What is printed of a run is decided by its collectors and by the parcels that were taken.
 ghost use Rattle.std.specs.Prelude.{◌≡◌, List};
 ghost use Rattle.std.specs.List.{AllZip};
 ghost use Rattle.trace_model.specs.Parcel.{Parcel};
 ghost use Rattle.run_text.specs.Verdicts.{Verdict, IsVerdict};
 ghost use Rattle.run_text.specs.Printing.{AuditedShown, IsAuditedPrintOf, printed_run};
 
-/// There is one verdict on a collector, and so the collectors of a run have one text.
+/// There is one verdict on a collector against the parcels that were taken, and so the collectors of a run have one
+/// text.
 pub fn texts_are_one()
     ensures verdict { (kept taken : List Parcel) (verdict other : Verdict) →
         IsVerdict kept taken verdict → IsVerdict kept taken other → verdict ≡ other }

@@ -4,7 +4,7 @@ ghost use Rattle.command_io.specs.CommandRun.{IsCommandRun, source_run, sink_run
 ghost use Rattle.command_io.specs.Output.{bytes_of, status_of};
 ghost use Rattle.steps_command.specs.Steps.{IsSteps, StepsGives};
 
-use command_io::{Command, Output, Sink, Source, carry_out};
+use command_io::{Output, Sink, Source, Subcommand, carry_out};
 use replay_command::{fault_line, read_text};
 use script_replay::steps_of;
 use std::alloc::Global;
@@ -15,7 +15,7 @@ use trace_script::{Script, ScriptFault};
 #[derive(Drop)]
 struct StepsCommand;
 
-impl Command for StepsCommand {
+impl Subcommand for StepsCommand {
     ghost gives = { λ _. StepsGives };
 
     fn output(&self, alloc: Global, text: Vec<u8>) -> Result<Output, NoMemory> {

@@ -1,4 +1,4 @@
-//! What `steps` prints for a text is one output. It is the contract of a function with an empty body.
+//! That a text has one output.
 ghost use Rattle.std.specs.Prelude.{◌≡◌, ℕ, List};
 ghost use Rattle.steps_command.specs.Steps.{StepsGives};
 

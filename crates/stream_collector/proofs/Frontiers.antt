@@ -19,7 +19,7 @@ use Rattle.collector.proofs.Known.{known_above}
 use Rattle.stream_collector.specs.declared.marks.Marks.{Marks}
 use Rattle.stream_collector.specs.Marks.{marks_at, bounds_of, SaySomething, AllSaySomething}
 use Rattle.stream_collector.specs.Stream.{Stream, bound_of, end_of, HasRecord, HaveNoRecord}
-use Rattle.stream_collector.specs.Marking.{IsReached, by_bound, by_parcels, by_given_up, AreWithinEnds, IsStanding}
+use Rattle.stream_collector.specs.Marking.{IsNotOpen, by_bound, by_parcels, by_given_up, AreWithinEnds, IsStanding}
 use Rattle.stream_collector.specs.Forgetting.{AreRaised}
 use Rattle.stream_collector.specs.Frontier.{IsWatermark, IsComplete, IsLastMoment, by_last, by_none}
 use Rattle.stream_collector.specs.Frontier.{IsHeldAt, IsCpuThere, by_marks, by_known, by_undelivered}
@@ -236,7 +236,7 @@ cuts_within old new moment was cuts kept same cpu end n is r = back r
     is_old : end_of old cpu ≡ Some end
     is_old = sym (cuts cpu).1 ∙ is
 
-    back : IsReached new cpu n → n < end
+    back : IsNotOpen new cpu n → n < end
     back (by_bound lt) =
         let cut = (cuts cpu).0 in
         let up = cut.up_to in

@@ -17,7 +17,7 @@ use Rattle.collector.proofs.SideBySide.{has_either, misses_either}
 use Rattle.stream_collector.specs.declared.marks.Marks.{Marks}
 use Rattle.stream_collector.specs.Marks.{SaySomething, AllSaySomething}
 use Rattle.stream_collector.specs.Stream.{Stream, bound_of, end_of, HaveNoRecord}
-use Rattle.stream_collector.specs.Marking.{IsReached, by_bound, by_parcels, by_given_up, AreWithinEnds, IsStanding}
+use Rattle.stream_collector.specs.Marking.{IsNotOpen, by_bound, by_parcels, by_given_up, AreWithinEnds, IsStanding}
 use Rattle.stream_collector.specs.Merging.{either_end, joined_marks, IsMerge, HaveOneEnd, HaveFittingEnds, IsJoinFault}
 use Rattle.stream_collector.specs.Merging.{IsEndsFault, IsReachFault, IsPartFault, IsMergeFault}
 use Rattle.stream_collector.specs.declared.fault.MergeFault.{MergeFault}
@@ -156,7 +156,7 @@ ends_joined own other new one is end = (
 )
 
 module _ (s o new : Stream) (merged : IsMerge s o new) where
-  reached_either : (c n : ℕ) → IsReached new c n → IsReached s c n ⊎ IsReached o c n
+  reached_either : (c n : ℕ) → IsNotOpen new c n → IsNotOpen s c n ⊎ IsNotOpen o c n
   reached_either c n (by_bound lt) =
       let is = merged.bounds c in
       ⊎_elim
@@ -176,12 +176,12 @@ module _ (s o new : Stream) (merged : IsMerge s o new) where
   pub merged_within : AreWithinEnds s → AreWithinEnds o → HaveFittingEnds s o → AreWithinEnds new
   merged_within own others fit c end n is r = ⊎_elim
       (λ (e : end_of s c ≡ Some end). ⊎_elim
-      (λ (by_own : IsReached s c n). own c end n e by_own)
-      (λ (by_other : IsReached o c n). fit.within c end n e by_other)
+      (λ (by_own : IsNotOpen s c n). own c end n e by_own)
+      (λ (by_other : IsNotOpen o c n). fit.within c end n e by_other)
       (reached_either c n r))
       (λ (e : end_of o c ≡ Some end). ⊎_elim
-      (λ (by_own : IsReached s c n). fit.others_within c end n e by_own)
-      (λ (by_other : IsReached o c n). others c end n e by_other)
+      (λ (by_own : IsNotOpen s c n). fit.others_within c end n e by_own)
+      (λ (by_other : IsNotOpen o c n). others c end n e by_other)
       (reached_either c n r))
       ((merged.ends c end).0 is)
 

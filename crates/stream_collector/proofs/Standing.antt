@@ -11,7 +11,7 @@ use Rattle.collector.specs.Shown.{IsUnknown}
 use Rattle.collector.specs.Known.{IsKnown}
 use Rattle.collector.proofs.OfKind.{known_unless, is_of_true, of_is_true}
 use Rattle.collector.proofs.Stretches.{is_missed_true, misses_of_true}
-use Rattle.stream_collector.specs.Marking.{IsReached, by_bound, by_parcels, by_given_up}
+use Rattle.stream_collector.specs.Marking.{IsNotOpen, by_bound, by_parcels, by_given_up}
 use Rattle.stream_collector.specs.Stream.{Stream, bound_of, IsAccounted, has_record, is_missing, is_undelivered}
 use Rattle.stream_collector.specs.Stream.{HaveNoRecord, IsNotKnown}
 
@@ -62,7 +62,7 @@ not_both ps cpu n unknown known = ⊎_elim
 
 -- a number is reached only below the bound and what is known and given up
 pub reached_below : (s : Stream) (cpu top : ℕ) → bound_of s cpu ≤ top → ((n : ℕ) → top ≤ n → IsUnknown s.parcels cpu n)
-    → ((n : ℕ) → top ≤ n → IsUnknown s.given_up cpu n) → (n : ℕ) → IsReached s cpu n → n < top
+    → ((n : ℕ) → top ≤ n → IsUnknown s.given_up cpu n) → (n : ℕ) → IsNotOpen s cpu n → n < top
 reached_below s cpu top up parcels marks n (by_bound lt) = omega arith
 reached_below s cpu top up parcels marks n (by_parcels k) = ⊎_elim
     (λ (lt : n < top). lt)

@@ -12,7 +12,7 @@ use Rattle.stream_collector.specs.declared.marks.Marks.{Marks}
 use Rattle.stream_collector.specs.Marks.{marks_at, bounds_of, AllSaySomething}
 use Rattle.stream_collector.specs.Stream.{Stream, bound_of, end_of, IsUpToEnd, IsAccounted, has_record, is_missing}
 use Rattle.stream_collector.specs.Stream.{is_undelivered, HaveNoRecord}
-use Rattle.stream_collector.specs.Marking.{IsReached, by_bound, by_parcels, by_given_up, AreWithinEnds, IsStanding}
+use Rattle.stream_collector.specs.Marking.{IsNotOpen, by_bound, by_parcels, by_given_up, AreWithinEnds, IsStanding}
 use Rattle.stream_collector.specs.Marking.{HasEnd}
 use Rattle.stream_collector.specs.Faults.{IsWithinEnd}
 use Rattle.stream_collector.specs.Forgetting.{HasBound, GivesUpBelow, IsLost}
@@ -45,7 +45,7 @@ added_within s p was fits cpu end n is (by_parcels k) = ⊎_elim
 
 -- an end above all that is reached
 pub ended_within : (old new : Stream) (cpu count : ℕ) → AreWithinEnds old → HasEnd old new cpu count
-    → ((n : ℕ) → IsReached old cpu n → n < count) → AreWithinEnds new
+    → ((n : ℕ) → IsNotOpen old cpu n → n < count) → AreWithinEnds new
 ended_within old new cpu count was has all c end n is r = ⊎_elim
     (λ (e : c ≡ cpu).
     let here : marks_at new.marks c ≡ record { bound = bound_of old cpu; end = Some count } =
@@ -53,13 +53,13 @@ ended_within old new cpu count was has all c end n is r = ⊎_elim
     let ends : Some count ≡ Some end = sym (ap (λ (m : Marks). m.end) here) ∙ is in
     let same : count ≡ end = cc in
     let before = back (ap (λ (m : Marks). m.bound) here ∙ ap (λ (k : ℕ). bound_of old k) (sym e)) r in
-    let lt = all n (subst (λ (k : ℕ). IsReached old k n) e before) in omega arith)
+    let lt = all n (subst (λ (k : ℕ). IsNotOpen old k n) e before) in omega arith)
     (λ (apart : c ≡ cpu → ⊥).
     let kept = has.others c apart in
     was c end n (sym (ap (λ (m : Marks). m.end) kept) ∙ is) (back (ap (λ (m : Marks). m.bound) kept) r))
     (cases_eq c cpu)
   where
-    back : bound_of new c ≡ bound_of old c → IsReached new c n → IsReached old c n
+    back : bound_of new c ≡ bound_of old c → IsNotOpen new c n → IsNotOpen old c n
     back bounds (by_bound lt) = by_bound (omega arith)
     back bounds (by_parcels k) = by_parcels (subst (λ (ps : List Parcel). IsKnown ps c n) has.parcels k)
     back bounds (by_given_up m) = by_given_up (subst (λ (ps : List Parcel). Misses ps c n) has.given_up m)
@@ -98,7 +98,7 @@ raised_within old new cpu bound was raised same up c end n is r = ⊎_elim
     (cases_lt n (bound_of new c)))
     (cases_eq c cpu)
   where
-    back : bound_of new c ≤ n → IsReached new c n → IsReached old c n
+    back : bound_of new c ≤ n → IsNotOpen new c n → IsNotOpen old c n
     back le (by_bound lt) = absurd (omega arith)
     back le (by_parcels k) = by_parcels (known_back old new cpu bound raised c n le k)
     back le (by_given_up m) = by_given_up (subst (λ (ps : List Parcel). Misses ps c n) same m)
@@ -146,7 +146,7 @@ bound_within s cpu was end is = ⊎_elim
     (λ (none : bound_of s cpu ≤ 0). omega arith)
     (cases_lt 0 (bound_of s cpu))
 
-reached : (s : Stream) (cpu n : ℕ) → IsAccounted s cpu n → IsReached s cpu n
+reached : (s : Stream) (cpu n : ℕ) → IsAccounted s cpu n → IsNotOpen s cpu n
 reached s cpu n (has_record r h) = by_parcels (inl (r, h.has))
 reached s cpu n (is_missing m) = by_parcels (inr m.misses)
 reached s cpu n (is_undelivered from u) = by_given_up u.given_up
@@ -179,7 +179,7 @@ added_standing s p new was fits either = record {
 }
 
 pub ended_standing : (old new : Stream) (cpu count : ℕ) → IsStanding old → HasEnd old new cpu count
-    → ((n : ℕ) → IsReached old cpu n → n < count) → AllSaySomething new.marks → IsStanding new
+    → ((n : ℕ) → IsNotOpen old cpu n → n < count) → AllSaySomething new.marks → IsStanding new
 ended_standing old new cpu count was has all says = record {
   says = says;
   no_record = subst HaveNoRecord (sym has.given_up) was.no_record;

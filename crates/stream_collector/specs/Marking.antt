@@ -8,15 +8,15 @@ use Rattle.stream_collector.specs.declared.fault.MarkFault.{MarkFault}
 use Rattle.stream_collector.specs.declared.fault.MarkFault.TheVariants.{OtherEnd, BeyondEnd, NotFinal, NoMemory}
 
 -- the number is below the bound of its CPU, or it is known, or it was given up
-pub data IsReached (stream : Stream) (cpu number : ℕ) : Type 0 where
-  by_bound : number < bound_of stream cpu → IsReached stream cpu number
-  by_parcels : IsKnown stream.parcels cpu number → IsReached stream cpu number
-  by_given_up : Misses stream.given_up cpu number → IsReached stream cpu number
+pub data IsNotOpen (stream : Stream) (cpu number : ℕ) : Type 0 where
+  by_bound : number < bound_of stream cpu → IsNotOpen stream cpu number
+  by_parcels : IsKnown stream.parcels cpu number → IsNotOpen stream cpu number
+  by_given_up : Misses stream.given_up cpu number → IsNotOpen stream cpu number
 
 -- of a CPU with an end, each number that is reached is below it
 abbrev pub AreWithinEnds : Stream → Type 0
 AreWithinEnds stream = (cpu end number : ℕ)
-    → end_of stream cpu ≡ Some end → IsReached stream cpu number → number < end
+    → end_of stream cpu ≡ Some end → IsNotOpen stream cpu number → number < end
 
 -- what holds of each stream at all times
 pub record IsStanding (stream : Stream) : Type 0 where
@@ -33,9 +33,9 @@ pub record HasEnd (old new : Stream) (cpu end : ℕ) : Type 0 where
 
 -- the greatest number that is reached, and isn't below the end
 pub record IsGreatestBeyond (stream : Stream) (cpu end number : ℕ) : Type 0 where
-  pub reached : IsReached stream cpu number
+  pub reached : IsNotOpen stream cpu number
   pub beyond : end ≤ number
-  pub greatest : (other : ℕ) → IsReached stream cpu other → other ≤ number
+  pub greatest : (other : ℕ) → IsNotOpen stream cpu other → other ≤ number
 
 -- why the end of a CPU isn't set
 abbrev pub IsEndFault : Stream → (cpu end : ℕ) → MarkFault → Type 0
@@ -43,4 +43,4 @@ IsEndFault stream cpu end (OtherEnd other) = (end_of stream cpu ≡ Some other.0
 IsEndFault stream cpu end (BeyondEnd number) = (end_of stream cpu ≡ None) × IsGreatestBeyond stream cpu end number.0
 IsEndFault stream cpu end (NotFinal number) = ⊥
 IsEndFault stream cpu end NoMemory =
-    (end_of stream cpu ≡ None) × ((number : ℕ) → IsReached stream cpu number → number < end)
+    (end_of stream cpu ≡ None) × ((number : ℕ) → IsNotOpen stream cpu number → number < end)

@@ -10,7 +10,7 @@ use Rattle.collector.specs.declared.fault.AddFault.TheVariants.{NoMemory as Memo
 use Rattle.stream_collector.specs.declared.marks.Marks.{Marks}
 use Rattle.stream_collector.specs.Marks.{bounds_of}
 use Rattle.stream_collector.specs.Stream.{Stream, bound_of, end_of}
-use Rattle.stream_collector.specs.Marking.{IsReached}
+use Rattle.stream_collector.specs.Marking.{IsNotOpen}
 use Rattle.stream_collector.specs.declared.fault.MergeFault.{MergeFault}
 use Rattle.stream_collector.specs.declared.fault.MergeFault.TheVariants.{OtherEnd, BeyondEnd, Clash, TakenAndMissing}
 use Rattle.stream_collector.specs.declared.fault.MergeFault.TheVariants.{NoMemory}
@@ -34,15 +34,15 @@ HaveOneEnd stream other = (cpu end others : ℕ)
 -- what one of them has reached is below the ends of the other
 abbrev pub IsWithinEndsOf : Stream → (reaching : Stream) → Type 0
 IsWithinEndsOf stream reaching = (cpu end number : ℕ)
-    → end_of stream cpu ≡ Some end → IsReached reaching cpu number → number < end
+    → end_of stream cpu ≡ Some end → IsNotOpen reaching cpu number → number < end
 
 -- the greatest number that one of them has reached, if the other has an end at or below it
 pub record IsBeyondEndOf (stream reaching : Stream) (cpu number : ℕ) : Type 0 where
   pub end : ℕ
   pub end_is : end_of stream cpu ≡ Some end
   pub beyond : end ≤ number
-  pub reached : IsReached reaching cpu number
-  pub greatest : (other : ℕ) → IsReached reaching cpu other → other ≤ number
+  pub reached : IsNotOpen reaching cpu number
+  pub greatest : (other : ℕ) → IsNotOpen reaching cpu other → other ≤ number
 
 -- a CPU has one end in both, if any, and what either has reached is below it
 pub record HaveFittingEnds (stream other : Stream) : Type 0 where

@@ -9,7 +9,7 @@ impl StreamCollector {
     ghost use Rattle.std.specs.Prelude.{◌≡◌, ℕ, ◌-◌, ◌<◌, ◌≤◌, ◌↔◌, Some, None, Ok, IfErr, OnErr};
     ghost use Rattle.trace_model.specs.declared.limits.TheConstants.{MAX_CPUS};
     ghost use Rattle.stream_collector.specs.Stream.{bound_of, end_of};
-    ghost use Rattle.stream_collector.specs.Marking.{IsReached, HasEnd, IsEndFault};
+    ghost use Rattle.stream_collector.specs.Marking.{IsNotOpen, HasEnd, IsEndFault};
     ghost use Rattle.stream_collector.specs.declared.added.Marked.TheVariants.{New as NewMark, Known as KnownMark};
 
     /// A CPU has `count` records, and no more. It is refused if the CPU has another end, and then if a number at or
@@ -20,7 +20,7 @@ impl StreamCollector {
         ensures unchanged { result ≡ Ok KnownMark → self.new ≡ self.old }
         ensures first { result ≡ Ok NewMark → end_of self.old cpu.0 ≡ None }
         ensures ended { result ≡ Ok NewMark → HasEnd self.old self.new cpu.0 count.0 }
-        ensures nothing_beyond { result ≡ Ok NewMark → (n : ℕ) → IsReached self.old cpu.0 n → n < count.0 }
+        ensures nothing_beyond { result ≡ Ok NewMark → (n : ℕ) → IsNotOpen self.old cpu.0 n → n < count.0 }
         ensures fault { IfErr result (λ fault. IsEndFault self.old cpu.0 count.0 fault) }
         ensures refused { OnErr result (self.new ≡ self.old) }
     {
@@ -41,8 +41,8 @@ impl StreamCollector {
 
     /// The number after the last one of a CPU that is known, was given up or is below the bound, or 0.
     pub(crate) fn reach(&self, cpu: CpuId) -> u64
-        ensures last { 0 < result → IsReached self.now cpu.0 (result - 1) }
-        ensures behind { (n : ℕ) → IsReached self.now cpu.0 n → n < result }
+        ensures last { 0 < result → IsNotOpen self.now cpu.0 (result - 1) }
+        ensures behind { (n : ℕ) → IsNotOpen self.now cpu.0 n → n < result }
     {
         let known = self.known.known_end(cpu);
         let given_up = self.given_up.known_end(cpu);

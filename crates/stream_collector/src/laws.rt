@@ -12,8 +12,8 @@ ghost use Rattle.stream_collector.specs.Marking.{AreWithinEnds};
 ghost use Rattle.stream_collector.specs.Merging.{IsMerge};
 ghost use Rattle.stream_collector.specs.Same.{IsSameStream};
 
-/// From its bound on, each number of a CPU has a record, or is missing, or is undelivered, or is open: one of these,
-/// and no two of them. Up to the watermark there is no open one, so the account has no hole and no overlap.
+/// From its bound on each number of a CPU has a record, or is missing, or is undelivered, or is open: one of these, and
+/// no two of them.
 pub fn each_number_is_accounted_once()
     ensures one { (s : Stream) (cpu n : ℕ) → bound_of s cpu ≤ n → (IsOpen s cpu n ⊎ IsAccounted s cpu n) }
     ensures not_open { (s : Stream) (cpu n : ℕ) → IsAccounted s cpu n → IsOpen s cpu n → ⊥ }
@@ -27,16 +27,16 @@ pub fn each_number_is_accounted_once()
         IsMissing s cpu n → IsUndelivered s cpu n → ⊥ }
 {}
 
-/// The watermark is the least number that is unknown yet, if any is.
+/// The watermark, the least open number, is the least unknown one if any is.
 pub fn the_watermark_is_unknown_first()
     ensures { (s : Stream) (cpu watermark n : ℕ) → IsOpen s cpu watermark →
         ((m : ℕ) → bound_of s cpu ≤ m → m < watermark → IsAccounted s cpu m) →
         IsUnknownYet s cpu n → IsUnknownYet s cpu watermark × (watermark ≤ n) }
 {}
 
-/// When a bound is raised, nothing changes from the bounds on: each number has the same record there, or is missing,
-/// undelivered or unknown yet, as before. So it is with a stream that is given up too, and then all that was unknown
-/// below the bound is undelivered. What is undelivered stays so, on either side of the bound.
+/// When a bound is raised, nothing changes from the new bounds on: each number has the same record there, or is
+/// missing, undelivered or unknown, as before. If numbers are given up too, all that were unknown below the bound are
+/// undelivered. What is undelivered stays so, on either side of the bound.
 pub fn forgetting_changes_nothing_above()
     ensures records { (old new : Stream) (cpu bound : ℕ) → bound_of old cpu ≤ bound → HasBound old new cpu bound →
         (c n : ℕ) (r : Record) → bound_of new c ≤ n → (HasRecord old c n r ↔ HasRecord new c n r) }
@@ -58,7 +58,8 @@ pub fn forgetting_changes_nothing_above()
         GivesUpBelow old new.given_up cpu bound → IsUnknownYet old cpu n → n < bound → IsUndelivered new cpu n }
 {}
 
-/// Nor does it change anything from the bounds on if each CPU's bound is raised to its cut at a moment.
+/// If each CPU's bound is raised to its cut at a moment, nothing changes from the new bounds on, and what is
+/// undelivered stays so.
 pub fn forgetting_before_changes_nothing_above()
     ensures records { (old new : Stream) (moment : ℕ) → IsForgottenBefore old new moment →
         (c n : ℕ) (r : Record) → bound_of new c ≤ n → (HasRecord old c n r ↔ HasRecord new c n r) }
@@ -72,9 +73,9 @@ pub fn forgetting_before_changes_nothing_above()
         (c n : ℕ) → bound_of new c ≤ n → (IsUnknownYet old c n ↔ IsUnknownYet new c n) }
 {}
 
-/// If a CPU's moments never fall, each record of it from its cut at the frontier on is at or after the frontier: those
-/// that are known, and those of parcels that come later, agree with the known ones and stay within the ends. It is said
-/// of CPUs of which something is there: another CPU's records may be of any time.
+/// If the moments of a CPU of which something is there never fall, each of its records from its cut at the frontier on
+/// is at or after the frontier: those that are known, and those of parcels that come later, agree with the known ones
+/// and stay within the ends.
 pub fn what_comes_is_not_before_the_frontier()
     ensures { (s : Stream) (later : List Parcel) (frontier : Moment) (cpu cut : ℕ) → IsFrontier s (Some frontier) →
         IsCpuThere s cpu → IsCut s cpu frontier.0 cut → Agree (s.parcels ++ later) →
@@ -82,7 +83,7 @@ pub fn what_comes_is_not_before_the_frontier()
         (n : ℕ) (r : Record) → cut ≤ n → Has (s.parcels ++ later) cpu n r → frontier.0 ≤ r.moment }
 {}
 
-/// From the new bounds on, a merged stream has the records of both, and misses the numbers that either misses.
+/// From the new bounds on a merged stream has the records of both, and misses the numbers that either misses.
 pub fn merging_is_the_union()
     ensures records { (a b ab : Stream) → IsMerge a b ab → (cpu n : ℕ) (r : Record) → bound_of ab cpu ≤ n →
         (HasRecord ab cpu n r ↔ (HasRecord a cpu n r ⊎ HasRecord b cpu n r)) }
@@ -90,7 +91,7 @@ pub fn merging_is_the_union()
         (IsMissing ab cpu n ↔ (IsMissing a cpu n ⊎ IsMissing b cpu n)) }
 {}
 
-/// Merging in either direction, in any order and more than once gives the same stream.
+/// The order, the grouping and the repeats of merges don't matter: they give the same stream.
 pub fn merging_in_any_order_is_the_same()
     ensures either_way { (a b ab ba : Stream) → IsMerge a b ab → IsMerge b a ba → IsSameStream ab ba }
     ensures regrouped { (a b c ab bc left right : Stream) → IsMerge a b ab → IsMerge ab c left →

@@ -15,7 +15,7 @@ impl StreamCollector {
     ghost use Rattle.collector.specs.Listed.{AreRecordsFrom};
     ghost use Rattle.collector.specs.Runs.{AreMissingRuns};
     ghost use Rattle.stream_collector.specs.Stream.{bound_of, end_of, HasRecord, IsUpToEnd, IsOpen, IsAccounted};
-    ghost use Rattle.stream_collector.specs.Marking.{IsReached};
+    ghost use Rattle.stream_collector.specs.Marking.{IsNotOpen};
 
     /// The bound of a CPU: what is below it is kept no longer. It is 0 if nothing was forgotten.
     pub fn bound(&self, cpu: CpuId) -> RecordNo
@@ -29,7 +29,7 @@ impl StreamCollector {
     pub fn end_mark(&self, cpu: CpuId) -> Option<RecordNo>
         ensures end { IfSome result (λ end. end_of self.now cpu.0 ≡ Some end.0) }
         ensures none { IfNone result (end_of self.now cpu.0 ≡ None) }
-        ensures within { IfSome result (λ end. (n : ℕ) → IsReached self.now cpu.0 n → n < end.0) }
+        ensures within { IfSome result (λ end. (n : ℕ) → IsNotOpen self.now cpu.0 n → n < end.0) }
     {
         let _known = &self.known;
         self.marks(cpu).end.map(RecordNo)

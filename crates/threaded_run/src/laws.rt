@@ -1,4 +1,4 @@
-//! What holds of the collectors of a run: the contract of a function with an empty body.
+//! What holds of the collectors of a run.
 ghost use Rattle.std.specs.Prelude.{List};
 ghost use Rattle.trace_model.specs.Parcel.{Parcel};
 ghost use Rattle.text_model.specs.Script.{Script as ScriptSeen};

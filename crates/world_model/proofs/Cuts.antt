@@ -29,7 +29,7 @@ use Rattle.ring_model.proofs.contents.PackedRuns.{runs_packed}
 use Rattle.ring_model.proofs.contents.TakenHoldRecords.{taken_hold}
 use Rattle.ring_model.proofs.histories.WindowRuns.{passed_by, lost_closed}
 use Rattle.world_model.specs.World.{parcel_of}
-use Rattle.world_model.specs.GenuineWorlds.{pieces_in, IsWholeFill, StandsIn, IsOverwrittenBefore, IsCut, IsOneOf, IsExact}
+use Rattle.world_model.specs.GenuineWorlds.{pieces_in, IsWholeFill, StandsIn, IsOverwrittenBefore, AreParcelsOfRing, IsOneOf, IsExact}
 use Rattle.world_model.specs.RunEvents.{AreEventsOfSteps}
 use Rattle.world_model.proofs.RunEvents.{run_events, run_reports}
 use Rattle.world_model.proofs.Lookups.{element_at, contains_at, get_map, get_from_map}
@@ -273,7 +273,7 @@ module _ (n size start : ℕ) (c : Core) (r : IsReached n size start c) where
       pub page_of_one : (parcel : Parcel) → Contains parcels parcel → IsPageOf parcel
       page_of_one parcel has = let (k, at) = element_at parcels parcel has in page_of_parcel k parcel at
 
-      abbrev pub is_cut : IsCut n size start c parcels
+      abbrev pub is_cut : AreParcelsOfRing n size start c parcels
       is_cut = record {
         is_history = kept.history.allowed;
         packed = runs_packed n size start c kept;

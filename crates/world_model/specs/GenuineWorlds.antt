@@ -55,7 +55,7 @@ pub record IsOverwrittenBefore (start : ℕ) (events : List RingEvent) (fill num
 -- events are the history, the window and the takes of this state. The parcels are the fills that were taken, in order,
 -- each whole; they part the committed records; and the numbers that are missing before one are exactly those of the
 -- records that were overwritten unread between it and the one that was taken before it, or the start.
-pub record IsCut (n size start : ℕ) (c : Core) (parcels : List Parcel) : Type 0 where
+pub record AreParcelsOfRing (n size start : ℕ) (c : Core) (parcels : List Parcel) : Type 0 where
   pub is_history : IsHistory c.history
   pub packed : IsPacked c.history size
   pub from : Core
@@ -102,7 +102,7 @@ pub record IsGenuineWorld (script : Script) (w : World) : Type 0 where
   pub collectors : length w.delivered ≡ script.collectors
   pub cut : (cpu : ℕ) (lane : Lane)
       → slice_get w.lanes cpu ≡ Some lane
-      → IsCut script.pages script.size script.start lane.core (parcels_from cpu w.taken)
+      → AreParcelsOfRing script.pages script.size script.start lane.core (parcels_from cpu w.taken)
   pub of_a_cpu : (parcel : Parcel) → Contains w.taken parcel → parcel.cpu < script.cpus
   pub genuine : AreGenuine w.taken (λ cpu. pieces_in (parcels_from cpu w.taken))
   pub agree : Agree w.taken

@@ -12,8 +12,8 @@ ghost use Rattle.line_model.specs.Due.{window_at};
 ghost use Rattle.line_model.specs.Accounts.{LineFrame, CpuState, Does, IsAccount};
 ghost use Rattle.line_model.specs.WholeScripts.{OneAccount, OneText};
 
-/// A world of a script within its limits has an account of each of its CPUs; after all lines the events are those of
-/// the CPU's ring in that world.
+/// The world of a script within its limits has an account of each of its CPUs, whose events after all lines are those
+/// of the CPU's ring in that world.
 pub fn worlds_have_accounts()
     ensures { (script : Script) (w : World) (cpu : ℕ) → IsWithinLimits script → WorldOf script w → cpu < script.cpus →
         (states : ℕ → CpuState) × IsAccount script cpu states
@@ -21,25 +21,25 @@ pub fn worlds_have_accounts()
         × AreEventsOfRun script.pages script.start lane.core (states (length script.commands)).events }
 {}
 
-/// A script without lines that ask for single steps has at most one account of each CPU.
+/// A script within its limits, without `s` and `r` lines, has at most one account of each CPU.
 pub fn whole_scripts_have_one_account()
     ensures one { OneAccount }
 {}
 
-/// What the accounts of such a script print without a log is one text.
+/// A script within its limits, without `s` and `r` lines, has one output at most without the log: what its accounts
+/// print is one text.
 pub fn whole_scripts_have_one_output()
     ensures one { OneText }
 {}
 
-/// The events of an account are a run of the window, which leads to the one that they are counted to.
+/// The events of an account are a run of the window, which leads to the window that they are counted to.
 pub fn accounts_are_window_runs()
     ensures { (script : Script) (cpu : ℕ) (states : ℕ → CpuState) → IsAccount script cpu states →
         (k : ℕ) → k < suc (length script.commands) →
         WindowRun script.pages script.start (states k).events (window_at script.start (states k).events) }
 {}
 
-/// What a line has a frame do until that frame has left ends with its leave, if there are others below it: none of
-/// these does anything.
+/// What a line has a nested frame do until that frame has left ends with its leave: no frame below it does anything.
 pub fn nested_frames_end_by_leaving()
     ensures { (frame next after : LineFrame) (below : List LineFrame) (own : List RingEvent) (payload : List ℕ) →
         frame.payload ≡ Some payload → Does (next ∷ below) frame own after → after.payload ≡ None →

@@ -6,8 +6,8 @@ ghost use Rattle.text_model.specs.Script.{Command};
 ghost use Rattle.line_model.specs.Lines.{IsMadeByLines};
 ghost use Rattle.line_model.specs.LineExamples.{OneWrite, RefusedBegin, BeginAndSteps, NestedFrames, DroppedWrite, RecordsOfThree};
 
-/// The definition holds of a line that writes, of one that is refused, of a frame that makes single steps, and of a
-/// nested frame; and it doesn't hold of a history that lacks a line's record. Which records lines write, by example.
+/// By example, lines make the history of a written record, of a push that is refused, of a frame that makes single
+/// steps and of nested frames, and no history that lacks a line's record; and `w` lines write these records.
 pub fn lines_make_histories()
     ensures one_write { OneWrite }
     ensures refused { (payload : List ℕ) → 32 < length payload → RefusedBegin payload }
@@ -17,7 +17,8 @@ pub fn lines_make_histories()
     ensures three { (payload : List ℕ) → 32 < length payload → RecordsOfThree payload }
 {}
 
-/// What lines make of a history is, with the fills that are closed, taken and lost meanwhile, a run of the window.
+/// What lines make of a history is, with the fills that are closed, taken and lost meanwhile, a run of the window: so
+/// the laws of windows hold of it.
 pub fn lines_are_window_runs()
     ensures run { (n size start : ℕ) (lines : List Command) (history : List HistoryEvent) →
         IsMadeByLines n size start lines history →

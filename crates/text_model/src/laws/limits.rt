@@ -8,7 +8,7 @@ use crate::script_limits::{
     MIN_SCRIPT_COLLECTORS, MIN_SCRIPT_CPUS, SIZE_STEP,
 };
 
-/// The limits of a script and of its numbers.
+/// Each limit of a script and of its numbers has the value that is stated here.
 pub fn constants_are()
     ensures digits { MAX_NUMBER_DIGITS ≡ 20 }
     ensures size_step { SIZE_STEP ≡ 4 }
@@ -20,7 +20,7 @@ pub fn constants_are()
     ensures max_steps { MAX_LINE_STEPS ≡ 1000000 }
 {}
 
-/// The lines of the header: their order, their words and their values.
+/// The header has these lines in this order, each with its word and its range, as they are stated here.
 pub fn header_is()
     ensures order { header_settings ≡ pages_setting ∷ size_setting ∷ cpus_setting ∷ collectors_setting ∷ [] }
     ensures pages { pages_setting ≡ record { word = codes "pages"; min = 2; max = 1024; step = 1 } }
@@ -31,7 +31,7 @@ pub fn header_is()
         ≡ record { word = codes "start"; min = 0; max = 281474976710655 - pages; step = 1 } }
 {}
 
-/// How a fault of a line is printed.
+/// A fault of a line is printed as the line's number and the fault's name.
 pub fn fault_texts_are()
     ensures line { (n : ℕ) → fault_text n bad_line ≡ codes "line " ++ decimal n ++ codes ": BadLine" }
     ensures number { (n : ℕ) → fault_text n bad_number ≡ codes "line " ++ decimal n ++ codes ": BadNumber" }

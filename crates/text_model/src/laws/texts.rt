@@ -3,7 +3,7 @@ ghost use Rattle.std.specs.Prelude.{◌≡◌, ℕ, ◌^◌, ◌<◌, List, Ok, 
 ghost use Rattle.text_model.specs.Text.{hex_text};
 ghost use Rattle.text_model.specs.ScriptLines.{decimal_in, payload_in};
 
-/// A number's decimal text reads back as the number.
+/// The decimal text of a number below 2^64 reads back as the number.
 pub fn number_reads_back()
     ensures { (n : ℕ) → n < 2 ^ 64 → decimal_in (decimal n) ≡ Ok n }
 {}

@@ -6,7 +6,7 @@ ghost use Rattle.ring_model.specs.RingLaws.{MayAsk};
 ghost use Rattle.world_model.specs.Lanes.{Lane, IsNewLane, HasPayloads, event_on_top, LineRun};
 ghost use Rattle.world_model.specs.LineEnds.{FrameRunsAreShort, ReaderRunsAreShort};
 
-/// What a line does with a ring is a run of its steps: one list of them and no other.
+/// What a line does with its ring is one list of exchanges, and a run of the ring's steps.
 pub fn lines_are_runs()
     ensures run { (n size : ℕ) (command : Command) (before after : Lane) (exchanges : List Exchange) →
         LineRun n size command before exchanges after → Run n size before.core exchanges after.core }
@@ -15,7 +15,7 @@ pub fn lines_are_runs()
         (exchanges ≡ others) × (after ≡ other) }
 {}
 
-/// After any lines there is a payload for each frame on the stack, as long as it was pushed for; so the frame on
+/// After any lines there is a payload for each frame on the stack, as long as the frame was pushed for; so the frame on
 /// top may always be asked for its next step, the end of its record among them.
 pub fn payloads_are_of_frames()
     ensures new { (n start : ℕ) (lane : Lane) → IsNewLane n start lane → HasPayloads lane }

@@ -5,7 +5,8 @@ ghost use Rattle.text_model.specs.Log.{LogLine};
 ghost use Rattle.text_model.specs.Printing.{printed_log_line};
 ghost use Rattle.world_model.specs.Printing.{Shown, printed_line, printed_missing, printed_runs, printed_collector, printed_world};
 
-/// The lines of a collector, and what a replay prints: its log, if it is asked for, and its collectors in their order.
+/// The lines of a collector, and what a replay prints (its log, if it is asked for, and its collectors in their order),
+/// are the texts that are stated here.
 pub fn printed_texts_are()
     ensures line { (moment cpu number : ℕ) (bytes : List ℕ) →
         printed_line (record { moment = moment; cpu = cpu; number = number; bytes = bytes })

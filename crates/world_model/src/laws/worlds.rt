@@ -13,8 +13,9 @@ ghost use Rattle.world_model.specs.World.{World, Obeys, WorldBehind, WorldOf};
 ghost use Rattle.world_model.specs.RunEvents.{AreEventsOf, AreEventsOfSteps};
 ghost use Rattle.world_model.specs.GenuineWorlds.{IsGenuineWorld};
 
-/// A script has one world at most, after any of its lines and after all of them; and a line that is obeyed leads
-/// from the world before it to one after it.
+/// A script within its limits has one world at most, after any of its lines and after all of them: every answer, every
+/// page taken and every line of the log is decided by it. A line that is obeyed leads from the world before it to one
+/// after it.
 pub fn one_world()
     ensures behind { (script : Script) (lines : List (ℕ × Command)) (one other : World) → IsWithinLimits script →
         WorldBehind script lines one → WorldBehind script lines other → one ≡ other }
@@ -25,9 +26,9 @@ pub fn one_world()
         WorldBehind script (lines ++ (line, command) ∷ []) after }
 {}
 
-/// The events of a run of a new ring, step by step, determine the state that it leads to: its history, window and
-/// takes. And in each step, a fill that the head passed without being taken was closed, and a whole round of fills is
-/// begun from it on: none is lost early.
+/// The events of a run of a new ring, step by step, determine the history, the window and the takes of the state that
+/// it leads to. In a step in which the head passes a fill that isn't taken, that fill is closed, and a whole round of
+/// fills is begun from it on: none is lost early.
 pub fn runs_have_events()
     ensures reported { (n size start : ℕ) (from c : Core) (exchanges : List Exchange) (events : List RingEvent) →
         IsStart n start from → AreEventsOfSteps n size from exchanges events c → AreEventsOfRun n start c events }
@@ -36,19 +37,20 @@ pub fn runs_have_events()
         (before.head < after.done) × (before.head + n ≤ after.opened) }
 {}
 
-/// In the world of a script, after any of its lines, the parcels of each CPU part its committed records, each under
-/// its own number, with exactly the numbers of overwritten fills missing between them; they agree; only what was taken
-/// is delivered; and each collector has exactly the records of the pages delivered to it, and misses exactly the
-/// numbers that were overwritten unread before those.
+/// In the world of a script within its limits, after any of its lines, in whatever order writers interrupt each other
+/// and readers take pages, the parcels of each CPU part its committed records: each is a whole fill under its own
+/// number, with exactly the numbers of records missing that were overwritten unread since the page taken before it, or
+/// the start. They agree, and only what was taken is delivered. Each collector has exactly the records of the pages
+/// delivered to it, and misses exactly the numbers that were overwritten unread before those.
 pub fn worlds_are_genuine()
     ensures behind { (script : Script) (lines : List (ℕ × Command)) (w : World) → IsWithinLimits script →
         WorldBehind script lines w → IsGenuineWorld script w }
     ensures whole { (script : Script) (w : World) → IsWithinLimits script → WorldOf script w → IsGenuineWorld script w }
 {}
 
-/// Pages of one world never clash, whichever of them are collected; so any two of its collectors have a least
-/// collection above both, which is what was delivered to the one or to the other; and two to which the same pages
-/// were delivered have and miss the same.
+/// Pages of one world never clash, whichever of them are collected. So any two of its collectors have a least
+/// collection above both, which is what was delivered to the one or to the other; and two to which the same pages were
+/// delivered have and miss the same.
 pub fn collectors_join()
     ensures agree { (script : Script) (w : World) (parcels : List Parcel) → IsGenuineWorld script w →
         ((parcel : Parcel) → Contains parcels parcel → Contains w.taken parcel) → Agree parcels }

@@ -122,3 +122,13 @@ returns-then-is_err-clause-fault c =
     subst (λ (s : Stream). Agree s.parcels) (c.add-2.ensures.new fresh) (c.add-2.ensures.agree fresh) in
     subst (λ (s : Stream). IsWithinEnd s (as_parcel c.args.parcel) × Agree
     (s.parcels ++ as_parcel c.args.parcel ∷ [])) (sym was) (within, agree)
+
+pub returns-clause-within : goal.returns-clause-within
+returns-clause-within c =
+    let first = c.new-first.ensures in
+    let was : stream_at c.args.self.now c.args.stream.0 ≡ c.new-first.result =
+    ap (λ (fleet : List (ℕ × Stream)). stream_at fleet c.args.stream.0) (sym c.self.view_is)
+    ∙ was_nothing c.self.inside.streams.entries c.args.stream.0 c.new-first.result (sym c.in_default.ensures.value)
+    first.parcels first.marks first.given_up in
+    subst (λ (s : Stream). (c.in_ok-added.added ≡ Forgotten → ⊥) → IsWithinEnd s (as_parcel c.args.parcel)) (sym was)
+    c.in_ok-added.ensures.within

@@ -3,12 +3,12 @@ use Rattle.std.proofs.lemmas.Bool.{false≢true, cases_lt}
 use Rattle.collector.proofs.CpuWalks.{Leaves, next_done, all_done}
 use Rattle.stream_collector.specs.declared.marks.Marks.{Marks}
 use Rattle.stream_collector.specs.Stream.{Stream, end_of}
-use Rattle.stream_collector.specs.Marking.{IsReached}
+use Rattle.stream_collector.specs.Marking.{IsNotOpen}
 use Rattle.stream_collector.proofs.MarkWalks.{HasMarks, all_marked, ended_marked}
 use Rattle.stream_collector.proofs.stream.StreamCollector.check_reach.Goals as goal
 
 abbrev IsWithin : Stream → Stream → ℕ → Type 0
-IsWithin s o cpu = (end n : ℕ) → end_of s cpu ≡ Some end → IsReached o cpu n → n < end
+IsWithin s o cpu = (end n : ℕ) → end_of s cpu ≡ Some end → IsNotOpen o cpu n → n < end
 
 pub loop-cpu-init : goal.loop-cpu-init
 loop-cpu-init c = subst (Leaves (HasMarks c.args.self.now.marks) (IsWithin c.args.self.now c.args.other.now))

@@ -1,7 +1,7 @@
 use Rattle.std.proofs.Common.{◌≡◌, ℕ, ◌<◌, Some, None, sym, ap, ◌∙◌, subst, rules, arith}
 use Rattle.stream_collector.specs.Stream.{Stream, end_of}
 use Rattle.stream_collector.specs.declared.marks.Marks.{Marks}
-use Rattle.stream_collector.specs.Marking.{IsReached, IsStanding, HasEnd}
+use Rattle.stream_collector.specs.Marking.{IsNotOpen, IsStanding, HasEnd}
 use Rattle.stream_collector.specs.Marks.{marks_at}
 use Rattle.stream_collector.proofs.WithinEnds.{ended_standing}
 use Rattle.stream_collector.proofs.stream.StreamCollector.set_end.Goals as goal
@@ -20,7 +20,7 @@ pub returns-in_err-set-clause-fault : goal.returns-in_err-set-clause-fault
 returns-in_err-set-clause-fault c =
     let none : end_of c.args.self.now c.args.cpu.0 ≡ None = ap (λ (m : Marks). m.end) (sym c.marks-marks.ensures)
     ∙ c.in-None.is in
-    let all : (n : ℕ) → IsReached c.args.self.now c.args.cpu.0 n → n < c.args.count.0 =
+    let all : (n : ℕ) → IsNotOpen c.args.self.now c.args.cpu.0 n → n < c.args.count.0 =
     λ n r. (let below = c.reach-reach.ensures.behind n r in omega arith) in
     search rules
 
