@@ -99,6 +99,7 @@ struct tracering_writer {
     size_t room;      // what tracering_writer_room answers
     uint64_t written; // how many records are complete
     struct tracering_refused refused;
+    uint64_t *region_ended; // where the ring's region says that the writer ended; null without one
 };
 
 struct tracering_reader {
@@ -106,6 +107,7 @@ struct tracering_reader {
     volatile sig_atomic_t in_call;
     const void *other;
     size_t room; // what tracering_reader_room answers
+    uint64_t *region_taken; // where the ring's region says what was taken; null without one
 };
 
 struct tracering_collector {
@@ -125,8 +127,8 @@ struct tracering_fleet {
 #define TRACERING_COLLECTOR_INIT {}
 #define TRACERING_FLEET_INIT {}
 #else
-#define TRACERING_WRITER_INIT {{0, 0}, 0, 0, 0, 0, 0, {0, 0, 0, 0, 0, 0}}
-#define TRACERING_READER_INIT {{0, 0}, 0, 0, 0}
+#define TRACERING_WRITER_INIT {{0, 0}, 0, 0, 0, 0, 0, {0, 0, 0, 0, 0, 0}, 0}
+#define TRACERING_READER_INIT {{0, 0}, 0, 0, 0, 0}
 #define TRACERING_COLLECTOR_INIT {{0, 0}, 0}
 #define TRACERING_FLEET_INIT {{0, 0}, 0}
 #endif
@@ -248,7 +250,8 @@ enum {
     TRACERING_BAD_MARK = 40,     // the mark has another length than its kind's, or says what none says
     TRACERING_BEYOND_END = 41,   // a number is at or beyond the end of its CPU
     TRACERING_OTHER_END = 42,    // the CPU has another end
-    TRACERING_NOT_FINAL = 43     // forget: a number below the bound neither has a record, nor is missing, nor given up
+    TRACERING_NOT_FINAL = 43,    // forget: a number below the bound neither has a record, nor is missing, nor given up
+    TRACERING_BAD_REGION = 44    // the memory is no region, or can't be one (tracering_region.h)
 };
 
 // A short text for what a call answered.
@@ -305,6 +308,7 @@ static inline const char *tracering_text(int32_t code)
     case TRACERING_BEYOND_END: return "a number is at or beyond the end of its CPU";
     case TRACERING_OTHER_END: return "the CPU has another end";
     case TRACERING_NOT_FINAL: return "a number below the bound neither has a record, nor is missing, nor given up";
+    case TRACERING_BAD_REGION: return "the memory is no region, or is too short, not aligned or in use";
     default: return "no call answers this";
     }
 }
@@ -475,6 +479,7 @@ static inline void tracering_forget(struct tracering_writer *w)
     w->closes = 0;
     w->other = NULL;
     w->room = 0;
+    w->region_ended = NULL;
     __atomic_store_n(&w->written, 0, __ATOMIC_RELAXED);
     __atomic_store_n(&w->refused.busy, 0, __ATOMIC_RELAXED);
     __atomic_store_n(&w->refused.too_deep, 0, __ATOMIC_RELAXED);
@@ -488,6 +493,43 @@ static inline void tracering_forget_reader(struct tracering_reader *r)
 {
     r->other = NULL;
     r->room = 0;
+    r->region_taken = NULL;
+}
+
+// Both ends of a ring that was made know each other.
+static inline void tracering_join(struct tracering_writer *w, struct tracering_reader *r, size_t size)
+{
+    w->other = r->held.at;
+    r->other = w->held.at;
+    w->room = r->room = TRACERING_HEADER + size;
+}
+
+// The parts of a call that a region is told (tracering_region.h): a ring without one skips them.
+// A ring's region says which record is the first that wasn't taken, after each page that is given.
+static inline void tracering_tell_taken(const struct tracering_reader *r, const struct tracering_taken *taken)
+{
+    if (r->region_taken)
+        __atomic_store_n(r->region_taken, taken->first + taken->count, __ATOMIC_RELEASE);
+}
+
+// It says that the writer ended with nothing begun, after the last page's close.
+static inline void tracering_tell_ended(struct tracering_writer *w)
+{
+    if (!w->region_ended || tracering_raw_depth(&w->held))
+        return;
+    if (tracering_raw_begin_close(&w->held) == TRACERING_DONE)
+        (void)tracering_raw_finish(&w->held);
+    __atomic_store_n(w->region_ended, 1, __ATOMIC_RELEASE);
+}
+
+// Both, after a settle, which gives the last page if that has a record.
+static inline void tracering_tell_settled(const struct tracering_writer *w, const struct tracering_reader *r,
+    const struct tracering_taken *taken)
+{
+    if (taken->len)
+        tracering_tell_taken(r, taken);
+    if (w->region_ended)
+        __atomic_store_n(w->region_ended, 1, __ATOMIC_RELEASE);
 }
 
 // Counts a record that is complete. Its call is still marked, so no handler counts amid it.
@@ -507,11 +549,8 @@ static inline int32_t tracering_new(struct tracering_writer *w, struct tracering
     if (!tracering_enter_both(&w->in_call, &r->in_call))
         return TRACERING_BUSY;
     int32_t code = tracering_raw_new(&w->held, &r->held, cpu, pages, size);
-    if (code == TRACERING_DONE) {
-        w->other = r->held.at;
-        r->other = w->held.at;
-        w->room = r->room = TRACERING_HEADER + size;
-    }
+    if (code == TRACERING_DONE)
+        tracering_join(w, r, size);
     return tracering_leave_both(&w->in_call, &r->in_call, code);
 }
 
@@ -700,7 +739,10 @@ static inline int32_t tracering_take(struct tracering_reader *r, void *out, size
         return TRACERING_NULL;
     if (!tracering_enter_end(&r->in_call))
         return TRACERING_BUSY;
-    int32_t code = tracering_leave_end(&r->in_call, tracering_raw_take(&r->held, (uint8_t *)out, room, taken));
+    int32_t code = tracering_raw_take(&r->held, (uint8_t *)out, room, taken);
+    if (code == TRACERING_DONE)
+        tracering_tell_taken(r, taken);
+    (void)tracering_leave_end(&r->in_call, code);
     if (code == TRACERING_DONE)
         TRACERING_WRITTEN(out, taken->len);
     return code;
@@ -737,6 +779,8 @@ static inline int32_t tracering_settle(struct tracering_writer *w, struct tracer
         return tracering_leave_both(&w->in_call, &r->in_call, TRACERING_OTHER_RING);
     TRACERING_HIDE();
     int32_t code = tracering_raw_settle(&w->held, &r->held, (uint8_t *)out, room, taken);
+    if (code == TRACERING_DONE)
+        tracering_tell_settled(w, r, taken);
     TRACERING_SHOW();
     (void)tracering_leave_both(&w->in_call, &r->in_call, code);
     if (code != TRACERING_DONE)
@@ -762,6 +806,7 @@ static inline int32_t tracering_writer_free(struct tracering_writer *w, uint64_t
         return TRACERING_NULL;
     if (!tracering_enter_end(&w->in_call))
         return TRACERING_BUSY;
+    tracering_tell_ended(w);
     uint64_t count = 0;
     int32_t code = tracering_leave_end(&w->in_call, tracering_raw_writer_free(&w->held, &count));
     if (code != TRACERING_DONE)
@@ -857,6 +902,8 @@ static inline int32_t tracering_collector_take(struct tracering_collector *c, st
         return TRACERING_BUSY;
     TRACERING_HIDE();
     int32_t code = tracering_raw_collector_take(&c->held, &r->held, taken, at);
+    if (code <= TRACERING_DONE)
+        tracering_tell_taken(r, taken);
     TRACERING_SHOW();
     return tracering_leave_both(&c->in_call, &r->in_call, code);
 }

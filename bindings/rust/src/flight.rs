@@ -11,12 +11,14 @@
 //! # }
 //! ```
 //!
-//! `tracering-flight show program.flight` prints the events by time, formatted, with each loss counted.
+//! `tracering-flight show program.flight` prints the events by time, formatted, with each loss counted. With a `file` in
+//! the configuration all events are there from the start on, after a kill, too.
 use std::ffi::{c_char, c_int, CString};
 use std::io;
 use std::mem::{size_of, MaybeUninit};
 use std::os::unix::ffi::OsStrExt;
 use std::path::Path;
+use std::ptr::null;
 use std::sync::atomic::{AtomicU16, AtomicU32, AtomicU64, AtomicU8, Ordering};
 
 /// How many arguments an event has at most.
@@ -40,7 +42,7 @@ pub enum Clock {
 
 /// What a recorder is made with. A number that is 0 stands for its default.
 #[derive(Clone, Copy, Debug, Default)]
-pub struct Config {
+pub struct Config<'path> {
     /// How many threads record at once (32).
     pub threads: u32,
     /// How many rings each thread has: what interrupts an event's writing goes to the next one (2).
@@ -57,6 +59,8 @@ pub struct Config {
     pub signal: c_int,
     /// How many milliseconds a dump waits for a thread's answer (100).
     pub wait_ms: u32,
+    /// The file in which all events are from the start on (none). What was there is named `PATH~`.
+    pub file: Option<&'path Path>,
 }
 
 #[repr(C)]
@@ -70,6 +74,7 @@ struct RawConfig {
     now: Option<extern "C" fn() -> u64>,
     signal: c_int,
     wait_ms: u32,
+    file: *const c_char,
 }
 
 extern "C" {
@@ -96,13 +101,15 @@ fn text(bytes: &[u8]) -> io::Result<CString> {
 
 /// Starts the recorder. All its memory is taken here.
 pub fn start(config: &Config) -> io::Result<()> {
-    let Config { threads, levels, pages, size, keep, clock, signal, wait_ms } = *config;
+    let Config { threads, levels, pages, size, keep, clock, signal, wait_ms, file } = *config;
     let (clock, now) = match clock {
         Clock::Monotonic => (0, None),
         Clock::Tsc => (1, None),
         Clock::Caller(now) => (2, Some(now)),
     };
-    done(unsafe { flight_start(&RawConfig { threads, levels, pages, size, keep, clock, now, signal, wait_ms }) })
+    let path = file.map(|file| text(file.as_os_str().as_bytes())).transpose()?;
+    let file = path.as_ref().map_or(null(), |path| path.as_ptr());
+    done(unsafe { flight_start(&RawConfig { threads, levels, pages, size, keep, clock, now, signal, wait_ms, file }) })
 }
 
 /// Stops the recorder, and releases its memory.
@@ -205,7 +212,8 @@ pub struct Place {
     sites: [Site; MOST_LISTS],
     /// The kinds of each site, with CLAIMED, and with STATED once the site has them. 0: it is free.
     lists: [AtomicU64; MOST_LISTS],
-    /// The site for all further lists. Its events are recorded without their arguments.
+    /// The site for all further lists. Its events are recorded without their arguments. It is asked whether the place
+    /// is on: it becomes known to the recorder first, and its kinds are known by then.
     bare: Site,
 }
 
@@ -224,7 +232,7 @@ impl Place {
     /// Whether the place records. All its sites are switched at once, since they have the same texts.
     #[inline]
     pub fn is_on(&'static self) -> bool {
-        self.sites[0].is_on()
+        self.bare.is_on()
     }
 
     /// The site of this list of kinds, if there is one.

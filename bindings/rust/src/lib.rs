@@ -9,14 +9,17 @@
 //! when they are settled: both carry its number. What a writer refuses, it answers to its caller, so nothing counts it.
 mod fleet;
 pub mod flight;
+pub mod region;
 
 pub use fleet::{pack, pack_end, Added, Cpus, CpuState, Fleet, FleetLine, Lines, Refusal, StreamFault, Streams, MARK};
 
+use region::Region;
 use std::error::Error;
 use std::fmt;
 use std::os::raw::c_void;
 use std::ptr::null_mut;
 use std::sync::atomic::{AtomicU64, Ordering};
+use std::sync::Arc;
 
 #[cfg(not(all(target_pointer_width = "64", target_endian = "little")))]
 compile_error!("tracering: the library is made for little-endian machines with 64-bit pointers, and this one isn't");
@@ -102,15 +105,17 @@ pub enum Fault {
     BeyondEnd,
     OtherEnd,
     NotFinal,
+    /// The memory is no region, or is too short, not aligned or in use.
+    BadRegion,
 }
 
-const FAULTS: [Fault; 43] = {
+const FAULTS: [Fault; 44] = {
     use Fault::*;
     [
         TooDeep, TooLong, LateMoment, Crowded, Worn, NoFrame, NotReserved, Absent, InUse, Busy, Null, NoMemory, BadSize,
         BadCpu, Empty, Moving, NoRoom, NotAtRest, Unread, TooShort, BadImageSize, BadCount, Cut, BadLength,
         TimeOverflow, NumberOverflow, MissedTooMany, MissedDiffers, Clash, TakenAndMissing, End, OtherRing, NotPacked,
-        PieceCut, BadVersion, BadPieceLength, BadSum, BadKind, Loose, BadMark, BeyondEnd, OtherEnd, NotFinal,
+        PieceCut, BadVersion, BadPieceLength, BadSum, BadKind, Loose, BadMark, BeyondEnd, OtherEnd, NotFinal, BadRegion,
     ]
 };
 
@@ -156,11 +161,11 @@ extern "C" {
     fn tracering_raw_collector_free(c: *mut Handle) -> i32;
 }
 
-/// The end at which records are written, its ring's number, and how many of its records are open. A drop frees it as
-/// `free` does, so that the reader can take all records.
-pub struct Writer(Handle, u64, usize);
-/// The end at which pages are taken, its ring's number, and how many bytes a parcel of it has room for.
-pub struct Reader(Handle, u64, usize);
+/// The end at which records are written, its ring's number, how many of its records are open, and the region in which
+/// its pages lie, if they do. A drop frees it as `free` does, so that the reader can take all records.
+pub struct Writer(Handle, u64, usize, Option<Arc<Region>>);
+/// The end at which pages are taken, its ring's number, how many bytes a parcel of it has room for, and its region.
+pub struct Reader(Handle, u64, usize, Option<Arc<Region>>);
 /// A record that is reserved and not ended: its slot is lent. Others may be written meanwhile, by `nested`; it ends
 /// when this is dropped. If this is forgotten instead (`std::mem::forget`), it ends when the writer, or the record that
 /// it is nested in, is used or dropped next. (The number is how many records are open up to this one.)
@@ -187,12 +192,17 @@ impl fmt::Debug for Reader {
     }
 }
 
-/// The two ends of a new ring of this CPU, of `pages` pages of `size` bytes of data each.
-pub fn ring(cpu: u32, pages: usize, size: usize) -> Result<(Writer, Reader), Fault> {
+/// Ends that are to be those of one ring.
+fn no_ends(size: usize) -> (Writer, Reader) {
     static RINGS: AtomicU64 = AtomicU64::new(0);
     let none = || Handle { at: null_mut(), live: false };
     let number = RINGS.fetch_add(1, Ordering::Relaxed);
-    let (mut w, mut r) = (Writer(none(), number, 0), Reader(none(), number, HEADER.saturating_add(size)));
+    (Writer(none(), number, 0, None), Reader(none(), number, HEADER.saturating_add(size), None))
+}
+
+/// The two ends of a new ring of this CPU, of `pages` pages of `size` bytes of data each.
+pub fn ring(cpu: u32, pages: usize, size: usize) -> Result<(Writer, Reader), Fault> {
+    let (mut w, mut r) = no_ends(size);
     done(unsafe { tracering_raw_new(&mut w.0, &mut r.0, cpu, pages, size) }).map(|()| (w, r))
 }
 
@@ -205,6 +215,12 @@ pub fn settle(mut w: Writer, mut r: Reader, out: &mut [u8]) -> Result<Taken, (Wr
     w.complete_above(0);
     let mut taken = Taken::default();
     let code = unsafe { tracering_raw_settle(&mut w.0, &mut r.0, out.as_mut_ptr(), out.len(), &mut taken) };
+    if code == 0 {
+        if taken.len > 0 {
+            r.tell_taken(&taken);
+        }
+        w.tell_ended();
+    }
     done(code).map(|()| taken).map_err(|fault| (w, r, fault))
 }
 
@@ -233,9 +249,20 @@ impl Writer {
 
     fn free_end(&mut self) -> u64 {
         self.complete_above(0);
+        if self.0.live && self.3.is_some() {
+            let _refusal = self.close();
+            self.tell_ended();
+        }
         let mut lost = 0;
         let _code = unsafe { tracering_raw_writer_free(&mut self.0, &mut lost) };
         lost
+    }
+
+    /// The region says that nothing follows, if there is one.
+    fn tell_ended(&self) {
+        if let Some(region) = &self.3 {
+            region.tell(region::ENDED, 1);
+        }
     }
 
     /// Copies the page that is written to the front of `out`, as a parcel, and closes nothing; or nothing, if the page
@@ -340,7 +367,16 @@ impl Reader {
     /// goes to the front of `out`.
     pub fn take(&mut self, out: &mut [u8]) -> Result<Taken, Fault> {
         let mut taken = Taken::default();
-        done(unsafe { tracering_raw_take(&mut self.0, out.as_mut_ptr(), out.len(), &mut taken) }).map(|()| taken)
+        done(unsafe { tracering_raw_take(&mut self.0, out.as_mut_ptr(), out.len(), &mut taken) })?;
+        self.tell_taken(&taken);
+        Ok(taken)
+    }
+
+    /// The region says what was taken, if there is one.
+    fn tell_taken(&self, taken: &Taken) {
+        if let Some(region) = &self.3 {
+            region.tell(region::TAKEN, taken.first + taken.count);
+        }
     }
 
     /// Wishes for the page that is written to be closed.
@@ -418,7 +454,9 @@ impl Collector {
     pub fn take(&mut self, reader: &mut Reader) -> Result<(Taken, bool), (Fault, FaultAt)> {
         let (mut taken, mut at) = (Taken::default(), FaultAt::default());
         let code = unsafe { tracering_raw_collector_take(&mut self.0, &mut reader.0, &mut taken, &mut at) };
-        done(code).map(|()| (taken, code == 0)).map_err(|fault| (fault, at))
+        done(code).map_err(|fault| (fault, at))?;
+        reader.tell_taken(&taken);
+        Ok((taken, code == 0))
     }
 
     /// The runs of a CPU's missing numbers.

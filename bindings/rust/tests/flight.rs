@@ -73,8 +73,9 @@ fn assert_kinds(lines: &[String]) {
 #[test]
 fn events_come_out_as_they_are_formatted() {
     let dump = temp_dir().join(format!("tracering-flight-{}", id()));
+    let file = dump.with_extension("file");
     trace!("before the start, {}", 1);
-    flight::start(&Config { threads: 4, clock: Clock::Tsc, ..Default::default() }).unwrap();
+    flight::start(&Config { threads: 4, clock: Clock::Tsc, file: Some(&file), ..Default::default() }).unwrap();
     assert!(flight::start(&Config::default()).is_err());
     flight::name("main thread").unwrap();
 
@@ -103,8 +104,10 @@ fn events_come_out_as_they_are_formatted() {
     threads.into_iter().for_each(|thread| thread.join().unwrap());
     trace_names();
 
+    let of_file = shown(&file);
     flight::dump(&dump).unwrap();
     let lines = shown(&dump);
+    assert_eq!(of_file[1..], lines[1..]);
     assert_kinds(&lines);
     assert!(lines.iter().any(|line| line.ends_with("] names 3 a place 4 5")));
     let of_main: Vec<_> = lines.iter().filter_map(|line| line.split_once("main thread[")?.1.split_once("] ")).collect();
@@ -129,4 +132,5 @@ fn events_come_out_as_they_are_formatted() {
     }
     assert!(flight::dump("/no/such/folder/dump").is_err());
     std::fs::remove_file(dump).unwrap();
+    std::fs::remove_file(file).unwrap();
 }

@@ -1,0 +1,166 @@
+// Where the bodies of a ring's pages lie: in malloc's memory, or in a region.
+//
+// tracering-lib renames the calls of memory that the library's proved code makes to those below. While a thread makes a
+// ring in a region, each body that it takes is the region's next slot; all else goes on to the kit's own calls. What is
+// released is looked up among the regions that have bodies, if there is one: a plain program pays one load for that.
+#include "heap.h"
+
+#include <stdatomic.h>
+#include <stdlib.h>
+#include <string.h>
+
+// The kit's own calls.
+struct given rattle_alloc(size_t size, size_t align);
+struct given rattle_realloc(void *at, size_t old_size, size_t size, size_t align);
+void rattle_dealloc(void *at, size_t size, size_t align);
+
+// A region that has bodies, or an entry that another one may use. Entries are never released, so that a thread which
+// looks at them needs no lock. Of one that is being changed, or was, nobody holds a body.
+struct home {
+    struct home *next;
+    _Atomic uint64_t changes; // odd amid a change of the two below
+    _Atomic uintptr_t begin, end;
+    _Atomic size_t holders; // the bodies, and who is filling the region; 0: the entry is free
+};
+
+static _Atomic(struct home *) homes;
+// How many regions have bodies.
+static _Atomic size_t lived_in;
+
+static _Thread_local __attribute__((tls_model("initial-exec"))) struct filling *current;
+
+// The stores are seen in this order.
+static void set_bounds(struct home *home, uintptr_t begin, uintptr_t end)
+{
+    uint64_t changes = atomic_load_explicit(&home->changes, memory_order_relaxed);
+    atomic_store_explicit(&home->changes, changes + 1, memory_order_relaxed);
+    atomic_store_explicit(&home->begin, begin, memory_order_release);
+    atomic_store_explicit(&home->end, end, memory_order_release);
+    atomic_store_explicit(&home->changes, changes + 2, memory_order_release);
+}
+
+// Whether it has a byte between the two. Of an entry that is changed meanwhile it is not known, and no.
+static bool touches(struct home *home, uintptr_t begin, uintptr_t end)
+{
+    uint64_t changes = atomic_load_explicit(&home->changes, memory_order_acquire);
+    uintptr_t first = atomic_load_explicit(&home->begin, memory_order_acquire);
+    uintptr_t after = atomic_load_explicit(&home->end, memory_order_acquire);
+    bool is_stable = !(changes & 1) && atomic_load_explicit(&home->changes, memory_order_relaxed) == changes;
+    return is_stable && first < end && begin < after;
+}
+
+static struct home *find(uintptr_t begin, uintptr_t end, const struct home *but)
+{
+    struct home *home = atomic_load_explicit(&homes, memory_order_acquire);
+    while (home && (home == but || !touches(home, begin, end)))
+        home = home->next;
+    return home;
+}
+
+// An entry of which nobody else knows, held once.
+static struct home *claim(void)
+{
+    for (struct home *home = atomic_load_explicit(&homes, memory_order_acquire); home; home = home->next) {
+        size_t none = 0;
+        if (atomic_compare_exchange_strong(&home->holders, &none, 1))
+            return home;
+    }
+    struct home *home = calloc(1, sizeof *home);
+    if (!home)
+        return NULL;
+    atomic_init(&home->holders, 1);
+    home->next = atomic_load(&homes);
+    while (!atomic_compare_exchange_weak(&homes, &home->next, home)) {
+    }
+    return home;
+}
+
+// One holder less. The last one is alone with the entry.
+static void leave(struct home *home)
+{
+    size_t holders = atomic_load(&home->holders);
+    while (holders > 1)
+        if (atomic_compare_exchange_weak(&home->holders, &holders, holders - 1))
+            return;
+    set_bounds(home, 0, 0);
+    atomic_fetch_sub(&lived_in, 1);
+    atomic_store(&home->holders, 0);
+}
+
+bool tracering_heap_is_lived_in(const void *begin, size_t len)
+{
+    return atomic_load(&lived_in) && find((uintptr_t)begin, (uintptr_t)begin + len, NULL);
+}
+
+int tracering_heap_begin(struct filling *filling, void *begin, size_t len)
+{
+    struct home *home = claim();
+    if (!home)
+        return 0;
+    set_bounds(home, (uintptr_t)begin, (uintptr_t)begin + len);
+    // (Of two threads that fill the same memory, the one that counts itself later sees the other.)
+    atomic_fetch_add(&lived_in, 1);
+    if (find((uintptr_t)begin, (uintptr_t)begin + len, home)) {
+        leave(home);
+        return -1;
+    }
+    filling->home = home;
+    current = filling;
+    return 1;
+}
+
+void tracering_heap_end(struct filling *filling)
+{
+    current = NULL;
+    leave(filling->home);
+}
+
+// The next slot, if a body is what is asked for. (No other text of one byte's alignment has exactly that length.)
+static void *next_slot(size_t size, size_t align)
+{
+    struct filling *filling = current;
+    if (!filling || align != 1 || size != filling->body || !filling->left)
+        return NULL;
+    void *slot = filling->next;
+    filling->next += filling->stride;
+    filling->left--;
+    atomic_fetch_add(&filling->home->holders, 1);
+    memset(slot, 0, filling->stride);
+    return slot;
+}
+
+static struct home *home_of(const void *at)
+{
+    if (!atomic_load_explicit(&lived_in, memory_order_relaxed))
+        return NULL;
+    return find((uintptr_t)at, (uintptr_t)at + 1, NULL);
+}
+
+struct given tracering_heap_alloc(size_t size, size_t align)
+{
+    void *slot = current ? next_slot(size, align) : NULL;
+    return slot ? (struct given){1, slot} : rattle_alloc(size, align);
+}
+
+void tracering_heap_dealloc(void *at, size_t size, size_t align)
+{
+    struct home *home = home_of(at);
+    if (home)
+        leave(home);
+    else
+        rattle_dealloc(at, size, align);
+}
+
+// (No body grows. If one did, it would move to malloc's memory.)
+struct given tracering_heap_realloc(void *at, size_t old_size, size_t size, size_t align)
+{
+    struct home *home = home_of(at);
+    if (!home)
+        return rattle_realloc(at, old_size, size, align);
+    struct given moved = rattle_alloc(size, align);
+    if (moved.is_given) {
+        memcpy(moved.at, at, old_size < size ? old_size : size);
+        leave(home);
+    }
+    return moved;
+}
