@@ -6,7 +6,6 @@
 #include <stdio.h>
 #include <stdlib.h>
 #include <sys/mman.h>
-#include <sys/stat.h>
 #include <ucontext.h>
 
 // ---- The file. After a write that fails nothing more is written. (The C library's open, write and close would end a
@@ -158,7 +157,7 @@ static void put_ring(uint32_t number, uint32_t level, const struct ring *ring, c
 static void put_slot(struct slot *slot)
 {
     struct leases leases;
-    if (!__atomic_load_n(&slot->leases.count, __ATOMIC_SEQ_CST))
+    if (!__atomic_load_n(&slot->noted->leases.count, __ATOMIC_SEQ_CST))
         return;
     flight_gather(slot);
     flight_copy_leases(&leases, slot);
@@ -246,6 +245,9 @@ static int write_dump(const char *path, int signal)
 {
     struct stat found;
     bool is_there = !stat(path, &found);
+    const struct stat *own = flight_recorder.file ? &flight_recorder.file_found : NULL;
+    if (is_there && own && found.st_dev == own->st_dev && found.st_ino == own->st_ino)
+        return EEXIST;
     if (!is_there || S_ISREG(found.st_mode))
         return write_new(path, is_there, signal);
     int file = open_file(path, 0);

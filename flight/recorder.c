@@ -42,27 +42,36 @@ static void begin_lease(struct slot *slot)
     else
         (void)prctl(PR_GET_NAME, name);
     memcpy(lease.name, name, sizeof name);
-    uint64_t count = __atomic_load_n(&slot->leases.count, __ATOMIC_RELAXED);
-    if (count && !memcmp(slot->leases.of[(count - 1) % LEASES].first, lease.first, sizeof lease.first))
+    struct noted *noted = slot->noted;
+    uint64_t count = __atomic_load_n(&noted->leases.count, __ATOMIC_RELAXED), version = noted->version;
+    if (count && !memcmp(noted->leases.of[(count - 1) % LEASES].first, lease.first, sizeof lease.first))
         count--;
-    __atomic_store_n(&slot->lease_version, slot->lease_version + 1, __ATOMIC_SEQ_CST);
-    copy_words((uint64_t *)&slot->leases.of[count % LEASES], (const uint64_t *)&lease, sizeof lease / 8);
-    __atomic_store_n(&slot->leases.count, count + 1, __ATOMIC_RELAXED);
-    __atomic_store_n(&slot->lease_version, slot->lease_version + 1, __ATOMIC_SEQ_CST);
+    __atomic_store_n(&noted->version, changing_version(version, count % LEASES), __ATOMIC_SEQ_CST);
+    copy_words((uint64_t *)&noted->leases.of[count % LEASES], (const uint64_t *)&lease, sizeof lease / 8);
+    __atomic_store_n(&noted->leases.count, count + 1, __ATOMIC_RELAXED);
+    __atomic_store_n(&noted->version, next_version(version), __ATOMIC_SEQ_CST);
+    flight_stamp();
 }
 
 // Copies the leases of a slot. If its thread is halted while it changes them, they are as they are.
 void flight_copy_leases(struct leases *to, const struct slot *slot)
 {
     for (int tries = 0; tries < 10000; tries++) {
-        uint32_t version = load(&slot->lease_version);
-        copy_words((uint64_t *)to, (const uint64_t *)&slot->leases, LEASE_WORDS);
-        if (!(version & 1) && version == load(&slot->lease_version))
+        uint64_t version = __atomic_load_n(&slot->noted->version, __ATOMIC_SEQ_CST);
+        copy_words((uint64_t *)to, (const uint64_t *)&slot->noted->leases, LEASE_WORDS);
+        if (!(version & 1) && version == __atomic_load_n(&slot->noted->version, __ATOMIC_SEQ_CST))
             return;
     }
 }
 
 // ---- Slots.
+
+void flight_count_without_ring(void)
+{
+    (void)__atomic_fetch_add(&flight_recorder.without_ring, 1, __ATOMIC_RELAXED);
+    if (flight_recorder.file)
+        (void)__atomic_fetch_add(flight_recorder.file + FILE_WITHOUT_RING, 1, __ATOMIC_RELAXED);
+}
 
 // Hands back a slot, as the one that is to be claimed after all that are free now.
 void flight_hand_back(struct slot *slot)
@@ -139,7 +148,7 @@ static __attribute__((noinline, cold)) struct slot *enter(void)
     }
     struct slot *slot = longest_free(&is_held) || is_held ? get_slot(number) : NULL;
     if (!slot)
-        (void)__atomic_fetch_add(&flight_recorder.without_ring, 1, __ATOMIC_RELAXED);
+        flight_count_without_ring();
     errno = before;
     return slot;
 }
@@ -170,12 +179,13 @@ void flight_record(const struct flight_site *site, uint8_t *event, size_t len)
     struct slot *slot = own_slot();
     if (!slot)
         return;
-    uint32_t id = __atomic_load_n(&site->id, __ATOMIC_RELAXED);
+    uint32_t id = __atomic_load_n(&site->id, __ATOMIC_ACQUIRE);
     memcpy(event, &id, sizeof id);
     struct ring *ring = slot->rings;
     for (uint32_t level = 1; ring->writer.in_call && level < flight_recorder.config.levels; level++)
         ring++;
-    (void)tracering_write(&ring->writer, flight_moment(), event, len);
+    if (__builtin_expect(tracering_write(&ring->writer, flight_moment(), event, len) != TRACERING_DONE, false))
+        flight_note_refused();
 }
 
 int flight_name(const char *name)
@@ -209,6 +219,7 @@ static void start_child(void)
     __atomic_store_n(&flight_is_dumping, 0, __ATOMIC_SEQ_CST);
     __atomic_store_n(&flight_inside, 0, __ATOMIC_SEQ_CST);
     flight_recorder.memory = NULL;
+    flight_leave_file();
     (void)pthread_mutex_init(&flight_lock, NULL);
 }
 
@@ -237,6 +248,8 @@ static struct flight_config with_defaults(const struct flight_config *given)
     config.size += config.size ? 0 : 4080;
     config.wait_ms += config.wait_ms ? 0 : 100;
     config.signal += config.signal ? 0 : SIGRTMAX - 1;
+    if (config.file && !config.file[0])
+        config.file = NULL;
     if (config.keep == FLIGHT_KEEP_NONE)
         config.keep = 0;
     else if (!config.keep)
@@ -257,23 +270,27 @@ static bool is_in_range(const struct flight_config *config)
         && !flight_is_of_crash(config->signal);
 }
 
-// Lays out the memory of a recorder: the slots, the kept pages, their parcels, and those of the pages that are written.
+// Lays out the memory of a recorder: the slots, what is noted of them, the kept pages, their parcels, and those of the
+// pages that are written.
 static int get_memory(void)
 {
     struct recorder *it = &flight_recorder;
-    size_t levels = it->config.levels, slots = it->config.threads * sizeof *it->slots;
+    size_t levels = it->config.levels, threads = it->config.threads, slots = threads * sizeof *it->slots;
     it->room = it->config.keep;
     for (uint32_t level = 0; level < levels; level++)
         it->room += pages_of(level) + 1;
     it->parcel_size = TRACERING_HEADER + (it->config.size + 7) / 8 * 8;
     size_t kept = it->room * sizeof *it->kept, parcels = it->room * it->parcel_size;
-    it->memory_len = slots + kept + parcels + levels * it->parcel_size;
+    size_t noted = threads * sizeof(struct noted);
+    it->memory_len = slots + noted + kept + parcels + levels * it->parcel_size;
     it->memory = mmap(NULL, it->memory_len, PROT_READ | PROT_WRITE, MAP_PRIVATE | MAP_ANONYMOUS, -1, 0);
     if (it->memory == MAP_FAILED)
         return ENOMEM;
     it->slots = (struct slot *)it->memory;
-    it->kept = (struct kept *)((uint8_t *)it->memory + slots);
-    it->parcels = (uint8_t *)it->memory + slots + kept;
+    for (size_t slot = 0; slot < threads; slot++)
+        it->slots[slot].noted = (struct noted *)((uint8_t *)it->memory + slots) + slot;
+    it->kept = (struct kept *)((uint8_t *)it->memory + slots + noted);
+    it->parcels = (uint8_t *)it->memory + slots + noted + kept;
     it->tails = it->parcels + parcels;
     return 0;
 }
@@ -290,6 +307,18 @@ static void release_memory(void)
     flight_recorder.memory = NULL;
 }
 
+// Makes a ring: in the recorder's file, if it has one.
+static int32_t make_ring(struct ring *ring, uint32_t number, uint32_t pages)
+{
+    uint32_t size = flight_recorder.config.size;
+    size_t len;
+    if (!flight_recorder.file)
+        return tracering_new(&ring->writer, &ring->reader, number, pages, size);
+    void *region = flight_region_of(number, &len);
+    return tracering_new_in(&ring->writer, &ring->reader, number, pages, size, flight_recorder.started_real, region,
+        len);
+}
+
 // Makes the rings of all slots. What was made before one that isn't is released with the memory.
 static int make_rings(void)
 {
@@ -297,8 +326,7 @@ static int make_rings(void)
     for (uint32_t number = 0; number < flight_recorder.config.threads * levels; number++) {
         struct ring *ring = &flight_recorder.slots[number / levels].rings[number % levels];
         ring->first = ring->last = NO_PAGE;
-        if (tracering_new(&ring->writer, &ring->reader, number, pages_of(number % levels), flight_recorder.config.size)
-            != TRACERING_DONE)
+        if (make_ring(ring, number, pages_of(number % levels)) != TRACERING_DONE)
             return ENOMEM;
     }
     return 0;
@@ -328,19 +356,25 @@ static int start(const struct flight_config *config)
 {
     memset(&flight_recorder, 0, sizeof flight_recorder);
     flight_recorder.config = *config;
+    flight_recorder.config.file = NULL; // the caller's, for so long
+    strncpy(flight_recorder.program, program_invocation_short_name, sizeof flight_recorder.program - 1);
+    flight_recorder.started = flight_moment();
+    flight_recorder.started_real = nanoseconds(CLOCK_REALTIME);
     int fault = get_memory();
     if (fault)
         return fault;
-    fault = make_rings();
+    if (config->file)
+        fault = flight_make_file(config->file);
+    if (!fault)
+        fault = make_rings();
     if (!fault)
         fault = install_request();
     if (fault) {
         release_memory();
+        flight_drop_file(config->file);
         return fault;
     }
-    strncpy(flight_recorder.program, program_invocation_short_name, sizeof flight_recorder.program - 1);
-    flight_recorder.started = flight_moment();
-    flight_recorder.started_real = nanoseconds(CLOCK_REALTIME);
+    flight_begin_file();
     last_running += last_running == UINT32_MAX ? 2 : 1;
     __atomic_store_n(&flight_running, last_running, __ATOMIC_SEQ_CST);
     return 0;
@@ -349,13 +383,16 @@ static int start(const struct flight_config *config)
 int flight_start(const struct flight_config *given)
 {
     struct flight_config config = with_defaults(given);
-    int before = errno;
+    int before = errno, cancelled;
     if (!is_in_range(&config))
         return EINVAL;
     (void)pthread_once(&once, start_process);
+    // (A thread that is to be cancelled would end where it opens the file.)
+    (void)pthread_setcancelstate(PTHREAD_CANCEL_DISABLE, &cancelled);
     (void)pthread_mutex_lock(&flight_lock);
     int fault = load(&flight_running) ? EALREADY : no_key ? no_key : start(&config);
     (void)pthread_mutex_unlock(&flight_lock);
+    (void)pthread_setcancelstate(cancelled, NULL);
     errno = before;
     return fault;
 }
@@ -385,6 +422,7 @@ static int stop(void)
     flight_forget_crashes();
     remove_request();
     release_memory();
+    flight_end_file();
     return 0;
 }
 

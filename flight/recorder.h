@@ -3,7 +3,7 @@
 #ifndef RECORDER_H
 #define RECORDER_H
 
-#include "tracering.h"
+#include "layout.h"
 #include "tracering_flight.h"
 
 #include <errno.h>
@@ -11,6 +11,7 @@
 #include <linux/futex.h>
 #include <pthread.h>
 #include <signal.h>
+#include <sys/stat.h>
 #include <sys/syscall.h>
 #include <time.h>
 #include <unistd.h>
@@ -21,13 +22,13 @@
 #pragma GCC visibility push(hidden)
 
 enum {
-    MOST_RINGS = 256,
-    MOST_LEVELS = 4,
+    MOST_RINGS = FILE_MOST_RINGS,
+    MOST_LEVELS = FILE_MOST_LEVELS,
     MOST_SITES = 1 << 16,
     MOST_KEPT = 1 << 24,
-    LATER_PAGES = 2, // of a ring of level 1 and above
-    LEASES = 8,      // that are kept of each slot
-    NAME_SIZE = 64,  // a thread's name and a zero
+    LATER_PAGES = FILE_LATER_PAGES, // of a ring of level 1 and above
+    LEASES = SLOT_MOST_LEASES,      // that are kept of each slot
+    NAME_SIZE = FILE_NAME_SIZE,     // a thread's name and a zero
     OUTPUT_SIZE = 1 << 16,
     STACK_SIZE = 1 << 16,  // of the alternate stack that a thread gets
     LEAST_STACK = 1 << 14, // of its own, which is left to it: a quarter of that is too little for a dump
@@ -61,6 +62,16 @@ struct leases {
 
 enum { LEASE_WORDS = sizeof(struct leases) / 8 };
 
+// What is noted of a slot: in the recorder's file, if it has one.
+struct noted {
+    uint64_t version; // of the leases: odd while one of them changes (layout.h)
+    struct leases leases;
+    uint64_t refused[MOST_LEVELS][SLOT_REASONS]; // in a file alone
+    uint64_t zeros[6];
+};
+
+_Static_assert(sizeof(struct noted) == SLOT_BYTES, "a slot of a flight file has another length");
+
 // Who has a slot: a thread, by its number, or one of these.
 #define NOBODY 0
 #define DUMPER UINT32_MAX
@@ -81,9 +92,8 @@ struct slot {
     uint32_t owner;
     uint32_t request;
     uint32_t signalled; // the owner that was sent the dump's signal, until it arrives
-    uint32_t lease_version; // odd while the leases are changed
-    uint64_t freed;         // by how many returns of slots it was handed back
-    struct leases leases;
+    uint64_t freed;     // by how many returns of slots it was handed back
+    struct noted *noted;
 } __attribute__((aligned(128)));
 
 // What became of the page that is written, as dumps have it.
@@ -119,6 +129,9 @@ struct recorder {
     void *memory;
     size_t memory_len;
     struct slot *slots;
+    uint64_t *file; // the header of its file, which is mapped; null: it has none
+    size_t file_len;
+    struct stat file_found; // the file, so that no dump takes its place
     // What follows belongs to the thread that dumps, and to the one that answers it: the kept pages are a queue of
     // `room` places, and `used` of them from `begin` on are filled.
     struct kept *kept;
@@ -158,6 +171,8 @@ void flight_answer(struct slot *slot);
 void flight_hand_back(struct slot *slot);
 // Drops the oldest pages that are more than are to be kept.
 void flight_drop_pages(void);
+// Counts an event that found no ring.
+void flight_count_without_ring(void);
 // Copies the leases of a slot.
 void flight_copy_leases(struct leases *to, const struct slot *slot);
 // The handler of the signal by which a dump asks.
@@ -166,6 +181,27 @@ void flight_on_request(int signal);
 bool flight_is_of_crash(int signal);
 // What SIGSEGV and others did before, is done again.
 void flight_forget_crashes(void);
+
+// ---- The recorder's file. Without one these do nothing.
+
+// Makes the file at this path, with a header that has no magic yet, and lets the slots note there.
+int flight_make_file(const char *path);
+// Where the region of a ring is, by its number.
+void *flight_region_of(uint32_t number, size_t *len);
+// Puts what is known into the header, and all sites, and then the magic: from now on this is a flight file.
+void flight_begin_file(void);
+// Marks its end, and lets go of it.
+void flight_end_file(void);
+// Lets go of a file that wasn't begun, and removes it.
+void flight_drop_file(const char *path);
+// A forked child's memory is its own from now on.
+void flight_leave_file(void);
+// Stores what both clocks say now.
+void flight_stamp(void);
+// Puts a site there, before any event has its id. May be called in handlers.
+void flight_put_site(uint32_t id, const struct flight_site *site);
+// Notes how many events the rings of the calling thread, which has a slot, refused.
+void flight_note_refused(void);
 
 // ---- Clocks, signals, words that threads share, and waiting.
 

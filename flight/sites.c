@@ -248,7 +248,8 @@ static void find_limits(struct flight_site *site)
     }
 }
 
-// A site gets its id, from which a dump finds it, before any event has that. (Two threads may both give it one.)
+// A site gets its id, from which a dump finds it, and is in the file before any event has that. (Two threads may both
+// give it one.)
 bool flight_register(struct flight_site *site)
 {
     if (!load(&flight_running))
@@ -256,13 +257,15 @@ bool flight_register(struct flight_site *site)
     uint32_t id = load(&flight_site_count);
     do {
         if (id >= MOST_SITES) {
-            (void)__atomic_fetch_add(&flight_recorder.without_ring, 1, __ATOMIC_RELAXED);
+            flight_count_without_ring();
             return false;
         }
     } while (!__atomic_compare_exchange_n(&flight_site_count, &id, id + 1, false, __ATOMIC_SEQ_CST, __ATOMIC_SEQ_CST));
     find_limits(site);
     __atomic_store_n(&flight_sites[id], site, __ATOMIC_SEQ_CST);
-    __atomic_store_n(&site->id, id, __ATOMIC_RELAXED);
+    flight_put_site(id, site);
+    flight_stamp();
+    __atomic_store_n(&site->id, id, __ATOMIC_RELEASE);
     return apply_rules(site);
 }
 

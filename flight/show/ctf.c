@@ -103,6 +103,8 @@ static void add_environment(struct text *text, const struct process *process)
     add_quoted(text, process->name);
     add_format(text, ";\n    pid = %u;\n    dumped_by = %u;\n    signal = %u;\n", process->pid, process->tid,
         process->signal);
+    if (process->is_file)
+        add_format(text, "    stopped = %d;\n    inexact = %d;\n", process->has_ended, process->is_inexact);
     add_string(text, "    events_without_ring = ");
     add_format(text, "%" PRIu64 ";\n};\n", process->no_ring & INT64_MAX);
     add_string(text, "clock {\n    name = flight;\n    freq = 1000000000;\n");

@@ -1,19 +1,10 @@
-#include "dump.h"
+#include "cursor.h"
 #include "text.h"
 
-#include <stdarg.h>
-#include <stdio.h>
 #include <stdlib.h>
 #include <string.h>
 
 enum { HEAD = 16, SECTION_HEAD = 16, VERSION = 1, LEAST_LEASE = 16 };
-
-// Where the reading is: in the whole file, or in one section.
-struct cursor {
-    const uint8_t *file;
-    size_t at, end;
-    struct fault *fault;
-};
 
 struct section {
     const uint8_t *kind;
@@ -26,48 +17,15 @@ struct progress {
     bool process, pages, sites, ends; // `pages`: a page may come
 };
 
-static __attribute__((format(printf, 3, 4))) bool refuse(struct cursor *c, size_t offset, const char *format, ...)
-{
-    va_list values;
-    va_start(values, format);
-    vsnprintf(c->fault->text, sizeof c->fault->text, format, values);
-    va_end(values);
-    c->fault->offset = offset;
-    return false;
-}
-
-// The next `len` bytes, or null: there are fewer.
-static const uint8_t *take(struct cursor *c, size_t len, const char *what)
-{
-    if (c->end - c->at < len) {
-        refuse(c, c->at, "%zu bytes are expected (%s), and %zu are left", len, what, c->end - c->at);
-        return NULL;
-    }
-    c->at += len;
-    return c->file + c->at - len;
-}
-
-static bool take_text(struct cursor *c, const char *what, struct bytes *text)
-{
-    const uint8_t *len = take(c, 4, what);
-    if (!len)
-        return false;
-    text->len = number32_at(len);
-    if (text->len > LONGEST_TEXT)
-        return refuse(c, c->at - 4, "at most %d bytes are expected (%s), and not %zu", LONGEST_TEXT, what, text->len);
-    text->at = take(c, text->len, what);
-    return text->at != NULL;
-}
-
 static bool read_process(struct cursor *c, struct process *process)
 {
     size_t begin = c->at;
     const uint8_t *at = take(c, 56, "process");
     if (!at)
         return false;
-    *process = (struct process){number32_at(at), number32_at(at + 4), number32_at(at + 8), number32_at(at + 12),
-        number64_at(at + 16), number64_at(at + 24), number64_at(at + 32), number64_at(at + 40), number64_at(at + 48),
-        {NULL, 0}};
+    *process = (struct process){.pid = number32_at(at), .tid = number32_at(at + 4), .signal = number32_at(at + 8),
+        .clock = number32_at(at + 12), .start_moment = number64_at(at + 16), .start_time = number64_at(at + 24),
+        .dump_moment = number64_at(at + 32), .dump_time = number64_at(at + 40), .no_ring = number64_at(at + 48)};
     if (process->clock >= CLOCK_KINDS)
         return refuse(c, begin + 12, "there is no clock %u", process->clock);
     return take_text(c, "the program's name", &process->name);
@@ -121,8 +79,9 @@ static bool read_ring(struct cursor *c, struct dump *dump)
     const uint8_t *at = take(c, 88, "ring");
     if (!at)
         return false;
-    struct ring ring = {number32_at(at), number32_at(at + 4), number32_at(at + 8), number32_at(at + 12),
-        number64_at(at + 16), number64_at(at + 24), number64_at(at + 80), {0}, 0, NULL};
+    struct ring ring = {.number = number32_at(at), .slot = number32_at(at + 4), .level = number32_at(at + 8),
+        .tail = number32_at(at + 12), .written = number64_at(at + 16), .lacking = number64_at(at + 24),
+        .dropped = number64_at(at + 80)};
     for (size_t k = 0; k < REASONS; k++)
         ring.refused[k] = number64_at(at + 32 + 8 * k);
     if (!check_ring(c, dump, &ring, begin))
@@ -156,61 +115,9 @@ static bool read_page(struct cursor *c, struct dump *dump)
     return code > TRACERING_DONE ? refuse_page(c, begin, code, &at) : true;
 }
 
-// Checks the kinds of a site's arguments.
-static bool check_kinds(struct cursor *c, const struct site *site)
+static bool check_sites(struct cursor *c, struct dump *dump)
 {
-    for (size_t k = 0; k < site->kinds.len; k++) {
-        uint8_t kind = site->kinds.at[k], size = kind_size(kind);
-        bool is_whole = size == 4 || size == 8 || (kind_class(kind) != CLASS_FLOATING && (size == 1 || size == 2));
-        if (kind_class(kind) >= CLASSES || (kind_class(kind) == CLASS_TEXT ? size != 0 : !is_whole))
-            return refuse(c, (size_t)(site->kinds.at - c->file) + k, "there is no kind 0x%02x of argument", kind);
-    }
-    return true;
-}
-
-static struct site *add_site(struct dump *dump, size_t *room)
-{
-    if (dump->site_count == *room) {
-        struct site *grown = allocate(2 * *room + 16, sizeof *grown);
-        if (dump->site_count)
-            memcpy(grown, dump->sites, dump->site_count * sizeof *grown);
-        free(dump->sites);
-        dump->sites = grown;
-        *room = 2 * *room + 16;
-    }
-    return &dump->sites[dump->site_count++];
-}
-
-static bool read_site(struct cursor *c, struct site *site)
-{
-    size_t begin = c->at;
-    const uint8_t *at = take(c, 16, "site");
-    if (!at)
-        return false;
-    size_t count = number32_at(at + 12);
-    *site = (struct site){number32_at(at), number32_at(at + 4), number32_at(at + 8), {NULL, 0}, {NULL, 0}, {NULL, 0},
-        begin};
-    if (site->style >= STYLES)
-        return refuse(c, begin + 8, "there is no style %u", site->style);
-    if (count > MOST_ARGUMENTS)
-        return refuse(c, begin + 12, "at most %d arguments are expected, and not %zu", MOST_ARGUMENTS, count);
-    site->kinds = (struct bytes){take(c, count, "kinds of arguments"), count};
-    return site->kinds.at && check_kinds(c, site) && take_text(c, "file", &site->file)
-        && take_text(c, "format", &site->format);
-}
-
-static int compare_sites(const void *one, const void *other)
-{
-    const struct site *a = one, *b = other;
-    if (a->id != b->id)
-        return a->id < b->id ? -1 : 1;
-    return a->offset < b->offset ? -1 : a->offset > b->offset;
-}
-
-static bool sort_sites(struct cursor *c, struct dump *dump)
-{
-    if (dump->site_count)
-        qsort(dump->sites, dump->site_count, sizeof *dump->sites, compare_sites);
+    sort_sites(dump);
     for (size_t k = 1; k < dump->site_count; k++)
         if (dump->sites[k].id == dump->sites[k - 1].id)
             return refuse(c, dump->sites[k].offset, "site %u is there twice", dump->sites[k].id);
@@ -311,7 +218,7 @@ bool dump_read(struct dump *dump, struct bytes file, struct fault *fault)
             return false;
     if (c.at != c.end)
         return refuse(&c, c.at, "the file's end is expected, and it has %zu bytes more", c.end - c.at);
-    return sort_sites(&c, dump);
+    return check_sites(&c, dump);
 }
 
 void dump_free(struct dump *dump)
@@ -319,6 +226,9 @@ void dump_free(struct dump *dump)
     for (size_t k = 0; k < dump->ring_count; k++)
         free(dump->rings[k].leases);
     free(dump->sites);
+    for (size_t k = 0; k < dump->damage_count; k++)
+        free(dump->damages[k].why);
+    free(dump->damages);
     (void)tracering_collector_free(&dump->records);
 }
 

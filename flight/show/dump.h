@@ -1,4 +1,5 @@
-// A flight dump that was read and checked (docs/FORMATS.md, "Flight dump"). What is named in it, are bytes of the file.
+// A flight dump, or a flight file, that was read and checked (docs/FORMATS.md, "Flight dump", "Flight file"). What is
+// named in it, are bytes of the file.
 #ifndef FLIGHT_SHOW_DUMP_H
 #define FLIGHT_SHOW_DUMP_H
 
@@ -30,6 +31,8 @@ struct process {
     uint64_t start_moment, start_time, dump_moment, dump_time; // times are nanoseconds from 1970 on
     uint64_t no_ring;
     struct bytes name;
+    // Of a flight file. Then there is no dump, but the last moment at which both clocks were read.
+    bool is_file, has_ended, is_inexact; // is_inexact: its times are, for want of a second such moment
 };
 
 // From which number on a thread had a ring.
@@ -45,12 +48,23 @@ struct ring {
     uint64_t refused[REASONS];
     size_t lease_count;
     struct lease *leases;
+    // Of a flight file: the number after the last record that a dump took, and whether a page is damaged, or all.
+    uint64_t taken;
+    bool is_of_file, is_damaged;
 };
 
 struct site {
     uint32_t id, line, style;
     struct bytes kinds, file, format;
     size_t offset; // of its section
+};
+
+// What can't be read of a flight file.
+struct damage {
+    const char *what;
+    const struct ring *ring; // null: it is of no ring
+    char *why;
+    size_t offset;
 };
 
 struct dump {
@@ -60,6 +74,8 @@ struct dump {
     const struct ring *of_cpu[CPUS]; // null: the file has no such ring
     struct site *sites;             // by id
     struct tracering_collector records;
+    size_t damage_count, more_damages; // more_damages: those that aren't listed
+    struct damage *damages;
 };
 
 // Why a file is refused, and at which of its bytes.

@@ -25,6 +25,20 @@ static void add_lease(struct text *line, const struct lease *lease)
     add_format(line, ",\"tid\":%u", lease->tid);
 }
 
+// What a file's first line has in place of the thread that dumped.
+static void add_run(struct text *line, const struct process *process)
+{
+    add_string(line, "\"tid\":null,\"signal\":0,\"started\":");
+    size_t before = line->len;
+    add_string(line, "\"");
+    if (!add_date(line, (nanoseconds)process->start_time, "T", "Z\"")) {
+        line->len = before;
+        add_string(line, "null");
+    }
+    add_format(line, ",\"stopped\":%s,\"inexact\":%s,", process->has_ended ? "true" : "false",
+        process->is_inexact ? "true" : "false");
+}
+
 static void json_head(void *self, const struct dump *dump)
 {
     static const char *const clocks[CLOCK_KINDS] = {"monotonic", "tsc", "caller"};
@@ -32,8 +46,12 @@ static void json_head(void *self, const struct dump *dump)
     const struct process *process = lines->process = &dump->process;
     add_string(&lines->line, "{\"program\":");
     add_json(&lines->line, process->name);
-    add_format(&lines->line, ",\"pid\":%u,\"tid\":%u,\"signal\":%u,\"clock\":\"%s\",", process->pid, process->tid,
-        process->signal, clocks[process->clock]);
+    add_format(&lines->line, ",\"pid\":%u,", process->pid);
+    if (process->is_file)
+        add_run(&lines->line, process);
+    else
+        add_format(&lines->line, "\"tid\":%u,\"signal\":%u,", process->tid, process->signal);
+    add_format(&lines->line, "\"clock\":\"%s\",", clocks[process->clock]);
     add_time(&lines->line, process->dump_time, true);
     add_format(&lines->line, ",\"moment\":%" PRIu64 "}", process->dump_moment);
     write_line(lines);
@@ -105,13 +123,18 @@ static void json_gap(void *self, const struct gap *gap)
 
 static void json_loss(void *self, const struct loss *loss)
 {
-    static const char *const names[LOSS_KINDS] = {"overwritten", "dropped", "refused", "not read", "no ring"};
+    static const char *const names[LOSS_KINDS] = {"overwritten", "dropped", "refused", "not read", "no ring", "taken",
+        "unknown", "damaged"};
     struct lines *lines = self;
     struct text *line = &lines->line;
     const struct ring *ring = loss->ring;
     add_format(line, "{\"lost\":\"%s\",\"count\":%" PRIu64, names[loss->kind], loss->count);
-    if (loss->why)
-        add_format(line, ",\"why\":\"%s\"", loss->why);
+    if (loss->why) {
+        add_string(line, ",\"why\":");
+        add_json(line, bytes_of_string(loss->why));
+    }
+    if (loss->what)
+        add_format(line, ",\"what\":\"%s\",\"byte\":%zu", loss->what, loss->offset);
     if (ring)
         add_format(line, ",\"ring\":%u,\"slot\":%u,\"level\":%u,\"threads\":[", ring->number, ring->slot, ring->level);
     for (size_t k = 0; ring && k < ring->lease_count; k++) {

@@ -8,6 +8,7 @@ enum { LONGEST_PAYLOAD = 65536, ID_SIZE = 4 };
 // How far the listing is, of one ring.
 struct progress {
     uint64_t listed, next; // how many records were listed; the number after the greatest of them
+    uint64_t below;        // how many of them have numbers below the one after those that dumps took
 };
 
 struct listing {
@@ -25,7 +26,9 @@ void format_record(struct text *text, const struct record *record, struct argume
 {
     arguments->count = arguments->next = 0;
     if (!record->site) {
-        add_format(text, "<site %u isn't in the dump>", record->id);
+        add_format(text, "<site %u isn't in the %s>", record->id, record->ring->is_of_file ? "file" : "dump");
+        for (size_t k = 0; record->ring->is_of_file && k < record->payload.len; k++)
+            add_format(text, " %02x", record->payload.at[k]);
         return;
     }
     read_arguments(arguments, record->site, record->payload);
@@ -83,6 +86,7 @@ static void list_records(struct listing *listing, size_t most)
         if (count - k <= most)
             give_record(listing, &line, payload);
         progress->listed++;
+        progress->below += line.number < listing->dump->of_cpu[line.cpu]->taken;
         if (line.number >= progress->next)
             progress->next = line.number + 1;
     }
@@ -111,8 +115,19 @@ static size_t give_loss(const struct viewer *viewer, struct loss loss)
     return 1;
 }
 
-// Gives what a ring lost. How many losses these are.
-static size_t give_losses(struct listing *listing, const struct ring *ring)
+// Gives what isn't there of a ring of a file.
+static size_t give_file_losses(struct listing *listing, const struct ring *ring)
+{
+    const struct progress *progress = &listing->rings[ring->number];
+    const struct viewer *viewer = listing->viewer;
+    uint64_t taken = ring->taken - progress->below, rest = ring->written - progress->listed - taken;
+    size_t losses = give_loss(viewer, (struct loss){LOSS_TAKEN, NULL, ring, taken, NULL, 0});
+    enum loss_kind kind = ring->is_damaged ? LOSS_UNKNOWN : LOSS_OVERWRITTEN;
+    return losses + give_loss(viewer, (struct loss){kind, NULL, ring, rest, NULL, 0});
+}
+
+// The same of a dump.
+static size_t give_dump_losses(struct listing *listing, const struct ring *ring)
 {
     const struct progress *progress = &listing->rings[ring->number];
     const struct viewer *viewer = listing->viewer;
@@ -125,16 +140,34 @@ static size_t give_losses(struct listing *listing, const struct ring *ring)
     uint64_t overwritten = gaps > ring->dropped ? gaps - ring->dropped : 0;
     if (overwritten < missing)
         overwritten = missing;
-    size_t losses = give_loss(viewer, (struct loss){LOSS_OVERWRITTEN, NULL, ring, overwritten});
-    losses += give_loss(viewer, (struct loss){LOSS_DROPPED, NULL, ring, ring->dropped});
+    size_t losses = give_loss(viewer, (struct loss){LOSS_OVERWRITTEN, NULL, ring, overwritten, NULL, 0});
+    return losses + give_loss(viewer, (struct loss){LOSS_DROPPED, NULL, ring, ring->dropped, NULL, 0});
+}
+
+// Gives what a ring lost. How many losses these are.
+static size_t give_losses(struct listing *listing, const struct ring *ring)
+{
+    const struct viewer *viewer = listing->viewer;
+    size_t losses = ring->is_of_file ? give_file_losses(listing, ring) : give_dump_losses(listing, ring);
     for (size_t k = 0; k < REASONS; k++)
-        losses += give_loss(viewer, (struct loss){LOSS_REFUSED, REFUSED[k], ring, ring->refused[k]});
-    return losses + give_loss(viewer, (struct loss){LOSS_NOT_READ, NOT_READ[ring->tail], ring, ring->lacking});
+        losses += give_loss(viewer, (struct loss){LOSS_REFUSED, REFUSED[k], ring, ring->refused[k], NULL, 0});
+    return losses + give_loss(viewer, (struct loss){LOSS_NOT_READ, NOT_READ[ring->tail], ring, ring->lacking, NULL, 0});
+}
+
+static size_t give_damages(const struct viewer *viewer, const struct dump *dump)
+{
+    size_t losses = 0;
+    for (size_t k = 0; k < dump->damage_count; k++) {
+        const struct damage *damage = &dump->damages[k];
+        losses += give_loss(viewer,
+            (struct loss){LOSS_DAMAGED, damage->why, damage->ring, 1, damage->what, damage->offset});
+    }
+    return losses + give_loss(viewer, (struct loss){LOSS_DAMAGED, NULL, NULL, dump->more_damages, NULL, 0});
 }
 
 void list_dump(struct dump *dump, size_t most, const struct viewer *viewer)
 {
-    struct listing listing = {dump, viewer, {{0, 0}}};
+    struct listing listing = {dump, viewer, {{0, 0, 0}}};
     size_t losses = 0;
     viewer->head(viewer->self, dump);
     list_records(&listing, most);
@@ -142,6 +175,7 @@ void list_dump(struct dump *dump, size_t most, const struct viewer *viewer)
         give_gap(&listing, &dump->rings[k], dump->rings[k].written - dump->rings[k].lacking);
     for (size_t k = 0; k < dump->ring_count; k++)
         losses += give_losses(&listing, &dump->rings[k]);
-    losses += give_loss(viewer, (struct loss){LOSS_NO_RING, NULL, NULL, dump->process.no_ring});
+    losses += give_damages(viewer, dump);
+    losses += give_loss(viewer, (struct loss){LOSS_NO_RING, NULL, NULL, dump->process.no_ring, NULL, 0});
     viewer->end(viewer->self, losses);
 }

@@ -1,4 +1,5 @@
-// The records of a dump by time, with the numbers that are missing before them, and what was lost in all.
+// The records of a dump, or of a flight file, by time, with the numbers that are missing before them, and what was lost
+// in all.
 #ifndef FLIGHT_SHOW_LISTING_H
 #define FLIGHT_SHOW_LISTING_H
 
@@ -21,13 +22,26 @@ struct gap {
     uint64_t first, last;
 };
 
-enum loss_kind { LOSS_OVERWRITTEN, LOSS_DROPPED, LOSS_REFUSED, LOSS_NOT_READ, LOSS_NO_RING, LOSS_KINDS };
+enum loss_kind {
+    LOSS_OVERWRITTEN,
+    LOSS_DROPPED,
+    LOSS_REFUSED,
+    LOSS_NOT_READ,
+    LOSS_NO_RING,
+    // Of flight files alone.
+    LOSS_TAKEN,     // by dumps, or overwritten before what these took
+    LOSS_UNKNOWN,   // overwritten, or on a page that is damaged
+    LOSS_DAMAGED,   // `what` can't be read, and it isn't known what that had
+    LOSS_KINDS
+};
 
 struct loss {
     enum loss_kind kind;
-    const char *why; // of what was refused or isn't read
+    const char *why; // of what was refused, isn't read or is damaged
     const struct ring *ring; // null: of no ring
     uint64_t count;
+    const char *what; // of what is damaged; null: of more that is
+    size_t offset;
 };
 
 // What is made of a dump.

@@ -1,4 +1,5 @@
-// tracering-flight show FILE [--json | --ctf DIR] [--last N]: shows a dump of the flight recorder.
+// tracering-flight show FILE [--json | --ctf DIR] [--last N]: shows a dump of the flight recorder, or its file.
+#include "file.h"
 #include "viewers.h"
 
 #include <errno.h>
@@ -52,8 +53,23 @@ static bool read_words(int count, char **at, struct words *words)
     return words->file && !(words->json && words->ctf);
 }
 
+// Copies a flight file that a program may be writing. False: it is none.
+static bool copy_file(const char *name, struct text *file)
+{
+    size_t len;
+    const void *mapped = tracering_region_open(name, &len);
+    bool is_one = mapped && is_flight_file((struct bytes){mapped, len});
+    if (is_one)
+        copy_flight_file(mapped, len, file);
+    if (mapped)
+        (void)tracering_region_unmap(mapped, len);
+    return is_one;
+}
+
 static bool read_file(const char *name, struct text *file)
 {
+    if (copy_file(name, file))
+        return true;
     FILE *from = fopen(name, "rb");
     if (!from)
         return false;
@@ -105,7 +121,8 @@ int main(int count, char **at)
         return report(words.file);
     (void)setvbuf(stdout, buffer, _IOFBF, sizeof buffer);
     int status = REFUSED;
-    if (dump_read(&dump, bytes_of(&file), &fault))
+    struct bytes bytes = bytes_of(&file);
+    if (is_flight_file(bytes) ? read_flight_file(&dump, bytes, &fault) : dump_read(&dump, bytes, &fault))
         status = words.ctf ? show_ctf(&dump, &words) : show_lines(&dump, &words);
     else
         fprintf(stderr, "tracering-flight: %s: %s: byte %zu\n", words.file, fault.text, fault.offset);

@@ -33,10 +33,29 @@ static const char *signal_name(uint32_t signal)
     }
 }
 
+static void show_file_head(struct lines *lines, const struct process *process)
+{
+    add_escaped(&lines->line, process->name);
+    add_format(&lines->line, "[%u], started ", process->pid);
+    (void)add_date(&lines->line, (nanoseconds)process->start_time, " ", " UTC, ");
+    add_string(&lines->line, process->has_ended ? "stopped " : "not stopped: it was killed, or runs");
+    if (process->has_ended)
+        (void)add_date(&lines->line, process->dump_time, " ", " UTC");
+    write_line(lines);
+    if (!process->is_inexact)
+        return;
+    add_string(&lines->line, "times are inexact: the clocks were read once, or twice within a second, in another boot");
+    write_line(lines);
+}
+
 static void show_head(void *self, const struct dump *dump)
 {
     struct lines *lines = self;
     const struct process *process = lines->process = &dump->process;
+    if (process->is_file) {
+        show_file_head(lines, process);
+        return;
+    }
     add_escaped(&lines->line, process->name);
     add_format(&lines->line, "[%u], dumped ", process->pid);
     (void)add_date(&lines->line, process->dump_time, " ", " UTC ");
@@ -92,17 +111,31 @@ static void add_threads(struct text *text, const struct ring *ring)
         add_string(text, ")");
 }
 
+static void show_damage(struct lines *lines, const struct loss *loss)
+{
+    if (loss->what)
+        add_format(&lines->line, "%s is damaged: %s: byte %zu", loss->what, loss->why, loss->offset);
+    else
+        add_format(&lines->line, "%" PRIu64 " more damage%s", loss->count, plural(loss->count));
+    write_line(lines);
+}
+
 static void show_loss(void *self, const struct loss *loss)
 {
     static const struct {
         const char *noun, *what;
-    } said[LOSS_KINDS] = {{"record", "overwritten"}, {"record", "dropped by the limit of what is kept"},
-        {"record", "refused"}, {"newest record", "not read"}, {"event", "without a ring"}};
+    } said[LOSS_DAMAGED] = {{"record", "overwritten"}, {"record", "dropped by the limit of what is kept"},
+        {"record", "refused"}, {"newest record", "not read"}, {"event", "without a ring"},
+        {"record", "taken by dumps, or overwritten before"}, {"record", "overwritten, or on a page that is damaged"}};
     struct lines *lines = self;
     add_string(&lines->line, "lost: ");
     if (loss->ring) {
         add_threads(&lines->line, loss->ring);
         add_string(&lines->line, ": ");
+    }
+    if (loss->kind == LOSS_DAMAGED) {
+        show_damage(lines, loss);
+        return;
     }
     add_format(&lines->line, "%" PRIu64 " %s%s %s", loss->count, said[loss->kind].noun, plural(loss->count),
         said[loss->kind].what);
