@@ -1,7 +1,9 @@
 """The library for C: records and events written by a C program, beside a plain ring in C and LTTng-UST
 
 A ring of 64 pages of 4,080 bytes; payloads of 8 to 112 bytes, of pseudo-random lengths. The plain ring has the same
-protocol: the two have to leave as many records for a reader. LTTng-UST is measured if its packages are there
+protocol: the two have to leave as many records for a reader. So has the library's ring whose pages lie in a region, in
+memory or in a file; it is also measured with pages of 65,520 bytes, 64 of them and 1,024, which is the largest ring,
+of 64 MB, in huge pages if the machine has set enough of them aside. LTTng-UST is measured if its packages are there
 (lttng-tools, liblttng-ust-dev), in a session that overwrites 64 buffers of 4,096 bytes for each processor.
 """
 
@@ -25,7 +27,18 @@ EVENTS = (
     ("text", "`TRACE` with a text of 24 bytes and a number, the processor's counter"),
     ("off", "`TRACE` that is switched off"),
 )
-WAYS = (("library", "`tracering_write`"), ("plain", "plain ring in C"), ("copy", "only a copy of the same bytes"))
+WAYS = (
+    ("library", "`tracering_write`"),
+    ("plain", "plain ring in C"),
+    ("copy", "only a copy of the same bytes"),
+    ("region", "`tracering_write` in a region"),
+    ("file", "`tracering_write` in a region, a file"),
+)
+RING = ("64", "4080")
+# Larger rings, in a region and not.
+LARGER = (("64", "65520"), ("1024", "65520"))
+# A record in a region takes as long as another one, but for what two runs differ by.
+MOST_TIMES = 1.25
 
 
 def embedded(folder):
@@ -34,6 +47,11 @@ def embedded(folder):
     program = folder / "embed"
     call(["cc", "-O2", f"-I{TOP}/include", "-o", program, BENCH / "rivals/embed/main.c", TOP / "out/libtracering.a"])
     return program
+
+
+def function_of(way):
+    """The function whose instructions are counted."""
+    return f"round_of_{'library' if way in ('region', 'file') else way}"
 
 
 @contextlib.contextmanager
@@ -61,7 +79,7 @@ def session(folder):
 def instructions(program, given, way):
     """How many instructions a record takes."""
     command = [program, *given]
-    few, many = (count.callgrind([*command, str(n), "1"], function=f"round_of_{way}") for n in (2, 22))
+    few, many = (count.callgrind([*command, str(n), "1"], function=function_of(way)) for n in (2, 22))
     return (many - few) / (20 * ROUND)
 
 
@@ -75,10 +93,10 @@ def measured(program, given, way):
 
 def run(folder):
     program = embedded(folder)
-    left = {way: count.output([program, way, "2", "1"]).split()[1] for way in ("library", "plain")}
-    if left["library"] != left["plain"]:
+    left = {way: count.output([program, way, *RING, "2", "1"]).split()[1] for way in ("library", "region", "plain")}
+    if len(set(left.values())) != 1:
         raise Failure(f"embed: a reader finds {left}")
-    found = [(what, *measured(program, [way], way)) for way, what in WAYS]
+    found = [(what, *measured(program, [way, *RING], way)) for way, what in WAYS]
     if shutil.which("lttng-sessiond"):
         rival = folder / "lttng"
         source = BENCH / "rivals/lttng"
@@ -89,7 +107,7 @@ def run(folder):
     yield ""
     yield from tables.compared_head()
     for what, took, _ in found:
-        limit = 100 if what == WAYS[0][1] else None
+        limit = 100 if what == WAYS[0][1] or "region" in what else None
         yield tables.compared(what, took, found[1][1], limit=limit, digits=1)
     yield ""
     yield "Nanoseconds a record, the least of 200 runs, and millions of records a second."
@@ -97,8 +115,26 @@ def run(folder):
     yield from tables.head("What", "Nanoseconds", "Millions a second")
     for what, _, took in found:
         yield tables.line([what, f"{took:.1f}", f"{1000 / took:.1f}"])
+    if not shutil.which("lttng-sessiond"):
+        yield ""
+        yield "LTTng-UST is left out: its packages (lttng-tools, liblttng-ust-dev) aren't here."
+    yield ""
+    yield from larger(program)
     yield ""
     yield from events(folder)
+
+
+def larger(program):
+    """Rings of larger pages, in regions and not."""
+    yield "Nanoseconds a record in rings of larger pages, the least of 200 runs."
+    yield ""
+    yield from tables.head("Pages of 65,520 bytes", "In malloc's memory", "In a region", "Ratio", "The region's memory")
+    for ring in LARGER:
+        plain, region = (nanoseconds(program, [way, *ring]) for way in ("library", "region"))
+        memory = count.output([program, "region", *ring, "1", "1"]).split()[2].decode()
+        yield tables.line([f"{int(ring[0]):,}", f"{plain:.1f}", f"{region:.1f}", f"{region / plain:.2f}", f"{memory} pages"])
+        if region > MOST_TIMES * plain:
+            tables.OVER.append(f"a record in a region of {ring[0]} pages")
 
 
 def events(folder):

@@ -1,19 +1,24 @@
-// Records of 8 to 112 bytes, for `bench/run embed`: by the library for C, by a ring of the same protocol in plain C, or
-// only copied. `main WAY ROUNDS RUNS` prints how many nanoseconds the fastest run of so many rounds took, and how many
-// records a reader then finds.
+// Records of 8 to 112 bytes, for `bench/run embed`: by the library for C (`library`), in a region of its own in memory
+// (`region`) or in the file of that name (`file`), by a ring of the same protocol in plain C (`plain`), or only copied.
+// `main WAY PAGES SIZE ROUNDS RUNS` prints how many nanoseconds the fastest run of so many rounds took, how many records
+// a reader then finds, and whether the region is in huge pages. The plain ring has its own number of pages and size.
 #include "ring.h"
-#include "tracering.h"
+#include "tracering_region.h"
 
 #include <stdio.h>
 #include <stdlib.h>
 #include <time.h>
+#include <unistd.h>
 
 enum { ROUND = 8400, POOL = 256 };
 
 static struct ring ring;
 static struct tracering_writer writer;
 static struct tracering_reader reader;
-static uint8_t pool[POOL], lens[ROUND], copies[SIZE], parcel[TRACERING_HEADER + SIZE];
+static uint8_t pool[POOL], lens[ROUND], copies[SIZE], parcel[TRACERING_HEADER + 65520];
+static void *region;
+static size_t region_len;
+static bool is_huge;
 static uint64_t moment, refused;
 
 static __attribute__((noinline)) void round_of_library(void)
@@ -66,11 +71,24 @@ static uint64_t records_left(bool is_library)
     return found;
 }
 
+// The library's ring, in a region or not.
+static int32_t make(const char *way, size_t pages, size_t size)
+{
+    bool is_file = !strcmp(way, "file");
+    if (!is_file && strcmp(way, "region"))
+        return tracering_new(&writer, &reader, 0, pages, size);
+    region_len = tracering_region_size(pages, size);
+    region = is_file ? tracering_region_file("embed.region", region_len) : tracering_region_huge(region_len, &is_huge);
+    if (is_file)
+        unlink("embed.region");
+    return tracering_new_in(&writer, &reader, 0, pages, size, 1, region, region_len);
+}
+
 int main(int argc, char **argv)
 {
-    if (argc != 4)
+    if (argc != 6)
         return 2;
-    bool is_library = !strcmp(argv[1], "library"), is_plain = !strcmp(argv[1], "plain");
+    bool is_plain = !strcmp(argv[1], "plain"), is_library = !is_plain && strcmp(argv[1], "copy");
     void (*round)(void) = is_library ? round_of_library : is_plain ? round_of_plain : round_of_copy;
     uint32_t random = 1;
     for (size_t i = 0; i < ROUND; i++) {
@@ -79,18 +97,21 @@ int main(int argc, char **argv)
     }
     memset(pool, 0x5a, sizeof pool);
     start(&ring);
-    if (tracering_new(&writer, &reader, 0, PAGES, SIZE) != TRACERING_DONE)
+    if (make(argv[1], strtoull(argv[2], NULL, 10), strtoull(argv[3], NULL, 10)) != TRACERING_DONE)
         return 3;
     uint64_t least = UINT64_MAX;
-    for (long run = 0; run < atol(argv[3]); run++) {
+    for (long run = 0; run < atol(argv[5]); run++) {
         uint64_t begun = now();
-        for (long i = 0; i < atol(argv[2]); i++)
+        for (long i = 0; i < atol(argv[4]); i++)
             round();
         uint64_t took = now() - begun;
         least = took < least ? took : least;
     }
-    printf("%llu %llu\n", (unsigned long long)least, (unsigned long long)records_left(is_library));
+    printf("%llu %llu %s\n", (unsigned long long)least, (unsigned long long)records_left(is_library),
+        is_huge ? "huge" : "ordinary");
     tracering_writer_free(&writer, NULL);
     tracering_reader_free(&reader);
+    if (region)
+        tracering_region_unmap(region, region_len);
     return refused != 0;
 }

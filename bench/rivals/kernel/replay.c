@@ -37,7 +37,7 @@ static struct frame frames[MOST_FRAMES];
 static int depth;
 static bool in_place;           /* the page that the writer is on may be read */
 static u64 safe;                /* how many records were committed when the outermost frame began */
-static u64 taken, lost;         /* how many records were taken, and how many were lost in front of them */
+static u64 taken, lost;         /* how many records were taken, and how many were lost before them */
 static struct record *records;
 static u64 kept;
 static struct { u64 first, end; } *runs;
