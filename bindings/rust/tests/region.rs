@@ -78,7 +78,9 @@ fn what_is_settled_has_ended() -> Result<(), Box<dyn Error>> {
         collector.take(&mut reader).map_err(|(fault, _)| fault)?;
         assert_eq!(about(&region.copy()?)?.taken, 1);
         writer.write(2, b"two")?;
-        settle(writer, reader, &mut [0; HEADER + 64]).map_err(|(_, _, fault)| fault)?;
+        let mut out = [0; HEADER + 64];
+        assert_eq!(reader.take(&mut out), Err(Fault::Empty));
+        settle(writer, reader, &mut out).map_err(|(_, _, fault)| fault)?;
         let said = about(&region.copy()?)?;
         assert_eq!((said.taken, said.has_ended), (2, true));
     }
