@@ -26,7 +26,7 @@ use Rattle.capture_text.specs.declared.printer.Printer.{Printer}
 use Rattle.capture_text.specs.Printing.{record_line, unknown_lines, damaged_lines}
 use Rattle.capture_text.specs.Printed.{HasPrinted, Prints}
 use Rattle.collect_command.specs.Gathered.{AreReadFrom}
-use Rattle.collect_command.specs.Listings.{all_unknown, all_damaged, are_all_intact, ending_of, IsWritten}
+use Rattle.collect_command.specs.Listings.{all_unknown, all_damaged, are_all_intact, ending_of, IsTextWritten}
 
 -- ---- one text after the other
 
@@ -154,7 +154,7 @@ same_print joined parcels shown same is = record {
 
 pub ended : {T F : Type 0} (result : Result T F) (failed is_intact : Bool) (contents after : Option (List ℕ)) (text : List ℕ)
     → OnOk result (Appends contents after text) → OnErr result (AppendsPrefix contents after text) → ((failed ≡ true) ↔ IsErr result)
-    → IsWritten contents after failed text (ending_of true is_intact) (ending_of (is_ok result) is_intact)
+    → IsTextWritten contents after failed text (ending_of true is_intact) (ending_of (is_ok result) is_intact)
 ended (Ok x) failed is_intact contents after text all prefix fault = record {
   all = λ sound. (all, refl);
   cut_off = λ broken. absurd (true≢false (sym (fault.0 broken)));

@@ -44,7 +44,7 @@ abbrev pub ending_of : (is_written is_intact : Bool) → Ending
 ending_of is_written is_intact = if is_written then (if is_intact then Done else Damaged) else NotWritten
 
 -- The text was written, or a beginning of it, and not all, and then the ending says so.
-pub record IsWritten (contents after : Option (List ℕ)) (failed : Bool) (text : List ℕ) (wanted ending : Ending)
+pub record IsTextWritten (contents after : Option (List ℕ)) (failed : Bool) (text : List ℕ) (wanted ending : Ending)
     : Type 0 where
   pub all : failed ≡ false → Appends contents after text × (ending ≡ wanted)
   pub cut_off : failed ≡ true → AppendsPrefix contents after text × (ending ≡ NotWritten)
@@ -54,5 +54,5 @@ pub record IsListed (form : Form) (formats : Option (List EventFormat)) (parts :
     (captures : List (List Page)) (contents after : Option (List ℕ)) (failed : Bool) (ending : Ending) : Type 0 where
   pub shown : Shown
   pub is_print : IsPrintOf (parcels_of_captures 0 captures) shown
-  pub written : IsWritten contents after failed (listing_text form formats parts shown captures)
+  pub written : IsTextWritten contents after failed (listing_text form formats parts shown captures)
       (ending_of true (are_all_intact captures)) ending

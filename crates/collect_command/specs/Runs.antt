@@ -16,7 +16,7 @@ use Rattle.collect_command.specs.declared.ending.Ending.{Ending}
 use Rattle.collect_command.specs.declared.ending.Ending.TheVariants.{Malformed, Numbers, NoMemory, NotRead}
 use Rattle.collect_command.specs.Gathered.{AreCpusPages}
 use Rattle.collect_command.specs.Faults.{fault_line, numbers_line}
-use Rattle.collect_command.specs.Listings.{IsWritten, IsListed}
+use Rattle.collect_command.specs.Listings.{IsTextWritten, IsListed}
 
 -- How files are listed: the form of lines, the size of a raw page, and whether events are named, by the formats in the
 -- files and by these.
@@ -47,16 +47,16 @@ pub record IsUnwritten (contents after : Option (List ℕ)) (failed : Bool) : Ty
 
 -- the line for refused memory is all that is written
 abbrev pub IsMemoryLine : (contents after : Option (List ℕ)) (failed : Bool) → Ending → Type 0
-IsMemoryLine contents after failed ending = IsWritten contents after failed MEMORY_LINE NoMemory ending
+IsMemoryLine contents after failed ending = IsTextWritten contents after failed MEMORY_LINE NoMemory ending
 
 -- what is written if this input can't be read for this fault
 abbrev pub TellsFault : (index : ℕ) → InputFault → (contents after : Option (List ℕ)) (failed : Bool) → Ending → Type 0
 TellsFault index faults.Read contents after failed ending = IsUnwritten contents after failed × (ending ≡ NotRead index)
 TellsFault index (faults.File fault) contents after failed ending =
-    IsWritten contents after failed (fault_line fault) (Malformed index fault) ending
+    IsTextWritten contents after failed (fault_line fault) (Malformed index fault) ending
     ⊎ IsMemoryLine contents after failed ending
 TellsFault index faults.Numbers contents after failed ending =
-    IsWritten contents after failed numbers_line Numbers ending
+    IsTextWritten contents after failed numbers_line Numbers ending
 TellsFault index faults.NoMemory contents after failed ending = IsMemoryLine contents after failed ending
 
 module _ {R : Type 0} (remaining : R → Option (List ℕ)) (has_failed : R → Bool) where

@@ -7,7 +7,7 @@ ghost use Rattle.capture_text.specs.Printed.{AreNames};
 ghost use Rattle.collect_inputs.specs.Files.{File};
 ghost use Rattle.collect_inputs.specs.Captures.{AreCaptured};
 ghost use Rattle.collect_command.specs.Asking.{asked_by};
-ghost use Rattle.collect_command.specs.Listings.{IsWritten};
+ghost use Rattle.collect_command.specs.Listings.{IsTextWritten};
 ghost use Rattle.collect_command.specs.Runs.{ListsFiles, TellsFault, IsMemoryLine, IsCollectRun};
 
 use crate::ending::{Collected, Ending};
@@ -40,7 +40,7 @@ pub struct Collecting<'a> {
 /// Writes a text, and answers how that ends.
 fn write_line<W: Sink>(writer: &mut W, line: &[u8], wanted: Ending) -> Ending
     requires { W.failed writer.old ≡ false }
-    ensures { IsWritten (W.contents writer.old) (W.contents writer.new) (W.failed writer.new) line.now wanted result }
+    ensures { IsTextWritten (W.contents writer.old) (W.contents writer.new) (W.failed writer.new) line.now wanted result }
 {
     match write_all(writer, line) {
         Ok(()) => wanted,

@@ -18,7 +18,7 @@ use Rattle.trace_model.proofs.collections.Elements.{get_in_either}
 use Rattle.collector.specs.Known.{IsTaken, ends_below}
 use Rattle.parcel_streams.specs.declared.piece.StreamId.{StreamId}
 use Rattle.stream_collector.specs.Marks.{bounds_of}
-use Rattle.stream_collector.specs.Stream.{Stream, bound_of, end_of, IsAccounted, has_record, is_missing, is_undelivered}
+use Rattle.stream_collector.specs.Stream.{Stream, bound_of, end_of, HasOutcome, has_record, is_missing, is_undelivered}
 use Rattle.stream_collector.specs.Frontier.{IsHeldAt, IsCpuThere, by_marks, by_known, by_undelivered, IsNotAfter}
 use Rattle.stream_collector.specs.Frontier.{IsOfOne}
 use Rattle.stream_collector.specs.Frontier.{IsFrontier, IsForgottenBefore}
@@ -213,7 +213,7 @@ forget_ends ids first now moment index is all was id = at (known_of first id) re
 
 -- ---- the CPUs of a stream that has forgotten
 
-accounted_cpu : (s : Stream) (cpu n : ℕ) → HasKnownCpus s → IsAccounted s cpu n → cpu < MAX_CPUS
+accounted_cpu : (s : Stream) (cpu n : ℕ) → HasKnownCpus s → HasOutcome s cpu n → cpu < MAX_CPUS
 accounted_cpu s cpu n old (has_record r h) = old.known cpu n (inl (r, h.has))
 accounted_cpu s cpu n old (is_missing m) = old.known cpu n (inr m.misses)
 accounted_cpu s cpu n old (is_undelivered from u) = old.given_up cpu n u.given_up

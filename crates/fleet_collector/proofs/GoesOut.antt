@@ -15,7 +15,7 @@ use Rattle.stream_collector.proofs.StreamLaws.{records_stay}
 use Rattle.fleet_collector.specs.Fleet.{stream_at}
 use Rattle.fleet_collector.specs.Frontier.{IsFleetFrontier, AllForgottenBefore}
 use Rattle.fleet_collector.specs.Lines.{IsAmong}
-use Rattle.fleet_collector.specs.Listing.{Line, IsBefore, IsTimeOrdered, IsListing, IsListingBefore, line_for}
+use Rattle.fleet_collector.specs.Listing.{Line, IsBefore, IsTimeOrdered, IsFleetListing, IsListingBefore, line_for}
 use Rattle.fleet_collector.proofs.BeforeCut.{below_cut}
 
 -- ---- lines before the moment, and lines that come later
@@ -39,13 +39,13 @@ comes_later fleet frontier id cpu cut later is there =
 -- ---- what was listed and forgotten, and what is listed then
 
 module _ (old new : List (ℕ × Stream)) (moment : ℕ) (first rest : List Line) (out : IsListingBefore old moment first)
-    (gone : AllForgottenBefore old new moment) (then : IsListing new rest) where
+    (gone : AllForgottenBefore old new moment) (then : IsFleetListing new rest) where
   stays : (id cpu n : ℕ) (r : Record) → bound_of (stream_at new id) cpu ≤ n
       → (HasRecord (stream_at old id) cpu n r ↔ HasRecord (stream_at new id) cpu n r)
   stays id cpu n r from = let f = gone id in
       records_stay (stream_at old id) (stream_at new id) f.raised cpu n r from
 
-  pub is_of_one : (lines : List Line) → IsListing old lines → (line : Line)
+  pub is_of_one : (lines : List Line) → IsFleetListing old lines → (line : Line)
       → (IsAmong lines line ↔ (IsAmong first line ⊎ IsAmong rest line))
   is_of_one lines whole line = (
     λ s.
@@ -102,8 +102,8 @@ pub one_after_the_other : (old new : List (ℕ × Stream)) (frontier : Moment) (
     → ((id : ℕ) → Agree (stream_at old id).parcels)
     → ((id : ℕ) → AreWithinEnds (stream_at old id))
     → ((id cpu : ℕ) → NeverFall (stream_at old id).parcels cpu)
-    → IsListingBefore old frontier.0 first → AllForgottenBefore old new frontier.0 → IsListing new rest
-    → IsListing old (first ++ rest)
+    → IsListingBefore old frontier.0 first → AllForgottenBefore old new frontier.0 → IsFleetListing new rest
+    → IsFleetListing old (first ++ rest)
 one_after_the_other old new frontier first rest is agree within rise out gone then = record {
   ordered = ordered_behind first rest out.ordered then.ordered (λ a b s t.
       let early = listed_is_before old frontier.0 first a out s in

@@ -24,7 +24,7 @@ use Rattle.fleet_collector.specs.Told.{TellOfNumber}
 use Rattle.fleet_collector.specs.Told.{TellRecord}
 use Rattle.fleet_collector.specs.Told.{TellMissing, IsBoundTold, IsStreamOf, IsFleetOf, HaveSamePieces, IsListingOf}
 use Rattle.fleet_collector.specs.Fleet.{stream_at}
-use Rattle.fleet_collector.specs.Listing.{Line, IsListing}
+use Rattle.fleet_collector.specs.Listing.{Line, IsFleetListing}
 
 -- ---- one piece more
 
@@ -767,7 +767,7 @@ told_by_none id = record {
 -- ---- the listing
 
 pub listing_told : (pieces : List Packed) (fleet : List (ℕ × Stream)) (lines : List Line) → IsFleetOf pieces fleet
-    → IsListing fleet lines → IsListingOf pieces lines
+    → IsFleetListing fleet lines → IsListingOf pieces lines
 listing_told pieces fleet lines was is = record {
   ordered = is.ordered;
   of_them = λ k line at. ((was.streams line.stream).records line.cpu line.number record

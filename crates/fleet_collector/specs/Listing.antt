@@ -36,7 +36,7 @@ line_for stream cpu number r =
 
 -- The listing of a fleet: a line for each record that a stream has from the bound of its CPU on, and no other, in
 -- strict order.
-pub record IsListing (fleet : List (ℕ × Stream)) (lines : List Line) : Type 0 where
+pub record IsFleetListing (fleet : List (ℕ × Stream)) (lines : List Line) : Type 0 where
   pub ordered : IsTimeOrdered lines
   pub of_them : (k : ℕ) (line : Line)
       → slice_get lines k ≡ Some line

@@ -52,7 +52,7 @@ AddsParcel old new stream parcel IsNotKept = (new ≡ old) × IsForgotten (strea
 
 -- ---- a mark of a CPU
 
--- the CPU had no end, and has this one afterwards, above all that is reached
+-- the CPU had no end, and has this one afterwards, above all numbers that aren't open
 pub record MarksEnd (old new : Stream) (cpu end : ℕ) : Type 0 where
   pub first : end_of old cpu ≡ None
   pub ended : HasEnd old new cpu end

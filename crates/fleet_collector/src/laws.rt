@@ -18,7 +18,7 @@ ghost use Rattle.fleet_collector.specs.Merging.{IsSameFleet};
 ghost use Rattle.fleet_collector.specs.Pieces.{HasKnownCpu};
 ghost use Rattle.fleet_collector.specs.Snapshot.{IsSnapshot};
 ghost use Rattle.fleet_collector.specs.Told.{IsFleetOf, HaveSamePieces, IsListingOf};
-ghost use Rattle.fleet_collector.specs.Listing.{Line, IsListing, IsListingBefore};
+ghost use Rattle.fleet_collector.specs.Listing.{Line, IsFleetListing, IsListingBefore};
 
 /// The fleet of some pieces depends on which pieces there are alone: not on their order, nor on their repeats, nor on
 /// how they are spread over files. Of no pieces it is the empty one.
@@ -48,7 +48,7 @@ pub fn what_is_read_may_be_added()
 /// The listing of the fleet of some pieces has a line for each record that the pieces tell, and no other.
 pub fn a_listing_is_what_the_pieces_tell()
     ensures { (pieces : List Packed) (fleet : List (ℕ × Stream)) (lines : List Line)
-        → IsFleetOf pieces fleet → IsListing fleet lines → IsListingOf pieces lines }
+        → IsFleetOf pieces fleet → IsFleetListing fleet lines → IsListingOf pieces lines }
 {}
 
 /// A listing can go out while the fleet grows: what is listed before a moment and then forgotten, and what is listed
@@ -67,19 +67,19 @@ pub fn a_listing_goes_out_as_it_grows()
         → (n : ℕ) (r : Record) → cut ≤ n → Has ((stream_at fleet id).parcels ++ later) cpu n r
         → frontier.0 ≤ r.moment }
     ensures parted { (old new : List (ℕ × Stream)) (moment : ℕ) (first rest : List Line)
-        → IsListingBefore old moment first → AllForgottenBefore old new moment → IsListing new rest
-        → (lines : List Line) → IsListing old lines → (line : Line)
+        → IsListingBefore old moment first → AllForgottenBefore old new moment → IsFleetListing new rest
+        → (lines : List Line) → IsFleetListing old lines → (line : Line)
         → (IsAmong lines line ↔ (IsAmong first line ⊎ IsAmong rest line)) }
     ensures once { (old new : List (ℕ × Stream)) (moment : ℕ) (first rest : List Line)
-        → IsListingBefore old moment first → AllForgottenBefore old new moment → IsListing new rest
+        → IsListingBefore old moment first → AllForgottenBefore old new moment → IsFleetListing new rest
         → (line : Line) → IsAmong first line → IsAmong rest line → ⊥ }
     ensures followed { (old new : List (ℕ × Stream)) (frontier : Moment) (first rest : List Line)
         → IsFleetFrontier old (Some frontier)
         → ((id : ℕ) → Agree (stream_at old id).parcels)
         → ((id : ℕ) → AreWithinEnds (stream_at old id))
         → ((id cpu : ℕ) → NeverFall (stream_at old id).parcels cpu)
-        → IsListingBefore old frontier.0 first → AllForgottenBefore old new frontier.0 → IsListing new rest
-        → IsListing old (first ++ rest) }
+        → IsListingBefore old frontier.0 first → AllForgottenBefore old new frontier.0 → IsFleetListing new rest
+        → IsFleetListing old (first ++ rest) }
 {}
 
 /// A snapshot of a stream is that stream: a fleet of its pieces knows the same of it.

@@ -142,7 +142,7 @@ fn listed(
 }
 
 impl Fleet {
-    ghost use Rattle.fleet_collector.specs.Listing.{IsListing, IsListingBefore};
+    ghost use Rattle.fleet_collector.specs.Listing.{IsFleetListing, IsListingBefore};
 
     /// A line for each record that the streams have from their bounds on, and no other, strictly rising by moment, then
     /// by stream, then by CPU, then by number.
@@ -155,7 +155,7 @@ impl Fleet {
     ///
     /// If memory is refused, nothing has changed.
     pub fn listing(&self, alloc: Global) -> Result<Vec<FleetLine<'_>>, NoMemory>
-        ensures { IfOk result (λ lines. IsListing self.now (map line_seen lines.items)) }
+        ensures { IfOk result (λ lines. IsFleetListing self.now (map line_seen lines.items)) }
     {
         listed(alloc, self, None)
     }

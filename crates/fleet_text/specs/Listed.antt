@@ -2,7 +2,7 @@
 use Rattle.std.specs.Prelude.{ℕ, List, ◌++◌, map, flat_map}
 use Rattle.stream_collector.specs.Stream.{Stream}
 use Rattle.capture_text.specs.declared.form.Form.{Form}
-use Rattle.fleet_collector.specs.Listing.{Line, IsListing}
+use Rattle.fleet_collector.specs.Listing.{Line, IsFleetListing}
 use Rattle.fleet_collector.specs.Lines.{line_seen}
 use Rattle.fleet_text.specs.declared.run.RunKind.TheVariants.{Missing, Unknown, Undelivered, Forgotten}
 use Rattle.fleet_text.specs.declared.listed.Listed.{Listed}
@@ -27,8 +27,8 @@ shown_of listed = record {
 }
 
 -- it is what this fleet has, no less and no more
-pub record IsShownOf (fleet : List (ℕ × Stream)) (shown : Shown) : Type 0 where
-  pub lines : IsListing fleet shown.lines
+pub record IsFleetShown (fleet : List (ℕ × Stream)) (shown : Shown) : Type 0 where
+  pub lines : IsFleetListing fleet shown.lines
   pub missing : AreRunsOfFleet Missing fleet shown.missing
   pub unknown : AreRunsOfFleet Unknown fleet shown.unknown
   pub undelivered : AreRunsOfFleet Undelivered fleet shown.undelivered

@@ -24,11 +24,11 @@ pub struct Listed<'a> {
 impl<'a> Listed<'a> {
     ghost use Rattle.std.specs.Prelude.{◌≡◌, IfOk};
     ghost use Rattle.text_buffer.specs.Putting.{has_failed, Puts};
-    ghost use Rattle.fleet_text.specs.Listed.{shown_of, shown_text, IsShownOf};
+    ghost use Rattle.fleet_text.specs.Listed.{shown_of, shown_text, IsFleetShown};
 
     /// What is printed of this fleet. Nothing that is done with it takes memory.
     pub fn new(alloc: Global, fleet: &'a Fleet) -> Result<Listed<'a>, NoMemory>
-        ensures { IfOk result (λ listed. IsShownOf fleet.now (shown_of listed)) }
+        ensures { IfOk result (λ listed. IsFleetShown fleet.now (shown_of listed)) }
     {
         let cpus = all_cpus(alloc, fleet)?;
         Ok(Listed {

@@ -8,7 +8,7 @@ use Rattle.parcel_streams.specs.Answers.{pieces_seen}
 use Rattle.parcel_streams.specs.declared.piece.Piece.{Piece}
 use Rattle.stream_collector.specs.Stream.{Stream}
 use Rattle.capture_text.specs.declared.form.Form.{Form}
-use Rattle.fleet_text.specs.Listed.{Shown, IsShownOf, shown_text}
+use Rattle.fleet_text.specs.Listed.{Shown, IsFleetShown, shown_text}
 use Rattle.fleet_text.specs.Faults.{fault_line, is_memory_refusal}
 use Rattle.fleet_text.specs.declared.fault.PieceTrouble.TheVariants.{Refused as RefusedPiece}
 use Rattle.stream_command.specs.Gathering.{IsGathered}
@@ -28,14 +28,14 @@ use Rattle.recover_command.specs.Gathering.{IsRegionStop}
 use Rattle.recover_command.specs.Lines.{damaged_lines, region_line}
 
 -- The text was written, or a beginning of it, and not all, and then the ending says so.
-pub record IsWritten (contents after : Option (List ℕ)) (failed : Bool) (text : List ℕ) (wanted ending : Ending)
+pub record IsTextWritten (contents after : Option (List ℕ)) (failed : Bool) (text : List ℕ) (wanted ending : Ending)
     : Type 0 where
   pub all : failed ≡ false → Appends contents after text × (ending ≡ wanted)
   pub cut_off : failed ≡ true → AppendsPrefix contents after text × (ending ≡ NotWritten)
 
 -- the line for refused memory alone
 abbrev pub IsMemoryLine : (contents after : Option (List ℕ)) (failed : Bool) → Ending → Type 0
-IsMemoryLine contents after failed ending = IsWritten contents after failed MEMORY_LINE NoMemory ending
+IsMemoryLine contents after failed ending = IsTextWritten contents after failed MEMORY_LINE NoMemory ending
 
 -- ---- a listing
 
@@ -52,20 +52,20 @@ pub record IsEndingFor (regions : List Region) (ending : Ending) : Type 0 where
 pub record IsListed (form : Form) (regions : List Region) (fleet : List (ℕ × Stream))
     (contents after : Option (List ℕ)) (failed : Bool) (ending : Ending) : Type 0 where
   pub shown : Shown
-  pub is_shown : IsShownOf fleet shown
+  pub is_shown : IsFleetShown fleet shown
   pub wanted : Ending
   pub wanted_is : IsEndingFor regions wanted
-  pub written : IsWritten contents after failed (shown_text form shown ++ damaged_lines form regions) wanted ending
+  pub written : IsTextWritten contents after failed (shown_text form shown ++ damaged_lines form regions) wanted ending
 
 -- ---- why nothing is listed
 
 -- What is written if an input gives no region: nothing if a read failed or it is too long; else the line of its fault,
 -- or that of refused memory.
 abbrev pub TellsUnread : (input : ℕ) → Unread → (contents after : Option (List ℕ)) (failed : Bool) → Ending → Type 0
-TellsUnread input Read contents after failed ending = IsWritten contents after failed [] (NotRead input) ending
-TellsUnread input TooMany contents after failed ending = IsWritten contents after failed [] (TooLong input) ending
+TellsUnread input Read contents after failed ending = IsTextWritten contents after failed [] (NotRead input) ending
+TellsUnread input TooMany contents after failed ending = IsTextWritten contents after failed [] (TooLong input) ending
 TellsUnread input (Fault fault) contents after failed ending =
-    IsWritten contents after failed (region_line fault) (Malformed input) ending
+    IsTextWritten contents after failed (region_line fault) (Malformed input) ending
 TellsUnread input NoRoom contents after failed ending = IsMemoryLine contents after failed ending
 
 -- what is written if a piece isn't added: the line that says why it is refused, or that of refused memory
@@ -73,7 +73,7 @@ abbrev pub TellsStop : (input : ℕ) → Stop → (contents after : Option (List
 TellsStop input NoRoomLeft contents after failed ending = IsMemoryLine contents after failed ending
 TellsStop input (Refused index at stream cpu refusal) contents after failed ending =
     ((is_memory_refusal refusal ≡ false)
-    × IsWritten contents after failed (fault_line at index (RefusedPiece stream cpu refusal)) (Malformed input) ending)
+    × IsTextWritten contents after failed (fault_line at index (RefusedPiece stream cpu refusal)) (Malformed input) ending)
     ⊎ ((is_memory_refusal refusal ≡ true) × IsMemoryLine contents after failed ending)
 
 module _ {R : Type 0} (remaining : R → Option (List ℕ)) (count : R → ℕ) (has_failed : R → Bool) where

@@ -1,7 +1,7 @@
 //! What a run writes, and how it ends then.
 ghost use Rattle.std.specs.Prelude.{◌≡◌, ◌⊎◌, ◌↔◌, IsTrue, false, ℕ, List, [], Option, IfErr, OnOk};
 ghost use Rattle.text_buffer.specs.Putting.{has_failed, HasPut};
-ghost use Rattle.recover_command.specs.Runs.{IsWritten, IsMemoryLine, AreSound, IsEndingFor, IsListed, TellsUnread, TellsStop};
+ghost use Rattle.recover_command.specs.Runs.{IsTextWritten, IsMemoryLine, AreSound, IsEndingFor, IsListed, TellsUnread, TellsStop};
 
 use crate::ending::Ending;
 use crate::gather::{Stop, StoppedAt};
@@ -21,7 +21,7 @@ fn finish<W: Sink>(buffer: TextBuffer, writer: &mut W, wanted: Ending) -> Ending
     requires { has_failed buffer ≡ W.failed writer.old }
     ensures { (start : Option (List ℕ)) (text : List ℕ)
         → HasPut start (W.contents writer.old) (W.failed writer.old) text buffer
-        → IsWritten start (W.contents writer.new) (W.failed writer.new) text wanted result }
+        → IsTextWritten start (W.contents writer.new) (W.failed writer.new) text wanted result }
 {
     match buffer.finish(writer) {
         Ok(()) => wanted,

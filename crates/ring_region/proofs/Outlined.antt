@@ -24,7 +24,7 @@ use Rattle.ring_region.specs.declared.slots.Reading.{Reading}
 use Rattle.ring_region.specs.Headers.{number_in}
 use Rattle.ring_region.specs.Slots.{faulty, IsSlotOf, IsUnmissed, IsCommitted, commit_in, committed_in, word_at}
 use Rattle.ring_region.specs.Answers.{unmissed, reading_seen, IsWithin, IsTold}
-use Rattle.ring_region.proofs.Plain.{IsCut, none_stated}
+use Rattle.ring_region.proofs.Plain.{IsCutPiece, none_stated}
 
 -- ---- the word that can't be read is within the data
 
@@ -53,7 +53,7 @@ word_within image (TimeOverflow at) is = bad_within image time_overflow at is
 pub whole_committed : (bytes : List ℕ) → 48 + commit_in bytes ≡ length bytes → committed_in bytes ≡ bytes
 whole_committed bytes commit = take_all (48 + commit_in bytes) bytes (omega (arith, commit))
 
-pub cut-whole : (cpu : ℕ) (bytes : List ℕ) → length bytes ≤ 48 + MAX_SIZE → 48 + commit_in bytes ≡ length bytes → IsUnmissed cpu bytes → IsCut cpu bytes
+pub cut-whole : (cpu : ℕ) (bytes : List ℕ) → length bytes ≤ 48 + MAX_SIZE → 48 + commit_in bytes ≡ length bytes → IsUnmissed cpu bytes → IsCutPiece cpu bytes
 cut-whole cpu bytes limit commit is = record {
   long = sym commit;
   limit = omega (arith, limit, commit);
@@ -65,7 +65,7 @@ pub committed-whole : (cpu : ℕ) (bytes : List ℕ) → 48 + commit_in bytes �
 committed-whole cpu bytes commit is = record { unmissed = is; there = omega (arith, commit) }
 
 -- the fault of a word is one of what is up to the commit
-word_faulty : (cpu : ℕ) (bytes : List ℕ) (cause : Cause) (at : ℕ) → cpu < MAX_CPUS → AreBytes bytes → IsCut cpu bytes → FirstImageFault (drop 32 bytes) (bad_word cause at)
+word_faulty : (cpu : ℕ) (bytes : List ℕ) (cause : Cause) (at : ℕ) → cpu < MAX_CPUS → AreBytes bytes → IsCutPiece cpu bytes → FirstImageFault (drop 32 bytes) (bad_word cause at)
     → FirstParcelFault bytes (bad_image (bad_word cause at))
 word_faulty cpu bytes cause at known small is_cut bad =
     let long = is_cut.long in record {
@@ -129,7 +129,7 @@ told_within bytes ImageMemory result long bad told = told_error (IsWithin bytes)
 abbrev pub page_of : List ℕ → Outline → Contents
 page_of bytes outline = record (page_in (drop 32 bytes) outline.time outline.size) { first = number_in bytes 16; fill = number_in bytes 8 }
 
-module _ (cpu : ℕ) (bytes : List ℕ) (outline : Outline) (known : cpu < MAX_CPUS) (small : AreBytes bytes) (is_cut : IsCut cpu bytes) (is : IsOutlined (drop 32 bytes) outline) where
+module _ (cpu : ℕ) (bytes : List ℕ) (outline : Outline) (known : cpu < MAX_CPUS) (small : AreBytes bytes) (is_cut : IsCutPiece cpu bytes) (is : IsOutlined (drop 32 bytes) outline) where
   numbers : HasNumbers bytes cpu (number_in bytes 8) (number_in bytes 16) 0 (drop 32 bytes)
   numbers =
       let long = is_cut.long in

@@ -19,13 +19,13 @@ use Rattle.ring_region.specs.Slots.{IsCommitted, commit_in, committed_in, FirstS
 use Rattle.ring_region.proofs.OnePage.{number-take}
 
 -- the bytes are a slot up to its commit: of this CPU, with nothing missed
-pub record IsCut (cpu : ℕ) (bytes : List ℕ) : Type 0 where
+pub record IsCutPiece (cpu : ℕ) (bytes : List ℕ) : Type 0 where
   pub long : length bytes ≡ 48 + number_in bytes 40
   pub limit : number_in bytes 40 ≤ MAX_SIZE
   pub cpu_is : number_in bytes 0 ≡ cpu
   pub none_missed : number_in bytes 24 ≡ 0
 
-pub cut-of : (cpu : ℕ) (bytes : List ℕ) → length bytes ≤ 48 + MAX_SIZE → IsCommitted cpu bytes → IsCut cpu (committed_in bytes)
+pub cut-of : (cpu : ℕ) (bytes : List ℕ) → length bytes ≤ 48 + MAX_SIZE → IsCommitted cpu bytes → IsCutPiece cpu (committed_in bytes)
 cut-of cpu bytes limit is =
     let n : ℕ = 48 + commit_in bytes in
     let there = is.there in
@@ -37,7 +37,7 @@ cut-of cpu bytes limit is =
       none_missed = number-take bytes n 24 (omega arith) ∙ is.unmissed.none_missed;
     }
 
-module _ (cpu : ℕ) (bytes : List ℕ) (is : IsCut cpu bytes) where
+module _ (cpu : ℕ) (bytes : List ℕ) (is : IsCutPiece cpu bytes) where
   image_number : from_le64 (drop 8 (drop 32 bytes)) ≡ number_in bytes 40
   image_number = ap from_le64 (drop-drop 8 32 bytes)
 

@@ -12,7 +12,7 @@ use Rattle.collector.specs.Known.{IsKnown}
 use Rattle.collector.proofs.OfKind.{known_unless, is_of_true, of_is_true}
 use Rattle.collector.proofs.Stretches.{is_missed_true, misses_of_true}
 use Rattle.stream_collector.specs.Marking.{IsNotOpen, by_bound, by_parcels, by_given_up}
-use Rattle.stream_collector.specs.Stream.{Stream, bound_of, IsAccounted, has_record, is_missing, is_undelivered}
+use Rattle.stream_collector.specs.Stream.{Stream, bound_of, HasOutcome, has_record, is_missing, is_undelivered}
 use Rattle.stream_collector.specs.Stream.{HaveNoRecord, IsNotKnown}
 
 -- a number is known, or nothing is known of it
@@ -23,7 +23,7 @@ known_or_not ps cpu n = at (is_of_kind Unknown ps cpu n) refl
     at true e = inl (of_is_true Unknown ps cpu n e)
     at false e = inr (known_unless ps cpu n (λ unknown. false≢true (sym e ∙ is_of_true Unknown ps cpu n unknown)))
 
-pub known_accounted : (s : Stream) (cpu n : ℕ) → bound_of s cpu ≤ n → IsKnown s.parcels cpu n → IsAccounted s cpu n
+pub known_accounted : (s : Stream) (cpu n : ℕ) → bound_of s cpu ≤ n → IsKnown s.parcels cpu n → HasOutcome s cpu n
 known_accounted s cpu n from known = ⊎_elim
     (λ (there : (r : Record) × Has s.parcels cpu n r). has_record there.0 record { from = from; has = there.1 })
     (λ (m : Misses s.parcels cpu n). is_missing record { from = from; misses = m })
@@ -36,7 +36,7 @@ unknown_from s cpu n from not_known = ⊎_elim
     (λ (unknown : IsUnknown s.parcels cpu n). unknown)
     not_known
 
-pub given_up_accounted : (s : Stream) (cpu n : ℕ) → bound_of s cpu ≤ n → Misses s.given_up cpu n → IsAccounted s cpu n
+pub given_up_accounted : (s : Stream) (cpu n : ℕ) → bound_of s cpu ≤ n → Misses s.given_up cpu n → HasOutcome s cpu n
 given_up_accounted s cpu n from given_up = ⊎_elim
     (λ (unknown : IsUnknown s.parcels cpu n).
     is_undelivered from record { given_up = given_up; not_known = inr unknown })

@@ -11,12 +11,12 @@ use Rattle.collector.proofs.Known.{filtered_from}
 use Rattle.stream_collector.specs.declared.marks.Marks.{Marks}
 use Rattle.stream_collector.specs.Marks.{bounds_of}
 use Rattle.stream_collector.specs.Stream.{Stream, bound_of, end_of, HasRecord, IsMissing, IsUndelivered, IsOpen}
-use Rattle.stream_collector.specs.Stream.{IsAccounted, has_record, is_missing, is_undelivered, IsExpected, IsUnknownYet}
+use Rattle.stream_collector.specs.Stream.{HasOutcome, has_record, is_missing, is_undelivered, IsExpected, IsUnknownYet}
 use Rattle.stream_collector.specs.Forgetting.{HasBound, AreRaised, IsLost, GivesUpBelow}
 use Rattle.stream_collector.proofs.Standing.{known_or_not, known_accounted, given_up_accounted, missed_or_not}
 use Rattle.stream_collector.proofs.Standing.{unknown_from}
 
-pub one : (s : Stream) (cpu n : ℕ) → bound_of s cpu ≤ n → (IsOpen s cpu n ⊎ IsAccounted s cpu n)
+pub one : (s : Stream) (cpu n : ℕ) → bound_of s cpu ≤ n → (IsOpen s cpu n ⊎ HasOutcome s cpu n)
 one s cpu n from = ⊎_elim
     (λ (unknown : IsUnknown s.parcels cpu n). ⊎_elim
     (λ (m : Misses s.given_up cpu n). inr (given_up_accounted s cpu n from m))
@@ -25,13 +25,13 @@ one s cpu n from = ⊎_elim
     (λ (known : IsKnown s.parcels cpu n). inr (known_accounted s cpu n from known))
     (known_or_not s.parcels cpu n)
 
-pub not_open : (s : Stream) (cpu n : ℕ) → IsAccounted s cpu n → IsOpen s cpu n → ⊥
+pub not_open : (s : Stream) (cpu n : ℕ) → HasOutcome s cpu n → IsOpen s cpu n → ⊥
 not_open s cpu n (has_record r h) o = o.unknown.no_record r h.has
 not_open s cpu n (is_missing m) o = o.unknown.not_missing m.misses
 not_open s cpu n (is_undelivered from u) o = o.not_given_up u.given_up
 
 pub unknown_first : (s : Stream) (cpu w n : ℕ) → IsOpen s cpu w
-    → ((m : ℕ) → bound_of s cpu ≤ m → m < w → IsAccounted s cpu m)
+    → ((m : ℕ) → bound_of s cpu ≤ m → m < w → HasOutcome s cpu m)
     → IsUnknownYet s cpu n → IsUnknownYet s cpu w × (w ≤ n)
 unknown_first s cpu w n o accounted a = ⊎_elim
     (λ (lt : n < w). absurd (not_open s cpu n (accounted n a.is_open.from lt) a.is_open))

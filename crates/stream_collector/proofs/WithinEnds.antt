@@ -10,7 +10,7 @@ use Rattle.collector.proofs.Known.{filtered_from}
 use Rattle.collector.proofs.SideBySide.{has_either, misses_either}
 use Rattle.stream_collector.specs.declared.marks.Marks.{Marks}
 use Rattle.stream_collector.specs.Marks.{marks_at, bounds_of, AllSaySomething}
-use Rattle.stream_collector.specs.Stream.{Stream, bound_of, end_of, IsUpToEnd, IsAccounted, has_record, is_missing}
+use Rattle.stream_collector.specs.Stream.{Stream, bound_of, end_of, IsUpToEnd, HasOutcome, has_record, is_missing}
 use Rattle.stream_collector.specs.Stream.{is_undelivered, HaveNoRecord}
 use Rattle.stream_collector.specs.Marking.{IsNotOpen, by_bound, by_parcels, by_given_up, AreWithinEnds, IsStanding}
 use Rattle.stream_collector.specs.Marking.{HasEnd}
@@ -146,14 +146,14 @@ bound_within s cpu was end is = ⊎_elim
     (λ (none : bound_of s cpu ≤ 0). omega arith)
     (cases_lt 0 (bound_of s cpu))
 
-reached : (s : Stream) (cpu n : ℕ) → IsAccounted s cpu n → IsNotOpen s cpu n
+reached : (s : Stream) (cpu n : ℕ) → HasOutcome s cpu n → IsNotOpen s cpu n
 reached s cpu n (has_record r h) = by_parcels (inl (r, h.has))
 reached s cpu n (is_missing m) = by_parcels (inr m.misses)
 reached s cpu n (is_undelivered from u) = by_given_up u.given_up
 
 -- a number up to which all is accounted for
 pub accounted_within : (s : Stream) (cpu w : ℕ) → AreWithinEnds s → bound_of s cpu ≤ w
-    → ((n : ℕ) → bound_of s cpu ≤ n → n < w → IsAccounted s cpu n) → IsUpToEnd s cpu w
+    → ((n : ℕ) → bound_of s cpu ≤ n → n < w → HasOutcome s cpu n) → IsUpToEnd s cpu w
 accounted_within s cpu w was from accounted end is =
     let low = bound_within s cpu was end is in
     ⊎_elim

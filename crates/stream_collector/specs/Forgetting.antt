@@ -5,7 +5,7 @@ use Rattle.trace_model.specs.Collection.{Misses, IsSame}
 use Rattle.collector.specs.Shown.{IsUnknown}
 use Rattle.collector.specs.Known.{without_ended}
 use Rattle.stream_collector.specs.Marks.{marks_at, bounds_of}
-use Rattle.stream_collector.specs.Stream.{Stream, bound_of, end_of, IsUpToEnd, IsOpen, IsAccounted}
+use Rattle.stream_collector.specs.Stream.{Stream, bound_of, end_of, IsUpToEnd, IsOpen, HasOutcome}
 use Rattle.stream_collector.specs.declared.fault.MarkFault.{MarkFault}
 use Rattle.stream_collector.specs.declared.fault.MarkFault.TheVariants.{OtherEnd, BeyondEnd, NotFinal, NoMemory}
 
@@ -44,7 +44,7 @@ IsBoundFault stream cpu bound NoMemory = (bound_of stream cpu < bound) × IsUpTo
 -- each number of the CPU from its bound up to this one is accounted for
 abbrev pub AllAccounted : Stream → (cpu bound : ℕ) → Type 0
 AllAccounted stream cpu bound = (number : ℕ)
-    → bound_of stream cpu ≤ number → number < bound → IsAccounted stream cpu number
+    → bound_of stream cpu ≤ number → number < bound → HasOutcome stream cpu number
 
 -- Why it isn't, if it has to be final: this is the least open number, and it is below the bound; or all below a higher
 -- bound is accounted for, and memory was refused. Such a bound is never above the end.

@@ -13,7 +13,7 @@ pub data IsNotOpen (stream : Stream) (cpu number : ℕ) : Type 0 where
   by_parcels : IsKnown stream.parcels cpu number → IsNotOpen stream cpu number
   by_given_up : Misses stream.given_up cpu number → IsNotOpen stream cpu number
 
--- of a CPU with an end, each number that is reached is below it
+-- of a CPU with an end, each number that isn't open is below it
 abbrev pub AreWithinEnds : Stream → Type 0
 AreWithinEnds stream = (cpu end number : ℕ)
     → end_of stream cpu ≡ Some end → IsNotOpen stream cpu number → number < end
@@ -31,7 +31,7 @@ pub record HasEnd (old new : Stream) (cpu end : ℕ) : Type 0 where
   pub marks : marks_at new.marks cpu ≡ record { bound = bound_of old cpu; end = Some end }
   pub others : (other : ℕ) → (other ≡ cpu → ⊥) → marks_at new.marks other ≡ marks_at old.marks other
 
--- the greatest number that is reached, and isn't below the end
+-- the greatest number that isn't open, and it isn't below the end
 pub record IsGreatestBeyond (stream : Stream) (cpu end number : ℕ) : Type 0 where
   pub reached : IsNotOpen stream cpu number
   pub beyond : end ≤ number

@@ -31,12 +31,12 @@ abbrev pub HaveOneEnd : Stream → Stream → Type 0
 HaveOneEnd stream other = (cpu end others : ℕ)
     → end_of stream cpu ≡ Some end → end_of other cpu ≡ Some others → end ≡ others
 
--- what one of them has reached is below the ends of the other
+-- each number of one of them that isn't open is below the ends of the other
 abbrev pub IsWithinEndsOf : Stream → (reaching : Stream) → Type 0
 IsWithinEndsOf stream reaching = (cpu end number : ℕ)
     → end_of stream cpu ≡ Some end → IsNotOpen reaching cpu number → number < end
 
--- the greatest number that one of them has reached, if the other has an end at or below it
+-- the greatest number of one of them that isn't open, if the other has an end at or below it
 pub record IsBeyondEndOf (stream reaching : Stream) (cpu number : ℕ) : Type 0 where
   pub end : ℕ
   pub end_is : end_of stream cpu ≡ Some end
@@ -44,7 +44,7 @@ pub record IsBeyondEndOf (stream reaching : Stream) (cpu number : ℕ) : Type 0 
   pub reached : IsNotOpen reaching cpu number
   pub greatest : (other : ℕ) → IsNotOpen reaching cpu other → other ≤ number
 
--- a CPU has one end in both, if any, and what either has reached is below it
+-- a CPU has one end in both, if any, and each number of either that isn't open is below it
 pub record HaveFittingEnds (stream other : Stream) : Type 0 where
   pub one_end : HaveOneEnd stream other
   pub within : IsWithinEndsOf stream other
@@ -66,7 +66,7 @@ IsEndsFault stream other (Clash cpu number) = ⊥
 IsEndsFault stream other (TakenAndMissing cpu number) = ⊥
 IsEndsFault stream other NoMemory = ⊥
 
--- the other one has reached a number at or beyond an end
+-- a number of the other one that isn't open is at or beyond an end
 abbrev pub IsReachFault : Stream → (reaching : Stream) → MergeFault → Type 0
 IsReachFault stream reaching (OtherEnd cpu end others) = ⊥
 IsReachFault stream reaching (BeyondEnd cpu number) = IsBeyondEndOf stream reaching cpu.0 number.0
@@ -89,8 +89,8 @@ IsJoinFault parcels (ClashThere cpu number) = IsAddFault parcels (ClashThere cpu
 IsJoinFault parcels (TakenThere cpu number) = IsAddFault parcels (TakenThere cpu number)
 IsJoinFault parcels MemoryThere = ⊤
 
--- A CPU has two ends; or none has, and one of them has reached a number beyond the other's end; or the ends fit, and of
--- the numbers under which the kept parcels are at odds this is the least; or memory was refused.
+-- A CPU has two ends; or none has, and a number of one of them that isn't open is beyond the other's end; or the ends
+-- fit, and of the numbers under which the kept parcels are at odds this is the least; or memory was refused.
 abbrev pub IsMergeFault : Stream → Stream → MergeFault → Type 0
 IsMergeFault stream other (OtherEnd cpu end others) = IsEndsFault stream other (OtherEnd cpu end others)
 IsMergeFault stream other (BeyondEnd cpu number) = HaveOneEnd stream other

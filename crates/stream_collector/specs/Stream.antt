@@ -55,10 +55,10 @@ pub record IsOpen (stream : Stream) (cpu number : ℕ) : Type 0 where
   pub unknown : IsUnknown stream.parcels cpu number
 
 -- it isn't below the bound of its CPU, and one of these holds
-pub data IsAccounted (stream : Stream) (cpu number : ℕ) : Type 0 where
-  has_record : (r : Record) → HasRecord stream cpu number r → IsAccounted stream cpu number
-  is_missing : IsMissing stream cpu number → IsAccounted stream cpu number
-  is_undelivered : bound_of stream cpu ≤ number → IsUndelivered stream cpu number → IsAccounted stream cpu number
+pub data HasOutcome (stream : Stream) (cpu number : ℕ) : Type 0 where
+  has_record : (r : Record) → HasRecord stream cpu number r → HasOutcome stream cpu number
+  is_missing : IsMissing stream cpu number → HasOutcome stream cpu number
+  is_undelivered : bound_of stream cpu ≤ number → IsUndelivered stream cpu number → HasOutcome stream cpu number
 
 -- a later number is known, or the CPU has more records than the numbers before this one
 abbrev pub IsExpected : Stream → (cpu number : ℕ) → Type 0

@@ -5,7 +5,7 @@ ghost use Rattle.trace_model.specs.declared.numbers.Moment.{Moment};
 ghost use Rattle.trace_model.specs.Record.{Record};
 ghost use Rattle.trace_model.specs.Collection.{Has, Agree};
 ghost use Rattle.stream_collector.specs.Stream.{Stream, bound_of, HasRecord, IsMissing, IsUndelivered};
-ghost use Rattle.stream_collector.specs.Stream.{IsOpen, IsAccounted, IsUnknownYet};
+ghost use Rattle.stream_collector.specs.Stream.{IsOpen, HasOutcome, IsUnknownYet};
 ghost use Rattle.stream_collector.specs.Forgetting.{HasBound, GivesUpBelow};
 ghost use Rattle.stream_collector.specs.Frontier.{IsFrontier, IsCpuThere, IsCut, IsForgottenBefore, NeverFall};
 ghost use Rattle.stream_collector.specs.Marking.{AreWithinEnds};
@@ -15,8 +15,8 @@ ghost use Rattle.stream_collector.specs.Same.{IsSameStream};
 /// From its bound on each number of a CPU has a record, or is missing, or is undelivered, or is open: one of these, and
 /// no two of them.
 pub fn each_number_is_accounted_once()
-    ensures one { (s : Stream) (cpu n : ℕ) → bound_of s cpu ≤ n → (IsOpen s cpu n ⊎ IsAccounted s cpu n) }
-    ensures not_open { (s : Stream) (cpu n : ℕ) → IsAccounted s cpu n → IsOpen s cpu n → ⊥ }
+    ensures one { (s : Stream) (cpu n : ℕ) → bound_of s cpu ≤ n → (IsOpen s cpu n ⊎ HasOutcome s cpu n) }
+    ensures not_open { (s : Stream) (cpu n : ℕ) → HasOutcome s cpu n → IsOpen s cpu n → ⊥ }
     ensures one_record { (s : Stream) (cpu n : ℕ) (r other : Record) → Agree s.parcels →
         HasRecord s cpu n r → HasRecord s cpu n other → r ≡ other }
     ensures record_not_missing { (s : Stream) (cpu n : ℕ) (r : Record) → Agree s.parcels →
@@ -30,7 +30,7 @@ pub fn each_number_is_accounted_once()
 /// The watermark, the least open number, is the least unknown one if any is.
 pub fn the_watermark_is_unknown_first()
     ensures { (s : Stream) (cpu watermark n : ℕ) → IsOpen s cpu watermark →
-        ((m : ℕ) → bound_of s cpu ≤ m → m < watermark → IsAccounted s cpu m) →
+        ((m : ℕ) → bound_of s cpu ≤ m → m < watermark → HasOutcome s cpu m) →
         IsUnknownYet s cpu n → IsUnknownYet s cpu watermark × (watermark ≤ n) }
 {}
 

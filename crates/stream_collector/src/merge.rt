@@ -120,7 +120,7 @@ impl StreamCollector {
         Ok(())
     }
 
-    /// Looks whether the other stream has reached a number at or beyond an end of this one.
+    /// Looks whether a number of the other stream that isn't open is at or beyond an end of this one.
     fn check_reach(&self, other: &StreamCollector) -> Result<(), MergeFault>
         ensures within { OnOk result (IsWithinEndsOf self.now other.now) }
         ensures fault { IfErr result (λ fault. IsReachFault self.now other.now fault) }

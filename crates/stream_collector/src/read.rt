@@ -14,7 +14,7 @@ impl StreamCollector {
     ghost use Rattle.collector.specs.Sound.{AreSound};
     ghost use Rattle.collector.specs.Listed.{AreRecordsFrom};
     ghost use Rattle.collector.specs.Runs.{AreMissingRuns};
-    ghost use Rattle.stream_collector.specs.Stream.{bound_of, end_of, HasRecord, IsUpToEnd, IsOpen, IsAccounted};
+    ghost use Rattle.stream_collector.specs.Stream.{bound_of, end_of, HasRecord, IsUpToEnd, IsOpen, HasOutcome};
     ghost use Rattle.stream_collector.specs.Marking.{IsNotOpen};
 
     /// The bound of a CPU: what is below it is kept no longer. It is 0 if nothing was forgotten.
@@ -84,7 +84,7 @@ impl StreamCollector {
     /// end.
     pub fn watermark(&self, cpu: CpuId) -> RecordNo
         ensures open { IsOpen self.now cpu.0 result.0 }
-        ensures accounted { (n : ℕ) → bound_of self.now cpu.0 ≤ n → n < result.0 → IsAccounted self.now cpu.0 n }
+        ensures accounted { (n : ℕ) → bound_of self.now cpu.0 ≤ n → n < result.0 → HasOutcome self.now cpu.0 n }
         ensures within { IsUpToEnd self.now cpu.0 result.0 }
     {
         let mut at = self.bound(cpu);

@@ -8,7 +8,7 @@ use Rattle.fleet_collector.specs.declared.refusal.PieceRefusal.{PieceRefusal}
 use Rattle.stream_collector.specs.declared.added.Added.{Added}
 use Rattle.fleet_collector.specs.Pieces.{AddsPiece, IsRefusal}
 use Rattle.capture_text.specs.declared.form.Form.{Form}
-use Rattle.fleet_text.specs.Listed.{Shown, IsShownOf, shown_text}
+use Rattle.fleet_text.specs.Listed.{Shown, IsFleetShown, shown_text}
 use Rattle.fleet_text.specs.Faults.{fault_line, is_no_memory}
 use Rattle.piece_source.specs.declared.reader.PieceReader.{PieceReader}
 use Rattle.stream_command.specs.declared.ending.Collected.{Collected}
@@ -21,7 +21,7 @@ use Rattle.stream_command.specs.Reading.{Placed, placed, AreWhole, StopsInputs}
 use Rattle.stream_command.specs.Gathering.{IsGathered, pieces_in, piece_lines}
 
 -- The text was written, or a beginning of it, and not all, and then the ending says so.
-pub record IsWritten (contents after : Option (List ℕ)) (failed : Bool) (text : List ℕ) (wanted ending : Ending)
+pub record IsTextWritten (contents after : Option (List ℕ)) (failed : Bool) (text : List ℕ) (wanted ending : Ending)
     : Type 0 where
   pub all : failed ≡ false → Appends contents after text × (ending ≡ wanted)
   pub cut_off : failed ≡ true → AppendsPrefix contents after text × (ending ≡ NotWritten)
@@ -29,24 +29,24 @@ pub record IsWritten (contents after : Option (List ℕ)) (failed : Bool) (text 
 -- the text and then the line for refused memory
 abbrev pub IsMemoryLine : (contents after : Option (List ℕ)) (failed : Bool) → List ℕ → Ending → Type 0
 IsMemoryLine contents after failed text ending =
-    IsWritten contents after failed (text ++ MEMORY_LINE) NoMemory ending
+    IsTextWritten contents after failed (text ++ MEMORY_LINE) NoMemory ending
 
 -- What is written after a text if an input isn't read to its end: nothing more if a read failed; else the line of the
 -- fault, or that of refused memory.
 abbrev pub TellsStop : (input : ℕ) → Stop → (contents after : Option (List ℕ)) (failed : Bool) → List ℕ → Ending
     → Type 0
-TellsStop input Read contents after failed text ending = IsWritten contents after failed text (NotRead input) ending
+TellsStop input Read contents after failed text ending = IsTextWritten contents after failed text (NotRead input) ending
 TellsStop input (PieceStop index at trouble) contents after failed text ending =
     ((is_no_memory trouble ≡ false)
-    × IsWritten contents after failed (text ++ fault_line at index trouble) (Malformed input) ending)
+    × IsTextWritten contents after failed (text ++ fault_line at index trouble) (Malformed input) ending)
     ⊎ IsMemoryLine contents after failed text ending
 
 -- what the fleet has was written, or that memory was refused
 pub record IsListed (form : Form) (fleet : List (ℕ × Stream)) (contents after : Option (List ℕ)) (failed : Bool)
     (ending : Ending) : Type 0 where
   pub shown : Shown
-  pub is_shown : IsShownOf fleet shown
-  pub written : IsWritten contents after failed (shown_text form shown) Done ending
+  pub is_shown : IsFleetShown fleet shown
+  pub written : IsTextWritten contents after failed (shown_text form shown) Done ending
 
 -- a piece was added to a fleet
 abbrev pub Adds : (old : List (ℕ × Stream)) → Placed → (new : List (ℕ × Stream)) → Type 0
@@ -98,9 +98,9 @@ module _ {R : Type 0} (remaining : R → Option (List ℕ)) (has_failed : R → 
     pub told : IsMemoryLine contents after failed [] collected.ending
 
   -- What a run that lists does.
-  abbrev pub IsCollectRun : (form : Form) (old new : List (PieceReader R)) (keep keep_after : Option (List ℕ))
+  abbrev pub IsStreamRun : (form : Form) (old new : List (PieceReader R)) (keep keep_after : Option (List ℕ))
       (keep_failed : Bool) (contents after : Option (List ℕ)) (failed : Bool) → Collected → Type 0
-  IsCollectRun form old new keep keep_after keep_failed contents after failed collected =
+  IsStreamRun form old new keep keep_after keep_failed contents after failed collected =
       ListsAll form old new keep keep_after keep_failed contents after failed collected
       ⊎ ListsNone old new keep keep_after keep_failed contents after failed collected
       ⊎ ReadsNone old new keep keep_after keep_failed contents after failed collected
@@ -112,7 +112,7 @@ module _ {R : Type 0} (remaining : R → Option (List ℕ)) (has_failed : R → 
       (ending : Ending) : Type 0 where
     pub pieces : List Placed
     pub are_whole : AreWhole remaining has_failed 0 old new pieces
-    pub written : IsWritten contents after failed (piece_lines form pieces) Done ending
+    pub written : IsTextWritten contents after failed (piece_lines form pieces) Done ending
 
   -- An input wasn't read to its end: there is a line for each piece before, and then why.
   pub record PrintsSome (form : Form) (old new : List (PieceReader R)) (contents after : Option (List ℕ))

@@ -4,7 +4,7 @@ ghost use Rattle.text_buffer.specs.Putting.{has_failed, HasPut};
 ghost use Rattle.piece_source.specs.Readers.{source_of};
 ghost use Rattle.stream_command.specs.Reading.{IsFresh};
 ghost use Rattle.stream_command.specs.Gathering.{HasGathered};
-ghost use Rattle.stream_command.specs.Runs.{IsWritten, IsMemoryLine, TellsStop, IsListed, IsCollectRun, IsPrintRun};
+ghost use Rattle.stream_command.specs.Runs.{IsTextWritten, IsMemoryLine, TellsStop, IsListed, IsStreamRun, IsPrintRun};
 
 use crate::ending::{Collected, Ending};
 use crate::gather::Gatherer;
@@ -24,7 +24,7 @@ fn finish<W: Sink>(buffer: TextBuffer, writer: &mut W, wanted: Ending) -> Ending
     requires { has_failed buffer ≡ W.failed writer.old }
     ensures { (start : Option (List ℕ)) (text : List ℕ)
         → HasPut start (W.contents writer.old) (W.failed writer.old) text buffer
-        → IsWritten start (W.contents writer.new) (W.failed writer.new) text wanted result }
+        → IsTextWritten start (W.contents writer.new) (W.failed writer.new) text wanted result }
 {
     match buffer.finish(writer) {
         Ok(()) => wanted,
@@ -152,7 +152,7 @@ pub fn collect_streams<R: Source, K: Sink, W: Sink>(
     requires fresh { All (λ reader. IsFresh reader) inputs.old }
     requires sound_keep { K.failed keep.old ≡ false }
     requires sound_writer { W.failed writer.old ≡ false }
-    ensures { IsCollectRun R.remaining R.failed form inputs.old inputs.new
+    ensures { IsStreamRun R.remaining R.failed form inputs.old inputs.new
         (K.contents keep.old) (K.contents keep.new) (K.failed keep.new)
         (W.contents writer.old) (W.contents writer.new) (W.failed writer.new) result }
 {

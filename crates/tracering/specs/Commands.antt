@@ -12,5 +12,5 @@ pub use Rattle.collect_command.specs.Runs.{IsCollectRun}
 pub use Rattle.collect_command.specs.Statuses.{status_for}
 pub use Rattle.piece_source.specs.Readers.{source_of}
 pub use Rattle.stream_command.specs.Reading.{IsFresh}
-pub use Rattle.stream_command.specs.Runs.{IsPrintRun, IsCollectRun as IsStreamsCollectRun}
+pub use Rattle.stream_command.specs.Runs.{IsPrintRun, IsStreamRun}
 pub use Rattle.recover_command.specs.Runs.{IsRecoverRun}

@@ -5,7 +5,7 @@ pub use Rattle.parcel_streams.specs.Pieces.{BeginsWith, IsMark, IsPiece, IsStrea
 pub use Rattle.parcel_streams.specs.Answers.{HasPiece, HasPieceAt, piece_fault, piece_of_parcel, piece_seen, pieces_seen, stream_fault}
 pub use Rattle.parcel_streams.specs.Faults.{FirstPieceFault, FirstStreamFault, HasMagic, IsDecided, IsWanted, PieceCause}
 -- what is known of a stream
-pub use Rattle.stream_collector.specs.Stream.{HasRecord, IsAccounted, IsMissing, IsOpen, IsUndelivered, IsUnknownYet, IsUpToEnd, bound_of, end_of}
+pub use Rattle.stream_collector.specs.Stream.{HasRecord, HasOutcome, IsMissing, IsOpen, IsUndelivered, IsUnknownYet, IsUpToEnd, bound_of, end_of}
 pub use Rattle.stream_collector.specs.Marks.{AreMarkedCpus}
 pub use Rattle.trace_model.specs.Runs.{AreRuns}
 -- what a call does

@@ -7,7 +7,7 @@ use Rattle.stream_collector.specs.declared.added.Marked.TheVariants.{Known}
 use Rattle.stream_collector.specs.declared.fault.MarkFault.{MarkFault}
 use Rattle.stream_collector.specs.Stream.{Stream}
 use Rattle.fleet_collector.specs.Fleet.{stream_at, KeepsOthers}
-use Rattle.fleet_collector.specs.Listing.{IsListing, IsListingBefore}
+use Rattle.fleet_collector.specs.Listing.{IsFleetListing, IsListingBefore}
 use Rattle.fleet_collector.specs.Frontier.{IsFleetFrontier, AllForgottenBefore, SomeForgottenBefore}
 use Rattle.fleet_collector.specs.Changes.{ForgetsBelow, LosesBelow}
 use Rattle.fleet_collector.specs.declared.merge_fault.FleetMergeFault.{FleetMergeFault}
@@ -80,7 +80,7 @@ pub record RunsSo (holds : ℕ → Type 0) (out : List Run) (code : ℤ) (left :
 
 -- The fleet is listed: its listing's lines are to be given, from the first on.
 pub record IsListed (old : ListedFleet) (count : ℕ) (new : ListedFleet) : Type 0 where
-  pub listing : IsListing old.fleet (lines_of new.lines)
+  pub listing : IsFleetListing old.fleet (lines_of new.lines)
   pub count_is : count ≡ length new.lines
   pub first : new.given ≡ 0
   pub fleet : new.fleet ≡ old.fleet

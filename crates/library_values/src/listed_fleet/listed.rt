@@ -1,6 +1,6 @@
 //! The listing, as a copy.
 ghost use Rattle.std.specs.Prelude.{◌≡◌, map, IfOk};
-ghost use Rattle.fleet_collector.specs.Listing.{IsListing, IsListingBefore};
+ghost use Rattle.fleet_collector.specs.Listing.{IsFleetListing, IsListingBefore};
 ghost use Rattle.library_values.specs.FleetLines.{kept_line, lines_of};
 
 use crate::buffer::{Put, put_front};
@@ -21,7 +21,7 @@ pub struct LineHead {
 
 /// A copy of the fleet's listing.
 fn copied_listing(alloc: Global, fleet: &Fleet) -> Result<OwnLines<LineHead>, NoMemory>
-    ensures { IfOk result (λ copies. IsListing fleet.now (lines_of copies)) }
+    ensures { IfOk result (λ copies. IsFleetListing fleet.now (lines_of copies)) }
 {
     let lines = fleet.listing(alloc)?;
     copied(alloc, &lines)
@@ -104,7 +104,7 @@ pub struct ListedFleet {
 
 impl ListedFleet {
     ghost use Rattle.std.specs.Prelude.{◌≡◌, [], length, IfOk, OnOk, OnErr};
-    ghost use Rattle.fleet_collector.specs.Listing.{IsListing, IsListingBefore};
+    ghost use Rattle.fleet_collector.specs.Listing.{IsFleetListing, IsListingBefore};
     ghost use Rattle.library_values.specs.FleetGiving.{GivesSo};
     ghost use Rattle.library_values.specs.FleetLines.{lines_of};
 
@@ -124,7 +124,7 @@ impl ListedFleet {
     /// Lists what the fleet has now: the lines are given from the first on. The answer is how many there are. If memory
     /// is refused, nothing has changed.
     pub fn list(&mut self, alloc: Global) -> Result<usize, NoMemory>
-        ensures listing { OnOk result (IsListing self.old.fleet (lines_of self.new.lines)) }
+        ensures listing { OnOk result (IsFleetListing self.old.fleet (lines_of self.new.lines)) }
         ensures count { IfOk result (λ count. count ≡ length self.new.lines) }
         ensures first { OnOk result (self.new.given ≡ 0) }
         ensures fleet { self.new.fleet ≡ self.old.fleet }

@@ -5,7 +5,7 @@ use Rattle.capture.specs.Rings.{parcels_of_captures}
 use Rattle.capture_text.specs.Printing.{record_line}
 use Rattle.capture_text.specs.Printed.{HasPrinted}
 use Rattle.collect_command.specs.declared.ending.Ending.{Ending}
-use Rattle.collect_command.specs.Listings.{IsWritten, ending_of, are_all_intact, listing_text}
+use Rattle.collect_command.specs.Listings.{IsTextWritten, ending_of, are_all_intact, listing_text}
 use Rattle.collect_command.proofs.Printing.{walked, same_print, ended}
 use Rattle.collect_command.proofs.listing.print_listing.Goals as goal
 
@@ -37,5 +37,5 @@ returns-clause-listed g c formats parts captures names read =
     record {
       shown = shown;
       is_print = same_print c.in_ok-collector.collector (parcels_of_captures 0 captures) shown same record { lines = walk.1; runs = missing.1 };
-      written = subst (λ (e : Ending). IsWritten start (contents c.finish.new.writer) (failed c.finish.new.writer) (listing_text form formats parts shown captures) (ending_of true (are_all_intact captures)) e) ending end;
+      written = subst (λ (e : Ending). IsTextWritten start (contents c.finish.new.writer) (failed c.finish.new.writer) (listing_text form formats parts shown captures) (ending_of true (are_all_intact captures)) e) ending end;
     }
