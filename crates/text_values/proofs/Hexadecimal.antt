@@ -44,6 +44,53 @@ eight_digits (a ∷ b ∷ c ∷ d ∷ e ∷ f ∷ g ∷ []) front back eight is1
 eight_digits (a ∷ b ∷ c ∷ d ∷ e ∷ f ∷ g ∷ h ∷ i ∷ bytes) front back eight is1 is2 = absurd (omega arith)
 eight_digits (a ∷ b ∷ c ∷ d ∷ e ∷ f ∷ g ∷ h ∷ []) front back eight is1 is2 = rw (is1, is2) refl
 
+-- sixteen bytes, in the code's words
+sixteen_bytes : (bytes : List ℕ)
+    → length bytes ≡ 16
+    → bytes
+    ≡ get_or bytes 0 0 ∷ get_or bytes 1 0 ∷ get_or bytes 2 0 ∷ get_or bytes 3 0 ∷ get_or bytes 4 0
+    ∷ get_or bytes 5 0 ∷ get_or bytes 6 0 ∷ get_or bytes 7 0 ∷ get_or bytes 8 0 ∷ get_or bytes 9 0
+    ∷ get_or bytes 10 0 ∷ get_or bytes 11 0 ∷ get_or bytes 12 0 ∷ get_or bytes 13 0 ∷ get_or bytes 14 0
+    ∷ get_or bytes 15 0 ∷ []
+sixteen_bytes [] sixteen = absurd (omega (arith, sixteen))
+sixteen_bytes (a ∷ []) sixteen = absurd (omega (arith, sixteen))
+sixteen_bytes (a ∷ b ∷ []) sixteen = absurd (omega (arith, sixteen))
+sixteen_bytes (a ∷ b ∷ c ∷ []) sixteen = absurd (omega (arith, sixteen))
+sixteen_bytes (a ∷ b ∷ c ∷ d ∷ []) sixteen = absurd (omega (arith, sixteen))
+sixteen_bytes (a ∷ b ∷ c ∷ d ∷ e ∷ []) sixteen = absurd (omega (arith, sixteen))
+sixteen_bytes (a ∷ b ∷ c ∷ d ∷ e ∷ f ∷ []) sixteen = absurd (omega (arith, sixteen))
+sixteen_bytes (a ∷ b ∷ c ∷ d ∷ e ∷ f ∷ g ∷ []) sixteen = absurd (omega (arith, sixteen))
+sixteen_bytes (a ∷ b ∷ c ∷ d ∷ e ∷ f ∷ g ∷ h ∷ []) sixteen = absurd (omega (arith, sixteen))
+sixteen_bytes (a ∷ b ∷ c ∷ d ∷ e ∷ f ∷ g ∷ h ∷ i ∷ []) sixteen = absurd (omega (arith, sixteen))
+sixteen_bytes (a ∷ b ∷ c ∷ d ∷ e ∷ f ∷ g ∷ h ∷ i ∷ j ∷ []) sixteen = absurd (omega (arith, sixteen))
+sixteen_bytes (a ∷ b ∷ c ∷ d ∷ e ∷ f ∷ g ∷ h ∷ i ∷ j ∷ k ∷ []) sixteen = absurd (omega (arith, sixteen))
+sixteen_bytes (a ∷ b ∷ c ∷ d ∷ e ∷ f ∷ g ∷ h ∷ i ∷ j ∷ k ∷ l ∷ []) sixteen = absurd (omega (arith, sixteen))
+sixteen_bytes (a ∷ b ∷ c ∷ d ∷ e ∷ f ∷ g ∷ h ∷ i ∷ j ∷ k ∷ l ∷ m ∷ []) sixteen = absurd (omega (arith, sixteen))
+sixteen_bytes (a ∷ b ∷ c ∷ d ∷ e ∷ f ∷ g ∷ h ∷ i ∷ j ∷ k ∷ l ∷ m ∷ n ∷ []) sixteen = absurd (omega (arith, sixteen))
+sixteen_bytes (a ∷ b ∷ c ∷ d ∷ e ∷ f ∷ g ∷ h ∷ i ∷ j ∷ k ∷ l ∷ m ∷ n ∷ o ∷ []) sixteen = absurd (omega (arith, sixteen))
+sixteen_bytes (a ∷ b ∷ c ∷ d ∷ e ∷ f ∷ g ∷ h ∷ i ∷ j ∷ k ∷ l ∷ m ∷ n ∷ o ∷ p ∷ []) sixteen = refl
+sixteen_bytes (a ∷ b ∷ c ∷ d ∷ e ∷ f ∷ g ∷ h ∷ i ∷ j ∷ k ∷ l ∷ m ∷ n ∷ o ∷ p ∷ q ∷ bytes) sixteen =
+    absurd (omega (arith, sixteen))
+
+-- their digits are those of each four
+pub sixteen_digits : (bytes first second third fourth : List ℕ)
+    → length bytes ≡ 16
+    → first ≡ pairs_of (get_or bytes 0 0 ∷ get_or bytes 1 0 ∷ get_or bytes 2 0 ∷ get_or bytes 3 0 ∷ [])
+    → second ≡ pairs_of (get_or bytes 4 0 ∷ get_or bytes 5 0 ∷ get_or bytes 6 0 ∷ get_or bytes 7 0 ∷ [])
+    → third ≡ pairs_of (get_or bytes 8 0 ∷ get_or bytes 9 0 ∷ get_or bytes 10 0 ∷ get_or bytes 11 0 ∷ [])
+    → fourth ≡ pairs_of (get_or bytes 12 0 ∷ get_or bytes 13 0 ∷ get_or bytes 14 0 ∷ get_or bytes 15 0 ∷ [])
+    → get_or first 0 0 ∷ get_or first 1 0 ∷ get_or first 2 0 ∷ get_or first 3 0
+    ∷ get_or first 4 0 ∷ get_or first 5 0 ∷ get_or first 6 0 ∷ get_or first 7 0
+    ∷ get_or second 0 0 ∷ get_or second 1 0 ∷ get_or second 2 0 ∷ get_or second 3 0
+    ∷ get_or second 4 0 ∷ get_or second 5 0 ∷ get_or second 6 0 ∷ get_or second 7 0
+    ∷ get_or third 0 0 ∷ get_or third 1 0 ∷ get_or third 2 0 ∷ get_or third 3 0
+    ∷ get_or third 4 0 ∷ get_or third 5 0 ∷ get_or third 6 0 ∷ get_or third 7 0
+    ∷ get_or fourth 0 0 ∷ get_or fourth 1 0 ∷ get_or fourth 2 0 ∷ get_or fourth 3 0
+    ∷ get_or fourth 4 0 ∷ get_or fourth 5 0 ∷ get_or fourth 6 0 ∷ get_or fourth 7 0 ∷ []
+    ≡ pairs_of bytes
+sixteen_digits bytes first second third fourth sixteen is1 is2 is3 is4 =
+    rw (is1, is2, is3, is4) (ap pairs_of (sym (sixteen_bytes bytes sixteen)))
+
 -- ---- in parts
 -- the digits of one part, then those of another
 pub pairs_append : (front back : List ℕ) → pairs_of (front ++ back) ≡ pairs_of front ++ pairs_of back

@@ -1,5 +1,6 @@
 //! Numbers and payloads as text.
-ghost use Rattle.std.specs.Prelude.{◌≡◌, ◌++◌, take, OnOk, OnErr};
+ghost use Rattle.std.specs.Char.{digit_char};
+ghost use Rattle.std.specs.Prelude.{◌≡◌, ◌<◌, ◌++◌, take, IfOk, OnOk, OnErr};
 ghost use Rattle.std.specs.Fmt.{decimal};
 ghost use Rattle.trace_model.specs.Sublist.{IsPrefix};
 ghost use Rattle.text_model.specs.Text.{hex_text};
@@ -79,6 +80,73 @@ fn eight_pairs(bytes: [u8; 8]) -> [u8; 16]
     ]
 }
 
+/// The digit of a number below 16.
+#[inline(always)]
+fn digit(value: u8) -> u8
+    requires { value < 16 }
+    ensures { result ≡ digit_char value }
+{
+    if value < 10 {
+        b'0' + value
+    } else {
+        b'a' - 10 + value
+    }
+}
+
+/// The digits of a byte, without the table.
+#[inline(always)]
+fn plain_pair(byte: u8) -> [u8; 2]
+    ensures { result ≡ pair_of byte }
+{
+    [digit(byte / 16), digit(byte % 16)]
+}
+
+/// Those of four bytes.
+#[inline(always)]
+fn plain_four(bytes: [u8; 4]) -> [u8; 8]
+    ensures { result ≡ pairs_of bytes }
+{
+    let [a, b, c, d] = bytes;
+    let [a_high, a_low] = plain_pair(a);
+    let [b_high, b_low] = plain_pair(b);
+    let [c_high, c_low] = plain_pair(c);
+    let [d_high, d_low] = plain_pair(d);
+    [a_high, a_low, b_high, b_low, c_high, c_low, d_high, d_low]
+}
+
+/// Those of sixteen bytes. Without a table, in a function that isn't inlined, the compiler makes all digits at a time.
+#[inline(never)]
+fn sixteen_pairs(bytes: &[u8; 16]) -> [u8; 32]
+    ensures { result ≡ pairs_of bytes.now }
+{
+    let [a, b, c, d, e, f, g, h, i, j, k, l, m, n, o, p] = *bytes;
+    let [a_high, a_low, b_high, b_low, c_high, c_low, d_high, d_low] = plain_four([a, b, c, d]);
+    let [e_high, e_low, f_high, f_low, g_high, g_low, h_high, h_low] = plain_four([e, f, g, h]);
+    let [i_high, i_low, j_high, j_low, k_high, k_low, l_high, l_low] = plain_four([i, j, k, l]);
+    let [m_high, m_low, n_high, n_low, o_high, o_low, p_high, p_low] = plain_four([m, n, o, p]);
+    [
+        a_high, a_low, b_high, b_low, c_high, c_low, d_high, d_low, e_high, e_low, f_high, f_low,
+        g_high, g_low, h_high, h_low, i_high, i_low, j_high, j_low, k_high, k_low, l_high, l_low,
+        m_high, m_low, n_high, n_low, o_high, o_low, p_high, p_low,
+    ]
+}
+
+/// Puts the digits of bytes, sixteen at a time, and returns the bytes that are left. On an error a part of that may be
+/// put.
+#[inline(never)]
+fn put_sixteens<'a>(out: &mut Vec<u8>, bytes: &'a [u8]) -> Result<&'a [u8], NoMemory>
+    ensures text { IfOk result (λ left.
+        out.new.items ++ pairs_of left.now ≡ out.old.items ++ pairs_of bytes.now) }
+    ensures behind { IsPrefix out.old.items out.new.items }
+{
+    let mut left = bytes;
+    while let Some((part, rest)) = left.split_first_chunk::<16>() {
+        out.extend_from_slice(&sixteen_pairs(part))?;
+        left = rest;
+    }
+    Ok(left)
+}
+
 /// Puts the digits of bytes, byte by byte. On an error a part of that may be put.
 #[inline(always)]
 fn put_each(out: &mut Vec<u8>, bytes: &[u8]) -> Result<(), NoMemory>
@@ -104,9 +172,22 @@ fn put_few(out: &mut Vec<u8>, bytes: &[u8]) -> Result<(), NoMemory>
     put_each(out, bytes)
 }
 
-/// Puts two digits for each byte. On an error a part of that may be put.
+/// The same, if there are sixteen. Few bytes need no call.
 #[inline(always)]
-fn put_hex(out: &mut Vec<u8>, bytes: &[u8]) -> Result<(), NoMemory>
+fn put_if_sixteen<'a>(out: &mut Vec<u8>, bytes: &'a [u8]) -> Result<&'a [u8], NoMemory>
+    ensures text { IfOk result (λ left.
+        out.new.items ++ pairs_of left.now ≡ out.old.items ++ pairs_of bytes.now) }
+    ensures behind { IsPrefix out.old.items out.new.items }
+{
+    if bytes.len() < 16 {
+        return Ok(bytes);
+    }
+    put_sixteens(out, bytes)
+}
+
+/// Puts the digits of bytes, eight at a time. On an error a part of that may be put.
+#[inline(always)]
+fn put_eights(out: &mut Vec<u8>, bytes: &[u8]) -> Result<(), NoMemory>
     ensures text { OnOk result (out.new.items ≡ out.old.items ++ pairs_of bytes.now) }
     ensures behind { IsPrefix out.old.items out.new.items }
 {
@@ -116,6 +197,16 @@ fn put_hex(out: &mut Vec<u8>, bytes: &[u8]) -> Result<(), NoMemory>
         left = rest;
     }
     put_few(out, left)
+}
+
+/// Puts two digits for each byte. On an error a part of that may be put.
+#[inline(always)]
+fn put_hex(out: &mut Vec<u8>, bytes: &[u8]) -> Result<(), NoMemory>
+    ensures text { OnOk result (out.new.items ≡ out.old.items ++ pairs_of bytes.now) }
+    ensures behind { IsPrefix out.old.items out.new.items }
+{
+    let left = put_if_sixteen(out, bytes)?;
+    put_eights(out, left)
 }
 
 /// Puts the payload in lower-case hexadecimal, `-` if it is empty. If memory is refused, the text is as before.

@@ -2,7 +2,7 @@ use Rattle.std.proofs.Common.{◌++◌, ◌-◌, [], ◌∷◌, length, get_or, 
 use Rattle.text_values.specs.Digits.{pairs_of}
 use Rattle.text_values.proofs.Behind.{behind_put, behind_behind}
 use Rattle.text_values.proofs.Hexadecimal.{eight_and_rest, part_more}
-use Rattle.text_values.proofs.values.put_hex.Goals as goal
+use Rattle.text_values.proofs.values.put_eights.Goals as goal
 
 pub loop-left-preserved : goal.loop-left-preserved
 loop-left-preserved c =
