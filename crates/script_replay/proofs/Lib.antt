@@ -10,6 +10,7 @@ pub mod LaneValues
 pub mod FrameRuns
 pub mod FrameTops
 pub mod PushedLanes
+pub mod WritesAlone
 -- what is reported
 pub mod Reporting
 -- a new lane, and takes

@@ -10,6 +10,7 @@ use Rattle.ring_frames.specs.declared.answer.Answer.{Answer}
 use Rattle.ring_core.specs.Value.{CoreValue}
 use Rattle.ring_frames.specs.Answers.{IsAnswerOf}
 use Rattle.ring_core.specs.Steps.{IsStep}
+use Rattle.ring_core.specs.AtOnce.{WritesAlone}
 use Rattle.script_replay.specs.declared.reports.Reports.{Reports}
 use Rattle.script_replay.specs.Value.{LaneValue}
 use Rattle.script_replay.specs.Lanes.{IsLane, MakesExchanges}
@@ -89,3 +90,8 @@ abbrev pub HasWritten : model.Event → List ℕ → (line cpu : ℕ) → LaneVa
 HasWritten event payload line cpu old old_reports new reports =
     MakesExchanges (λ n size before exchanges after. WritesFrame n size event payload before exchanges after)
     line cpu old old_reports new reports
+
+-- so it is at once, with no other frame on the stack: only the ring changes
+pub record HasWrittenAlone (moment : ℕ) (payload : List ℕ) (old new : LaneValue) : Type 0 where
+  pub core : new ≡ record old { core = new.core }
+  pub writes : WritesAlone old.core moment payload new.core

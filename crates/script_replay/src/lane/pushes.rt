@@ -3,17 +3,18 @@ use crate::lane::Lane;
 use crate::lane::frames::{Told, Untold};
 use crate::reports::Reports;
 use log_text::At;
+use nested_writer::Wrote;
 use ring_core::{Answer, Event};
 use step_text::Asked;
 use trace_model::NoMemory;
 
 impl<'a> Lane<'a> {
-    ghost use Rattle.std.specs.Prelude.{ℕ, IfOk, OnOk};
+    ghost use Rattle.std.specs.Prelude.{◌≡◌, ℕ, None, IfOk, OnOk};
     ghost use Rattle.trace_model.specs.Ring as model;
     ghost use Rattle.text_model.specs.Script.{begin_frame, write, close};
     ghost use Rattle.step_text.specs.Tells.{IsAsked};
     ghost use Rattle.script_replay.specs.Lanes.{IsLaneOf, IsReportedLane, HasLine};
-    ghost use Rattle.script_replay.specs.Frames.{IsPushOf, push_event, Pushes, HasWritten};
+    ghost use Rattle.script_replay.specs.Frames.{IsPushOf, push_event, Pushes, HasWritten, HasWrittenAlone};
 
     /// Pushes a record frame of this moment and payload.
     #[inline(never)]
@@ -36,6 +37,40 @@ impl<'a> Lane<'a> {
     /// Pushes a record frame of this moment and payload, and lets it make steps until it is gone.
     #[inline(never)]
     pub(crate) fn write(
+        &mut self,
+        at: At,
+        moment: u64,
+        payload: &'a [u8],
+        reports: &mut Reports,
+    ) -> Result<(), NoMemory>
+        requires { IsReportedLane at.cpu.0 self.old reports.old }
+        ensures { OnOk result (HasLine (write at.cpu.0 moment payload.now) at.line at.cpu.0
+            self.old reports.old self.new reports.new) }
+    {
+        match self.write_alone(moment, payload, reports) {
+            Wrote::Record => Ok(()),
+            Wrote::Nothing => self.write_by_steps(at, moment, payload, reports),
+        }
+    }
+
+    /// Writes a record of this moment and payload in one call, if its frame would be alone and nothing is to be told of
+    /// its steps: nothing is logged of them.
+    #[inline(always)]
+    fn write_alone(&mut self, moment: u64, payload: &'a [u8], reports: &Reports) -> Wrote
+        requires { (cpu : ℕ) × IsLaneOf cpu self.old }
+        ensures wrote { result ≡ Wrote.Record → HasWrittenAlone moment payload.now self.old self.new }
+        ensures untold { result ≡ Wrote.Record → reports.now.steps ≡ None }
+        ensures nothing { result ≡ Wrote.Nothing → self.new ≡ self.old }
+    {
+        if reports.tells() {
+            return Wrote::Nothing;
+        }
+        self.core.write(moment, payload)
+    }
+
+    /// The same, step by step.
+    #[inline(never)]
+    fn write_by_steps(
         &mut self,
         at: At,
         moment: u64,
