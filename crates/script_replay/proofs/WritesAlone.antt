@@ -1,11 +1,13 @@
 -- A line by which a record is written at once: it has four exchanges with the ring, of which nothing is logged.
-use Rattle.std.proofs.Common.{◌≡◌, ◌≢◌, ℕ, ◌-◌, ◌<◌, List, [], ◌∷◌, length, drop, map, Option, Some, None, refl, sym, ap, ◌∙◌, subst, arith, append-nil}
+use Rattle.std.proofs.Common.{◌≡◌, ◌≢◌, ℕ, ◌-◌, ◌<◌, List, [], ◌∷◌, length, drop, map, Option, Some, None, refl, sym}
+use Rattle.std.proofs.Common.{ap, ◌∙◌, subst, arith, append-nil}
 use Rattle.trace_model.specs.Words.{padded}
 use Rattle.trace_model.specs.Frames.{Frame, Progress}
 use Rattle.trace_model.specs.Steps as model
 use Rattle.trace_model.specs.Steps.{Exchange}
 use Rattle.text_model.specs.Script.{write}
-use Rattle.world_model.specs.Lanes.{Lane, payloads_left, lane_with, lane_behind, event_in, event_on_top, FitFrames, HasPayloads, FrameRun, finishes, WritesFrame, LineRun}
+use Rattle.world_model.specs.Lanes.{Lane, payloads_left, lane_with, lane_behind, event_in, event_on_top, FitFrames}
+use Rattle.world_model.specs.Lanes.{HasPayloads, FrameRun, finishes, WritesFrame, LineRun}
 use Rattle.world_model.specs.World.{parcel_of}
 use Rattle.step_text.specs.Known.{StepTextValue}
 use Rattle.ring_core.specs.AtOnce.{IsWriteAlone}
