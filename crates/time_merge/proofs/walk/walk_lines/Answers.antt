@@ -1,4 +1,4 @@
-use Rattle.std.proofs.Common.{◌≡◌, ◌++◌, ◌∷◌, [], ◌∙◌, sym, subst, ap, List, map}
+use Rattle.std.proofs.Common.{◌∷◌, [], sym, subst, List, map}
 use Rattle.std.proofs.lemmas.Iterator.Consumers.{YieldsList-from_first, YieldsList-end}
 use Rattle.std.proofs.lemmas.List.{map-append}
 use Rattle.trace_model.specs.Listing.{Line as ModelLine, IsListing}
