@@ -1,5 +1,5 @@
 //! An open page. It is lent whole, and acts as the bytes of one payload in it.
-ghost use Rattle.std.specs.Prelude.{◌≡◌, ◌+◌, ◌-◌, ◌*◌, ◌≤◌, ◌<◌, length, replicate, IfSome};
+ghost use Rattle.std.specs.Prelude.{◌≡◌, ◌+◌, ◌-◌, ◌*◌, ◌≤◌, ◌<◌, true, false, length, replicate, IfSome};
 ghost use Rattle.trace_model.specs.declared.limits.TheConstants.{MOMENT_LIMIT, MAX_SIZE};
 ghost use Rattle.trace_model.specs.Words.{padded, slot_len};
 ghost use Rattle.trace_model.specs.Reading.{EndsInRecord};
@@ -168,13 +168,24 @@ impl Payload {
         self.page.put_plain(prev, moment, len)
     }
 
-    /// `Page::put_payload`.
+    /// `Page::put_payload`, or `Page::put_next_payload` if the page is known to hold a record.
     #[inline(always)]
-    pub(crate) fn put_payload(&mut self, prev: u64, moment: u64, payload: &[u8]) -> Place
-        requires { CanPut self.old.page prev moment (length payload.now) }
+    pub(crate) fn put_payload(
+        &mut self,
+        holds_record: bool,
+        prev: u64,
+        moment: u64,
+        payload: &[u8],
+    ) -> Place
+        requires can { CanPut self.old.page prev moment (length payload.now) }
+        requires behind { holds_record ≡ true → is_blank self.old.page.bytes ≡ false }
         ensures { HasPut self.old.page self.new.page prev moment (length payload.now) (padded payload.now) result }
     {
-        self.page.put_payload(prev, moment, payload)
+        if holds_record {
+            self.page.put_next_payload(prev, moment, payload)
+        } else {
+            self.page.put_payload(prev, moment, payload)
+        }
     }
 
     /// `Page::store_commit`.

@@ -13,8 +13,21 @@ pub enum Wrote {
     Nothing,
 }
 
+/// What `WriterStack::late` is behind a record, with what it was if the tail held one before.
+#[inline(always)]
+fn late_behind(held_record: bool, late: u64) -> u64
+    ensures { result ≡ (if held_record then late else MOMENT_LIMIT) }
+{
+    if held_record { late } else { MOMENT_LIMIT }
+}
+
+ghost use Rattle.std.specs.Prelude.{◌≡◌, if◌then◌else◌};
+ghost use Rattle.trace_model.specs.declared.limits.TheConstants.{MOMENT_LIMIT};
+
 impl WriterStack {
-    ghost use Rattle.std.specs.Prelude.{◌≡◌, ◌≢◌, ◌↔◌, ℕ, max, [], ◌∷◌, ◌++◌, List, Some, length, IsTrue, false};
+    ghost use Rattle.std.specs.Prelude.{◌≡◌, ◌≢◌, ◌↔◌, ◌≤◌, ◌<◌, ℕ, max, [], ◌∷◌, ◌++◌, List, Some, length, IsTrue, true, false};
+    ghost use Rattle.trace_model.specs.declared.limits.TheConstants.{MOMENT_LIMIT};
+    ghost use Rattle.page_image.specs.Contents.{is_blank};
     ghost use Rattle.trace_model.specs.History.{HistoryEvent, push, reserve, leave, wished};
     ghost use Rattle.trace_model.specs.Packing.{tail_of};
     ghost use Rattle.trace_model.specs.Words.{padded};
@@ -27,10 +40,20 @@ impl WriterStack {
     ghost use Rattle.nested_writer.specs.Kept.{SamePages};
     ghost use Rattle.nested_writer.specs.IsStack.{IsStack, IsReachedStack};
 
-    /// Writes a record whose moment is raised to `raised`.
+    /// Whether a record of this moment may be a short one: the tail holds a record before it, and it isn't too late.
     #[inline(always)]
-    fn write_raised(&mut self, moment: u64, raised: u64, payload: &[u8])
+    fn may_follow(&self, moment: u64) -> bool
+        ensures follows { result ≡ true → (is_blank self.now.tail.bytes ≡ false) × (moment < MOMENT_LIMIT) }
+        ensures late { result ≡ false → is_blank self.now.tail.bytes ≡ false → MOMENT_LIMIT ≤ moment }
+    {
+        moment < self.late
+    }
+
+    /// Writes a record whose moment is raised to `raised`, in a tail that is known to hold a record, or not.
+    #[inline(always)]
+    fn write_raised(&mut self, holds_record: bool, moment: u64, raised: u64, payload: &[u8])
         requires stack { IsReachedStack self.old }
+        requires behind { holds_record ≡ true → is_blank self.old.tail.bytes ≡ false }
         requires fits { FitsAtOnce self.old moment (length payload.now) }
         requires raised { raised ≡ max moment self.old.last_moment }
         ensures written { self.new ≡ with_written self.old moment payload.now }
@@ -42,8 +65,8 @@ impl WriterStack {
     {
         let prev = self.last_moment;
         self.last_moment = raised;
-        self.tail.put_payload(prev, raised, payload);
-        self.tail.store_commit();
+        self.tail.put_payload(holds_record, prev, raised, payload);
+        self.late = late_behind(holds_record, self.late);
     }
 
     /// `write_alone`, whatever the record.
@@ -67,7 +90,7 @@ impl WriterStack {
         if self.size < end + size_of(len, raised - self.last_moment, end == 0) {
             return Wrote::Nothing;
         }
-        self.write_raised(moment, raised, payload);
+        self.write_raised(false, moment, raised, payload);
         Wrote::Record
     }
 
@@ -84,7 +107,7 @@ impl WriterStack {
         if self.size < self.tail.end() + size {
             return Wrote::Nothing;
         }
-        self.write_raised(moment, moment, payload);
+        self.write_raised(true, moment, moment, payload);
         Wrote::Record
     }
 
@@ -107,10 +130,7 @@ impl WriterStack {
         if payload.len().wrapping_sub(1) >= SHORT_LIMIT {
             return Wrote::Nothing;
         }
-        if self.tail.end() == 0 {
-            return Wrote::Nothing;
-        }
-        if moment >= MOMENT_LIMIT {
+        if !self.may_follow(moment) {
             return Wrote::Nothing;
         }
         if moment.wrapping_sub(self.last_moment) >= EXTEND_FROM {

@@ -3,7 +3,6 @@ use Rattle.trace_model.specs.History.{HistoryEvent, push, reserve, leave}
 use Rattle.trace_model.specs.Words.{padded, encoded_len}
 use Rattle.record_words.specs.declared.put.Place.{Place}
 use Rattle.page_image.specs.Contents.{Contents, is_blank}
-use Rattle.nested_writer.specs.Lent.{Lent}
 use Rattle.nested_writer.specs.Stack.{Stack}
 use Rattle.nested_writer.specs.AtOnce.{FitsAtOnce}
 use Rattle.nested_writer.specs.Inside.{stack_of}
@@ -12,9 +11,9 @@ use Rattle.nested_writer.proofs.Bounds.{stands_ends_at}
 use Rattle.nested_writer.proofs.AtOnce.{IsPutLast, written_at_once, fits_page}
 use Rattle.nested_writer.proofs.stack.WriterStack.write_raised.Goals as goal
 
-pub put_payload-requires : goal.put_payload-requires
+pub put_payload-requires-clause-can : goal.put_payload-requires-clause-can
 unfolding IsReachedStack
-put_payload-requires c =
+put_payload-requires-clause-can c =
     let (start, history, k) = c.requires.stack in record {
       room = search rules;
       order = search rules;
@@ -41,8 +40,7 @@ returns-clause-stack c = λ start history old.
     let short : encoded_len (length payload) 0 true ≤ s.size = fits_page s.size (length payload) fits.1 in
     let done = written_at_once start history s c.args.moment payload tail' place none short fits.2 (omega (arith, put.longer, room)) (subst (λ (m : ℕ). IsPutLast s.tail tail' s.last_moment m (length payload) (padded payload) place) raised is) k in
     let events : List HistoryEvent = push c.args.moment (length payload) ∷ reserve ∷ leave (Some payload) ∷ [] in
-    subst (λ (tail : Contents). IsStack start (history ++ events) (record s { tail = tail; last_moment = c.args.raised })) (sym (ap (λ (p : Lent). p.page) c.store_commit.ensures))
-    (subst (λ (m : ℕ). IsStack start (history ++ events) (record s { tail = tail'; last_moment = m })) (sym raised) done)
+    subst (λ (m : ℕ). IsStack start (history ++ events) (record s { tail = tail'; last_moment = m })) (sym raised) done
 
 pub returns-clause-stays : goal.returns-clause-stays
 unfolding IsReachedStack
