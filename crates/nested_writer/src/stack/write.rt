@@ -69,9 +69,9 @@ impl WriterStack {
         self.late = late_behind(holds_record, self.late);
     }
 
-    /// `write_alone`, whatever the record.
+    /// `write_alone`, for a record that may have room in the tail.
     #[inline(never)]
-    fn write_any(&mut self, moment: u64, payload: &[u8]) -> Wrote
+    fn write_with_room(&mut self, moment: u64, payload: &[u8]) -> Wrote
         requires stack { IsReachedStack self.old }
         ensures at_once { WritesWhatFits moment payload.now self.old result self.new }
         ensures written { result ≡ Wrote.Record → self.new ≡ with_written self.old moment payload.now }
@@ -92,6 +92,21 @@ impl WriterStack {
         }
         self.write_raised(false, moment, raised, payload);
         Wrote::Record
+    }
+
+    /// `write_alone`, for a record that `write_if_short` left: most of these have no room in the tail.
+    #[inline(always)]
+    pub fn write_any(&mut self, moment: u64, payload: &[u8]) -> Wrote
+        requires stack { IsReachedStack self.old }
+        ensures at_once { WritesWhatFits moment payload.now self.old result self.new }
+        ensures written { result ≡ Wrote.Record → self.new ≡ with_written self.old moment payload.now }
+        ensures frames { self.new.frames ≡ self.old.frames }
+    {
+        // A record has at least a word before its payload.
+        if self.size < self.tail.end() + 4 + payload.len() {
+            return Wrote::Nothing;
+        }
+        self.write_with_room(moment, payload)
     }
 
     /// `write_alone`, for a record as nearly all are.

@@ -35,13 +35,13 @@ module _ (v seen : FramesValue) (same : v ≡ seen) (new : Stack) (moment : ℕ)
       by_result Nothing is = same_stack v.stack new (nothing is)
 
 pub returns-in-Any-clause-wrote : goal.returns-in-Any-clause-wrote
-returns-in-Any-clause-wrote c = λ is. steps (frames_in c.self.inside) _ c.self.view_is c.write_alone.new.self c.args.moment c.args.payload.now c.write_alone.result is c.write_alone.ensures.at_once (c.write_alone.ensures.written is)
+returns-in-Any-clause-wrote c = λ is. steps (frames_in c.self.inside) _ c.self.view_is c.write_any.new.self c.args.moment c.args.payload.now c.write_any.result is c.write_any.ensures.at_once (c.write_any.ensures.written is)
 
 pub returns-in-Any-clause-alone : goal.returns-in-Any-clause-alone
-returns-in-Any-clause-alone c = λ is. alone (frames_in c.self.inside) _ c.self.view_is c.write_alone.new.self c.args.moment c.args.payload.now c.write_alone.result c.requires.frames is c.write_alone.ensures.at_once (c.write_alone.ensures.written is)
+returns-in-Any-clause-alone c = λ is. alone (frames_in c.self.inside) _ c.self.view_is c.write_any.new.self c.args.moment c.args.payload.now c.write_any.result c.requires.frames is c.write_any.ensures.at_once (c.write_any.ensures.written is)
 
 pub returns-in-Any-clause-payloads : goal.returns-in-Any-clause-payloads
-returns-in-Any-clause-payloads c = payloads (frames_in c.self.inside) _ c.self.view_is c.write_alone.new.self c.args.moment c.args.payload.now c.write_alone.result (λ is. c.write_alone.ensures.at_once) c.write_alone.ensures.at_once.nothing
+returns-in-Any-clause-payloads c = payloads (frames_in c.self.inside) _ c.self.view_is c.write_any.new.self c.args.moment c.args.payload.now c.write_any.result (λ is. c.write_any.ensures.at_once) c.write_any.ensures.at_once.nothing
 
 pub returns-in-Short-clause-wrote : goal.returns-in-Short-clause-wrote
 returns-in-Short-clause-wrote c = λ is. steps (frames_in c.self.inside) _ c.self.view_is c.write_if_short.new.self c.args.moment c.args.payload.now c.write_if_short.result is (c.write_if_short.ensures.at_once is) (c.write_if_short.ensures.written is)
