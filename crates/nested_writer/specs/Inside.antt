@@ -1,9 +1,8 @@
 -- What holds of the fields of a writer's stack.
-use Rattle.std.specs.Prelude.{◌≡◌, ◌+◌, ◌-◌, ◌≤◌, ◌<◌, if◌then◌else◌, List, [], ◌∷◌, length, Option, Some, None}
+use Rattle.std.specs.Prelude.{◌≡◌, ◌+◌, ◌-◌, ◌≤◌, ◌<◌, List, [], ◌∷◌, length, Option, Some, None}
 use Rattle.std.specs.VecDeque.{deque_capacity}
-use Rattle.trace_model.specs.declared.limits.TheConstants.{MIN_PAGES, MAX_PAGES, MIN_SIZE, MAX_SIZE, MAX_FRAMES, MOMENT_LIMIT, LINK_FILLS}
+use Rattle.trace_model.specs.declared.limits.TheConstants.{MIN_PAGES, MAX_PAGES, MIN_SIZE, MAX_SIZE, MAX_FRAMES, LINK_FILLS}
 use Rattle.record_words.specs.declared.format.TheConstants.{SHORT_LIMIT}
-use Rattle.page_image.specs.Contents.{is_blank}
 use Rattle.nested_writer.specs.declared.frame.Frame.{Frame}
 use Rattle.nested_writer.specs.declared.stack.WriterStack.TheInside.{Inside}
 use Rattle.nested_writer.specs.Stack.{Stack}
@@ -26,8 +25,7 @@ stack_of w = record {
 
 -- There is room for all pages and frames, and no other room is taken; if the stack is empty, all fills but the tail
 -- are released; the next fill has a number; a payload of the plain length has room on an empty page; and up to the
--- plain end the tail has room for any short record (docs/GLOSSARY.md); and no moment is early enough for a short record
--- in a tail without one, in any other all below the limit are.
+-- plain end the tail has room for any short record (docs/GLOSSARY.md).
 pub record IsWriterStack (w : Inside) : Type 0 where
   pub some_pages : MIN_PAGES ≤ w.pages
   pub most_pages : w.pages ≤ MAX_PAGES
@@ -43,4 +41,3 @@ pub record IsWriterStack (w : Inside) : Type 0 where
   pub plain_short : w.plain_len ≤ SHORT_LIMIT
   pub plain_room : w.plain_len + 12 ≤ w.size
   pub plain_end_is : w.plain_end ≡ w.size - (4 + SHORT_LIMIT)
-  pub late_is : w.late ≡ (if is_blank w.tail.page.bytes then 0 else MOMENT_LIMIT)

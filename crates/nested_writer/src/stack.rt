@@ -41,9 +41,6 @@ pub struct WriterStack {
     plain_len: usize,
     /// How far the tail may be filled for any short record (`docs/GLOSSARY.md`) to have room after it; 0 if none has.
     plain_end: usize,
-    /// The first moment that is too late for a short record (`docs/GLOSSARY.md`): `MOMENT_LIMIT`, or 0 if the tail
-    /// holds no record before it.
-    late: u64,
 }
 
 impl Model for WriterStack {
@@ -93,7 +90,6 @@ impl WriterStack {
             last_moment: 0,
             plain_len: SHORT_LIMIT.min(size - MOST_AROUND),
             plain_end: size.saturating_sub(4 + SHORT_LIMIT),
-            late: 0,
         })
     }
 

@@ -3,7 +3,7 @@ use crate::fault::WriteFault;
 use crate::frame::{Frame, Progress, Purpose, Pushed, Slot};
 use crate::stack::WriterStack;
 use record_words::{EXTEND_FROM, Place, size_of};
-use trace_model::{LINK_FILLS, MOMENT_LIMIT};
+use trace_model::LINK_FILLS;
 
 /// What a frame gets.
 #[derive(Clone, Copy, Debug, PartialEq, Eq)]
@@ -138,7 +138,6 @@ impl WriterStack {
         let fill = self.tail.fill_number().0;
         let place = self.tail.put(self.last_moment, raised, len);
         self.last_moment = raised;
-        self.late = MOMENT_LIMIT;
         let slot = Slot {
             number,
             fill,

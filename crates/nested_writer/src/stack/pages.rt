@@ -47,7 +47,6 @@ impl WriterStack {
         let page = Page::fresh(body, RecordNo(first), FillNo(fill));
         let tail = mem::replace(&mut self.tail, Payload::of(page));
         self.older.push(tail);
-        self.late = 0;
     }
 
     /// Releases the oldest page, which isn't the tail, while only the bottom frame is on the stack, which has left: the

@@ -13,17 +13,6 @@ pub enum Wrote {
     Nothing,
 }
 
-/// What `WriterStack::late` is behind a record, with what it was if the tail held one before.
-#[inline(always)]
-fn late_behind(held_record: bool, late: u64) -> u64
-    ensures { result ≡ (if held_record then late else MOMENT_LIMIT) }
-{
-    if held_record { late } else { MOMENT_LIMIT }
-}
-
-ghost use Rattle.std.specs.Prelude.{◌≡◌, if◌then◌else◌};
-ghost use Rattle.trace_model.specs.declared.limits.TheConstants.{MOMENT_LIMIT};
-
 impl WriterStack {
     ghost use Rattle.std.specs.Prelude.{◌≡◌, ◌≢◌, ◌↔◌, ◌≤◌, ◌<◌, ℕ, max, [], ◌∷◌, ◌++◌, List, Some, length, IsTrue, true, false};
     ghost use Rattle.trace_model.specs.declared.limits.TheConstants.{MOMENT_LIMIT};
@@ -46,7 +35,7 @@ impl WriterStack {
         ensures follows { result ≡ true → (is_blank self.now.tail.bytes ≡ false) × (moment < MOMENT_LIMIT) }
         ensures late { result ≡ false → is_blank self.now.tail.bytes ≡ false → MOMENT_LIMIT ≤ moment }
     {
-        moment < self.late
+        self.tail.may_follow(moment)
     }
 
     /// Writes a record whose moment is raised to `raised`, in a tail that is known to hold a record, or not.
@@ -66,7 +55,6 @@ impl WriterStack {
         let prev = self.last_moment;
         self.last_moment = raised;
         self.tail.put_payload(holds_record, prev, raised, payload);
-        self.late = late_behind(holds_record, self.late);
     }
 
     /// `write_alone`, for a record that may have room in the tail.
