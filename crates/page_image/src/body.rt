@@ -118,7 +118,7 @@ impl Body {
         }
     }
 
-    /// `put_payload_behind`, and then the header states that the record and all before it are committed.
+    /// `put_payload_behind`.
     #[inline(always)]
     pub(crate) fn put_payload(
         &mut self,
@@ -131,14 +131,11 @@ impl Body {
         ensures put { PutsBehind self.old self.new end delta first (length payload.now) (padded payload.now) result }
         ensures size { length self.new ≡ length self.old }
     {
-        let slot: &mut [u8] = &mut self.slot;
-        let place = put_payload_behind(slot, SLOT_HEADER + end, delta, first, payload);
-        let place = Place {
+        let place = put_payload_behind(&mut self.slot, SLOT_HEADER + end, delta, first, payload);
+        Place {
             start: place.start - SLOT_HEADER,
             len: place.len,
-        };
-        put_commit(slot, (place.start + place.len) as u64);
-        place
+        }
     }
 
     /// Stores in the header that a page is begun, of this fill and from the record of this number on, of which nothing

@@ -143,8 +143,7 @@ impl Page {
     }
 
     /// Adds a record of this moment and payload after the others; it must fit. The answer is where its payload
-    /// is. This is what `put` does, then the payload written at the front of its place, and then `store_commit`: so no
-    /// other record of the page may be still to be written. `prev` is that of `put`.
+    /// is. This is what `put` does, and then the payload written at the front of its place. `prev` is that of `put`.
     #[inline(always)]
     pub fn put_payload(&mut self, prev: u64, moment: u64, payload: &[u8]) -> Place
         requires { CanPut self.old prev moment (length payload.now) }

@@ -55,6 +55,7 @@ impl WriterStack {
         let prev = self.last_moment;
         self.last_moment = raised;
         self.tail.put_payload(holds_record, prev, raised, payload);
+        self.tail.store_commit();
     }
 
     /// `write_alone`, for a record that may have room in the tail.

@@ -3,6 +3,7 @@ use Rattle.trace_model.specs.History.{HistoryEvent, push, reserve, leave}
 use Rattle.trace_model.specs.Words.{padded, encoded_len}
 use Rattle.record_words.specs.declared.put.Place.{Place}
 use Rattle.page_image.specs.Contents.{Contents, is_blank}
+use Rattle.nested_writer.specs.Lent.{Lent}
 use Rattle.nested_writer.specs.Stack.{Stack}
 use Rattle.nested_writer.specs.AtOnce.{FitsAtOnce}
 use Rattle.nested_writer.specs.Inside.{stack_of}
@@ -40,7 +41,8 @@ returns-clause-stack c = λ start history old.
     let short : encoded_len (length payload) 0 true ≤ s.size = fits_page s.size (length payload) fits.1 in
     let done = written_at_once start history s c.args.moment payload tail' place none short fits.2 (omega (arith, put.longer, room)) (subst (λ (m : ℕ). IsPutLast s.tail tail' s.last_moment m (length payload) (padded payload) place) raised is) k in
     let events : List HistoryEvent = push c.args.moment (length payload) ∷ reserve ∷ leave (Some payload) ∷ [] in
-    subst (λ (m : ℕ). IsStack start (history ++ events) (record s { tail = tail'; last_moment = m })) (sym raised) done
+    subst (λ (tail : Contents). IsStack start (history ++ events) (record s { tail = tail; last_moment = c.args.raised })) (sym (ap (λ (p : Lent). p.page) c.store_commit.ensures))
+    (subst (λ (m : ℕ). IsStack start (history ++ events) (record s { tail = tail'; last_moment = m })) (sym raised) done)
 
 pub returns-clause-stays : goal.returns-clause-stays
 unfolding IsReachedStack
