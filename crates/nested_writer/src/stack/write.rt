@@ -14,8 +14,7 @@ pub enum Wrote {
 }
 
 impl WriterStack {
-    ghost use Rattle.std.specs.Prelude.{◌≡◌, ◌≢◌, ◌↔◌, ◌≤◌, ◌<◌, ℕ, max, [], ◌∷◌, ◌++◌, List, Some, length, IsTrue, true, false};
-    ghost use Rattle.trace_model.specs.declared.limits.TheConstants.{MOMENT_LIMIT};
+    ghost use Rattle.std.specs.Prelude.{◌≡◌, ◌≢◌, ◌↔◌, ℕ, max, [], ◌∷◌, ◌++◌, List, Some, length, IsTrue, true, false};
     ghost use Rattle.page_image.specs.Contents.{is_blank};
     ghost use Rattle.trace_model.specs.History.{HistoryEvent, push, reserve, leave, wished};
     ghost use Rattle.trace_model.specs.Packing.{tail_of};
@@ -28,15 +27,6 @@ impl WriterStack {
     ghost use Rattle.nested_writer.specs.Calls.{HasRecordRoom, with_bottom, IsAtBottom, MayAddPage};
     ghost use Rattle.nested_writer.specs.Kept.{SamePages};
     ghost use Rattle.nested_writer.specs.IsStack.{IsStack, IsReachedStack};
-
-    /// Whether a record of this moment may be a short one: the tail holds a record before it, and it isn't too late.
-    #[inline(always)]
-    fn may_follow(&self, moment: u64) -> bool
-        ensures follows { result ≡ true → (is_blank self.now.tail.bytes ≡ false) × (moment < MOMENT_LIMIT) }
-        ensures late { result ≡ false → is_blank self.now.tail.bytes ≡ false → MOMENT_LIMIT ≤ moment }
-    {
-        self.tail.may_follow(moment)
-    }
 
     /// Writes a record whose moment is raised to `raised`, in a tail that is known to hold a record, or not.
     #[inline(always)]
@@ -134,7 +124,7 @@ impl WriterStack {
         if payload.len().wrapping_sub(1) >= SHORT_LIMIT {
             return Wrote::Nothing;
         }
-        if !self.may_follow(moment) {
+        if !self.tail.may_follow(moment) {
             return Wrote::Nothing;
         }
         if moment.wrapping_sub(self.last_moment) >= EXTEND_FROM {
