@@ -15,12 +15,20 @@ returns c =
     let at = c.put_payload-place.result in
     let put = c.put_payload-place.ensures in
     let stays = c.time_with-self-inside.ensures.stays in
-    subst (λ (p : Contents). HasPut p (page_of new c.time_with-self-inside.result end v.first.0 (v.count + 1) v.fill.0) c.args.prev c.args.moment (length c.args.payload.now) slot at) c.self.view_is
-    (page_has_put v.body new v.time c.time_with-self-inside.result v.end end v.first.0 v.count v.fill.0 c.args.prev c.args.moment (length c.args.payload.now) c.args.is_first slot at
+    subst
+    (λ (p : Contents).
+    HasPut p (page_of new c.time_with-self-inside.result end v.first.0 (v.count + 1) v.fill.0) c.args.prev
+    c.args.moment (length c.args.payload.now) slot at) c.self.view_is
+    (page_has_put v.body new v.time c.time_with-self-inside.result v.end end v.first.0 v.count v.fill.0 c.args.prev
+    c.args.moment (length c.args.payload.now) c.args.is_first slot at
     c.self.invariant.0 c.self.invariant.1
-    (subst (λ (p : Contents). CanPut p c.args.prev c.args.moment (length c.args.payload.now)) (sym c.self.view_is) c.requires.can)
+    (subst (λ (p : Contents). CanPut p c.args.prev c.args.moment (length c.args.payload.now)) (sym c.self.view_is)
+    c.requires.can)
     (c.requires.first ∙ ap (λ (p : Contents). is_blank p.bytes) (sym c.self.view_is))
-    (subst (λ (b : List ℕ). PutsBehind b new v.end (c.args.moment - c.args.prev) c.args.is_first (length c.args.payload.now) slot at) stays put.put)
+    (subst
+    (λ (b : List ℕ).
+    PutsBehind b new v.end (c.args.moment - c.args.prev) c.args.is_first (length c.args.payload.now) slot at) stays
+    put.put)
     (put.size ∙ ap length stays)
     (length-padded c.args.payload.now)
     (ap (λ (n : ℕ). v.end + n) c.size_of.ensures ∙ sym put.put.ends_at)
