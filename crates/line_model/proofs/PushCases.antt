@@ -6,12 +6,16 @@ use Rattle.trace_model.specs.Words.{slot_len, encoded_len}
 use Rattle.trace_model.specs.History.{HistoryEvent, push, push_close}
 use Rattle.trace_model.specs.Frames.{Purpose, for_record, for_close, WriteFault}
 use Rattle.trace_model.specs.Ring.{Core}
-use Rattle.trace_model.specs.Steps.{Event, pushes, pushes_close, steps, ends, reads, wishes, Answer, pushed, refused, with_history_event, with_frame, IsTooLong}
+use Rattle.trace_model.specs.Steps.{Event, pushes, pushes_close, steps, ends, reads, wishes, Answer, pushed, refused}
+use Rattle.trace_model.specs.Steps.{with_history_event, with_frame, IsTooLong}
 use Rattle.trace_model.proofs.words.Lengths.{slot_len_ge}
-use Rattle.trace_model.proofs.steps.StepCases.{StepCases, PushRefused, all_stand, has_no_room, comes_late, push_step, push_refused, close_step, close_refused, frame_step, frame_lacks, end_step, end_lacks, end_early, read_step, store_wish_step}
+use Rattle.trace_model.proofs.steps.StepCases.{StepCases, PushRefused, all_stand, has_no_room, comes_late, push_step}
+use Rattle.trace_model.proofs.steps.StepCases.{push_refused, close_step, close_refused, frame_step, frame_lacks}
+use Rattle.trace_model.proofs.steps.StepCases.{end_step, end_lacks, end_early, read_step, store_wish_step}
 
 -- The push isn't refused, and makes this of the ring; or it is, and the ring stays.
-pub data PushCases (Refused : Type 0) (kind : Purpose) (event : HistoryEvent) (c : Core) (answer : Answer) (after : Core)
+pub data PushCases (Refused : Type 0) (kind : Purpose) (event : HistoryEvent) (c : Core) (answer : Answer)
+    (after : Core)
     : Type 0 where
   is_pushed : answer ≡ pushed
       → (Refused → ⊥)

@@ -2,9 +2,11 @@
 -- link and no step of the ring is spoken of. docs/MODEL.md, "What is printed, by histories alone".
 use Rattle.std.specs.Prelude.{◌≡◌, ◌≢◌, ℕ, ◌+◌, ◌<◌, ◌≤◌, ◌⊎◌, ⊤, IsTrue, fold, List, [], ◌∷◌, ◌++◌, Option, Some, None}
 use Rattle.trace_model.specs.declared.limits.TheConstants.{LINK_FILLS}
-use Rattle.trace_model.specs.History.{HistoryEvent, push, push_close, open_fill, reserve, leave, wished, PushedFrame, record_frame, close_frame, reservation_for, writer_after, reserved_records}
+use Rattle.trace_model.specs.History.{HistoryEvent, push, push_close, open_fill, reserve, leave, wished, PushedFrame}
+use Rattle.trace_model.specs.History.{record_frame, close_frame, reservation_for, writer_after, reserved_records}
 use Rattle.trace_model.specs.Packing.{tail_of, fill_len, is_wished}
-use Rattle.trace_model.specs.Window.{Window, first_window, window_after, RingEvent, acts, closes, takes, loses, history_events_of}
+use Rattle.trace_model.specs.Window.{Window, first_window, window_after, RingEvent, acts, closes, takes, loses}
+use Rattle.trace_model.specs.Window.{history_events_of}
 use Rattle.text_model.specs.Script.{Script}
 
 -- the window after the events of a ring whose first fill has this number

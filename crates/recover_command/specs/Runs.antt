@@ -15,7 +15,8 @@ use Rattle.stream_command.specs.Gathering.{IsGathered}
 use Rattle.ring_region.specs.declared.regions.Region.{Region}
 use Rattle.recover_command.specs.declared.ending.Outcome.{Outcome}
 use Rattle.recover_command.specs.declared.ending.Ending.{Ending}
-use Rattle.recover_command.specs.declared.ending.Ending.TheVariants.{Done, Damaged, Malformed, NoMemory, NotRead, TooLong, NotWritten}
+use Rattle.recover_command.specs.declared.ending.Ending.TheVariants.{Done, Damaged, Malformed, NoMemory, NotRead}
+use Rattle.recover_command.specs.declared.ending.Ending.TheVariants.{TooLong, NotWritten}
 use Rattle.recover_command.specs.declared.read.Unread.{Unread}
 use Rattle.recover_command.specs.declared.read.Unread.TheVariants.{Read, TooLong as TooMany, Fault, NoMemory as NoRoom}
 use Rattle.recover_command.specs.declared.read.Stopped.{Stopped}

@@ -1,13 +1,17 @@
 -- What a step of the reader makes of a lane as a value.
-use Rattle.std.proofs.Common.{◌≡◌, ◌≢◌, ℕ, zero, ◌-◌, Bool, true, false, List, [], ◌∷◌, ◌++◌, length, drop, map, Option, Some, None, refl, sym, ap, ◌∙◌, subst, arith, append-nil}
+use Rattle.std.proofs.Common.{◌≡◌, ◌≢◌, ℕ, zero, ◌-◌, Bool, true, false, List, [], ◌∷◌, ◌++◌, length, drop, map, Option}
+use Rattle.std.proofs.Common.{Some, None, refl, sym, ap, ◌∙◌, subst, arith, append-nil}
 use Rattle.std.specs.Prelude.{IfSome}
 use Rattle.std.proofs.lemmas.Bool.{false≢true}
 use Rattle.std.proofs.lemmas.List.{map-append}
 use Rattle.trace_model.specs.Ring.{Core}
 use Rattle.trace_model.specs.Parcel.{Parcel}
 use Rattle.trace_model.specs.Steps as model
-use Rattle.trace_model.specs.Steps.{Event, pushes, pushes_close, steps, ends, reads, wishes, reading, empty, moving, page_taken, Step, Exchange}
-use Rattle.trace_model.proofs.steps.StepCases.{StepCases, push_step, push_refused, close_step, close_refused, frame_step, frame_lacks, end_step, end_lacks, end_early, read_step, store_wish_step}
+use Rattle.trace_model.specs.Steps.{Event, pushes, pushes_close, steps, ends, reads, wishes, reading, empty, moving}
+use Rattle.trace_model.specs.Steps.{page_taken, Step, Exchange}
+use Rattle.trace_model.proofs.steps.StepCases.{StepCases, push_step, push_refused, close_step, close_refused}
+use Rattle.trace_model.proofs.steps.StepCases.{frame_step, frame_lacks, end_step, end_lacks, end_early, read_step}
+use Rattle.trace_model.proofs.steps.StepCases.{store_wish_step}
 use Rattle.trace_model.proofs.steps.StepSound.{cases_of}
 use Rattle.ring_model.specs.Seats.{IsOfReader}
 use Rattle.ring_model.proofs.partition.RingsKept.{reached_kept}
@@ -20,7 +24,8 @@ use Rattle.world_model.proofs.TakenPages.{taken_by, run_takes, parcels_of_is}
 use Rattle.page_numbers.specs.Parcels as page
 use Rattle.page_numbers.specs.Parcels.{as_parcels, fitted_parcel}
 use Rattle.ring_frames.specs.declared.answer.Answer.{Answer}
-use Rattle.ring_frames.specs.declared.answer.Answer.TheVariants.{Pushed, Going, Reserved, Ended, Gone, Refused, Looking, Empty, Moving, Taken, Wished}
+use Rattle.ring_frames.specs.declared.answer.Answer.TheVariants.{Pushed, Going, Reserved, Ended, Gone, Refused, Looking}
+use Rattle.ring_frames.specs.declared.answer.Answer.TheVariants.{Empty, Moving, Taken, Wished}
 use Rattle.ring_core.specs.Value.{CoreValue}
 use Rattle.ring_core.specs.IsCore.{IsCore}
 use Rattle.ring_frames.specs.Answers.{IsAnswerOf}
@@ -195,13 +200,16 @@ module _ (line cpu n size start : ℕ) (v : LaneValue) (lane : Lane) (is : IsLan
   keeps_reads (Refused fault) reports gives keeps = absurd gives
   keeps_reads (Looking back) reports gives (goes, is_new) =
       reads_to reading reports (λ e. refl) (λ e. absurd (false≢true (sym e ∙ goes)))
-      (record v { core = core; body = Some back }) is_new refl refl (ap length gives ∙ fits) (sym (append-nil (as_parcels v.taken)))
+      (record v { core = core; body = Some back }) is_new refl refl (ap length gives ∙ fits)
+          (sym (append-nil (as_parcels v.taken)))
   keeps_reads (Empty done back) reports gives (goes, is_new) =
       reads_to (empty done) reports (no_more (empty done) goes) (λ e same. let z : ⊥ = cc in z)
-      (record v { core = core; body = Some back }) is_new refl refl (ap length gives ∙ fits) (sym (append-nil (as_parcels v.taken)))
+      (record v { core = core; body = Some back }) is_new refl refl (ap length gives ∙ fits)
+          (sym (append-nil (as_parcels v.taken)))
   keeps_reads (Moving fill back) reports gives (goes, is_new) =
       reads_to (moving fill.0) reports (no_more (moving fill.0) goes) (λ e same. let z : ⊥ = cc in z)
-      (record v { core = core; body = Some back }) is_new refl refl (ap length gives ∙ fits) (sym (append-nil (as_parcels v.taken)))
+      (record v { core = core; body = Some back }) is_new refl refl (ap length gives ∙ fits)
+          (sym (append-nil (as_parcels v.taken)))
   keeps_reads (Taken contents missed) (t, reported_is, whole) gives (goes, (body, body_is, is_new)) =
       let kept = fitted_parcel cpu contents missed in
       let parcel_is : page.as_parcel kept ≡ parcel_of cpu t = (λ i. record {
@@ -213,7 +221,8 @@ module _ (line cpu n size start : ℕ) (v : LaneValue) (lane : Lane) (is : IsLan
       }) in
       reads_to (page_taken t) reported_is (no_more (page_taken t) goes) (λ e same. let z : ⊥ = cc in z)
       (record v { core = core; body = Some body; taken = v.taken ++ kept ∷ [] })
-      is_new refl refl (body_is ∙ whole.written.size_is) (map-append page.as_parcel v.taken (kept ∷ []) ∙ ap (λ (p : Parcel). as_parcels v.taken ++ p ∷ []) parcel_is)
+      is_new refl refl (body_is ∙ whole.written.size_is)
+          (map-append page.as_parcel v.taken (kept ∷ []) ∙ ap (λ (p : Parcel). as_parcels v.taken ++ p ∷ []) parcel_is)
   keeps_reads (Wished fill) reports gives keeps = absurd gives
 
 pub reads_once : (line cpu : ℕ) (v between new : LaneValue) (body : List ℕ) (asked : Asked) (result : Answer)

@@ -1,5 +1,6 @@
 -- The lists of indexes, one line after the other.
-use Rattle.std.proofs.Common.{◌≡◌, ℕ, ◌+◌, ◌<◌, Bool, true, false, List, [], ◌∷◌, ◌++◌, take, Some, None, refl, sym, ap, ◌∙◌, subst, append-nil}
+use Rattle.std.proofs.Common.{◌≡◌, ℕ, ◌+◌, ◌<◌, Bool, true, false, List, [], ◌∷◌, ◌++◌, take, Some, None, refl, sym, ap}
+use Rattle.std.proofs.Common.{◌∙◌, subst, append-nil}
 use Rattle.std.specs.Prelude.{if◌then◌else◌, nat_eq, slice_set}
 use Rattle.std.specs.List.{slice_get, AllZip}
 use Rattle.std.proofs.lemmas.Bool.{eq-eqb, ne_eqb}
@@ -10,7 +11,8 @@ use mathlib.Core.Logic.{dite}
 use native.Mathlib.Decide.{ℕ_discrete}
 use Rattle.trace_model.specs.declared.numbers.CpuId.{CpuId}
 use Rattle.trace_model.proofs.collections.Elements.{some_is}
-use Rattle.text_model.specs.Script.{Command, begin_frame, step_frame, finish_frame, write, close, step_reader, take_page, wish, deliver}
+use Rattle.text_model.specs.Script.{Command, begin_frame, step_frame, finish_frame, write, close, step_reader}
+use Rattle.text_model.specs.Script.{take_page, wish, deliver}
 use Rattle.text_model.specs.ScriptLimits.{IsCommandWithin}
 use Rattle.world_model.proofs.Lookups.{get_set_here, get_set_other}
 use Rattle.line_model.specs.Lines.{writer_line, writer_lines}
@@ -62,7 +64,8 @@ lines_behind cpu (first ∷ lines) line =
     in_front (writer_line cpu first.1) first.1 (writer_lines cpu (commands_of (lines ++ line ∷ [])))
     (writer_lines cpu (commands_of lines)) (own cpu line.1) (lines_behind cpu lines line)
 
-module _ (commands : List (ℕ × Command)) (index : ℕ) (line : ℕ × Command) (at : slice_get commands index ≡ Some line) where
+module _ (commands : List (ℕ × Command)) (index : ℕ) (line : ℕ × Command) (at : slice_get commands index ≡ Some line)
+    where
   front : take (index + 1) commands ≡ take index commands ++ line ∷ []
   front = take_more commands index line (slice_get_within commands index line at)
       ∙ ap (λ (l : ℕ × Command). take index commands ++ l ∷ []) (get_or_from_slice_get commands index line line at)

@@ -4,7 +4,9 @@ use Rattle.ring_core.proofs.NewCores.{new_core}
 use Rattle.ring_core.proofs.ring.Core.new_at.Goals as goal
 
 pub returns-clause-fresh : goal.returns-clause-fresh
-returns-clause-fresh c = new_core c.args.pages c.args.size c.args.start c.in_ok-links.links.items _ c.requires.limits.some_pages c.requires.start record {
+returns-clause-fresh c =
+    new_core c.args.pages c.args.size c.args.start c.in_ok-links.links.items _ c.requires.limits.some_pages
+        c.requires.start record {
   frames = c.in_ok-frames.ensures;
   links_are = refl;
   positions = c.in_ok-links.ensures.pages;
