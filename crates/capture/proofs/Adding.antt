@@ -34,14 +34,14 @@ adds-page size known bytes rest piece after old capture new was some long parted
       let pages : List Page = before ++ map (told known) w.more in
       whole-page size known before was.front piece capture new w some long
       (page_of known piece pages new (let there : 0 < length piece = omega (arith, some, long) in there)
-       (adds pages w.capture_is));
+      (adds pages w.capture_is));
 }
 
 pub adds-all : (size : ℕ) (known : Missed) (bytes rest : List ℕ) (old capture new : Capture)
     (was : AddsWhole size known bytes rest old capture) (before : List Page) (is : IsCapture old before)
-        → length rest ≤ size
+    → length rest ≤ size
     → AddsRest known rest (before ++ map (told known) (was.are before is).more) new
-        → AddsPages size known bytes before new
+    → AddsPages size known bytes before new
 adds-all size known bytes rest old capture new was before is fits adds =
     let r = whole-rest size known before was.front rest capture new (was.are before is) fits adds in
     record {

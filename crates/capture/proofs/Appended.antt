@@ -14,15 +14,15 @@ end-append next (first ∷ pages) page = end-append (behind next first) pages pa
 parcels_more : (cpu fill next : ℕ) (pages : List Page) (page : Page)
     → parcels_from cpu (suc fill) next (pages ++ page ∷ [])
     ≡ parcels_from cpu (suc fill) next pages
-        ++ parcels_from cpu (suc fill + length pages) (end_from next pages) (page ∷ [])
+    ++ parcels_from cpu (suc fill + length pages) (end_from next pages) (page ∷ [])
     → parcels_from cpu (suc fill) next (pages ++ page ∷ [])
     ≡ parcels_from cpu (suc fill) next pages
-        ++ parcels_from cpu (fill + suc (length pages)) (end_from next pages) (page ∷ [])
+    ++ parcels_from cpu (fill + suc (length pages)) (end_from next pages) (page ∷ [])
 parcels_more cpu fill next pages page is =
     let same : suc fill + length pages ≡ fill + suc (length pages) = omega arith in
     is
-        ∙ ap (λ (f : ℕ). parcels_from cpu (suc fill) next pages ++ parcels_from cpu f (end_from next pages) (page ∷ []))
-            same
+    ∙ ap (λ (f : ℕ). parcels_from cpu (suc fill) next pages ++ parcels_from cpu f (end_from next pages) (page ∷ []))
+    same
 
 pub parcels-append : (cpu fill next : ℕ) (pages : List Page) (page : Page)
     → parcels_from cpu fill next (pages ++ page ∷ [])
@@ -32,7 +32,7 @@ parcels-append cpu fill next [] page =
 parcels-append cpu fill next (intact read ∷ pages) page =
     ap (λ (ps : List Parcel). parcels_from cpu fill next (intact read ∷ []) ++ ps)
     (parcels_more cpu fill (behind next (intact read)) pages page
-     (parcels-append cpu (suc fill) (behind next (intact read)) pages page))
+    (parcels-append cpu (suc fill) (behind next (intact read)) pages page))
 parcels-append cpu fill next (damaged cause ∷ pages) page =
     parcels_more cpu fill next pages page (parcels-append cpu (suc fill) next pages page)
 
@@ -42,7 +42,7 @@ unknown-append next [] page = refl
 unknown-append next (intact read ∷ pages) page =
     ap (λ (ns : List ℕ). unknown_at next read.missed ++ ns) (unknown-append (behind next (intact read)) pages page)
     ∙ sym (append_assoc (unknown_at next read.missed) (unknown_from (behind next (intact read)) pages)
-           (unknown_from (end_from (behind next (intact read)) pages) (page ∷ [])))
+    (unknown_from (end_from (behind next (intact read)) pages) (page ∷ [])))
 unknown-append next (damaged cause ∷ pages) page = unknown-append next pages page
 
 damages_more : (index next : ℕ) (pages : List Page) (page : Page) → damages_from (suc index) next (pages ++ page ∷ [])
@@ -59,7 +59,7 @@ damages-append index next [] page =
     ap (λ (i : ℕ). damages_from i next (page ∷ [])) (let none : index ≡ index + 0 = omega arith in none)
 damages-append index next (intact read ∷ pages) page =
     damages_more index (behind next (intact read)) pages page
-        (damages-append (suc index) (behind next (intact read)) pages page)
+    (damages-append (suc index) (behind next (intact read)) pages page)
 damages-append index next (damaged cause ∷ pages) page =
     ap (λ (ds : List Damage). record { number = next; index = index; cause = cause } ∷ ds)
     (damages_more index next pages page (damages-append (suc index) next pages page))

@@ -43,7 +43,7 @@ capture-intact old new pages read was cpu parcels unknown kept next count low fe
     let all = pages ++ page ∷ [] in
     let cpu_is : old.cpu.0 ≡ new.cpu.0 = cc in
     let ends : behind old.next.0 page ≡ end_from 0 all =
-        ap (λ (n : ℕ). behind n page) was.next_is ∙ sym (end-append 0 pages page) in
+    ap (λ (n : ℕ). behind n page) was.next_is ∙ sym (end-append 0 pages page) in
     let counted = count_more pages page old.pages new.pages was.count_is count in
     let fill_is : old.pages ≡ 0 + length pages = omega (arith, was.count_is) in
     record {
@@ -51,14 +51,14 @@ capture-intact old new pages read was cpu parcels unknown kept next count low fe
           ∙ ap (λ (ps : List Parcel). ps ++ parcel_at old.cpu.0 old.pages old.next.0 read ∷ []) was.parcels_are
           ∙ ap (λ (n : ℕ). parcels_from old.cpu.0 0 0 pages ++ parcel_at old.cpu.0 old.pages n read ∷ []) was.next_is
           ∙ ap (λ (f : ℕ). parcels_from old.cpu.0 0 0 pages ++ parcel_at old.cpu.0 f (end_from 0 pages) read ∷ [])
-              fill_is
+          fill_is
           ∙ sym (parcels-append old.cpu.0 0 0 pages page)
           ∙ ap (λ (c : ℕ). parcels_from c 0 0 all) cpu_is;
       unknown_are = unknown
           ∙ ap (λ (ns : List ℕ). ns ++ unknown_at old.next.0 read.missed) was.unknown_are
           ∙ ap (λ (n : ℕ). unknown_from 0 pages ++ unknown_at n read.missed) was.next_is
           ∙ ap (λ (ns : List ℕ). unknown_from 0 pages ++ ns)
-              (sym (append-nil (unknown_at (end_from 0 pages) read.missed)))
+          (sym (append-nil (unknown_at (end_from 0 pages) read.missed)))
           ∙ sym (unknown-append 0 pages page);
       damaged_are = subst (λ (ds : List Damage). AreDamages new.damaged.items ds)
           (sym (append-nil (damages_from 0 0 pages)) ∙ sym (damages-append 0 0 pages page))
@@ -83,7 +83,7 @@ capture-damaged old new pages cause d was cpu parcels unknown pushed number inde
     let counted = count_more pages page old.pages new.pages was.count_is count in
     let damage : Damage = record { number = end_from 0 pages; index = 0 + length pages; cause = cause } in
     let is : IsDamage d damage =
-        record { number_is = number ∙ was.next_is; index_is = omega (arith, index, was.count_is); fault_is = fault } in
+    record { number_is = number ∙ was.next_is; index_is = omega (arith, index, was.count_is); fault_is = fault } in
     record {
       parcels_are = ap as_parcels parcels ∙ was.parcels_are
           ∙ sym (append-nil (parcels_from old.cpu.0 0 0 pages))
@@ -108,7 +108,7 @@ pub past-numbers : (old : Capture) (pages : List Page) (page : Page) → IsCaptu
     → 2 ^ 64 ≤ behind old.next.0 page → Fit (pages ++ page ∷ []) → ⊥
 past-numbers old pages page was past fit =
     let here : behind old.next.0 page ≡ end_from 0 (pages ++ page ∷ []) =
-        ap (λ (n : ℕ). behind n page) was.next_is ∙ sym (end-append 0 pages page) in
+    ap (λ (n : ℕ). behind n page) was.next_is ∙ sym (end-append 0 pages page) in
     let fits = fit.numbers in omega (arith, here)
 
 -- ---- answers

@@ -57,13 +57,13 @@ whole-page size known before front piece capture new was some long adds = record
   more = was.more ++ adds.page ∷ [];
   cut =
       cut-append size front piece was.more adds.page was.cut was.whole (omega (arith, long, some)) (omega (arith, long))
-          adds.page_is;
+      adds.page_is;
   capture_is = subst (IsCapture new) (told_more known before was.more adds.page) adds.capture_is;
   whole = length-append front piece ∙ whole_more size (length was.more) (length front) (length piece) was.whole long
       ∙ ap (λ (n : ℕ). size * n)
-          (let one : suc (length was.more) ≡ length (was.more ++ adds.page ∷ []) =
-               omega (arith, length-append was.more (adds.page ∷ [])) in
-           one);
+      (let one : suc (length was.more) ≡ length (was.more ++ adds.page ∷ []) =
+      omega (arith, length-append was.more (adds.page ∷ [])) in
+      one);
 }
 
 -- pages were read after these, and have these bytes
@@ -75,7 +75,7 @@ pub record AreRead (size : ℕ) (known : Missed) (before : List Page) (bytes : L
 pub whole-rest : (size : ℕ) (known : Missed) (before : List Page) (front piece : List ℕ) (capture new : Capture)
     (was : AreWhole size known before front capture)
     → length piece ≤ size → AddsRest known piece (before ++ map (told known) was.more) new
-        → AreRead size known before (front ++ piece) new
+    → AreRead size known before (front ++ piece) new
 whole-rest size known before front piece capture new was fits adds = ⊎_elim
     (λ none. record {
       more = was.more;

@@ -75,7 +75,7 @@ agree cpu fill next pages = record {
       (paired c n r has.parcel has.pair) (paired c n other has_too.parcel has_too.pair) in
       let first = ap (λ (p : Parcel). p.first) same in
       let place : has.pair.index ≡ has_too.pair.index =
-          omega (arith, has.pair.number_is, has_too.pair.number_is, first) in
+      omega (arith, has.pair.number_is, has_too.pair.number_is, first) in
       some_record r other (sym has.pair.record_is ∙ ap (λ (p : Parcel). slice_get p.records has.pair.index) same
       ∙ ap (λ (k : ℕ). slice_get has_too.parcel.records k) place ∙ has_too.pair.record_is);
   not_missing = λ c n r has misses.

@@ -44,8 +44,8 @@ parcel_after : (parcels : List Parcel) (j cpu fill k first missed : ℕ) (record
     → slice_get parcels j ≡ Some (parcel_of cpu (fill + suc k) first missed records)
 parcel_after parcels j cpu fill k first missed records at =
     at
-        ∙ ap (λ (f : ℕ). Some (parcel_of cpu f first missed records))
-            (let same : suc fill + k ≡ fill + suc k = omega arith in same)
+    ∙ ap (λ (f : ℕ). Some (parcel_of cpu f first missed records))
+    (let same : suc fill + k ≡ fill + suc k = omega arith in same)
 
 -- where all counts are known, each piece has its parcel
 pub all-at : (cpu fill next : ℕ) (pages : List Page) (pieces : List Piece) → AreReported pages pieces → HaveCounts pages
@@ -60,9 +60,11 @@ all-at cpu fill next (intact read ∷ pages) (q ∷ pieces) (records_are, agrees
     let skips : least_missed read.missed ≡ q.skipped = least_is read.missed q.skipped agrees known in
     subst (λ (r : Piece). (first : ℕ) × (Some (next + q.skipped) ≡ Some first)
     × (Some (parcel_at cpu fill next read) ≡ Some (parcel_of cpu (fill + 0) first r.skipped r.records)))
-    (some_piece q p at)
-    (next + q.skipped, refl,
-     ap (λ (x : Parcel). Some x) (parcel_first cpu fill next q.skipped read q.records skips records_are))
+    (some_piece q p at) (
+      next + q.skipped,
+      refl,
+      ap (λ (x : Parcel). Some x) (parcel_first cpu fill next q.skipped read q.records skips records_are),
+    )
 all-at cpu fill next (intact read ∷ pages) (q ∷ pieces) (records_are, agrees, more) (known, others) (suc k) p at =
     let skips : least_missed read.missed ≡ q.skipped = least_is read.missed q.skipped agrees known in
     let long = ap (length {A = Record}) records_are in
@@ -89,14 +91,16 @@ as-many cpu fill next (intact read ∷ pages) (p ∷ pieces) reported counts =
 pub each-at : (cpu fill next : ℕ) (pages : List Page) (k : ℕ) (read : PageRead) → slice_get pages k ≡ Some (intact read)
     → (j first : ℕ)
     × (slice_get (parcels_from cpu fill next pages) j
-       ≡ Some (parcel_of cpu (fill + k) first (least_missed read.missed) read.records))
+    ≡ Some (parcel_of cpu (fill + k) first (least_missed read.missed) read.records))
 each-at cpu fill next [] k read at = absurd (no_page at)
 each-at cpu fill next (damaged cause ∷ pages) zero read at = absurd (not_damaged cause read at)
 each-at cpu fill next (damaged cause ∷ pages) (suc k) read at =
-    let rest = each-at cpu (suc fill) next pages k read at in
-    (rest.0, rest.1,
-     parcel_after (parcels_from cpu (suc fill) next pages) rest.0 cpu fill k rest.1 (least_missed read.missed)
-         read.records rest.2)
+    let rest = each-at cpu (suc fill) next pages k read at in (
+      rest.0,
+      rest.1,
+      parcel_after (parcels_from cpu (suc fill) next pages) rest.0 cpu fill k rest.1 (least_missed read.missed)
+          read.records rest.2,
+    )
 each-at cpu fill next (intact first ∷ pages) zero read at =
     let same : first ≡ read = some_read first read at in (
       0,

@@ -40,10 +40,10 @@ exact-at cpu fill next (intact read ∷ pages) [] reported counts k parcel at = 
 exact-at cpu fill next (intact read ∷ pages) (p ∷ pieces) (records_are, agrees, more) (known, others) zero parcel at =
     let skips : least_missed read.missed ≡ p.skipped = least_is read.missed p.skipped agrees known in
     subst (λ (q : Parcel).
-              (Some p ≡ Some record { skipped = q.missed; records = q.records })
-                  × (Some (next + p.skipped) ≡ Some q.first))
+    (Some p ≡ Some record { skipped = q.missed; records = q.records })
+    × (Some (next + p.skipped) ≡ Some q.first))
     (some_parcel (parcel_at cpu fill next read) parcel at)
-        (piece_is skips records_are, ap (λ (n : ℕ). Some (next + n)) (sym skips))
+    (piece_is skips records_are, ap (λ (n : ℕ). Some (next + n)) (sym skips))
   where
     piece_is : {n : ℕ} {records : List Record} → n ≡ p.skipped → records ≡ p.records
         → Some p ≡ Some record { skipped = n; records = records }
@@ -65,7 +65,7 @@ pub least-at : (cpu fill next number : ℕ) (pages : List Page) (pieces : List P
     → (k : ℕ) (parcel : Parcel) → slice_get (parcels_from cpu fill next pages) k ≡ Some parcel
     → (j : ℕ) × (p : Piece) × (first : ℕ) × (parcel.fill ≡ fill + j) × (slice_get pieces j ≡ Some p)
     × (first_from number pieces j ≡ Some first) × (parcel.records ≡ p.records) × (parcel.first ≤ first)
-        × (parcel.missed ≤ p.skipped)
+    × (parcel.missed ≤ p.skipped)
 least-at cpu fill next number [] pieces reported low k parcel at = absurd (none_some at)
 least-at cpu fill next number (page ∷ pages) [] reported low k parcel at = absurd reported
 least-at cpu fill next number (damaged cause ∷ pages) (p ∷ pieces) more low k parcel at =
@@ -88,6 +88,6 @@ least-at cpu fill next number (intact read ∷ pages) (p ∷ pieces) (records_ar
     let fits : least_missed read.missed ≤ p.skipped = least_fits read.missed p.skipped agrees in
     let long = ap (length {A = Record}) records_are in
     let rest =
-        least-at cpu (suc fill) (behind next (intact read)) (number + covered_count p) pages pieces more (omega arith) k
-            parcel at in
+    least-at cpu (suc fill) (behind next (intact read)) (number + covered_count p) pages pieces more (omega arith) k
+    parcel at in
     (suc rest.0, rest.1, rest.2, omega (arith, rest.3), rest.4, rest.5, rest.6, rest.7, rest.8)

@@ -10,8 +10,8 @@ one_page : (bytes : List ℕ) (page other : Page) → IsPageOf bytes page → Is
 one_page bytes (intact read) (intact other) (time, size, stated, is, lost)
     (time_too, size_too, stated_too, is_too, lost_too) =
     let same =
-        DecodesImage-unique (restored_image bytes) time time_too size size_too stated stated_too read.records
-            other.records is is_too in
+    DecodesImage-unique (restored_image bytes) time time_too size size_too stated stated_too read.records
+    other.records is is_too in
     ap₂ (λ (missed : Missed) (records : List Record). intact record { missed = missed; records = records })
     (lost ∙ ap loss_stated same.2 ∙ sym lost_too) same.3
 one_page bytes (intact read) (damaged cause) (time, size, stated, is, lost) fault =

@@ -40,7 +40,7 @@ reads-none size first unread capture = record {
 pub reads-page : (size : ℕ) (first pending piece : List ℕ) (unread left after : Option (List ℕ))
     (old capture new : Capture)
     → ReadsWhole size first pending unread left old capture → 0 < size → length pending ≡ size
-        → Consumes left after piece
+    → Consumes left after piece
     → new.cpu ≡ capture.cpu → ((pages : List Page) → IsCapture capture pages → AddsPage unknown pending pages new)
     → ReadsWhole size first piece unread after old new
 reads-page size first pending piece unread left after old capture new was some long taken cpu adds = record {
@@ -53,7 +53,7 @@ reads-page size first pending piece unread left after old capture new was some l
   are = λ before is.
       let w = was.are before is in
       whole-page size unknown before was.front pending capture new w some long
-          (adds (before ++ map (told unknown) w.more) w.capture_is);
+      (adds (before ++ map (told unknown) w.more) w.capture_is);
 }
 
 -- how many pages were read
@@ -62,13 +62,18 @@ pub reads-count : (size : ℕ) (first pending : List ℕ) (unread left : Option 
     → capture.pages ≡ old.pages + length (was.are before is).more
 reads-count size first pending unread left old capture was before is =
     let w = was.are before is in
-    omega (arith, w.capture_is.count_is, is.count_is, length-append before (map (told unknown) w.more),
-           length-map w.more (told unknown))
+    omega (
+      arith,
+      w.capture_is.count_is,
+      is.count_is,
+      length-append before (map (told unknown) w.more),
+      length-map w.more (told unknown),
+    )
 
 pub reads-more : (size : ℕ) (first pending : List ℕ) (unread left : Option (List ℕ)) (old capture new : Capture)
     (was : ReadsWhole size first pending unread left old capture) (before : List Page) (is : IsCapture old before)
     → ((pages : List Page) → IsCapture capture pages → AddsPage unknown pending pages new)
-        → new.pages ≡ capture.pages + 1
+    → new.pages ≡ capture.pages + 1
 reads-more size first pending unread left old capture new was before is adds =
     let w = was.are before is in
     let pages : List Page = before ++ map (told unknown) w.more in
@@ -89,8 +94,8 @@ reads-on size first pending unread left old capture new extent was fits adds who
     let w = was.are before is in
     let count = reads-count size first pending unread left old capture was before is in
     let r =
-        whole-rest size unknown before was.front pending capture new w fits
-            (adds (before ++ map (told unknown) w.more) w.capture_is) in
+    whole-rest size unknown before was.front pending capture new w fits
+    (adds (before ++ map (told unknown) w.more) w.capture_is) in
     record {
       bytes = was.bytes;
       pages = r.more;
@@ -110,8 +115,8 @@ pub reads-past : (size : ℕ) (first pending : List ℕ) (unread left : Option (
 reads-past size first pending unread left old capture was some fits passes before is =
     let w = was.are before is in
     let p =
-        whole-past size unknown before was.front pending capture w some fits
-            (passes (before ++ map (told unknown) w.more) w.capture_is) in
+    whole-past size unknown before was.front pending capture w some fits
+    (passes (before ++ map (told unknown) w.more) w.capture_is) in
     record {
       bytes = was.bytes;
       pages = p.more;

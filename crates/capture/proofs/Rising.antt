@@ -24,7 +24,7 @@ IsAbove a b = (a.fill < b.fill) × (a.first + length a.records + b.missed ≤ b.
 
 pub rising : (cpu fill next : ℕ) (pages : List Page) (j k : ℕ) (a b : Parcel) → j < k
     → slice_get (parcels_from cpu fill next pages) j ≡ Some a → slice_get (parcels_from cpu fill next pages) k ≡ Some b
-        → IsAbove a b
+    → IsAbove a b
 rising cpu fill next [] j k a b less at_j at_k = absurd (none_some at_j)
 rising cpu fill next (damaged cause ∷ pages) j k a b less at_j at_k =
     rising cpu (suc fill) next pages j k a b less at_j at_k

@@ -30,17 +30,17 @@ misses_either xs ys c n m = ⊎_elim
 
 agree_both : (xs ys : List Parcel) → Agree xs → Agree ys
     → ((i j : ℕ) (p q : Parcel) → slice_get xs i ≡ Some p → slice_get ys j ≡ Some q → p.cpu ≡ q.cpu → ⊥)
-        → Agree (xs ++ ys)
+    → Agree (xs ++ ys)
 agree_both xs ys one two apart = record {
   one_record = λ c n r other has too. ⊎_elim
       (λ (a : Has xs c n r). ⊎_elim
       (λ (b : Has xs c n other). one.one_record c n r other a b)
       (λ (b : Has ys c n other).
-          absurd (apart a.index b.index a.parcel b.parcel a.at b.at (sym a.pair.cpu_is ∙ b.pair.cpu_is)))
+      absurd (apart a.index b.index a.parcel b.parcel a.at b.at (sym a.pair.cpu_is ∙ b.pair.cpu_is)))
       (has_either xs ys c n other too))
       (λ (a : Has ys c n r). ⊎_elim
       (λ (b : Has xs c n other).
-          absurd (apart b.index a.index b.parcel a.parcel b.at a.at (sym b.pair.cpu_is ∙ a.pair.cpu_is)))
+      absurd (apart b.index a.index b.parcel a.parcel b.at a.at (sym b.pair.cpu_is ∙ a.pair.cpu_is)))
       (λ (b : Has ys c n other). two.one_record c n r other a b)
       (has_either xs ys c n other too))
       (has_either xs ys c n r has);
@@ -82,7 +82,7 @@ pub agree_all : (cpu : ℕ) (captures : List (List Page)) → Agree (parcels_of_
 agree_all cpu [] = no_parcels
 agree_all cpu (pages ∷ captures) =
     agree_both (parcels_from cpu 0 0 pages) (parcels_of_captures (suc cpu) captures) (agree cpu 0 0 pages)
-        (agree_all (suc cpu) captures)
+    (agree_all (suc cpu) captures)
     (λ i j p q at_i at_j same.
     let is = cpu_of cpu 0 0 pages i p at_i in
     let high = cpus_above (suc cpu) captures j q at_j in omega (arith, is, high, same))

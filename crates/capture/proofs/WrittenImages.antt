@@ -62,9 +62,9 @@ reported-stays contents missed size few = by_cases (stores_count contents missed
 
 page-of-image : (time : ℕ) (contents : List ℕ) (missed size : ℕ) (records : List Record) → HasNoStamps contents
     → time < 2 ^ 64 → missed < 2 ^ 64 - 1 → length contents ≤ size → 16 + size ≤ MAX_IMAGE
-        → Decodes contents time records
+    → Decodes contents time records
     → IsPageOf (image_of time contents missed size)
-        (intact record { missed = missed_reported contents missed size; records = records })
+    (intact record { missed = missed_reported contents missed size; records = records })
 page-of-image time contents missed size records is in_time few fits limit reads =
     let image = image_of time contents missed size in
     let commit = commit_of contents missed size in
@@ -72,10 +72,12 @@ page-of-image time contents missed size records is in_time few fits limit reads 
     let behind = stored ++ replicate {A = ℕ} (size - length contents - length stored) 0 in
     let parts : HasParts MAX_IMAGE image time commit contents behind = record {
       header =
-          record { whole = refl;
-                  time_fits = in_time;
-                  size_fits = omega (arith, fits, limit);
-                  ignored_fits = omega arith };
+          record {
+            whole = refl;
+            time_fits = in_time;
+            size_fits = omega (arith, fits, limit);
+            ignored_fits = omega arith;
+          };
       size_is = refl;
       length_fits = omega (arith, length-image_of time contents missed size fits, limit);
     } in
@@ -126,7 +128,7 @@ plain_more : (a b : List ℕ) (words more : List Word) → ArePlain a words → 
 plain_more a b words more is are = record {
   whole =
       ap (λ (xs : List ℕ). xs ++ b) is.whole ∙ ap (λ (xs : List ℕ). joined words ++ xs) are.whole
-          ∙ sym (flat_map-append bytes_of_word words more);
+      ∙ sym (flat_map-append bytes_of_word words more);
   each = each-append words more is.each are.each;
   none = list_any-append is_stamp words more ∙ ap (λ (p : Bool). p || list_any is_stamp more) is.none ∙ are.none;
 }
@@ -159,16 +161,18 @@ plain_page (r ∷ records) all =
 pub written-page : (records : List Record) (time missed size : ℕ) → NeverFalls records
     → AllByRecursion IsWritable records
     → first_moment_or time records < 2 ^ 64 → missed < 2 ^ 64 - 1 → length (page_encoding records) ≤ size
-        → 16 + size ≤ MAX_IMAGE
+    → 16 + size ≤ MAX_IMAGE
     → IsPageOf (image_of (first_moment_or time records) (page_encoding records) missed size)
     (intact record { missed = missed_reported (page_encoding records) missed size; records = records })
 written-page records time missed size never all in_time few fits limit =
     let plain = plain_page records all in
     page-of-image (first_moment_or time records) (page_encoding records) missed size records
-    (record { words = plain.0;
-             rest = [];
-             cut = IsJoined-whole (page_encoding records) plain.0 plain.1.whole plain.1.each;
-             none = plain.1.none })
+    (record {
+      words = plain.0;
+      rest = [];
+      cut = IsJoined-whole (page_encoding records) plain.0 plain.1.whole plain.1.each;
+      none = plain.1.none;
+    })
     in_time few fits limit (Decodes-page_encoding records time never all)
 
 -- one page before others
@@ -196,9 +200,9 @@ written-pages times size fill [] in_time all limit = refl
 written-pages times size fill (p ∷ pieces) in_time (fits, more) limit =
     let time = first_moment_or (times fill) p.records in
     cut-page (16 + size) (image_of time (page_encoding p.records) p.skipped size)
-        (images_from times size (suc fill) pieces)
+    (images_from times size (suc fill) pieces)
     (page_written size p) (map (page_written size) pieces)
-        (length-image_of time (page_encoding p.records) p.skipped size fits.data_fits)
+    (length-image_of time (page_encoding p.records) p.skipped size fits.data_fits)
     (omega arith)
     (written-page p.records (times fill) p.skipped size fits.never_falls fits.writable
     (moment_fits (times fill) p.records (in_time fill) fits.writable) fits.missed_fits fits.data_fits limit)

@@ -22,7 +22,7 @@ use Rattle.capture_text.proofs.Chains.{put_none, put_more}
 more : (line : ℕ → ℕ × ℕ → List ℕ) (runs : List (List (ℕ × ℕ))) (of_cpu : List (ℕ × ℕ)) (cpu : ℕ) → length runs ≡ cpu
     → flat_map (λ (of : ℕ × List (ℕ × ℕ)). flat_map (line of.0) of.1) (enumerate_from 0 (runs ++ of_cpu ∷ []))
     ≡ flat_map (λ (of : ℕ × List (ℕ × ℕ)). flat_map (line of.0) of.1) (enumerate_from 0 runs)
-        ++ flat_map (line cpu) of_cpu
+    ++ flat_map (line cpu) of_cpu
 more line runs of_cpu cpu count =
     let f : ℕ × List (ℕ × ℕ) → List ℕ = λ of. flat_map (line of.0) of.1 in
     let number : 0 + length runs ≡ cpu = omega arith in
@@ -74,7 +74,7 @@ runs_put form parcels cpu of_cpu b0 b1 b2 c0 c1 c2 f0 f1 f2 put one more =
       each = runs_more parcels 0 put.runs cpu of_cpu (omega arith) put.each one;
       put =
           put_more (run_lines form (put.runs ++ of_cpu ∷ [])) (run_lines form put.runs)
-              (flat_map (run_line form cpu) of_cpu)
+          (flat_map (run_line form cpu) of_cpu)
           b0 b1 b2 c0 c1 c2 f0 f1 f2 (lines_more form put.runs of_cpu cpu count) put.put more;
     }
 

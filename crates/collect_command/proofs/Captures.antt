@@ -47,14 +47,14 @@ last_read parts cpu (first ∷ front) found (pages ∷ captures) read =
 -- the parcels of one capture more
 parcels_more : (cpu : ℕ) (captures : List (List Page)) (own : List Page)
     → parcels_of_captures cpu (captures ++ own ∷ [])
-        ≡ parcels_of_captures cpu captures ++ parcels_from (cpu + length captures) 0 0 own
+    ≡ parcels_of_captures cpu captures ++ parcels_from (cpu + length captures) 0 0 own
 parcels_more cpu [] own =
     append-nil (parcels_from cpu 0 0 own)
-        ∙ ap (λ (n : ℕ). parcels_from n 0 0 own) (let e : cpu ≡ cpu + 0 = omega arith in e)
+    ∙ ap (λ (n : ℕ). parcels_from n 0 0 own) (let e : cpu ≡ cpu + 0 = omega arith in e)
 parcels_more cpu (pages ∷ captures) own =
     ap (λ (ps : List Parcel). parcels_from cpu 0 0 pages ++ ps) (parcels_more (suc cpu) captures own)
     ∙ sym (append_assoc (parcels_from cpu 0 0 pages) (parcels_of_captures (suc cpu) captures)
-           (parcels_from (suc cpu + length captures) 0 0 own))
+    (parcels_from (suc cpu + length captures) 0 0 own))
     ∙ ap (λ (n : ℕ). (parcels_from cpu 0 0 pages ++ parcels_of_captures (suc cpu) captures) ++ parcels_from n 0 0 own)
     (let e : suc cpu + length captures ≡ cpu + suc (length captures) = omega arith in e)
 

@@ -46,7 +46,7 @@ pub prints_none : (c : Form → Option (List EventFormat) → List ℕ) (old : P
     → ((form : Form) (formats : Option (List EventFormat)) → c form formats ≡ []) → Prints c old x f old x f
 prints_none c old x f is form formats start text has =
     subst (λ (t : List ℕ). HasPrinted form formats start x f t old)
-        (sym (ap (λ (t : List ℕ). text ++ t) (is form formats) ∙ append-nil text)) has
+    (sym (ap (λ (t : List ℕ). text ++ t) (is form formats) ∙ append-nil text)) has
 
 -- ---- the lines that are walked over
 
@@ -54,38 +54,38 @@ module _ {W : Type 0} (contents : W → Option (List ℕ)) (failed : W → Bool)
   abbrev pub PrintsLine : (Printer × W) → Line → (Printer × W) → Type 0
   PrintsLine p line q =
       Prints (λ form formats. record_line form formats line) p.0 (contents p.1) (failed p.1) q.0 (contents q.1)
-          (failed q.1)
+      (failed q.1)
 
   pub walked : (lines : List Line) (p q : Printer × W) → TakesAll PrintsLine p lines q
       → Prints (λ form formats. flat_map (record_line form formats) lines) p.0 (contents p.1) (failed p.1) q.0
-          (contents q.1) (failed q.1)
+      (contents q.1) (failed q.1)
   walked [] p q same =
       subst
-          (λ (z : Printer × W).
-              Prints (λ form formats. []) p.0 (contents p.1) (failed p.1) z.0 (contents z.1) (failed z.1)) same
+      (λ (z : Printer × W).
+      Prints (λ form formats. []) p.0 (contents p.1) (failed p.1) z.0 (contents z.1) (failed z.1)) same
       (prints_none (λ form formats. []) p.0 (contents p.1) (failed p.1) (λ form formats. refl))
   walked (line ∷ lines) p q (mid, first, rest) =
       prints_both (λ form formats. record_line form formats line)
-          (λ form formats. flat_map (record_line form formats) lines)
+      (λ form formats. flat_map (record_line form formats) lines)
       (λ form formats. flat_map (record_line form formats) (line ∷ lines)) p.0 mid.0 q.0 (contents p.1) (contents mid.1)
-          (contents q.1) (failed p.1) (failed mid.1) (failed q.1)
+      (contents q.1) (failed p.1) (failed mid.1) (failed q.1)
       first (walked lines mid q rest) (λ form formats. refl)
 
 -- ---- the losses and damaged pages of one CPU more
 
 pub unknown_more : (form : Form) (cpu : ℕ) (captures : List (List Page)) (own : List Page)
     → all_unknown form cpu (captures ++ own ∷ [])
-        ≡ all_unknown form cpu captures ++ unknown_lines form (cpu + length captures) (unknown_from 0 own)
+    ≡ all_unknown form cpu captures ++ unknown_lines form (cpu + length captures) (unknown_from 0 own)
 unknown_more form cpu [] own =
     append-nil (unknown_lines form cpu (unknown_from 0 own))
-        ∙ ap (λ (n : ℕ). unknown_lines form n (unknown_from 0 own)) (let e : cpu ≡ cpu + 0 = omega arith in e)
+    ∙ ap (λ (n : ℕ). unknown_lines form n (unknown_from 0 own)) (let e : cpu ≡ cpu + 0 = omega arith in e)
 unknown_more form cpu (pages ∷ captures) own =
     ap (λ (t : List ℕ). unknown_lines form cpu (unknown_from 0 pages) ++ t) (unknown_more form (suc cpu) captures own)
     ∙ sym (append_assoc (unknown_lines form cpu (unknown_from 0 pages)) (all_unknown form (suc cpu) captures)
-           (unknown_lines form (suc cpu + length captures) (unknown_from 0 own)))
+    (unknown_lines form (suc cpu + length captures) (unknown_from 0 own)))
     ∙ ap (λ (n : ℕ).
-             (unknown_lines form cpu (unknown_from 0 pages) ++ all_unknown form (suc cpu) captures)
-                 ++ unknown_lines form n (unknown_from 0 own))
+    (unknown_lines form cpu (unknown_from 0 pages) ++ all_unknown form (suc cpu) captures)
+    ++ unknown_lines form n (unknown_from 0 own))
     (let e : suc cpu + length captures ≡ cpu + suc (length captures) = omega arith in e)
 
 abbrev own_damaged : Form → List ModelPart → ℕ → List Page → List ℕ
@@ -93,17 +93,17 @@ own_damaged form parts cpu own = damaged_lines form (map measured (parts_of_cpu 
 
 pub damaged_more : (form : Form) (parts : List ModelPart) (cpu : ℕ) (captures : List (List Page)) (own : List Page)
     → all_damaged form parts cpu (captures ++ own ∷ [])
-        ≡ all_damaged form parts cpu captures ++ own_damaged form parts (cpu + length captures) own
+    ≡ all_damaged form parts cpu captures ++ own_damaged form parts (cpu + length captures) own
 damaged_more form parts cpu [] own =
     append-nil (own_damaged form parts cpu own)
-        ∙ ap (λ (n : ℕ). own_damaged form parts n own) (let e : cpu ≡ cpu + 0 = omega arith in e)
+    ∙ ap (λ (n : ℕ). own_damaged form parts n own) (let e : cpu ≡ cpu + 0 = omega arith in e)
 damaged_more form parts cpu (pages ∷ captures) own =
     ap (λ (t : List ℕ). own_damaged form parts cpu pages ++ t) (damaged_more form parts (suc cpu) captures own)
     ∙ sym (append_assoc (own_damaged form parts cpu pages) (all_damaged form parts (suc cpu) captures)
-           (own_damaged form parts (suc cpu + length captures) own))
+    (own_damaged form parts (suc cpu + length captures) own))
     ∙ ap (λ (n : ℕ).
-             (own_damaged form parts cpu pages ++ all_damaged form parts (suc cpu) captures)
-                 ++ own_damaged form parts n own)
+    (own_damaged form parts cpu pages ++ all_damaged form parts (suc cpu) captures)
+    ++ own_damaged form parts n own)
     (let e : suc cpu + length captures ≡ cpu + suc (length captures) = omega arith in e)
 
 -- ---- whether all pages are intact
@@ -152,7 +152,7 @@ and_false false = refl
 pub not_intact : (parts : List ModelPart) (cpu : ℕ) (cpus : List CpuCapture) (captures : List (List Page)) (k : ℕ)
     (found : CpuCapture)
     → AreReadFrom parts cpu cpus captures → slice_get cpus k ≡ Some found
-        → (length found.capture.damaged.items == 0) ≡ false
+    → (length found.capture.damaged.items == 0) ≡ false
     → are_all_intact captures ≡ false
 not_intact parts cpu [] captures k found read at none = absurd (none-some found at)
 not_intact parts cpu (first ∷ cpus) [] k found read at none = absurd read
@@ -162,7 +162,7 @@ not_intact parts cpu (first ∷ cpus) (own ∷ captures) zero found read at none
     ∙ ap (λ (x : CpuCapture). length x.capture.damaged.items == 0) (some_is first found at) ∙ none)
 not_intact parts cpu (first ∷ cpus) (own ∷ captures) (suc k) found read at none =
     ap (λ (x : Bool). are_intact own && x) (not_intact parts (suc cpu) cpus captures k found read.1 at none)
-        ∙ and_false (are_intact own)
+    ∙ and_false (are_intact own)
 
 -- ---- a print of a collector is one of each that is the same
 
@@ -187,7 +187,7 @@ same_print joined parcels shown same is = record {
 pub ended : {T F : Type 0} (result : Result T F) (failed is_intact : Bool) (contents after : Option (List ℕ))
     (text : List ℕ)
     → OnOk result (Appends contents after text) → OnErr result (AppendsPrefix contents after text)
-        → ((failed ≡ true) ↔ IsErr result)
+    → ((failed ≡ true) ↔ IsErr result)
     → IsTextWritten contents after failed text (ending_of true is_intact) (ending_of (is_ok result) is_intact)
 ended (Ok x) failed is_intact contents after text all prefix fault = record {
   all = λ sound. (all, refl);

@@ -52,7 +52,7 @@ pub own-part : (cpu : ℕ) (parts : List ModelPart) (part : ModelPart) → part.
 own-part cpu parts part same =
     filter-append (λ p. p.cpu == cpu) parts (part ∷ [])
     ∙ ap (λ (ps : List ModelPart). parts_of_cpu cpu parts ++ ps)
-        (only cpu part true (sym (eqb-refl-at part.cpu cpu same)))
+    (only cpu part true (sym (eqb-refl-at part.cpu cpu same)))
   where
     eqb-refl-at : (a b : ℕ) → a ≡ b → (a == b) ≡ true
     eqb-refl-at a b e = grind (arith, common_steps)
@@ -62,7 +62,7 @@ pub other-part : (cpu : ℕ) (parts : List ModelPart) (part : ModelPart) → par
 other-part cpu parts part other =
     filter-append (λ p. p.cpu == cpu) parts (part ∷ [])
     ∙ ap (λ (ps : List ModelPart). parts_of_cpu cpu parts ++ ps)
-        (only cpu part false (sym (eqb-off part.cpu cpu other)))
+    (only cpu part false (sym (eqb-off part.cpu cpu other)))
     ∙ append-nil (parts_of_cpu cpu parts)
   where
     eqb-off : (a b : ℕ) → a ≢ b → (a == b) ≡ false
@@ -110,7 +110,7 @@ past-more known cpu parts more past = record {
   begin = filter-append (λ p. p.cpu == cpu) parts more
       ∙ ap (λ (ps : List ModelPart). ps ++ parts_of_cpu cpu more) past.begin
       ∙ append_assoc past.whole (record past.last { bytes = past.last.bytes ++ past.behind } ∷ past.further)
-          (parts_of_cpu cpu more);
+      (parts_of_cpu cpu more);
   pages = past.pages;
   cut = past.cut;
   past = past.past;
@@ -122,7 +122,7 @@ pub parts-next : (before : List ModelPart) (parts : List CpuPart) (i : ℕ) (par
     → before ++ map part_seen (take (i + 1) parts) ≡ (before ++ map part_seen (take i parts)) ++ part_seen part ∷ []
 parts-next before parts i part below is =
     ap (λ (ps : List CpuPart). before ++ map part_seen ps)
-        (take_more parts i part below ∙ ap (λ (p : CpuPart). take i parts ++ p ∷ []) (sym is))
+    (take_more parts i part below ∙ ap (λ (p : CpuPart). take i parts ++ p ∷ []) (sym is))
     ∙ ap (λ (ps : List ModelPart). before ++ ps) (map-append part_seen (take i parts) (part ∷ []))
     ∙ sym (append_assoc before (map part_seen (take i parts)) (part_seen part ∷ []))
 

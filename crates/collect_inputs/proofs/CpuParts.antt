@@ -26,7 +26,7 @@ cpu-more known cpu parts part own old {capture = capture} new was cut is same co
       (subst (IsCapture capture) (sym (map-append (told known) was.pages own)) is);
   parts_are =
       counts.parts_are ∙ ap (λ (ps : List Part). ps ++ measured part ∷ []) was.parts_are
-          ∙ sym (map-append measured parts (part ∷ []));
+      ∙ sym (map-append measured parts (part ∷ []));
   bytes_are = counts.bytes_are ∙ ap (λ (n : ℕ). n + length part.bytes) was.bytes_are ∙ sym (bytes-append parts part);
   bytes_fit = omega (arith, bytes-append parts part, was.bytes_are, counts.fits);
 }
@@ -49,7 +49,7 @@ pages-past known cpu parts part old was front behind own bytes cut past = record
 pub bytes-past : (known : Missed) (cpu : ℕ) (parts : List ModelPart) (part : ModelPart) (old : CpuCapture)
     (was : IsCpuRead known cpu parts old)
     (own : List Page) → AreCut part.size part.bytes own → 2 ^ 64 ≤ old.bytes + length part.bytes
-        → IsPartPast known parts part
+    → IsPartPast known parts part
 bytes-past known cpu parts part old was own cut past = record {
   front = part.bytes;
   behind = [];

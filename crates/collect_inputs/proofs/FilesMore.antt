@@ -32,7 +32,7 @@ formatted-ok (Err f) contents e = absurd cc
 
 pub parts-of-dat : (page : ℕ) (file : File) (contents : Contents) (own : List ModelPart) → is_dat file.bytes ≡ true
     → formatted (reading_of file.bytes) ≡ Ok contents → parts_in (length file.bytes) contents ≡ Ok own
-        → parts_of page file ≡ Ok own
+    → parts_of page file ≡ Ok own
 parts-of-dat page file contents own dat reads parts =
     ap (λ (b : Bool). if b then (formatted (reading_of file.bytes) >>= parts_in (length file.bytes))
     else Ok (record { cpu = file.cpu; size = page; bytes = file.bytes } ∷ [])) dat
@@ -79,13 +79,15 @@ as-captured parts cpus read = record {
   count = read.count;
   each = λ cpu found at.
       let r = read.each cpu found at in
-      record { pages = r.pages;
-              cut = r.cut;
-              cpu_is = r.cpu_is;
-              capture_is = r.capture_is;
-              parts_are = r.parts_are;
-              bytes_are = r.bytes_are;
-              bytes_fit = r.bytes_fit };
+      record {
+        pages = r.pages;
+        cut = r.cut;
+        cpu_is = r.cpu_is;
+        capture_is = r.capture_is;
+        parts_are = r.parts_are;
+        bytes_are = r.bytes_are;
+        bytes_fit = r.bytes_fit;
+      };
 }
 
 pub as-read : (parts : List ModelPart) (cpus : List CpuCapture) → AreCpusCaptured unsaid parts cpus
@@ -94,13 +96,15 @@ as-read parts cpus captured = record {
   count = captured.count;
   each = λ cpu found at.
       let r = captured.each cpu found at in
-      record { pages = r.pages;
-              cut = r.cut;
-              cpu_is = r.cpu_is;
-              capture_is = r.capture_is;
-              parts_are = r.parts_are;
-              bytes_are = r.bytes_are;
-              bytes_fit = r.bytes_fit };
+      record {
+        pages = r.pages;
+        cut = r.cut;
+        cpu_is = r.cpu_is;
+        capture_is = r.capture_is;
+        parts_are = r.parts_are;
+        bytes_are = r.bytes_are;
+        bytes_fit = r.bytes_fit;
+      };
 }
 
 no-files : (page : ℕ) (files : List File) (parts : List ModelPart) → files ≡ [] → ArePartsOf page files parts
@@ -112,14 +116,14 @@ no-files page (file ∷ files) parts none are = absurd cc
 cpus-said : (losses : Losses) (page : ℕ) (files : List File) (parts : List ModelPart) (file : File)
     (own : List ModelPart) (mid new : List CpuCapture)
     → IsAlone losses files → ArePartsOf page files parts → AreCpusRead unknown (parts ++ own) mid
-        → (losses ≡ Kept → new ≡ mid)
+    → (losses ≡ Kept → new ≡ mid)
     → (losses ≡ Settled → AreCpusCaptured (λ cpu. overrun_of cpu (counters_of file)) own new)
     → AreCpusCaptured (said_by losses file) (parts ++ own) new
 cpus-said Kept page files parts file own mid new alone are read kept settled =
     subst (AreCpusCaptured unsaid (parts ++ own)) (sym (kept refl)) (as-captured (parts ++ own) mid read)
 cpus-said Settled page files parts file own mid new alone are read kept settled =
     subst (λ (ps : List ModelPart). AreCpusCaptured (said_by Settled file) (ps ++ own) new)
-        (sym (no-files page files parts alone are)) (settled refl)
+    (sym (no-files page files parts alone are)) (settled refl)
 
 min-more : (a b n limit : ℕ) → n ≡ min a limit → min (n + b) limit ≡ min (a + b) limit
 min-more a b n limit is = omega (arith, is)
@@ -127,11 +131,11 @@ min-more a b n limit is = omega (arith, is)
 pub file-added : (losses : Losses) (page : ℕ) (files : List File) (file : File) (own : List ModelPart)
     (old new : Captured) (mid : List CpuCapture)
     → IsAlone losses files → (was : AreFilesRead unsaid page files old) → parts_of page file ≡ Ok own
-        → AreCpusRead unknown (was.parts ++ own) mid
+    → AreCpusRead unknown (was.parts ++ own) mid
     → (losses ≡ Kept → new.cpus.items ≡ mid)
     → (losses ≡ Settled → AreCpusCaptured (λ cpu. overrun_of cpu (counters_of file)) own new.cpus.items)
     → HasEvents new.names (all_formats files ++ formats_of file)
-        → new.instances ≡ min (old.instances + instances_of file) (2 ^ 64 - 1)
+    → new.instances ≡ min (old.instances + instances_of file) (2 ^ 64 - 1)
     → AddsFile losses page files file new
 file-added losses page files file own old new mid alone was is read kept settled names instances = record {
   parts = was.parts ++ own;
@@ -150,7 +154,7 @@ pub added-fault : (losses : Losses) (page : ℕ) (files : List File) (file : Fil
     (was : AreFilesRead unsaid page files old)
     (fault : CaptureFault) → parts_of page file ≡ Ok own
     → (fault ≡ captures.Numbers → (cpu : ℕ) × IsCpuPast unknown cpu (was.parts ++ own))
-        → IsFileFault losses page files file (input_fault fault)
+    → IsFileFault losses page files file (input_fault fault)
 added-fault losses page files file own old was captures.NoMemory is past = tt
 added-fault losses page files file own old was captures.Numbers is past = record {
   parts = was.parts ++ own;
@@ -173,7 +177,7 @@ settled-fault Settled page files file own old was captures.Numbers alone is not 
   cpu = (past refl refl).0;
   past =
       subst (λ (ps : List ModelPart).
-                IsOwnPast (overrun_of (past refl refl).0 (counters_of file)) (past refl refl).0 (ps ++ own))
+      IsOwnPast (overrun_of (past refl refl).0 (counters_of file)) (past refl refl).0 (ps ++ own))
       (sym (no-files page files was.parts alone was.parts_are)) (past refl refl).1;
 }
 
@@ -206,7 +210,7 @@ raw-said : (losses : Losses) (file : File) (parts : List ModelPart) (cpus : List
 raw-said Kept file parts cpus raw read = as-captured parts cpus read
 raw-said Settled file parts cpus raw read =
     subst (λ (ts : List (List ℕ)). AreCpusCaptured (λ cpu. overrun_of cpu ts) parts cpus)
-        (sym (held-raw (λ (contents : Contents). contents.counters) [] file raw))
+    (sym (held-raw (λ (contents : Contents). contents.counters) [] file raw))
     (as-captured parts cpus read)
 
 pub raw-added : (losses : Losses) (page : ℕ) (files : List File) (file : File) (old new : Captured)
@@ -221,13 +225,13 @@ raw-added losses page files file old new was raw read names instances = record {
   names_are = subst (λ (n : EventNames). HasEvents n (all_formats (files ++ file ∷ []))) (sym names)
       (subst (HasEvents old.names) (sym (formats-more files file
       ∙ ap (λ (fs : List EventFormat). all_formats files ++ fs)
-          (held-raw (λ (contents : Contents). contents.formats) [] file raw)
+      (held-raw (λ (contents : Contents). contents.formats) [] file raw)
       ∙ append-nil (all_formats files))) was.names_are);
   instances_are = instances ∙ was.instances_are
       ∙ ap (λ (n : ℕ). min n (2 ^ 64 - 1))
-          (let none = held-raw (λ (contents : Contents). count_instances contents.buffers) 0 file raw in
+      (let none = held-raw (λ (contents : Contents). count_instances contents.buffers) 0 file raw in
       let same : all_instances files ≡ all_instances (files ++ file ∷ []) =
-          omega (arith, none, instances-more files file) in
+      omega (arith, none, instances-more files file) in
       same);
 }
 

@@ -73,10 +73,11 @@ past-said Kept page files file alone past = record {
   parts = past.parts;
   parts_are = past.parts_are;
   cpu = past.cpu;
-  past =
-      (past.past.0,
-       known-none (overrun_in (files ++ file ∷ []) past.cpu) (parts_of_cpu past.cpu past.parts) past.past.0 past.past.1,
-       past.past.2);
+  past = (
+    past.past.0,
+    known-none (overrun_in (files ++ file ∷ []) past.cpu) (parts_of_cpu past.cpu past.parts) past.past.0 past.past.1,
+    past.past.2,
+  );
 }
 past-said Settled page [] file alone past = past
 past-said Settled page (first ∷ files) file alone past = absurd cc
@@ -85,7 +86,7 @@ module _ {R : Type 0} (remaining : R → Option (List ℕ)) (failed : R → Bool
   pub why-unread : (losses : Losses) (page : ℕ) (files : List File) (old new : Input R) → IsAlone losses files
       → (fault : InputFault)
       → IsRestFault losses page old.cpu.0 [] (remaining old.reader) (remaining new.reader) (failed new.reader) files
-          fault
+      fault
       → IsWhy remaining failed page files old new fault
   why-unread losses page files old new alone faults.Read why = why
   why-unread losses page files old new alone (faults.File fault) (sound, end, (more, taken, is)) =
@@ -125,16 +126,16 @@ module _ {R : Type 0} (remaining : R → Option (List ℕ)) (failed : R → Bool
 
   -- some inputs are read, and these are left
   pub record ReadsTo (losses : Losses) (page : ℕ) (inputs now : List (Input R)) (at : ℕ) (captured : Captured) : Type 0
-      where
-    pub before : List (Input R)
-    pub before_new : List (Input R)
-    pub after : List (Input R)
-    pub files : List File
-    pub inputs_are : inputs ≡ before ++ after
-    pub now_are : now ≡ before_new ++ after
-    pub at_is : at ≡ length before
-    pub are_read : AreRead remaining failed before before_new files
-    pub so_far : AreSoFar losses page files captured
+    where
+      pub before : List (Input R)
+      pub before_new : List (Input R)
+      pub after : List (Input R)
+      pub files : List File
+      pub inputs_are : inputs ≡ before ++ after
+      pub now_are : now ≡ before_new ++ after
+      pub at_is : at ≡ length before
+      pub are_read : AreRead remaining failed before before_new files
+      pub so_far : AreSoFar losses page files captured
 
   pub reads-none : (losses : Losses) (page : ℕ) (inputs : List (Input R)) (captured : Captured)
       → AreFilesRead unsaid page [] captured
@@ -185,7 +186,7 @@ module _ {R : Type 0} (remaining : R → Option (List ℕ)) (failed : R → Bool
     next =
         let found =
         get-at was.before_new was.after at d place
-            (subst (λ (is : List (Input R)). at < length is) was.now_are below) in
+        (subst (λ (is : List (Input R)). at < length is) was.now_are below) in
         (found.0, found.1 ∙ ap (λ (is : List (Input R)). get_or is at d ∷ found.0) (sym was.now_are))
 
     first_are : inputs ≡ was.before ++ get_or now at d ∷ next.0
@@ -197,7 +198,7 @@ module _ {R : Type 0} (remaining : R → Option (List ℕ)) (failed : R → Bool
     after_set : (new : Input R) → set now at new ≡ was.before_new ++ new ∷ next.0
     after_set new =
         ap (λ (is : List (Input R)). set is at new) now_first
-            ∙ set-at was.before_new next.0 (get_or now at d) new at place
+        ∙ set-at was.before_new next.0 (get_or now at d) new at place
 
     pub count-below : length was.files < length inputs
     count-below =
@@ -208,7 +209,7 @@ module _ {R : Type 0} (remaining : R → Option (List ℕ)) (failed : R → Bool
     pub as-first : get_or inputs at d ≡ get_or now at d
     as-first =
         ap (λ (is : List (Input R)). get_or is at d) first_are
-            ∙ item-at was.before next.0 (get_or now at d) at d was.at_is
+        ∙ item-at was.before next.0 (get_or now at d) at d was.at_is
 
     pub within : at < length inputs
     within = let long = ap (length {A = Input R}) first_are in
@@ -220,9 +221,9 @@ module _ {R : Type 0} (remaining : R → Option (List ℕ)) (failed : R → Bool
 
     pub reads-next : (new : Input R) (after : Captured) → IsChosen losses (length inputs)
         → AddsRestOf losses page (get_or now at d).cpu.0 [] (remaining (get_or now at d).reader) (remaining new.reader)
-            was.files after
+        was.files after
         → IsAtEnd (remaining new.reader) → failed new.reader ≡ false
-            → ReadsTo losses page inputs (set now at new) (at + 1) after
+        → ReadsTo losses page inputs (set now at new) (at + 1) after
     reads-next new after chosen adds end sound =
         let file : File = record { cpu = (get_or now at d).cpu.0; bytes = adds.more } in
         record {
@@ -235,13 +236,13 @@ module _ {R : Type 0} (remaining : R → Option (List ℕ)) (failed : R → Bool
           at_is = omega (arith, was.at_is, length-append was.before (get_or now at d ∷ []));
           are_read =
               read-more was.before was.before_new was.files (get_or now at d) new file was.are_read
-                  (record { cpu_is = refl; taken = adds.taken }) end sound;
+              (record { cpu_is = refl; taken = adds.taken }) end sound;
           so_far = one-more losses page was.files file after (is-unsaid chosen).0 adds.added;
         }
 
     pub reads-unread : (new : Input R) (fault : InputFault) → IsChosen losses (length inputs)
         → IsRestFault losses page (get_or now at d).cpu.0 [] (remaining (get_or now at d).reader) (remaining new.reader)
-            (failed new.reader) was.files fault
+        (failed new.reader) was.files fault
         → IsUnread remaining failed page inputs (set now at new) at fault
     reads-unread new fault chosen why = record {
       before = was.before;
@@ -264,16 +265,16 @@ module _ {R : Type 0} (remaining : R → Option (List ℕ)) (failed : R → Bool
   reads-all losses page inputs now at captured chosen past was =
       let count = ap (length {A = Input R}) was.inputs_are in
       let none : was.after ≡ [] =
-          nil_from_length was.after (omega (arith, count, past, was.at_is, length-append was.before was.after)) in
+      nil_from_length was.after (omega (arith, count, past, was.at_is, length-append was.before was.after)) in
       let all : inputs ≡ was.before =
-          was.inputs_are ∙ ap (λ (is : List (Input R)). was.before ++ is) none ∙ append-nil was.before in
+      was.inputs_are ∙ ap (λ (is : List (Input R)). was.before ++ is) none ∙ append-nil was.before in
       let all_new : now ≡ was.before_new =
-          was.now_are ∙ ap (λ (is : List (Input R)). was.before_new ++ is) none ∙ append-nil was.before_new in
+      was.now_are ∙ ap (λ (is : List (Input R)). was.before_new ++ is) none ∙ append-nil was.before_new in
       let files_are = (lengths was.before was.before_new was.files was.are_read).1 in (
         was.files,
         subst (λ (is : List (Input R)). AreRead remaining failed is now was.files) (sym all)
             (subst (λ (is : List (Input R)). AreRead remaining failed was.before is was.files) (sym all_new)
-             was.are_read),
+            was.are_read),
         all-read losses (length inputs) page was.files captured chosen (files_are ∙ ap (length {A = Input R}) (sym all))
             was.so_far,
       )

@@ -24,14 +24,14 @@ pub missed-next : (parcels : List ParcelValue) (i : ℕ) (d : ParcelValue) → i
 missed-next parcels i d below =
     ap missed_in (take_more parcels i d below) ∙ missed-append (take i parcels) (get_or parcels i d ∷ [])
     ∙ (let one : missed_in (take i parcels) + ((get_or parcels i d).missed + 0)
-               ≡ missed_in (take i parcels) + (get_or parcels i d).missed =
-           omega arith in
-       one)
+    ≡ missed_in (take i parcels) + (get_or parcels i d).missed =
+    omega arith in
+    one)
 
 pub missed-within : (parcels : List ParcelValue) (i : ℕ) → missed_in (take i parcels) ≤ missed_in parcels
 missed-within parcels i =
     let whole : missed_in (take i parcels ++ drop i parcels) ≡ missed_in parcels =
-        ap missed_in (take-append-drop i parcels) in
+    ap missed_in (take-append-drop i parcels) in
     omega (arith, whole, missed-append (take i parcels) (drop i parcels))
 
 model_missed : List Parcel → ℕ
@@ -83,8 +83,12 @@ unknown-count : (next : ℕ) (pages : List Page) → length (unknown_from next p
 unknown-count next [] = refl
 unknown-count next (intact read ∷ pages) =
     let rest = unknown-count (behind next (intact read)) pages in
-    omega (arith, length-append (unknown_at next read.missed) (unknown_from (behind next (intact read)) pages),
-           unknown-here next read.missed, rest)
+    omega (
+      arith,
+      length-append (unknown_at next read.missed) (unknown_from (behind next (intact read)) pages),
+      unknown-here next read.missed,
+      rest,
+    )
 unknown-count next (damaged cause ∷ pages) = unknown-count next pages
 
 -- how many losses of unknown number a capture has
@@ -92,7 +96,7 @@ pub capture-unknown : (capture : Capture) (pages : List Page) → IsCapture capt
     → length capture.unknown.items ≡ unknown_losses pages
 capture-unknown capture pages is =
     sym (length-map capture.unknown.items (λ number. number.0)) ∙ ap (length {A = ℕ}) is.unknown_are
-        ∙ unknown-count 0 pages
+    ∙ unknown-count 0 pages
 
 none-damaged : (index next : ℕ) (pages : List Page) → AreDamages [] (damages_from index next pages)
     → are_intact pages ≡ true

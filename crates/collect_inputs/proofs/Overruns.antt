@@ -18,7 +18,7 @@ none-left see cpu texts = ap (λ ts. overrun_of cpu (map see ts)) (drop_all (len
 pub one-before : {X : Type 0} (see : X → List ℕ) (cpu : ℕ) (texts : List X) (at next : ℕ) (d : X) → next ≡ at + 1
     → at < length texts
     → overrun_at cpu (counters_in (see (get_or texts at d))) (overrun_of cpu (map see (drop next texts)))
-        ≡ overrun_of cpu (map see (drop at texts))
+    ≡ overrun_of cpu (map see (drop at texts))
 one-before see cpu texts at next d is below =
     ap (λ (n : ℕ). overrun_at cpu (counters_in (see (get_or texts at d))) (overrun_of cpu (map see (drop n texts)))) is
     ∙ sym (ap (λ ts. overrun_of cpu (map see ts)) (drop_more texts at d below))

@@ -32,22 +32,31 @@ pub read-rest-fault : (losses : Losses) (page cpu : ℕ) (first more bytes : Lis
     → IsRestFault losses page cpu first unread left failed files fault
 read-rest-fault losses page cpu first more bytes unread left failed files is sound end taken faults.Read why =
     absurd why
-read-rest-fault losses page cpu first more bytes unread left failed files is sound end taken (faults.File fault) why =
-    (sound, end,
-     (more, taken,
-      subst (λ (bs : List ℕ). IsFileFault losses page files (record { cpu = cpu; bytes = bs }) (faults.File fault)) is
-          why))
-read-rest-fault losses page cpu first more bytes unread left failed files is sound end taken faults.Numbers why =
-    (sound,
-     (more, taken,
-      subst (λ (bs : List ℕ). IsFileFault losses page files (record { cpu = cpu; bytes = bs }) faults.Numbers) is why))
+read-rest-fault losses page cpu first more bytes unread left failed files is sound end taken (faults.File fault) why = (
+  sound,
+  end,
+  (
+    more,
+    taken,
+    subst (λ (bs : List ℕ). IsFileFault losses page files (record { cpu = cpu; bytes = bs }) (faults.File fault)) is
+        why,
+  ),
+)
+read-rest-fault losses page cpu first more bytes unread left failed files is sound end taken faults.Numbers why = (
+  sound,
+  (
+    more,
+    taken,
+    subst (λ (bs : List ℕ). IsFileFault losses page files (record { cpu = cpu; bytes = bs }) faults.Numbers) is why,
+  ),
+)
 read-rest-fault losses page cpu first more bytes unread left failed files is sound end taken faults.NoMemory why = sound
 
 -- what had been read already was read before
 pub fault-before : (losses : Losses) (page cpu : ℕ) (first : List ℕ) (start unread left : Option (List ℕ))
     (failed : Bool) (files : List File)
     → Consumes start unread first → (fault : InputFault)
-        → IsRestFault losses page cpu first unread left failed files fault
+    → IsRestFault losses page cpu first unread left failed files fault
     → IsRestFault losses page cpu [] start left failed files fault
 fault-before losses page cpu first start unread left failed files taken faults.Read why = why
 fault-before losses page cpu first start unread left failed files taken (faults.File fault)
@@ -79,7 +88,7 @@ added-sized losses size page cpu first start unread left files captured same tak
 pub fault-sized : (losses : Losses) (size page cpu : ℕ) (first : List ℕ) (start unread left : Option (List ℕ))
     (failed : Bool) (files : List File)
     → size ≡ page → Consumes start unread first → (fault : InputFault)
-        → IsRestFault losses size cpu first unread left failed files fault
+    → IsRestFault losses size cpu first unread left failed files fault
     → IsRestFault losses page cpu [] start left failed files fault
 fault-sized losses size page cpu first start unread left failed files same taken fault why =
     fault-before losses page cpu first start unread left failed files taken fault
@@ -91,7 +100,7 @@ pub raw-fault : (losses : Losses) (page cpu : ℕ) (first : List ℕ) (unread le
     → (fault : ReadFault) → (fault ≡ reads.Read → failed ≡ true) → (fault ≢ reads.Read → failed ≡ false)
     → (fault ≡ reads.Capture captures.Numbers → (more : List ℕ) × Consumes unread left more
     × AreFilesPast (said_by losses (record { cpu = cpu; bytes = first ++ more })) page
-        (files ++ record { cpu = cpu; bytes = first ++ more } ∷ []))
+    (files ++ record { cpu = cpu; bytes = first ++ more } ∷ []))
     → IsRestFault losses page cpu first unread left failed files (read_fault fault)
 raw-fault losses page cpu first unread left failed files reads.Read broken sound past = broken refl
 raw-fault losses page cpu first unread left failed files (reads.Capture captures.Numbers) broken sound past =

@@ -21,8 +21,8 @@ pub one-cut : (parts : List ModelPart) (pages others : List Page) → CutsOf par
 one-cut [] pages others is too = is ∙ sym too
 one-cut (part ∷ parts) pages others (own, more, is, cut, rest) (own_too, more_too, is_too, cut_too, rest_too) =
     is
-        ∙ ap₂ (λ (a b : List Page). a ++ b) (one-reading part.size part.bytes own own_too cut cut_too)
-            (one-cut parts more more_too rest rest_too)
+    ∙ ap₂ (λ (a b : List Page). a ++ b) (one-reading part.size part.bytes own own_too cut cut_too)
+    (one-cut parts more more_too rest rest_too)
     ∙ sym is_too
 
 -- what is read is settled, if this is what is known of a loss
@@ -54,11 +54,11 @@ plain-capture cpu parts found read = subst (IsCapture found.capture) (all-told-u
 
 -- the CPUs before one are settled, and the others are read
 pub record AreSettledTo (overrun : ℕ → Option ℕ) (parts : List ModelPart) (at : ℕ) (cpus : List CpuCapture) : Type 0
-    where
-  pub done : (cpu : ℕ) (found : CpuCapture) → slice_get cpus cpu ≡ Some found → cpu < at
-      → IsCpuCaptured cpu (overrun cpu) (parts_of_cpu cpu parts) found
-  pub left : (cpu : ℕ) (found : CpuCapture) → slice_get cpus cpu ≡ Some found → at ≤ cpu
-      → IsCpuRead unknown cpu (parts_of_cpu cpu parts) found
+  where
+    pub done : (cpu : ℕ) (found : CpuCapture) → slice_get cpus cpu ≡ Some found → cpu < at
+        → IsCpuCaptured cpu (overrun cpu) (parts_of_cpu cpu parts) found
+    pub left : (cpu : ℕ) (found : CpuCapture) → slice_get cpus cpu ≡ Some found → at ≤ cpu
+        → IsCpuRead unknown cpu (parts_of_cpu cpu parts) found
 
 pub settled-next : (overrun : ℕ → Option ℕ) (parts : List ModelPart) (at : ℕ) (cpus : List CpuCapture)
     (new : CpuCapture)

@@ -27,7 +27,7 @@ pub has_either : (ps : List Parcel) (p : Parcel) (cpu n : ℕ) (r : Record) → 
     → (Has ps cpu n r) ⊎ (IsPairOf p cpu n r)
 has_either ps p cpu n r h = ⊎_elim
     (λ (there : slice_get ps h.index ≡ Some h.parcel).
-        inl record { index = h.index; parcel = h.parcel; at = there; pair = h.pair })
+    inl record { index = h.index; parcel = h.parcel; at = there; pair = h.pair })
     (λ (own : (h.index ≡ length ps) × (h.parcel ≡ p)). inr (subst (λ (q : Parcel). IsPairOf q cpu n r) own.1 h.pair))
     (get_pushed ps p h.index h.parcel h.at)
 
@@ -35,9 +35,9 @@ pub misses_either : (ps : List Parcel) (p : Parcel) (cpu n : ℕ) → Misses (ps
     → (Misses ps cpu n) ⊎ (IsMissingOf p cpu n)
 misses_either ps p cpu n m = ⊎_elim
     (λ (there : slice_get ps m.index ≡ Some m.parcel).
-        inl record { index = m.index; parcel = m.parcel; at = there; missing = m.missing })
+    inl record { index = m.index; parcel = m.parcel; at = there; missing = m.missing })
     (λ (own : (m.index ≡ length ps) × (m.parcel ≡ p)).
-        inr (subst (λ (q : Parcel). IsMissingOf q cpu n) own.1 m.missing))
+    inr (subst (λ (q : Parcel). IsMissingOf q cpu n) own.1 m.missing))
     (get_pushed ps p m.index m.parcel m.at)
 
 pub has_own : (p : Parcel) (cpu n : ℕ) (r : Record) → IsPairOf p cpu n r → Has (p ∷ []) cpu n r
@@ -133,8 +133,8 @@ front_agrees : (ps : List Parcel) (p : Parcel) (n : ℕ) → Agree ps
 front_agrees ps p n agree fits = record {
   no_clash =
       λ c m front clash.
-             clash.differ
-                 (one_of ps p c m agree (fits_front c m front) clash.one clash.other clash.has clash.has_other);
+      clash.differ
+      (one_of ps p c m agree (fits_front c m front) clash.one clash.other clash.has clash.has_other);
   none_taken_and_missing =
       λ c m front both. not_both ps p c m agree (fits_front c m front) both.one both.has both.misses;
 }
@@ -142,7 +142,7 @@ front_agrees ps p n agree fits = record {
     fits_front : (c m : ℕ) → IsBeforeNumber c m p.cpu n → FitsAt ps p c m
     fits_front c m front = ⊎_elim
         (λ (lt : c < p.cpu).
-            apart_fits ps p c m (λ r pair. let e = pair.cpu_is in omega arith) (λ m. let e = m.cpu_is in omega arith))
+        apart_fits ps p c m (λ r pair. let e = pair.cpu_is in omega arith) (λ m. let e = m.cpu_is in omega arith))
         (λ (same : (c ≡ p.cpu) × (m < n)). subst (λ (q : ℕ). FitsAt ps p q m) (sym same.0) (⊎_elim
         (λ (lt : m < p.first - p.missed). front_fits ps p p.cpu m (omega arith))
         (λ (ge : p.first - p.missed ≤ m). fits m ge same.1)
@@ -159,7 +159,7 @@ missing_is_taken ps p i cpu n e agree x low high fits =
         has = (joined_left ps (p ∷ [])).has cpu n found.0 found.1;
         misses =
             (joined_right ps (p ∷ [])).misses cpu n
-                (misses_own p cpu n record { cpu_is = e; low = omega arith; high = high });
+            (misses_own p cpu n record { cpu_is = e; low = omega arith; high = high });
       },
       subst (λ (q : ℕ). AgreeBefore (ps ++ p ∷ []) q n) (sym e) (front_agrees ps p n agree fits),
     )
@@ -195,13 +195,13 @@ records_clash ps p q i cpu n e agree x at from below differ fits =
         other = own.0;
         has =
             (joined_left ps (p ∷ [])).has cpu n kept.0
-                record { index = i; parcel = x.parcel; at = x.at; pair = kept.1 };
+            record { index = i; parcel = x.parcel; at = x.at; pair = kept.1 };
         has_other = (joined_right ps (p ∷ [])).has cpu n own.0 (has_own p cpu n own.0 own.1);
         differ =
             λ r.
-                   differ
-                       (pair_of p cpu n own.0 own.1 ∙ ap Some (sym r) ∙ sym (pair_of x.parcel cpu n kept.0 kept.1)
-                        ∙ ap (λ (z : Parcel). record_of z n) same);
+            differ
+            (pair_of p cpu n own.0 own.1 ∙ ap Some (sym r) ∙ sym (pair_of x.parcel cpu n kept.0 kept.1)
+            ∙ ap (λ (z : Parcel). record_of z n) same);
       },
       subst (λ (z : ℕ). AgreeBefore (ps ++ p ∷ []) z n) (sym e) (front_agrees ps p n agree fits),
     )
@@ -234,7 +234,7 @@ pub missing_known : (ps : List Parcel) (p : Parcel) (cpu at end : ℕ) (grows : 
     → IsLookedAt ps p (p.first - p.missed) end grows
 missing_known ps p cpu at end grows e agree up seen misses =
     let here : (n : ℕ) → at ≤ n → n < end → Misses ps p.cpu n =
-        λ n a b. subst (λ (q : ℕ). Misses ps q n) e (misses n a b) in
+    λ n a b. subst (λ (q : ℕ). Misses ps q n) e (misses n a b) in
     further ps p (p.first - p.missed) at end grows seen
     (λ n a b. record {
       one_record = λ r other h pair. let from = pair_from p p.cpu n other pair in absurd (omega arith);
@@ -242,8 +242,10 @@ missing_known ps p cpu at end grows e agree up seen misses =
       not_taken = λ r m pair. let from = pair_from p p.cpu n r pair in omega arith;
     })
     (λ n a b.
-        record { has = λ r pair. let from = pair_from p p.cpu n r pair in absurd (omega arith);
-                misses = λ m. here n a b })
+    record {
+      has = λ r pair. let from = pair_from p p.cpu n r pair in absurd (omega arith);
+      misses = λ m. here n a b;
+    })
 
 unknown_fits : (ps : List Parcel) (p : Parcel) (n : ℕ) → IsUnknown ps p.cpu n → FitsAt ps p p.cpu n
 unknown_fits ps p n u = record {
@@ -257,18 +259,18 @@ pub missing_new : (ps : List Parcel) (p : Parcel) (cpu at end : ℕ) (grows : Bo
     → ((n : ℕ) → at ≤ n → n < end → IsUnknown ps cpu n) → IsLookedAt ps p (p.first - p.missed) end true
 missing_new ps p cpu at end grows e low some high seen unknown =
     let here : (n : ℕ) → at ≤ n → n < end → IsUnknown ps p.cpu n =
-        λ n a b. subst (λ (q : ℕ). IsUnknown ps q n) e (unknown n a b) in
+    λ n a b. subst (λ (q : ℕ). IsUnknown ps q n) e (unknown n a b) in
     grown ps p (p.first - p.missed) at end grows seen (λ n a b. unknown_fits ps p n (here n a b)) at
     (λ there.
-        (here at (omega arith) some).not_missing
-            (there.misses record { cpu_is = refl; low = omega arith; high = high }))
+    (here at (omega arith) some).not_missing
+    (there.misses record { cpu_is = refl; low = omega arith; high = high }))
 
 pub records_new : (ps : List Parcel) (p : Parcel) (cpu at end : ℕ) (grows : Bool) → cpu ≡ p.cpu
     → p.first ≤ at → at < end → end ≤ p.first + length p.records → IsLookedAt ps p p.first at grows
     → ((n : ℕ) → at ≤ n → n < end → IsUnknown ps cpu n) → IsLookedAt ps p p.first end true
 records_new ps p cpu at end grows e from some up seen unknown =
     let here : (n : ℕ) → at ≤ n → n < end → IsUnknown ps p.cpu n =
-        λ n a b. subst (λ (q : ℕ). IsUnknown ps q n) e (unknown n a b) in
+    λ n a b. subst (λ (q : ℕ). IsUnknown ps q n) e (unknown n a b) in
     let own = record_at p p.cpu at refl from (omega arith) in
     grown ps p p.first at end grows seen (λ n a b. unknown_fits ps p n (here n a b)) at
     (λ there. (here at (omega arith) some).no_record own.0 (there.has own.0 own.1))
@@ -283,16 +285,20 @@ records_known ps p q i cpu at end grows e agree is_at from seen shown same =
     let x = shown n a b in
     let is_q : x.parcel ≡ q = some_is x.parcel q (sym x.at ∙ is_at) in
     let there : record_of x.parcel n ≡ Some r =
-        ap (λ (z : Parcel). record_of z n) is_q ∙ sym (same n a b) ∙ pair_of p p.cpu n r pair in
+    ap (λ (z : Parcel). record_of z n) is_q ∙ sym (same n a b) ∙ pair_of p p.cpu n r pair in
     let up = x.from in
-    record { index = i;
-            parcel = x.parcel;
-            at = x.at;
-            pair =
-                record { index = n - x.parcel.first;
-                        cpu_is = sym e ∙ x.cpu_is;
-                        number_is = omega arith;
-                        record_is = there } } in
+    record {
+      index = i;
+      parcel = x.parcel;
+      at = x.at;
+      pair =
+          record {
+            index = n - x.parcel.first;
+            cpu_is = sym e ∙ x.cpu_is;
+            number_is = omega arith;
+            record_is = there;
+          };
+    } in
     further ps p p.first at end grows seen
     (λ n a b. record {
       one_record = λ r other h pair. agree.one_record p.cpu n r other h (here n a b other pair);
@@ -317,7 +323,7 @@ below_there ps p missing records = record {
   has = λ cpu n r h. let pair = own_has p cpu n r h in
       let here : IsPairOf p p.cpu n r = subst (λ (q : ℕ). IsPairOf p q n r) pair.cpu_is pair in
       subst (λ (q : ℕ). Has ps q n r) (sym pair.cpu_is)
-          ((records n (pair_from p cpu n r pair) (pair_below p cpu n r pair)).has r here);
+      ((records n (pair_from p cpu n r pair) (pair_below p cpu n r pair)).has r here);
   misses = λ cpu n m. let own = own_misses p cpu n m in
       let here : IsMissingOf p p.cpu n = subst (λ (q : ℕ). IsMissingOf p q n) own.cpu_is own in
       let low = own.low in
@@ -332,7 +338,7 @@ grows_first ps p false e seen = cc
 pub grows_second : (ps : List Parcel) (p : Parcel) (a b : Bool) → a ≡ false
     → IsLookedAt ps p (p.first - p.missed) p.first a
     → IsLookedAt ps p p.first (p.first + length p.records) b
-        → MatchBool b (IsBelow (p ∷ []) ps → ⊥) (IsBelow (p ∷ []) ps)
+    → MatchBool b (IsBelow (p ∷ []) ps → ⊥) (IsBelow (p ∷ []) ps)
 grows_second ps p true b e seen recorded = cc
 grows_second ps p false true e seen recorded = λ below. recorded.there.1 (there_below ps p below recorded.there.0)
 grows_second ps p false false e seen recorded = below_there ps p seen.there recorded.there

@@ -22,7 +22,7 @@ pub reports_of : (index : Index) (cpu n : ℕ) (content : Content) (ranges : Ran
     → HasRanges index cpu ranges → ReportsOf index cpu n content → HasContent ranges n content
 reports_of index cpu n content ranges at t = let there = t.at in
     subst (λ (x : Ranges). HasContent x n content)
-        (let e : t.ranges ≡ ranges = some_is t.ranges ranges (sym there ∙ at) in e) t.reports
+    (let e : t.ranges ≡ ranges = some_is t.ranges ranges (sym there ∙ at) in e) t.reports
 
 -- of a CPU without ranges nothing is stated
 pub reports_none : (index : Index) (cpu n : ℕ) (content : Content) → get nat_cmp index.cpus cpu ≡ None
@@ -124,7 +124,7 @@ copy_keys ranges copy e q = ap (λ es. lookup (is_at (nat_cmp q)) es) e
 copy_apart : (ranges copy : Ranges) → IsCopy ranges copy → AreApart ranges → AreApart copy
 copy_apart ranges copy e apart first later span other at at_later lt =
     apart first later span other (sym (copy_keys ranges copy e first) ∙ at)
-        (sym (copy_keys ranges copy e later) ∙ at_later) lt
+    (sym (copy_keys ranges copy e later) ∙ at_later) lt
 
 source_of : (o c : Option Ranges) (copy : Ranges)
     → MatchOption o (c ≡ None) (λ ranges. IsSomeAnd c (λ other. IsCopy ranges other))
@@ -160,11 +160,15 @@ module _ (index copy : Index) (copied : IsIndexCopy index copy) where
   pub copies_same : (cpu : ℕ) → ReportSameOf index copy cpu
   copies_same cpu n content = (
     (λ t. let h = copy_at cpu t.ranges t.at in
-        record { ranges = h.0;
-                at = h.1;
-                reports = (keys_report_same t.ranges h.0 (copy_keys t.ranges h.0 h.2) n content).0 t.reports }),
+        record {
+          ranges = h.0;
+          at = h.1;
+          reports = (keys_report_same t.ranges h.0 (copy_keys t.ranges h.0 h.2) n content).0 t.reports;
+        }),
     (λ t. let h = source_at cpu t.ranges t.at in
-        record { ranges = h.0;
-                at = h.1;
-                reports = (keys_report_same h.0 t.ranges (copy_keys h.0 t.ranges h.2) n content).1 t.reports }),
+        record {
+          ranges = h.0;
+          at = h.1;
+          reports = (keys_report_same h.0 t.ranges (copy_keys h.0 t.ranges h.2) n content).1 t.reports;
+        }),
   )

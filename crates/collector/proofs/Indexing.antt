@@ -137,11 +137,13 @@ indexed_same ps old new x apart stated same = record {
   kept = λ cpu n i t. x.kept cpu n i ((same cpu n (Kept i)).1 t);
   missing = λ cpu n t. x.missing cpu n ((same cpu n Missing).1 t);
   has = λ cpu n r h. let a = x.has cpu n r h in
-      record { kept = a.kept;
-              parcel = a.parcel;
-              reports = (same cpu n (Kept a.kept)).0 a.reports;
-              at = a.at;
-              pair = a.pair };
+      record {
+        kept = a.kept;
+        parcel = a.parcel;
+        reports = (same cpu n (Kept a.kept)).0 a.reports;
+        at = a.at;
+        pair = a.pair;
+      };
   misses = λ cpu n m. (same cpu n Missing).0 (x.misses cpu n m);
 }
 
@@ -186,7 +188,7 @@ module _ (ps : List Parcel) (p : Parcel) (old new : Index) (x : IsIndexed ps old
       record { cpu_is = refl; low = omega arith; high = lt })
       (λ (from : p.first ≤ n). ⊎_elim
       (λ (lt : n < end).
-          recorded (laid.kept n from lt) (λ content. laid.kept_alone n content from lt) refl from (omega arith))
+      recorded (laid.kept n from lt) (λ content. laid.kept_alone n content from lt) refl from (omega arith))
       (λ (ge : end ≤ n). elsewhere (λ content. laid.behind n content ge) record {
         no_pair = λ r pair. let is = pair.number_is in
             let within = slice_get_within p.records pair.index r pair.record_is in
@@ -221,17 +223,24 @@ module _ (ps : List Parcel) (p : Parcel) (old new : Index) (x : IsIndexed ps old
 
   kept_of : (cpu n i : ℕ) → Part cpu n → ReportsOf new cpu n (Kept i) → IsIn (ps ++ p ∷ []) i cpu n
   kept_of cpu n i (elsewhere same not) t = let a = x.kept cpu n i ((same (Kept i)).1 t) in
-      record { parcel = a.parcel;
-              at = get_in_front ps (p ∷ []) i a.parcel a.at;
-              cpu_is = a.cpu_is;
-              from = a.from;
-              below = a.below }
+      record {
+        parcel = a.parcel;
+        at = get_in_front ps (p ∷ []) i a.parcel a.at;
+        cpu_is = a.cpu_is;
+        from = a.from;
+        below = a.below;
+      }
   kept_of cpu n i (missed there alone m) t = absurd (let e = alone (Kept i) t in cc)
   kept_of cpu n i (recorded there alone c from below) t =
       let e : i ≡ length ps =
       kept_same i (length ps) (alone (Kept i) t) in
-      record { parcel = p; at = ap (slice_get (ps ++ p ∷ [])) e ∙ get_last ps p;
-        cpu_is = c; from = from; below = below }
+      record {
+        parcel = p;
+        at = ap (slice_get (ps ++ p ∷ [])) e ∙ get_last ps p;
+        cpu_is = c;
+        from = from;
+        below = below;
+      }
 
   missing_of : (cpu n : ℕ) → Part cpu n → ReportsOf new cpu n Missing → Misses (ps ++ p ∷ []) cpu n
   missing_of cpu n (elsewhere same not) t =
@@ -241,22 +250,26 @@ module _ (ps : List Parcel) (p : Parcel) (old new : Index) (x : IsIndexed ps old
 
   old_has : (cpu n : ℕ) (r : Record) → Part cpu n → Has ps cpu n r → IsFoundBy (ps ++ p ∷ []) new cpu n r
   old_has cpu n r (elsewhere same not) h = let a = x.has cpu n r h in
-      record { kept = a.kept;
-              parcel = a.parcel;
-              reports = (same (Kept a.kept)).0 a.reports;
-              at = get_in_front ps (p ∷ []) a.kept a.parcel a.at;
-              pair = a.pair }
+      record {
+        kept = a.kept;
+        parcel = a.parcel;
+        reports = (same (Kept a.kept)).0 a.reports;
+        at = get_in_front ps (p ∷ []) a.kept a.parcel a.at;
+        pair = a.pair;
+      }
   old_has cpu n r (missed there alone m) h =
       absurd (agree.not_missing cpu n r ((joined_left ps (p ∷ [])).has cpu n r h) (misses_own cpu n m))
   old_has cpu n r (recorded there alone c from below) h =
       let own = record_at p cpu n c from below in
       let e : own.0 ≡ r =
-          agree.one_record cpu n own.0 r (has_own cpu n own.0 own.1) ((joined_left ps (p ∷ [])).has cpu n r h) in
-      record { kept = length ps;
-              parcel = p;
-              reports = there;
-              at = get_last ps p;
-              pair = subst (IsPairOf p cpu n) e own.1 }
+      agree.one_record cpu n own.0 r (has_own cpu n own.0 own.1) ((joined_left ps (p ∷ [])).has cpu n r h) in
+      record {
+        kept = length ps;
+        parcel = p;
+        reports = there;
+        at = get_last ps p;
+        pair = subst (IsPairOf p cpu n) e own.1;
+      }
 
   own_has : (cpu n : ℕ) (r : Record) → Part cpu n → IsPairOf p cpu n r → IsFoundBy (ps ++ p ∷ []) new cpu n r
   own_has cpu n r (elsewhere same not) pair = absurd (not.no_pair r pair)
@@ -289,16 +302,16 @@ module _ (ps : List Parcel) (p : Parcel) (old new : Index) (x : IsIndexed ps old
     missing = λ cpu n t. missing_of cpu n (part cpu n) t;
     has = λ cpu n r h. ⊎_elim
         (λ (there : slice_get ps h.index ≡ Some h.parcel).
-            old_has cpu n r (part cpu n) record { index = h.index; parcel = h.parcel; at = there; pair = h.pair })
+        old_has cpu n r (part cpu n) record { index = h.index; parcel = h.parcel; at = there; pair = h.pair })
         (λ (own : (h.index ≡ length ps) × (h.parcel ≡ p)).
-            own_has cpu n r (part cpu n) (subst (λ (q : Parcel). IsPairOf q cpu n r) own.1 h.pair))
+        own_has cpu n r (part cpu n) (subst (λ (q : Parcel). IsPairOf q cpu n r) own.1 h.pair))
         (get_pushed ps p h.index h.parcel h.at);
     misses = λ cpu n m. ⊎_elim
         (λ (there : slice_get ps m.index ≡ Some m.parcel).
-            old_misses cpu n (part cpu n)
-                record { index = m.index; parcel = m.parcel; at = there; missing = m.missing })
+        old_misses cpu n (part cpu n)
+        record { index = m.index; parcel = m.parcel; at = there; missing = m.missing })
         (λ (own : (m.index ≡ length ps) × (m.parcel ≡ p)).
-            own_misses cpu n (part cpu n) (subst (λ (q : Parcel). IsMissingOf q cpu n) own.1 m.missing))
+        own_misses cpu n (part cpu n) (subst (λ (q : Parcel). IsMissingOf q cpu n) own.1 m.missing))
         (get_pushed ps p m.index m.parcel m.at);
   }
 
@@ -306,17 +319,17 @@ module _ (ps : List Parcel) (p : Parcel) (old new : Index) (x : IsIndexed ps old
 pub kept_indexed_at : (ps : List Parcel) (p : Parcel) (old new : Index) → IsIndexed ps old → IsParcel p
     → Agree (ps ++ p ∷ [])
     → (cpu low first end at : ℕ) → cpu ≡ p.cpu → first ≡ p.first → low + p.missed ≡ p.first
-        → end ≡ p.first + length p.records
+    → end ≡ p.first + length p.records
     → at ≡ length ps → AreAllApart new → AreAllStated new
     → IsLaid (ReportsOf old cpu) (ReportsOf new cpu) low first end at
     → ((other : ℕ) → other ≢ cpu → ReportSameOf old new other) → IsIndexed (ps ++ p ∷ []) new
 kept_indexed_at ps p old new x is agree cpu low first end at cpu_is first_is low_is end_is at_is apart stated laid
     others =
     let at_cpu : IsLaid (ReportsOf old p.cpu) (ReportsOf new p.cpu) low first end at =
-        subst (λ (q : ℕ). IsLaid (ReportsOf old q) (ReportsOf new q) low first end at) cpu_is laid in
+    subst (λ (q : ℕ). IsLaid (ReportsOf old q) (ReportsOf new q) low first end at) cpu_is laid in
     let at_first : IsLaid (ReportsOf old p.cpu) (ReportsOf new p.cpu) low p.first end at =
-        subst (λ (q : ℕ). IsLaid (ReportsOf old p.cpu) (ReportsOf new p.cpu) low q end at) first_is at_cpu in
+    subst (λ (q : ℕ). IsLaid (ReportsOf old p.cpu) (ReportsOf new p.cpu) low q end at) first_is at_cpu in
     let laid_at : IsLaid (ReportsOf old p.cpu) (ReportsOf new p.cpu) low p.first end (length ps) =
-        subst (λ (q : ℕ). IsLaid (ReportsOf old p.cpu) (ReportsOf new p.cpu) low p.first end q) at_is at_first in
+    subst (λ (q : ℕ). IsLaid (ReportsOf old p.cpu) (ReportsOf new p.cpu) low p.first end q) at_is at_first in
     kept_indexed ps p old new x is agree low end low_is end_is apart stated laid_at
     (subst (λ (q : ℕ). (other : ℕ) → other ≢ q → ReportSameOf old new other) cpu_is others)

@@ -38,14 +38,14 @@ module _ {X : Type 0} (find : ℕ → Option X) (high : ℕ) where
       of_them : (k : ℕ) (a : ℕ × X) → slice_get ((n, x) ∷ list) k ≡ Some a → Finds find n high a.0 a.1
       of_them zero a at =
           subst (λ (q : ℕ × X). Finds find n high q.0 q.1) (some_is (n, x) a at)
-              record { from = (let e : n ≤ n = omega arith in e); below = below; found = is }
+          record { from = (let e : n ≤ n = omega arith in e); below = below; found = is }
       of_them (suc k) a at = let f = l.of_them k a at in
           record { from = (let up = f.from in omega arith); below = f.below; found = f.found }
 
       whole : (m : ℕ) (y : X) → Finds find n high m y → (k : ℕ) × (slice_get ((n, x) ∷ list) k ≡ Some (m, y))
       whole m y f = let up = f.from in ⊎_elim
           (λ (lt : n < m). let found = l.whole m y record { from = lt; below = f.below; found = f.found } in
-           (suc found.0, found.1))
+          (suc found.0, found.1))
           (λ (le : m ≤ n).
           let e : n ≡ m = omega arith in
           let same : x ≡ y = some_is x y (sym is ∙ ap find e ∙ f.found) in
@@ -104,14 +104,14 @@ module _ {X : Type 0} (find : ℕ → Option X) (top n : ℕ) where
       let a : top - n ≡ (m - n) + (top - m) = omega arith in
       let b : n + (m - n) ≡ m = omega arith in
       ap (listed_within find n) a ∙ skip_count find (m - n) n (top - m) (λ q from below. none q from (omega arith))
-          ∙ ap (λ q. listed_within find q (top - m)) b
+      ∙ ap (λ q. listed_within find q (top - m)) b
 
   -- if there is nothing, the list is empty
   pub listed_none : ((q : ℕ) → n ≤ q → q < top → find q ≡ None) → listed_within find n (top - n) ≡ []
   listed_none none =
       let e : top - n ≡ top - n + 0 = omega arith in
       ap (listed_within find n) e ∙ skip_count find (top - n) n 0 (λ q from below. none q from (omega arith))
-          ∙ none_listed find (n + (top - n))
+      ∙ none_listed find (n + (top - n))
 
   -- what belongs to the number itself is the first
   pub listed_first : (x : X) → n < top → find n ≡ Some x
@@ -120,4 +120,4 @@ module _ {X : Type 0} (find : ℕ → Option X) (top n : ℕ) where
       let a : top - n ≡ suc (top - (n + 1)) = omega arith in
       let b : suc n ≡ n + 1 = omega arith in
       ap (listed_within find n) a ∙ one_listed find n (top - (n + 1)) (Some x) is
-          ∙ ap (λ q. (n, x) ∷ listed_within find q (top - (n + 1))) b
+      ∙ ap (λ q. (n, x) ∷ listed_within find q (top - (n + 1))) b

@@ -24,15 +24,15 @@ use Rattle.collector.proofs.Records.{next_is}
 pub shown_kept : (ps : List Parcel) (cpu n i : ℕ) (o : Option Content) → o ≡ Some (Kept i) → IsContentAt ps cpu n o
     → IsIn ps i cpu n
 shown_kept ps cpu n i o e shown =
-        let here : IsContentAt ps cpu n (Some (Kept i)) =
-        subst (IsContentAt ps cpu n) e shown in
+    let here : IsContentAt ps cpu n (Some (Kept i)) =
+    subst (IsContentAt ps cpu n) e shown in
     here
 
 pub shown_missing : (ps : List Parcel) (cpu n : ℕ) (o : Option Content) → o ≡ Some Missing → IsContentAt ps cpu n o
     → Misses ps cpu n
 shown_missing ps cpu n o e shown =
-        let here : IsContentAt ps cpu n (Some Missing) =
-        subst (IsContentAt ps cpu n) e shown in
+    let here : IsContentAt ps cpu n (Some Missing) =
+    subst (IsContentAt ps cpu n) e shown in
     here
 
 pub shown_none : (ps : List Parcel) (cpu n : ℕ) (o : Option Content) → o ≡ None → IsContentAt ps cpu n o
@@ -47,7 +47,7 @@ pub in_is : (ps : List Parcel) (i cpu n : ℕ) (q : Parcel) → slice_get ps i �
     → (cpu ≡ q.cpu) × (q.first ≤ n) × (n < q.first + length q.records)
 in_is ps i cpu n q at x = let same : x.parcel ≡ q = some_is x.parcel q (sym x.at ∙ at) in
     subst (λ (z : Parcel). (cpu ≡ z.cpu) × (z.first ≤ n) × (n < z.first + length z.records)) same
-        (x.cpu_is, x.from, x.below)
+    (x.cpu_is, x.from, x.below)
 
 -- a number with a record isn't missing, one without isn't taken
 pub kept_not_missing : (ps : List Parcel) (i cpu n : ℕ) → Agree ps → IsIn ps i cpu n → Misses ps cpu n → ⊥
@@ -64,7 +64,7 @@ module _ (ps : List Parcel) (i cpu n : ℕ) (q : Parcel) (at : slice_get ps i �
   read_is o pair = let is = pair.number_is in
       (next_is n (n - q.first) q.records s t r left step).0
       ∙ ap (option_map (numbered n))
-          (ap (slice_get q.records) (let e : n - q.first ≡ pair.index = omega arith in e) ∙ pair.record_is)
+      (ap (slice_get q.records) (let e : n - q.first ≡ pair.index = omega arith in e) ∙ pair.record_is)
 
   found : (o : Record) × IsPairOf q cpu n o
   found = let is = in_is ps i cpu n q at x in record_at q cpu n is.0 is.1 is.2

@@ -18,11 +18,11 @@ pub next_same : (ps qs joined new : List Parcel) (k : ℕ) (q : Parcel) → k < 
 next_same ps qs joined new k q within is same union =
     let more : (ps ++ take k qs) ++ q ∷ [] ≡ ps ++ take (k + 1) qs =
     append_assoc ps (take k qs) (q ∷ [])
-        ∙ ap (λ (xs : List Parcel). ps ++ xs)
-            (ap (λ (x : Parcel). take k qs ++ x ∷ []) is ∙ sym (take_more qs k q within)) in
+    ∙ ap (λ (xs : List Parcel). ps ++ xs)
+    (ap (λ (x : Parcel). take k qs ++ x ∷ []) is ∙ sym (take_more qs k q within)) in
     same_same new (joined ++ q ∷ []) (ps ++ take (k + 1) qs) union
     (subst (IsSame (joined ++ q ∷ [])) more
-     (same_joined joined (q ∷ []) (ps ++ take k qs) (q ∷ []) same (same_itself (q ∷ []))))
+    (same_joined joined (q ∷ []) (ps ++ take k qs) (q ∷ []) same (same_itself (q ∷ []))))
 
 pub kept_behind : (joined new : List Parcel) (q : Parcel) (a : Added) → (a ≡ New → new ≡ joined ++ q ∷ [])
     → (a ≡ Known → new ≡ joined)
@@ -40,7 +40,7 @@ pub next_merged : (old qs mid new : List Parcel) (k : ℕ) (q : Parcel) → k < 
     → IsKeptBehind mid q new → IsMerged old (take (k + 1) qs) new
 next_merged old qs mid new k q within is merged kept =
     subst (λ (xs : List Parcel). IsMerged old xs new)
-        (ap (λ (x : Parcel). take k qs ++ x ∷ []) is ∙ sym (take_more qs k q within))
+    (ap (λ (x : Parcel). take k qs ++ x ∷ []) is ∙ sym (take_more qs k q within))
     (merged_more old (take k qs) mid new q merged kept)
 
 -- ---- back to the own parcels
@@ -70,7 +70,7 @@ pub same_least : (ps qs joined : List Parcel) (k : ℕ) → length qs ≤ k → 
     → IsSame joined (ps ++ take k qs) → IsLeastUpperBound ps qs joined
 same_least ps qs joined k all agree partly =
     let same : IsSame joined (ps ++ qs) =
-        subst (λ (xs : List Parcel). IsSame joined (ps ++ xs)) (take_all k qs all) partly in
+    subst (λ (xs : List Parcel). IsSame joined (ps ++ xs)) (take_all k qs all) partly in
     record {
       agree = below_agrees joined (ps ++ qs) same.below agree;
       left = below_below ps (ps ++ qs) joined (joined_left ps qs) same.above;
@@ -89,7 +89,7 @@ pub taken_below : (ps qs : List Parcel) (k : ℕ) (q : Parcel) → k < length qs
     → IsBelow (q ∷ []) ps → IsBelow (take (k + 1) qs) ps
 taken_below ps qs k q within is below next =
     subst (λ (xs : List Parcel). IsBelow xs ps) (more_taken qs k q within is)
-        (joined_below (take k qs) (q ∷ []) ps below next)
+    (joined_below (take k qs) (q ∷ []) ps below next)
 
 pub all_below : (ps qs : List Parcel) (k : ℕ) → length qs ≤ k → IsBelow (take k qs) ps → IsBelow qs ps
 all_below ps qs k all below = subst (λ (xs : List Parcel). IsBelow xs ps) (take_all k qs all) below

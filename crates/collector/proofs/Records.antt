@@ -33,8 +33,8 @@ both false q e = cc
 same_reported : (a b : Entry) → eq-value.it a b ≡ true → numbered_record a ≡ numbered_record b
 same_reported a b e =
     let first =
-        both (eqb a.number.0 b.number.0) (eqb a.moment.0 b.moment.0 && bytes_eq a.bytes.now b.bytes.now)
-            (sym (entry_test a b) ∙ e) in
+    both (eqb a.number.0 b.number.0) (eqb a.moment.0 b.moment.0 && bytes_eq a.bytes.now b.bytes.now)
+    (sym (entry_test a b) ∙ e) in
     let second = both (eqb a.moment.0 b.moment.0) (bytes_eq a.bytes.now b.bytes.now) first.1 in
     let number = eqb-true a.number.0 b.number.0 first.0 in
     let moment = eqb-true a.moment.0 b.moment.0 second.0 in
@@ -68,12 +68,12 @@ entries_differ (Some a) (Some b) e same =
 pub next_is : (n k : ℕ) (rs : List Record) (s t : List (ℕ × Record)) (r : Option Entry)
     → s ≡ enumerate_from n (drop k rs) → YieldsFirstBy numbered_record (λ (left : List (ℕ × Record)). left) s r t
     → (option_map numbered_record r ≡ option_map (numbered n) (slice_get rs k))
-        × (t ≡ enumerate_from (n + 1) (drop (suc k) rs))
+    × (t ≡ enumerate_from (n + 1) (drop (suc k) rs))
 next_is n k rs s t None left step = ⊎_elim
     (λ none. (sym (ap (option_map (numbered n)) none.1), step.1 ∙ sym (ap (enumerate_from (n + 1)) none.2)))
     (λ some.
-        absurd (cons_not_none (n, some.0) (enumerate_from (n + 1) (drop (suc k) rs))
-                (sym (ap (enumerate_from n) some.1) ∙ sym left ∙ step.0)))
+    absurd (cons_not_none (n, some.0) (enumerate_from (n + 1) (drop (suc k) rs))
+    (sym (ap (enumerate_from n) some.1) ∙ sym left ∙ step.0)))
     (drop_at rs k)
   where
     cons_not_none : {A : Type 0} (x : A) (xs : List A) → x ∷ xs ≡ [] → ⊥
@@ -82,7 +82,7 @@ next_is n k rs s t (Some entry) left step = ⊎_elim
     (λ none. absurd (cons_not_none (numbered_record entry) t (sym step ∙ left ∙ ap (enumerate_from n) none.0)))
     (λ some.
     let e : numbered_record entry ∷ t ≡ (n, some.0) ∷ enumerate_from (n + 1) (drop (suc k) rs) =
-        sym step ∙ left ∙ ap (enumerate_from n) some.1 in
+    sym step ∙ left ∙ ap (enumerate_from n) some.1 in
     (ap Some (let h : numbered_record entry ≡ (n, some.0) = cc in h) ∙ sym (ap (option_map (numbered n)) some.2), cc))
     (drop_at rs k)
   where
@@ -99,9 +99,9 @@ numbered_same n (Some a) (Some b) e =
 -- two parcels' records under one number, by what two calls of `next` gave
 module _ (p q : Parcel) (n : ℕ) (s t u v : List (ℕ × Record)) (r o : Option Entry)
     (left : s ≡ enumerate_from n (drop (n - p.first) p.records))
-        (step : YieldsFirstBy numbered_record (λ (left : List (ℕ × Record)). left) s r t)
+    (step : YieldsFirstBy numbered_record (λ (left : List (ℕ × Record)). left) s r t)
     (left' : u ≡ enumerate_from n (drop (n - q.first) q.records))
-        (step' : YieldsFirstBy numbered_record (λ (left : List (ℕ × Record)). left) u o v) where
+    (step' : YieldsFirstBy numbered_record (λ (left : List (ℕ × Record)). left) u o v) where
   own : option_map numbered_record r ≡ option_map (numbered n) (record_of p n)
   own = (next_is n (n - p.first) p.records s t r left step).0
 
@@ -117,7 +117,7 @@ module _ (p q : Parcel) (n : ℕ) (s t u v : List (ℕ × Record)) (r o : Option
 -- what is left after one call of `next`
 pub left_behind : (p : Parcel) (n : ℕ) (s t : List (ℕ × Record)) (r : Option Entry) → p.first ≤ n
     → s ≡ enumerate_from n (drop (n - p.first) p.records)
-        → YieldsFirstBy numbered_record (λ (left : List (ℕ × Record)). left) s r t
+    → YieldsFirstBy numbered_record (λ (left : List (ℕ × Record)). left) s r t
     → t ≡ enumerate_from (n + 1) (drop (n + 1 - p.first) p.records)
 left_behind p n s t r from left step =
     let e : suc (n - p.first) ≡ n + 1 - p.first = omega arith in

@@ -44,7 +44,7 @@ here_under p cpu n r e = by_test (eqb cpu p.cpu && leb p.first n) refl
 first_step : (p : Parcel) (ps : List Parcel) (cpu n : ℕ) (r : Record)
     → (first_record ps cpu n ≡ Some r → Has ps cpu n r)
     → (o : Option Record) → record_under p cpu n ≡ o → first_there o (first_record ps cpu n) ≡ Some r
-        → Has (p ∷ ps) cpu n r
+    → Has (p ∷ ps) cpu n r
 first_step p ps cpu n r behind None is e =
     let h = behind e in
     record { index = suc h.index; parcel = h.parcel; at = h.at; pair = h.pair }
@@ -95,7 +95,7 @@ pub records_skip : (ps : List Parcel) (cpu n m : ℕ) → n ≤ m → m ≤ 2 ^ 
     → ((q : ℕ) (r : Record) → n ≤ q → q < m → Has ps cpu q r → ⊥) → records_left ps cpu n ≡ records_left ps cpu m
 records_skip ps cpu n m up fits none =
     listed_skip (first_record ps cpu) (2 ^ 64 - 1) n m up fits
-        (λ q from below. has_none ps cpu q (λ r h. none q r from below h))
+    (λ q from below. has_none ps cpu q (λ r h. none q r from below h))
 
 pub first_record_left : (ps : List Parcel) (cpu n : ℕ) (r : Record) → n < 2 ^ 64 - 1 → first_record ps cpu n ≡ Some r
     → records_left ps cpu n ≡ (n, r) ∷ records_left ps cpu (n + 1)
@@ -108,7 +108,7 @@ records_are_left ps cpu from agree sound fits =
     same_listed {P = Finds (first_record ps cpu) from (2 ^ 64 - 1)} (records_left ps cpu from)
     (λ m r f. record { has = first_has ps cpu m r f.found; up = f.from })
     (λ m r h.
-        record { from = h.up; below = record_fits ps sound cpu m r h.has; found = has_first ps agree cpu m r h.has })
+    record { from = h.up; below = record_fits ps sound cpu m r h.has; found = has_first ps agree cpu m r h.has })
     (listed_are (first_record ps cpu) (2 ^ 64 - 1) (2 ^ 64 - 1 - from) from (omega arith))
 
 -- from the first number on they are all of them
@@ -134,15 +134,15 @@ behind_at (suc j) k (x ∷ rs) =
 -- the entries from a number on continue with the records up to the end, if the parcel has all numbers up to there
 pub go_on : (ps : List Parcel) → Agree ps → (cpu i n end : ℕ) (p : Parcel) → slice_get ps i ≡ Some p
     → ((m : ℕ) → n ≤ m → m < end → IsIn ps i cpu m)
-        → GoOn ps cpu (enumerate_from n (drop (n - p.first) p.records)) n end
+    → GoOn ps cpu (enumerate_from n (drop (n - p.first) p.records)) n end
 go_on ps agree cpu i n end p at all k below =
     let first = all n (omega arith) (omega arith) in
     let start : p.first ≤ n =
-        subst (λ (q : Parcel). q.first ≤ n) (some_is first.parcel p (sym first.at ∙ at)) first.from in
+    subst (λ (q : Parcel). q.first ≤ n) (some_is first.parcel p (sym first.at ∙ at)) first.from in
     let is = all (n + k) (omega arith) below in
     let found = record_at is.parcel cpu (n + k) is.cpu_is is.from is.below in
     let pair : IsPairOf p cpu (n + k) found.0 =
-        subst (λ (q : Parcel). IsPairOf q cpu (n + k) found.0) (some_is is.parcel p (sym is.at ∙ at)) found.1 in
+    subst (λ (q : Parcel). IsPairOf q cpu (n + k) found.0) (some_is is.parcel p (sym is.at ∙ at)) found.1 in
     let number = pair.number_is in
     let e : n - p.first + k ≡ pair.index = omega arith in (
       found.0,
@@ -169,9 +169,11 @@ take_one ps cpu entries rest n end x below goes is =
       found = sym (ap (first_record ps cpu) e) ∙ first.2;
       rest_goes_on = λ k more.
           let next = goes (suc k) (omega arith) in
-          let f : n + suc k ≡ n + 1 + k = omega arith in
-          (next.0, sym (ap (λ es. slice_get es (suc k)) is) ∙ next.1 ∙ ap (λ m. Some (m, next.0)) f,
-           sym (ap (first_record ps cpu) f) ∙ next.2);
+          let f : n + suc k ≡ n + 1 + k = omega arith in (
+            next.0,
+            sym (ap (λ es. slice_get es (suc k)) is) ∙ next.1 ∙ ap (λ m. Some (m, next.0)) f,
+            sym (ap (first_record ps cpu) f) ∙ next.2,
+          );
     }
 
 -- ---- a step of the walk
@@ -198,7 +200,7 @@ stepped ps cpu left entries rest number end x ready is =
     record {
       first =
           ready.same ∙ first_record_left ps cpu number taken.r (omega arith) taken.found
-              ∙ ap (λ (y : ℕ × Record). y ∷ records_left ps cpu (number + 1)) (sym taken.is);
+          ∙ ap (λ (y : ℕ × Record). y ∷ records_left ps cpu (number + 1)) (sym taken.is);
       goes = (fits, taken.rest_goes_on);
     }
 
@@ -207,4 +209,4 @@ pub step_taken : (ps : List Parcel) (cpu : ℕ) (left : List (ℕ × Record)) (o
     → IsReady ps cpu left o number end → o ≡ Some entries → entries ≡ x ∷ rest → IsStep ps cpu left rest number end x
 step_taken ps cpu left o entries rest number end x ready there is =
     stepped ps cpu left entries rest number end x
-        (subst (λ (o : Option (List (ℕ × Record))). IsReady ps cpu left o number end) there ready) is
+    (subst (λ (o : Option (List (ℕ × Record))). IsReady ps cpu left o number end) there ready) is

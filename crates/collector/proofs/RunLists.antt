@@ -82,9 +82,9 @@ module _ (test : ℕ → Bool) (high : ℕ) where
       → Passes test n high m
   alone_or_behind n passing below m h = ⊎_elim
       (λ (here : (n ≤ m) × (m ≤ n)). let e : n ≡ m = omega (arith, here.0, here.1) in
-       subst (Passes test n high) e record { from = omega arith; below = below; passes = passing })
+      subst (Passes test n high) e record { from = omega arith; below = below; passes = passing })
       (λ (p : Passes test (suc n) high m).
-          record { from = let a = p.from in omega arith; below = p.below; passes = p.passes })
+      record { from = let a = p.from in omega arith; below = p.below; passes = p.passes })
       h
 
   is_alone_or_behind : (n m : ℕ) → Passes test n high m → ((n ≤ m) × (m ≤ n)) ⊎ Passes test (suc n) high m
@@ -100,15 +100,17 @@ module _ (test : ℕ → Bool) (high : ℕ) where
       (alone_or_behind n passing below)
       (is_alone_or_behind n)
       (runs_push (n, n) [] (Passes test (suc n) high) (let e : n ≤ n = omega arith in e)
-       (λ b at. absurd (none-some b at)) runs)
+      (λ b at. absurd (none-some b at)) runs)
   with_passing n (r ∷ rs) passing below runs =
       let first =
-          runs.of_them r.0
-              record { index = 0;
-                      run = r;
-                      at = refl;
-                      from = (let e : r.0 ≤ r.0 = omega arith in e);
-                      to = runs.forward 0 r refl } in
+      runs.of_them r.0
+      record {
+        index = 0;
+        run = r;
+        at = refl;
+        from = (let e : r.0 ≤ r.0 = omega arith in e);
+        to = runs.forward 0 r refl;
+      } in
       let start = first.from in
       ⊎_elim
       (λ (e : r.0 ≡ suc n). subst (AreRuns (Passes test n high)) (sym (with_touching n r rs e))
@@ -116,14 +118,14 @@ module _ (test : ℕ → Bool) (high : ℕ) where
       (λ m h. ⊎_elim
       (λ (here : (n ≤ m) × (m ≤ r.1)). ⊎_elim
       (λ (same : m ≡ n).
-          subst (Passes test n high) (sym same) record { from = omega arith; below = below; passes = passing })
+      subst (Passes test n high) (sym same) record { from = omega arith; below = below; passes = passing })
       (λ (other : m ≡ n → ⊥). let p =
-       runs.of_them m record { index = 0; run = r; at = refl; from = (let a = here.0 in omega arith); to = here.1 } in
+      runs.of_them m record { index = 0; run = r; at = refl; from = (let a = here.0 in omega arith); to = here.1 } in
       record { from = here.0; below = p.below; passes = p.passes })
       (cases_eq m n))
       (λ (behind : InRun rs m). let p = runs.of_them m (in_behind r rs m behind) in
-       let a = p.from in
-       record { from = omega arith; below = p.below; passes = p.passes })
+      let a = p.from in
+      record { from = omega arith; below = p.below; passes = p.passes })
       h)
       (λ m p. let a = p.from in ⊎_elim
       (λ (lt : n < m). ⊎_elim
@@ -133,15 +135,15 @@ module _ (test : ℕ → Bool) (high : ℕ) where
       (λ (le : m ≤ n). inl (a, let up = runs.forward 0 r refl in omega arith))
       (cases_lt n m))
       (runs_push (n, r.1) rs (InRun rs) (let up = runs.forward 0 r refl in omega arith)
-       (λ b at. runs.apart 0 r b refl at) (runs_tail _ r rs runs))))
+      (λ b at. runs.apart 0 r b refl at) (runs_tail _ r rs runs))))
       (λ (apart : r.0 ≡ suc n → ⊥). subst (AreRuns (Passes test n high)) (sym (with_apart n r rs apart))
       (same_runs ((n, n) ∷ r ∷ rs)
       (alone_or_behind n passing below)
       (is_alone_or_behind n)
       (runs_push (n, n) (r ∷ rs) (Passes test (suc n) high) (let e : n ≤ n = omega arith in e)
       (λ b at.
-          subst (λ (q : ℕ × ℕ). suc n < q.0) (some_is r b at) (let e : suc n < r.0 = omega (arith, start, apart) in e))
-          runs)))
+      subst (λ (q : ℕ × ℕ). suc n < q.0) (some_is r b at) (let e : suc n < r.0 = omega (arith, start, apart) in e))
+      runs)))
       (cases_eq r.0 (suc n))
 
   -- a number that doesn't pass changes nothing
@@ -152,7 +154,7 @@ module _ (test : ℕ → Bool) (high : ℕ) where
       (λ m p. let a = p.from in record {
         from = ⊎_elim (λ (lt : n < m). lt)
             (λ (le : m ≤ n). let e : m ≡ n = omega arith in
-             absurd (false≢true (sym failing ∙ subst (λ (q : ℕ). test q ≡ true) e p.passes)))
+            absurd (false≢true (sym failing ∙ subst (λ (q : ℕ). test q ≡ true) e p.passes)))
             (cases_lt n m);
         below = p.below;
         passes = p.passes;
@@ -180,7 +182,7 @@ module _ (test : ℕ → Bool) (high : ℕ) where
 
 one_within : (test : ℕ → Bool) (n count : ℕ) (b : Bool) → test n ≡ b
     → runs_within test n (suc count)
-        ≡ cond b (with_number n (runs_within test (suc n) count)) (runs_within test (suc n) count)
+    ≡ cond b (with_number n (runs_within test (suc n) count)) (runs_within test (suc n) count)
 unfolding runs_within
 one_within test n count b e =
     ap (λ (b : Bool). cond b (with_number n (runs_within test (suc n) count)) (runs_within test (suc n) count)) e
@@ -200,12 +202,14 @@ alone test n count end = at_first (runs_within test (suc n) count) (runs_are tes
     at_first [] runs = refl
     at_first (r ∷ rs) runs =
         let first =
-            runs.of_them r.0
-                record { index = 0;
-                        run = r;
-                        at = refl;
-                        from = (let e : r.0 ≤ r.0 = omega arith in e);
-                        to = runs.forward 0 r refl } in
+        runs.of_them r.0
+        record {
+          index = 0;
+          run = r;
+          at = refl;
+          from = (let e : r.0 ≤ r.0 = omega arith in e);
+          to = runs.forward 0 r refl;
+        } in
         with_apart n r rs (λ e. false≢true (sym (end r.0 e first.below) ∙ first.passes))
 
 -- numbers that pass, before one that doesn't or up to the last, are one run
@@ -225,11 +229,11 @@ runs_first test (suc k) n count run end =
     let c : suc n + k ≡ n + suc k = omega arith in
     ap (runs_within test n) a ∙ one_within test n (suc k + count) true (run n (omega arith) (omega arith))
     ∙ ap (with_number n)
-        (runs_first test k (suc n) count (λ m from below. run m (omega arith) (omega arith))
-         (λ m e below. end m (omega arith) (omega arith)))
+    (runs_first test k (suc n) count (λ m from below. run m (omega arith) (omega arith))
+    (λ m e below. end m (omega arith) (omega arith)))
     ∙ with_touching n (suc n, suc n + k) (runs_within test (suc n + suc k) count) refl
     ∙ ap (λ m. (n, m) ∷ runs_within test (suc n + suc k) count) c
-        ∙ ap (λ m. (n, n + suc k) ∷ runs_within test m count) b
+    ∙ ap (λ m. (n, n + suc k) ∷ runs_within test m count) b
 
 pub runs_none : (test : ℕ → Bool) (n : ℕ) → runs_within test n 0 ≡ []
 unfolding runs_within
@@ -243,7 +247,7 @@ module _ (test : ℕ → Bool) (top n : ℕ) where
   none_left none =
       let e : top - n ≡ top - n + 0 = omega arith in
       ap (runs_within test n) e ∙ runs_skip test (top - n) n 0 (λ m from below. none m from (omega arith))
-          ∙ runs_none test (n + (top - n))
+      ∙ runs_none test (n + (top - n))
 
   -- the first run of those that are left
   pub first_left : (first end : ℕ) → n ≤ first → first < end → end ≤ top
@@ -257,9 +261,9 @@ module _ (test : ℕ → Bool) (top n : ℕ) where
       let c : first + suc k ≡ end = omega arith in
       let d : first + k ≡ end - 1 = omega arith in
       ap (runs_within test n) a
-          ∙ runs_skip test (first - n) n (suc k + (top - end)) (λ m from below. skipped m from (omega arith))
+      ∙ runs_skip test (first - n) n (suc k + (top - end)) (λ m from below. skipped m from (omega arith))
       ∙ ap (λ m. runs_within test m (suc k + (top - end))) b
       ∙ runs_first test k first (top - end) (λ m from below. run m from (omega arith))
       (λ m e below. let is : m ≡ end = omega arith in subst (λ (q : ℕ). test q ≡ false) (sym is) (stops (omega arith)))
       ∙ ap (λ m. (first, m) ∷ runs_within test (first + suc k) (top - end)) d
-          ∙ ap (λ m. (first, end - 1) ∷ runs_within test m (top - end)) c
+      ∙ ap (λ m. (first, end - 1) ∷ runs_within test m (top - end)) c

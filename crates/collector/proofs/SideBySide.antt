@@ -104,17 +104,18 @@ module _ (ps qs : List Parcel) (i j cpu n : ℕ) (p q : Parcel) (agree : Agree p
       (λ h. subst (Has qs cpu n) (sym (equal same) ∙ agree.one_record cpu n one.0 r one.2 h) that.2),
       (λ h. subst (Has ps cpu n) (equal same ∙ others_agree.one_record cpu n that.0 r that.2 h) one.2),
     );
-    misses =
-        (λ m. absurd (agree.not_missing cpu n one.0 one.2 m),
-         λ m. absurd (others_agree.not_missing cpu n that.0 that.2 m));
+    misses = (
+      λ m. absurd (agree.not_missing cpu n one.0 one.2 m),
+      λ m. absurd (others_agree.not_missing cpu n that.0 that.2 m),
+    );
   }
 
   pub records_fit : record_of p n ≡ record_of q n → FitTogether ps qs cpu n
   records_fit same = record {
     one_record =
         λ r other h g.
-               agree.one_record cpu n r one.0 h one.2 ∙ equal same
-                   ∙ others_agree.one_record cpu n that.0 other that.2 g;
+        agree.one_record cpu n r one.0 h one.2 ∙ equal same
+        ∙ others_agree.one_record cpu n that.0 other that.2 g;
     not_missing = λ r h m. others_agree.not_missing cpu n that.0 that.2 m;
     not_taken = λ r m h. agree.not_missing cpu n one.0 one.2 m;
   }
@@ -152,7 +153,7 @@ module _ (ps qs : List Parcel) (cpu at : ℕ) (both : Both) (seen : IsSeen ps qs
     pub clash_seen : record_of p n ≢ record_of q n → IsClashAt (ps ++ qs) cpu n
     clash_seen =
         records_clash ps qs i j cpu n p q seen.agree seen.others_agree own others
-            (seen_as (Records i j) is n from below)
+        (seen_as (Records i j) is n from below)
 
     pub same_seen : record_of p n ≡ record_of q n → IsSameAt ps qs cpu n
     same_seen =
@@ -161,7 +162,7 @@ module _ (ps qs : List Parcel) (cpu at : ℕ) (both : Both) (seen : IsSeen ps qs
     pub not_same_seen : record_of p n ≢ record_of q n → IsSameAt ps qs cpu n → ⊥
     not_same_seen =
         records_not_same ps qs i j cpu n p q seen.agree seen.others_agree own others
-            (seen_as (Records i j) is n from below)
+        (seen_as (Records i j) is n from below)
 
 -- ---- fitting together
 
@@ -244,7 +245,7 @@ fit_one : (ps qs : List Parcel) (c n : ℕ) → Agree ps → Agree qs → FitTog
 fit_one ps qs c n agree others_agree fit r other h g = one_of_both (Has ps c n) (Has qs c n) r other
     (has_either ps qs c n r h) (has_either ps qs c n other g)
     (agree.one_record c n r other) (fit.one_record r other) (fit.one_record other r)
-        (others_agree.one_record c n r other)
+    (others_agree.one_record c n r other)
 
 fit_not_both : (ps qs : List Parcel) (c n : ℕ) → Agree ps → Agree qs → FitTogether ps qs c n → (r : Record)
     → Has (ps ++ qs) c n r → Misses (ps ++ qs) c n → ⊥
@@ -313,8 +314,8 @@ pub front_fits : (ps qs : List Parcel) (cpu n : ℕ) → AreSound ps → Agree p
 front_fits ps qs cpu n sound agree others_agree before here = record {
   no_clash =
       λ c m front clash.
-             clash.differ
-                 (fit_one ps qs c m agree others_agree (fit c m front) clash.one clash.other clash.has clash.has_other);
+      clash.differ
+      (fit_one ps qs c m agree others_agree (fit c m front) clash.one clash.other clash.has clash.has_other);
   none_taken_and_missing =
       λ c m front both. fit_not_both ps qs c m agree others_agree (fit c m front) both.one both.has both.misses;
 }

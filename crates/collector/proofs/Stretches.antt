@@ -68,10 +68,10 @@ missed_at : (ps : List Parcel) (cpu n k : ℕ) (p : Parcel) → slice_get ps k �
 missed_at [] cpu n k p at m = absurd (none-some p at)
 missed_at (q ∷ ps) cpu n zero p at m =
     or_left _ (is_missed ps cpu n)
-        (missed_here q cpu n (subst (λ (x : Parcel). IsMissingOf x cpu n) (sym (some_is q p at)) m))
+    (missed_here q cpu n (subst (λ (x : Parcel). IsMissingOf x cpu n) (sym (some_is q p at)) m))
 missed_at (q ∷ ps) cpu n (suc k) p at m =
     or_right (eqb cpu q.cpu && (leb q.first (n + q.missed) && ltb n q.first)) (is_missed ps cpu n)
-        (missed_at ps cpu n k p at m)
+    (missed_at ps cpu n k p at m)
 
 pub is_missed_true : (ps : List Parcel) (cpu n : ℕ) → Misses ps cpu n → is_missed ps cpu n ≡ true
 is_missed_true ps cpu n m = missed_at ps cpu n m.index m.parcel m.at m.missing
@@ -80,9 +80,9 @@ pub misses_of_true : (ps : List Parcel) (cpu n : ℕ) → is_missed ps cpu n ≡
 misses_of_true [] cpu n e = absurd (cc)
 misses_of_true (p ∷ ps) cpu n e = ⊎_elim
     (λ (here : (eqb cpu p.cpu && (leb p.first (n + p.missed) && ltb n p.first)) ≡ true).
-        record { index = 0; parcel = p; at = refl; missing = missing_here p cpu n here })
+    record { index = 0; parcel = p; at = refl; missing = missing_here p cpu n here })
     (λ (behind : is_missed ps cpu n ≡ true). let m = misses_of_true ps cpu n behind in
-     record { index = suc m.index; parcel = m.parcel; at = m.at; missing = m.missing })
+    record { index = suc m.index; parcel = m.parcel; at = m.at; missing = m.missing })
     (or_cases (eqb cpu p.cpu && (leb p.first (n + p.missed) && ltb n p.first)) (is_missed ps cpu n) e)
 
 pub false_unless : (b : Bool) → (b ≡ true → ⊥) → b ≡ false

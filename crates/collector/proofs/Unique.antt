@@ -39,7 +39,7 @@ module _ {X : Type 0} where
         let found = l.whole n y h.0 in
         let up = h.1 in
         ⊎_elim (λ (e : x ≡ (n, y)). let same = ap (λ (q : ℕ × X). q.0) e in absurd (omega arith))
-            (λ (there : (j : ℕ) × (slice_get list j ≡ Some (n, y))). there)
+        (λ (there : (j : ℕ) × (slice_get list j ≡ Some (n, y))). there)
         (first_or_behind x (n, y) list found.0 found.1);
   }
 
@@ -50,7 +50,7 @@ module _ {X : Type 0} where
   not_before holds x y xs l h =
       let found = l.whole y.0 y.1 h in
       ⊎_elim (λ (e : x ≡ y). inl e)
-          (λ (there : (j : ℕ) × (slice_get xs j ≡ Some y)). inr (above x xs l.rising there.0 y there.1))
+      (λ (there : (j : ℕ) × (slice_get xs j ≡ Some y)). inr (above x xs l.rising there.0 y there.1))
       (first_or_behind x y xs found.0 found.1)
 
   same_first : (holds : ℕ → X → Type 0) (x y : ℕ × X) (xs ys : List (ℕ × X)) → AreListed holds (x ∷ xs)
@@ -58,8 +58,8 @@ module _ {X : Type 0} where
   same_first holds x y xs ys l m = ⊎_elim
       (λ (e : x ≡ y). e)
       (λ (lt : x.0 < y.0).
-          ⊎_elim (λ (e : y ≡ x). sym e) (λ (gt : y.0 < x.0). absurd (omega arith))
-              (not_before holds y x ys m (l.of_them 0 x refl)))
+      ⊎_elim (λ (e : y ≡ x). sym e) (λ (gt : y.0 < x.0). absurd (omega arith))
+      (not_before holds y x ys m (l.of_them 0 x refl)))
       (not_before holds x y xs l (m.of_them 0 y refl))
 
   pub one_list : (holds : ℕ → X → Type 0) (xs ys : List (ℕ × X)) → AreListed holds xs → AreListed holds ys → xs ≡ ys
@@ -87,8 +87,8 @@ module _ {X : Type 0} where
           l.of_them k b there,
           ⊎_elim (λ (f : x ≡ b). let is = ap (λ (q : ℕ × X). q.0) f in let up : a.0 ≤ b.0 = omega arith in up)
               (λ (s : (j : ℕ) × (slice_get list j ≡ Some b)). let lt = above x list l.rising s.0 b s.1 in
-               let up : a.0 ≤ b.0 = omega arith in
-               up)
+              let up : a.0 ≤ b.0 = omega arith in
+              up)
               (first_or_behind x b list k there),
         );
         whole = λ n y h. l.whole n y h.0;
@@ -99,7 +99,7 @@ module _ {X : Type 0} where
       (λ n y h. (h.0, h.2))
       (λ n y h. let from = h.1 in (h.0, (let lt : x.0 < n = omega arith in lt), from))
       (same_listed {P = λ n y. (holds n y × (x.0 < n)) × (a.0 ≤ n)} (drop k list) (λ n y h. (h.0.0, h.0.1, h.1))
-       (λ n y h. ((h.0, h.1), h.2))
+      (λ n y h. ((h.0, h.1), h.2))
       (rest_listed (λ n y. holds n y × (x.0 < n)) k list a (others_listed holds x list l) at))
 
 -- the records that are left from the number of one of them are those from that one on
@@ -110,4 +110,4 @@ rest_is_left ps cpu number agree sound fits list k r l at =
     one_list (HasFrom ps cpu number) (records_left ps cpu number) (drop k list)
     (records_are_left ps cpu number agree sound fits)
     (same_listed (drop k list) (λ n y h. record { has = h.0; up = h.1 }) (λ n y h. (h.has, h.up))
-     (rest_listed _ k list (number, r) l at))
+    (rest_listed _ k list (number, r) l at))

@@ -85,46 +85,54 @@ collect_named first = refl
 
 collect_says : (first : List ℕ)
     → Says (rows_named (first ∷ codes "collect" ∷ codes "a" ∷ codes "b" ∷ []))
-        (record { page = 4096;
-                 has_page = false;
-                 names = false;
-                 json = false;
-                 formats = None;
-                 keep = None;
-                 parcels = false;
-                 files = (0, codes "a") ∷ (1, codes "b") ∷ [] })
+    (record {
+      page = 4096;
+      has_page = false;
+      names = false;
+      json = false;
+      formats = None;
+      keep = None;
+      parcels = false;
+      files = (0, codes "a") ∷ (1, codes "b") ∷ [];
+    })
 unfolding clap_on_literals rows_named
 collect_says first =
-    record { page = refl;
-            has_page = refl;
-            files = refl;
-            formats = refl;
-            keep = refl;
-            parcels = λ asks h. h.no_parcels refl;
-            json = λ asks h. h.no_json refl;
-            names = λ asks h. h.no_names refl (sym h.formats) }
+    record {
+      page = refl;
+      has_page = refl;
+      files = refl;
+      formats = refl;
+      keep = refl;
+      parcels = λ asks h. h.no_parcels refl;
+      json = λ asks h. h.no_json refl;
+      names = λ asks h. h.no_names refl (sym h.formats);
+    }
 
 pub asked_collect : (first : List ℕ) (result : Result Call CallFault)
     → IsCallOf (first ∷ codes "collect" ∷ codes "a" ∷ codes "b" ∷ []) result
     → IsAsked result
-        (record { page = 4096;
-                 has_page = false;
-                 names = false;
-                 json = false;
-                 formats = None;
-                 keep = None;
-                 parcels = false;
-                 files = (0, codes "a") ∷ (1, codes "b") ∷ [] })
+    (record {
+      page = 4096;
+      has_page = false;
+      names = false;
+      json = false;
+      formats = None;
+      keep = None;
+      parcels = false;
+      files = (0, codes "a") ∷ (1, codes "b") ∷ [];
+    })
 asked_collect first result a =
     asks (first ∷ codes "collect" ∷ codes "a" ∷ codes "b" ∷ []) (collect_named first)
-        (record { page = 4096;
-                 has_page = false;
-                 names = false;
-                 json = false;
-                 formats = None;
-                 keep = None;
-                 parcels = false;
-                 files = (0, codes "a") ∷ (1, codes "b") ∷ [] }) result (collect_accepted first) (collect_says first) a
+    (record {
+      page = 4096;
+      has_page = false;
+      names = false;
+      json = false;
+      formats = None;
+      keep = None;
+      parcels = false;
+      files = (0, codes "a") ∷ (1, codes "b") ∷ [];
+    }) result (collect_accepted first) (collect_says first) a
 
 cpu_accepted : (first : List ℕ) → IsAccepted (first ∷ codes "collect" ∷ codes "3=a" ∷ codes "-" ∷ [])
 unfolding clap_on_literals
@@ -137,46 +145,54 @@ cpu_named first = refl
 
 cpu_says : (first : List ℕ)
     → Says (rows_named (first ∷ codes "collect" ∷ codes "3=a" ∷ codes "-" ∷ []))
-        (record { page = 4096;
-                 has_page = false;
-                 names = false;
-                 json = false;
-                 formats = None;
-                 keep = None;
-                 parcels = false;
-                 files = (3, codes "a") ∷ (1, codes "-") ∷ [] })
+    (record {
+      page = 4096;
+      has_page = false;
+      names = false;
+      json = false;
+      formats = None;
+      keep = None;
+      parcels = false;
+      files = (3, codes "a") ∷ (1, codes "-") ∷ [];
+    })
 unfolding clap_on_literals rows_named
 cpu_says first =
-    record { page = refl;
-            has_page = refl;
-            files = refl;
-            formats = refl;
-            keep = refl;
-            parcels = λ asks h. h.no_parcels refl;
-            json = λ asks h. h.no_json refl;
-            names = λ asks h. h.no_names refl (sym h.formats) }
+    record {
+      page = refl;
+      has_page = refl;
+      files = refl;
+      formats = refl;
+      keep = refl;
+      parcels = λ asks h. h.no_parcels refl;
+      json = λ asks h. h.no_json refl;
+      names = λ asks h. h.no_names refl (sym h.formats);
+    }
 
 pub asked_cpu : (first : List ℕ) (result : Result Call CallFault)
     → IsCallOf (first ∷ codes "collect" ∷ codes "3=a" ∷ codes "-" ∷ []) result
     → IsAsked result
-        (record { page = 4096;
-                 has_page = false;
-                 names = false;
-                 json = false;
-                 formats = None;
-                 keep = None;
-                 parcels = false;
-                 files = (3, codes "a") ∷ (1, codes "-") ∷ [] })
+    (record {
+      page = 4096;
+      has_page = false;
+      names = false;
+      json = false;
+      formats = None;
+      keep = None;
+      parcels = false;
+      files = (3, codes "a") ∷ (1, codes "-") ∷ [];
+    })
 asked_cpu first result a =
     asks (first ∷ codes "collect" ∷ codes "3=a" ∷ codes "-" ∷ []) (cpu_named first)
-        (record { page = 4096;
-                 has_page = false;
-                 names = false;
-                 json = false;
-                 formats = None;
-                 keep = None;
-                 parcels = false;
-                 files = (3, codes "a") ∷ (1, codes "-") ∷ [] }) result (cpu_accepted first) (cpu_says first) a
+    (record {
+      page = 4096;
+      has_page = false;
+      names = false;
+      json = false;
+      formats = None;
+      keep = None;
+      parcels = false;
+      files = (3, codes "a") ∷ (1, codes "-") ∷ [];
+    }) result (cpu_accepted first) (cpu_says first) a
 
 flags_accepted : (first : List ℕ)
     → IsAccepted (first ∷ codes "collect" ∷ codes "--json" ∷ codes "--names" ∷ codes "a" ∷ [])
@@ -185,52 +201,60 @@ flags_accepted first = refl
 
 flags_named : (first : List ℕ)
     → names_command (first ∷ codes "collect" ∷ codes "--json" ∷ codes "--names" ∷ codes "a" ∷ [])
-        ≡ Some (codes "collect")
+    ≡ Some (codes "collect")
 unfolding clap_on_literals names_command
 flags_named first = refl
 
 flags_says : (first : List ℕ)
     → Says (rows_named (first ∷ codes "collect" ∷ codes "--json" ∷ codes "--names" ∷ codes "a" ∷ []))
-        (record { page = 4096;
-                 has_page = false;
-                 names = true;
-                 json = true;
-                 formats = None;
-                 keep = None;
-                 parcels = false;
-                 files = (0, codes "a") ∷ [] })
+    (record {
+      page = 4096;
+      has_page = false;
+      names = true;
+      json = true;
+      formats = None;
+      keep = None;
+      parcels = false;
+      files = (0, codes "a") ∷ [];
+    })
 unfolding clap_on_literals rows_named
 flags_says first =
-    record { page = refl;
-            has_page = refl;
-            files = refl;
-            formats = refl;
-            keep = refl;
-            parcels = λ asks h. h.no_parcels refl;
-            json = λ asks h. h.json refl;
-            names = λ asks h. h.names refl }
+    record {
+      page = refl;
+      has_page = refl;
+      files = refl;
+      formats = refl;
+      keep = refl;
+      parcels = λ asks h. h.no_parcels refl;
+      json = λ asks h. h.json refl;
+      names = λ asks h. h.names refl;
+    }
 
 pub asked_flags : (first : List ℕ) (result : Result Call CallFault)
     → IsCallOf (first ∷ codes "collect" ∷ codes "--json" ∷ codes "--names" ∷ codes "a" ∷ []) result
     → IsAsked result
-        (record { page = 4096;
-                 has_page = false;
-                 names = true;
-                 json = true;
-                 formats = None;
-                 keep = None;
-                 parcels = false;
-                 files = (0, codes "a") ∷ [] })
+    (record {
+      page = 4096;
+      has_page = false;
+      names = true;
+      json = true;
+      formats = None;
+      keep = None;
+      parcels = false;
+      files = (0, codes "a") ∷ [];
+    })
 asked_flags first result a =
     asks (first ∷ codes "collect" ∷ codes "--json" ∷ codes "--names" ∷ codes "a" ∷ []) (flags_named first)
-        (record { page = 4096;
-                 has_page = false;
-                 names = true;
-                 json = true;
-                 formats = None;
-                 keep = None;
-                 parcels = false;
-                 files = (0, codes "a") ∷ [] }) result (flags_accepted first) (flags_says first) a
+    (record {
+      page = 4096;
+      has_page = false;
+      names = true;
+      json = true;
+      formats = None;
+      keep = None;
+      parcels = false;
+      files = (0, codes "a") ∷ [];
+    }) result (flags_accepted first) (flags_says first) a
 
 page_accepted : (first : List ℕ) → IsAccepted (first ∷ codes "collect" ∷ codes "--page" ∷ codes "8192" ∷ codes "a" ∷ [])
 unfolding clap_on_literals
@@ -243,46 +267,54 @@ page_named first = refl
 
 page_says : (first : List ℕ)
     → Says (rows_named (first ∷ codes "collect" ∷ codes "--page" ∷ codes "8192" ∷ codes "a" ∷ []))
-        (record { page = 8192;
-                 has_page = true;
-                 names = false;
-                 json = false;
-                 formats = None;
-                 keep = None;
-                 parcels = false;
-                 files = (0, codes "a") ∷ [] })
+    (record {
+      page = 8192;
+      has_page = true;
+      names = false;
+      json = false;
+      formats = None;
+      keep = None;
+      parcels = false;
+      files = (0, codes "a") ∷ [];
+    })
 unfolding clap_on_literals rows_named
 page_says first =
-    record { page = refl;
-            has_page = refl;
-            files = refl;
-            formats = refl;
-            keep = refl;
-            parcels = λ asks h. h.no_parcels refl;
-            json = λ asks h. h.no_json refl;
-            names = λ asks h. h.no_names refl (sym h.formats) }
+    record {
+      page = refl;
+      has_page = refl;
+      files = refl;
+      formats = refl;
+      keep = refl;
+      parcels = λ asks h. h.no_parcels refl;
+      json = λ asks h. h.no_json refl;
+      names = λ asks h. h.no_names refl (sym h.formats);
+    }
 
 pub asked_page : (first : List ℕ) (result : Result Call CallFault)
     → IsCallOf (first ∷ codes "collect" ∷ codes "--page" ∷ codes "8192" ∷ codes "a" ∷ []) result
     → IsAsked result
-        (record { page = 8192;
-                 has_page = true;
-                 names = false;
-                 json = false;
-                 formats = None;
-                 keep = None;
-                 parcels = false;
-                 files = (0, codes "a") ∷ [] })
+    (record {
+      page = 8192;
+      has_page = true;
+      names = false;
+      json = false;
+      formats = None;
+      keep = None;
+      parcels = false;
+      files = (0, codes "a") ∷ [];
+    })
 asked_page first result a =
     asks (first ∷ codes "collect" ∷ codes "--page" ∷ codes "8192" ∷ codes "a" ∷ []) (page_named first)
-        (record { page = 8192;
-                 has_page = true;
-                 names = false;
-                 json = false;
-                 formats = None;
-                 keep = None;
-                 parcels = false;
-                 files = (0, codes "a") ∷ [] }) result (page_accepted first) (page_says first) a
+    (record {
+      page = 8192;
+      has_page = true;
+      names = false;
+      json = false;
+      formats = None;
+      keep = None;
+      parcels = false;
+      files = (0, codes "a") ∷ [];
+    }) result (page_accepted first) (page_says first) a
 
 formats_accepted : (first : List ℕ)
     → IsAccepted (first ∷ codes "collect" ∷ codes "a" ∷ codes "--formats" ∷ codes "d" ∷ codes "b" ∷ [])
@@ -291,53 +323,61 @@ formats_accepted first = refl
 
 formats_named : (first : List ℕ)
     → names_command (first ∷ codes "collect" ∷ codes "a" ∷ codes "--formats" ∷ codes "d" ∷ codes "b" ∷ [])
-        ≡ Some (codes "collect")
+    ≡ Some (codes "collect")
 unfolding clap_on_literals names_command
 formats_named first = refl
 
 formats_says : (first : List ℕ)
     → Says (rows_named (first ∷ codes "collect" ∷ codes "a" ∷ codes "--formats" ∷ codes "d" ∷ codes "b" ∷ []))
-        (record { page = 4096;
-                 has_page = false;
-                 names = true;
-                 json = false;
-                 formats = Some (codes "d");
-                 keep = None;
-                 parcels = false;
-                 files = (0, codes "a") ∷ (1, codes "b") ∷ [] })
+    (record {
+      page = 4096;
+      has_page = false;
+      names = true;
+      json = false;
+      formats = Some (codes "d");
+      keep = None;
+      parcels = false;
+      files = (0, codes "a") ∷ (1, codes "b") ∷ [];
+    })
 unfolding clap_on_literals rows_named
 formats_says first =
-    record { page = refl;
-            has_page = refl;
-            files = refl;
-            formats = refl;
-            keep = refl;
-            parcels = λ asks h. h.no_parcels refl;
-            json = λ asks h. h.no_json refl;
-            names =
-                λ asks h. h.named_formats (let is : asks.formats ≡ Some (codes "d") = sym h.formats in ap is_some is) }
+    record {
+      page = refl;
+      has_page = refl;
+      files = refl;
+      formats = refl;
+      keep = refl;
+      parcels = λ asks h. h.no_parcels refl;
+      json = λ asks h. h.no_json refl;
+      names =
+          λ asks h. h.named_formats (let is : asks.formats ≡ Some (codes "d") = sym h.formats in ap is_some is);
+    }
 
 pub asked_formats : (first : List ℕ) (result : Result Call CallFault)
     → IsCallOf (first ∷ codes "collect" ∷ codes "a" ∷ codes "--formats" ∷ codes "d" ∷ codes "b" ∷ []) result
     → IsAsked result
-        (record { page = 4096;
-                 has_page = false;
-                 names = true;
-                 json = false;
-                 formats = Some (codes "d");
-                 keep = None;
-                 parcels = false;
-                 files = (0, codes "a") ∷ (1, codes "b") ∷ [] })
+    (record {
+      page = 4096;
+      has_page = false;
+      names = true;
+      json = false;
+      formats = Some (codes "d");
+      keep = None;
+      parcels = false;
+      files = (0, codes "a") ∷ (1, codes "b") ∷ [];
+    })
 asked_formats first result a =
     asks (first ∷ codes "collect" ∷ codes "a" ∷ codes "--formats" ∷ codes "d" ∷ codes "b" ∷ []) (formats_named first)
-        (record { page = 4096;
-                 has_page = false;
-                 names = true;
-                 json = false;
-                 formats = Some (codes "d");
-                 keep = None;
-                 parcels = false;
-                 files = (0, codes "a") ∷ (1, codes "b") ∷ [] }) result (formats_accepted first) (formats_says first) a
+    (record {
+      page = 4096;
+      has_page = false;
+      names = true;
+      json = false;
+      formats = Some (codes "d");
+      keep = None;
+      parcels = false;
+      files = (0, codes "a") ∷ (1, codes "b") ∷ [];
+    }) result (formats_accepted first) (formats_says first) a
 
 keep_accepted : (first : List ℕ)
     → IsAccepted (first ∷ codes "collect" ∷ codes "--keep" ∷ codes "k" ∷ codes "--json" ∷ codes "a" ∷ [])
@@ -346,52 +386,60 @@ keep_accepted first = refl
 
 keep_named : (first : List ℕ)
     → names_command (first ∷ codes "collect" ∷ codes "--keep" ∷ codes "k" ∷ codes "--json" ∷ codes "a" ∷ [])
-        ≡ Some (codes "collect")
+    ≡ Some (codes "collect")
 unfolding clap_on_literals names_command
 keep_named first = refl
 
 keep_says : (first : List ℕ)
     → Says (rows_named (first ∷ codes "collect" ∷ codes "--keep" ∷ codes "k" ∷ codes "--json" ∷ codes "a" ∷ []))
-        (record { page = 4096;
-                 has_page = false;
-                 names = false;
-                 json = true;
-                 formats = None;
-                 keep = Some (codes "k");
-                 parcels = false;
-                 files = (0, codes "a") ∷ [] })
+    (record {
+      page = 4096;
+      has_page = false;
+      names = false;
+      json = true;
+      formats = None;
+      keep = Some (codes "k");
+      parcels = false;
+      files = (0, codes "a") ∷ [];
+    })
 unfolding clap_on_literals rows_named
 keep_says first =
-    record { page = refl;
-            has_page = refl;
-            files = refl;
-            formats = refl;
-            keep = refl;
-            parcels = λ asks h. h.no_parcels refl;
-            json = λ asks h. h.json refl;
-            names = λ asks h. h.no_names refl (sym h.formats) }
+    record {
+      page = refl;
+      has_page = refl;
+      files = refl;
+      formats = refl;
+      keep = refl;
+      parcels = λ asks h. h.no_parcels refl;
+      json = λ asks h. h.json refl;
+      names = λ asks h. h.no_names refl (sym h.formats);
+    }
 
 pub asked_keep : (first : List ℕ) (result : Result Call CallFault)
     → IsCallOf (first ∷ codes "collect" ∷ codes "--keep" ∷ codes "k" ∷ codes "--json" ∷ codes "a" ∷ []) result
     → IsAsked result
-        (record { page = 4096;
-                 has_page = false;
-                 names = false;
-                 json = true;
-                 formats = None;
-                 keep = Some (codes "k");
-                 parcels = false;
-                 files = (0, codes "a") ∷ [] })
+    (record {
+      page = 4096;
+      has_page = false;
+      names = false;
+      json = true;
+      formats = None;
+      keep = Some (codes "k");
+      parcels = false;
+      files = (0, codes "a") ∷ [];
+    })
 asked_keep first result a =
     asks (first ∷ codes "collect" ∷ codes "--keep" ∷ codes "k" ∷ codes "--json" ∷ codes "a" ∷ []) (keep_named first)
-        (record { page = 4096;
-                 has_page = false;
-                 names = false;
-                 json = true;
-                 formats = None;
-                 keep = Some (codes "k");
-                 parcels = false;
-                 files = (0, codes "a") ∷ [] }) result (keep_accepted first) (keep_says first) a
+    (record {
+      page = 4096;
+      has_page = false;
+      names = false;
+      json = true;
+      formats = None;
+      keep = Some (codes "k");
+      parcels = false;
+      files = (0, codes "a") ∷ [];
+    }) result (keep_accepted first) (keep_says first) a
 
 parcels_accepted : (first : List ℕ) → IsAccepted (first ∷ codes "collect" ∷ codes "--parcels" ∷ codes "a" ∷ [])
 unfolding clap_on_literals
@@ -404,46 +452,54 @@ parcels_named first = refl
 
 parcels_says : (first : List ℕ)
     → Says (rows_named (first ∷ codes "collect" ∷ codes "--parcels" ∷ codes "a" ∷ []))
-        (record { page = 4096;
-                 has_page = false;
-                 names = false;
-                 json = false;
-                 formats = None;
-                 keep = None;
-                 parcels = true;
-                 files = (0, codes "a") ∷ [] })
+    (record {
+      page = 4096;
+      has_page = false;
+      names = false;
+      json = false;
+      formats = None;
+      keep = None;
+      parcels = true;
+      files = (0, codes "a") ∷ [];
+    })
 unfolding clap_on_literals rows_named
 parcels_says first =
-    record { page = refl;
-            has_page = refl;
-            files = refl;
-            formats = refl;
-            keep = refl;
-            parcels = λ asks h. h.parcels refl;
-            json = λ asks h. h.no_json refl;
-            names = λ asks h. h.no_names refl (sym h.formats) }
+    record {
+      page = refl;
+      has_page = refl;
+      files = refl;
+      formats = refl;
+      keep = refl;
+      parcels = λ asks h. h.parcels refl;
+      json = λ asks h. h.no_json refl;
+      names = λ asks h. h.no_names refl (sym h.formats);
+    }
 
 pub asked_parcels : (first : List ℕ) (result : Result Call CallFault)
     → IsCallOf (first ∷ codes "collect" ∷ codes "--parcels" ∷ codes "a" ∷ []) result
     → IsAsked result
-        (record { page = 4096;
-                 has_page = false;
-                 names = false;
-                 json = false;
-                 formats = None;
-                 keep = None;
-                 parcels = true;
-                 files = (0, codes "a") ∷ [] })
+    (record {
+      page = 4096;
+      has_page = false;
+      names = false;
+      json = false;
+      formats = None;
+      keep = None;
+      parcels = true;
+      files = (0, codes "a") ∷ [];
+    })
 asked_parcels first result a =
     asks (first ∷ codes "collect" ∷ codes "--parcels" ∷ codes "a" ∷ []) (parcels_named first)
-        (record { page = 4096;
-                 has_page = false;
-                 names = false;
-                 json = false;
-                 formats = None;
-                 keep = None;
-                 parcels = true;
-                 files = (0, codes "a") ∷ [] }) result (parcels_accepted first) (parcels_says first) a
+    (record {
+      page = 4096;
+      has_page = false;
+      names = false;
+      json = false;
+      formats = None;
+      keep = None;
+      parcels = true;
+      files = (0, codes "a") ∷ [];
+    }) result (parcels_accepted first) (parcels_says first) a
 
 high_named : (first : List ℕ) → names_command (first ∷ codes "collect" ∷ codes "256=a" ∷ []) ≡ Some (codes "collect")
 unfolding clap_on_literals names_command
@@ -473,7 +529,7 @@ pub refused_small : (first : List ℕ) (result : Result Call CallFault)
     → (result ≡ Err Usage) ⊎ (result ≡ Err NoMemory)
 refused_small first result a =
     unreadable (first ∷ codes "collect" ∷ codes "--page" ∷ codes "47" ∷ codes "a" ∷ []) (small_named first) result
-        (small_unread first) a
+    (small_unread first) a
 
 inputs_named : (first : List ℕ)
     → names_command (first ∷ codes "collect" ∷ codes "-" ∷ codes "3=-" ∷ []) ≡ Some (codes "collect")
@@ -489,7 +545,7 @@ pub refused_inputs : (first : List ℕ) (result : Result Call CallFault)
     → (result ≡ Err Usage) ⊎ (result ≡ Err NoMemory)
 refused_inputs first result a =
     unreadable (first ∷ codes "collect" ∷ codes "-" ∷ codes "3=-" ∷ []) (inputs_named first) result
-        (inputs_unread first) a
+    (inputs_unread first) a
 
 none_refused : (first : List ℕ) → IsAccepted (first ∷ codes "collect" ∷ []) → ⊥
 unfolding clap_on_literals

@@ -30,10 +30,10 @@ unfolding names_command
 name_of_matches app words m same has =
     let name : Option (Text × List Row) → Option Text = option_map (λ p. p.0) in
     let named : subcommand_name_of m ≡ name (subcommand_rows_of m) =
-        elim (out-ArgMatches m).subcommand as
-            (λ found.
-                option_map (λ b. (out-SubCommand (box_value b)).name.now) found
-                    ≡ option_map (λ p. p.0) (subcommand_rows found)) [ None ↦ refl | Some found ↦ refl ] in
+    elim (out-ArgMatches m).subcommand as
+    (λ found.
+    option_map (λ b. (out-SubCommand (box_value b)).name.now) found
+    ≡ option_map (λ p. p.0) (subcommand_rows found)) [ None ↦ refl | Some found ↦ refl ] in
     named ∙ ap name ((has (ap is_simple same)).1) ∙ ap (λ (a : App). name (subcommand_of a words)) same
 
 -- they have the flag that is among the words
@@ -75,8 +75,8 @@ pub call_of_matches-words : (words : List Text) (m : ArgMatches) (call : Option 
     → subcommand_name_of m ≢ Some (codes "collect") → subcommand_name_of m ≢ Some (codes "recover")
     → IfSome call (λ x. HasSource x × (subcommand_name_of m ≡ Some (name_of x)))
     → (call ≡ None
-       → (subcommand_name_of m ≢ Some (codes "replay")) × (subcommand_name_of m ≢ Some (codes "run"))
-           × (subcommand_name_of m ≢ Some (codes "steps")) × (subcommand_name_of m ≢ Some (codes "dump")))
+    → (subcommand_name_of m ≢ Some (codes "replay")) × (subcommand_name_of m ≢ Some (codes "run"))
+    × (subcommand_name_of m ≢ Some (codes "steps")) × (subcommand_name_of m ≢ Some (codes "dump")))
     → (flag_text (subcommand_rows_of m) ≡ Some (codes "true") → call ≢ Some (Replay false))
     → (flag_text (subcommand_rows_of m) ≡ Some (codes "false") → call ≢ Some (Replay true))
     → IsCallOf words (ok_or call Usage)
@@ -118,19 +118,19 @@ call_of_matches-words words m (Some x) has accepted other unlike named none log 
 pub collect_call-words : (words : List Text) (m : ArgMatches) (found : Found) (call : CollectCall)
     → HasMatchesOf command_line words m → IsAccepted words
     → subcommand_name_of m ≡ Some (codes "collect")
-        → option_map (λ p. p.1) (subcommand_rows_of m) ≡ Some (rows_of found)
+    → option_map (λ p. p.1) (subcommand_rows_of m) ≡ Some (rows_of found)
     → AsksFor (rows_of found) (asked_of call) → IsCallOf words (Ok (Collect call))
 collect_call-words words m found call has accepted named rows asks =
     let name = name_of_matches command_line words m refl has in
     let same_rows = rows_of_found (subcommand_rows_of m) found rows ∙ rows_of_matches command_line words m refl has in
     let asks_words : AsksFor (rows_named words) (asked_of call) =
-        subst (λ (rows : List Row). AsksFor rows (asked_of call)) same_rows asks in
+    subst (λ (rows : List Row). AsksFor rows (asked_of call)) same_rows asks in
     record {
       accepted = λ y is. accepted;
       named =
           λ y is.
-                 sym name ∙ named
-                     ∙ (let same : Collect call ≡ y = cc in ap (λ (call : Call). Some (name_of call)) same);
+          sym name ∙ named
+          ∙ (let same : Collect call ≡ y = cc in ap (λ (call : Call). Some (name_of call)) same);
       log = λ _ is. cc;
       no_log = λ _ is. cc;
       no_replay = λ is. absurd (cc);
@@ -164,7 +164,7 @@ no_memory-words words = record {
 -- and that nothing is made of them
 unread-words : (words : List Text) (m : ArgMatches) (found : Found) → HasMatchesOf command_line words m
     → subcommand_name_of m ≡ Some (codes "collect")
-        → option_map (λ p. p.1) (subcommand_rows_of m) ≡ Some (rows_of found)
+    → option_map (λ p. p.1) (subcommand_rows_of m) ≡ Some (rows_of found)
     → AreUnread (rows_of found) → IsCallOf words (Err Usage)
 unread-words words m found has named rows unread =
     let name = name_of_matches command_line words m refl has in
@@ -187,7 +187,7 @@ unread-words words m found has named rows unread =
 pub no_collect-words : (words : List Text) (m : ArgMatches) (found : Found) (fault : CallFault)
     → HasMatchesOf command_line words m
     → subcommand_name_of m ≡ Some (codes "collect")
-        → option_map (λ p. p.1) (subcommand_rows_of m) ≡ Some (rows_of found)
+    → option_map (λ p. p.1) (subcommand_rows_of m) ≡ Some (rows_of found)
     → (fault ≡ Usage → AreUnread (rows_of found)) → IsCallOf words (Err fault)
 no_collect-words words m found NoMemory has named rows unread = no_memory-words words
 no_collect-words words m found Usage has named rows unread = unread-words words m found has named rows (unread refl)
@@ -196,19 +196,19 @@ no_collect-words words m found Usage has named rows unread = unread-words words 
 pub recovered-words : (words : List Text) (m : ArgMatches) (found : Found) (call : RecoverCall)
     → HasMatchesOf command_line words m → IsAccepted words
     → subcommand_name_of m ≡ Some (codes "recover")
-        → option_map (λ p. p.1) (subcommand_rows_of m) ≡ Some (rows_of found)
+    → option_map (λ p. p.1) (subcommand_rows_of m) ≡ Some (rows_of found)
     → AsksToRecover (rows_of found) (recovering_of call) → IsCallOf words (Ok (Recover call))
 recovered-words words m found call has accepted named rows asks =
     let name = name_of_matches command_line words m refl has in
     let same_rows = rows_of_found (subcommand_rows_of m) found rows ∙ rows_of_matches command_line words m refl has in
     let asks_words : AsksToRecover (rows_named words) (recovering_of call) =
-        subst (λ (rows : List Row). AsksToRecover rows (recovering_of call)) same_rows asks in
+    subst (λ (rows : List Row). AsksToRecover rows (recovering_of call)) same_rows asks in
     record {
       accepted = λ y is. accepted;
       named =
           λ y is.
-                 sym name ∙ named
-                     ∙ (let same : Recover call ≡ y = cc in ap (λ (call : Call). Some (name_of call)) same);
+          sym name ∙ named
+          ∙ (let same : Recover call ≡ y = cc in ap (λ (call : Call). Some (name_of call)) same);
       log = λ _ is. cc;
       no_log = λ _ is. cc;
       no_replay = λ is. absurd (cc);
@@ -224,7 +224,7 @@ recovered-words words m found call has accepted named rows asks =
 
 no_regions-words : (words : List Text) (m : ArgMatches) (found : Found) → HasMatchesOf command_line words m
     → subcommand_name_of m ≡ Some (codes "recover")
-        → option_map (λ p. p.1) (subcommand_rows_of m) ≡ Some (rows_of found)
+    → option_map (λ p. p.1) (subcommand_rows_of m) ≡ Some (rows_of found)
     → regions_matched (rows_of found) ≡ None → IsCallOf words (Err Usage)
 no_regions-words words m found has named rows unread =
     let name = name_of_matches command_line words m refl has in
@@ -247,7 +247,7 @@ no_regions-words words m found has named rows unread =
 pub no_recover-words : (words : List Text) (m : ArgMatches) (found : Found) (fault : CallFault)
     → HasMatchesOf command_line words m
     → subcommand_name_of m ≡ Some (codes "recover")
-        → option_map (λ p. p.1) (subcommand_rows_of m) ≡ Some (rows_of found)
+    → option_map (λ p. p.1) (subcommand_rows_of m) ≡ Some (rows_of found)
     → (fault ≡ Usage → regions_matched (rows_of found) ≡ None) → IsCallOf words (Err fault)
 no_recover-words words m found NoMemory has named rows unread = no_memory-words words
 no_recover-words words m found Usage has named rows unread = no_regions-words words m found has named rows (unread refl)

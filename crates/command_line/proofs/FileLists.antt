@@ -16,7 +16,7 @@ Read = ℕ × List ℕ
 -- what comes before a file and the files after it
 put_before : (before : List Read) (file : Read) (rest : Option (List Read))
     → option_map (λ r. before ++ r) (option_map (λ r. file ∷ r) rest)
-        ≡ option_map (λ r. (before ++ file ∷ []) ++ r) rest
+    ≡ option_map (λ r. (before ++ file ∷ []) ++ r) rest
 unfolding Read
 put_before before file None = refl
 put_before before file (Some r) = ap Some (sym (append_assoc before (file ∷ []) r))
@@ -33,10 +33,10 @@ pub read_more : (all : Option (List (ℕ × List ℕ))) (before : List (ℕ × L
 unfolding put_before Read
 read_more all before n word words file so_far is =
     so_far
-        ∙ ap
-            (λ o.
-                option_map (λ r. before ++ r)
-                    (option_and_then (λ f. option_map (λ fs. f ∷ fs) (file_words (n + 1) words)) o)) is
+    ∙ ap
+    (λ o.
+    option_map (λ r. before ++ r)
+    (option_and_then (λ f. option_map (λ fs. f ∷ fs) (file_words (n + 1) words)) o)) is
     ∙ put_before before file (file_words (n + 1) words)
 
 -- one that can't be read leaves none
@@ -45,10 +45,10 @@ pub read_none : (all : Option (List (ℕ × List ℕ))) (before : List (ℕ × L
     → all ≡ option_map (λ r. before ++ r) (file_words n (word ∷ words)) → file_word n word ≡ None → all ≡ None
 read_none all before n word words so_far is =
     so_far
-        ∙ ap
-            (λ o.
-                option_map (λ r. before ++ r)
-                    (option_and_then (λ f. option_map (λ fs. f ∷ fs) (file_words (n + 1) words)) o)) is
+    ∙ ap
+    (λ o.
+    option_map (λ r. before ++ r)
+    (option_and_then (λ f. option_map (λ fs. f ∷ fs) (file_words (n + 1) words)) o)) is
 
 next_word : (words : List (Bor (List ℕ))) (i : ℕ) (d : Bor (List ℕ)) → i < length words
     → map (λ w. w.now) (drop i words) ≡ (slice_index_or words i d).now ∷ map (λ w. w.now) (drop (i + 1) words)
@@ -58,7 +58,7 @@ next_word words i d l = let now : Bor (List ℕ) → List ℕ = λ w. w.now in
 -- the files so far, one word, and the words left
 module _ (words : List (Bor (List ℕ))) (i n : ℕ) (d : Bor (List ℕ)) (files : List CpuFile) (inside : i < length words)
     (so_far : file_words 0 (map (λ w. w.now) words)
-     ≡ option_map (λ rest. map file_seen files ++ rest) (file_words n (map (λ w. w.now) (drop i words)))) where
+    ≡ option_map (λ rest. map file_seen files ++ rest) (file_words n (map (λ w. w.now) (drop i words)))) where
   abbrev rest : List (List ℕ)
   rest = map (λ w. w.now) (drop (i + 1) words)
 
@@ -66,19 +66,19 @@ module _ (words : List (Bor (List ℕ))) (i n : ℕ) (d : Bor (List ℕ)) (files
       ≡ option_map (λ rest. map file_seen files ++ rest) (file_words n ((slice_index_or words i d).now ∷ rest))
   here =
       so_far
-          ∙ ap (λ ws. option_map (λ rest. map file_seen files ++ rest) (file_words n ws)) (next_word words i d inside)
+      ∙ ap (λ ws. option_map (λ rest. map file_seen files ++ rest) (file_words n ws)) (next_word words i d inside)
 
   pub one_more : (file : CpuFile) → Some (file_seen file) ≡ file_word n (slice_index_or words i d).now
       → file_words 0 (map (λ w. w.now) words)
-          ≡ option_map (λ rest. map file_seen (files ++ file ∷ []) ++ rest)
-              (file_words (n + 1) (map (λ w. w.now) (drop (i + 1) words)))
+      ≡ option_map (λ rest. map file_seen (files ++ file ∷ []) ++ rest)
+      (file_words (n + 1) (map (λ w. w.now) (drop (i + 1) words)))
   one_more file is =
       read_more _ (map file_seen files) n (slice_index_or words i d).now rest (file_seen file) here (sym is)
       ∙ ap (λ before. option_map (λ rest. before ++ rest) (file_words (n + 1) (map (λ w. w.now) (drop (i + 1) words))))
-          (sym (map-append file_seen files (file ∷ [])))
+      (sym (map-append file_seen files (file ∷ [])))
 
   pub no_more : None ≡ file_word n (slice_index_or words i d).now → file_list (map (λ w. w.now) words) ≡ None
   no_more is =
       none_either (nat_lt 0 (length (map (λ w. w.now) words)) && nat_le (length (map (λ w. w.now) words)) MAX_CPUS) _
       (ap (option_and_then with_one_input)
-       (read_none _ (map file_seen files) n (slice_index_or words i d).now rest here (sym is)))
+      (read_none _ (map file_seen files) n (slice_index_or words i d).now rest here (sym is)))

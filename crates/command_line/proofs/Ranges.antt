@@ -28,11 +28,11 @@ split_bound : (position : ℕ) (word : List ℕ) (at : Option ℕ) (file : ℕ �
 split_bound position word None file is low = subst (λ f. f.0 < MAX_CPUS) (let e : (position, word) ≡ file = cc in e) low
 split_bound position word (Some at) file is low =
     by_digits (is_number (take at word)) (number_in 0 (MAX_CPUS - 1) (take at word))
-        (λ n. number_bounds 0 (MAX_CPUS - 1) (take at word) n) is
+    (λ n. number_bounds 0 (MAX_CPUS - 1) (take at word) n) is
   where
     by_digits : (digits : Bool) (cpu : Option ℕ) → ((n : ℕ) → cpu ≡ Some n → (0 ≤ n) × (n ≤ MAX_CPUS - 1))
         → (if digits then option_map (λ cpu. (cpu, drop (at + 1) word)) cpu else Some (position, word)) ≡ Some file
-            → file.0 < MAX_CPUS
+        → file.0 < MAX_CPUS
     by_digits false cpu bounds is = subst (λ f. f.0 < MAX_CPUS) (let e : (position, word) ≡ file = cc in e) low
     by_digits true None bounds is = absurd (cc)
     by_digits true (Some n) bounds is =
@@ -57,7 +57,7 @@ words_bound position (word ∷ words) files is low =
     with_first : (first : Option (ℕ × List ℕ)) (rest : Option (List (ℕ × List ℕ)))
         → ((file : ℕ × List ℕ) → first ≡ Some file → file.0 < MAX_CPUS)
         → ((more : List (ℕ × List ℕ)) → rest ≡ Some more
-           → (length more ≡ length words) × All (λ file. file.0 < MAX_CPUS) more)
+        → (length more ≡ length words) × All (λ file. file.0 < MAX_CPUS) more)
         → option_and_then (λ file. option_map (λ files. file ∷ files) rest) first ≡ Some files
         → (length files ≡ suc (length words)) × All (λ file. file.0 < MAX_CPUS) files
     with_first None rest one all is = absurd (cc)
@@ -66,7 +66,7 @@ words_bound position (word ∷ words) files is low =
         let e : file ∷ more ≡ files = cc in
         let others = all more refl in
         subst (λ fs. (length fs ≡ suc (length words)) × All (λ file. file.0 < MAX_CPUS) fs) e
-            (ap suc others.0, All-cons in_cpus file more (one file refl) others.1)
+        (ap suc others.0, All-cons in_cpus file more (one file refl) others.1)
 
 one_input_same : (read : Option (List (ℕ × List ℕ))) (files : List (ℕ × List ℕ))
     → option_and_then with_one_input read ≡ Some files
@@ -78,10 +78,10 @@ list_bound : (words : List (List ℕ)) (files : List (ℕ × List ℕ)) → file
     → (0 < length files) × All (λ file. file.0 < MAX_CPUS) files
 list_bound words files is =
     let counted : (0 < length words)
-            × ((length words ≤ MAX_CPUS) × (option_and_then with_one_input (file_words 0 words) ≡ Some files)) =
-        grind (arith, nat_tests) in
+    × ((length words ≤ MAX_CPUS) × (option_and_then with_one_input (file_words 0 words) ≡ Some files)) =
+    grind (arith, nat_tests) in
     let bound =
-        words_bound 0 words files (one_input_same (file_words 0 words) files counted.1.1) (omega (arith, counted)) in
+    words_bound 0 words files (one_input_same (file_words 0 words) files counted.1.1) (omega (arith, counted)) in
     (rw bound.0 counted.0, bound.1)
 
 listed_bound : (words : Option (List (List ℕ))) (files : List (ℕ × List ℕ))
@@ -93,13 +93,15 @@ listed_bound (Some words) files is = list_bound words files is
 seen_bound : (files : List CpuFile) → All in_cpus (map file_seen files) → All (λ file. file.cpu.0 < MAX_CPUS) files
 seen_bound files all k d inside =
     subst in_cpus (get_or-map file_seen files k d (file_seen d) inside)
-        (all k (file_seen d) (omega (arith, inside, length-map files file_seen)))
+    (all k (file_seen d) (omega (arith, inside, length-map files file_seen)))
 
 pub asked_in_range : (rows : List Row) (call : CollectCall) → AsksFor rows (asked_of call) → IsInRange call
 asked_in_range rows call asks =
     let page = page_bounds (first_of (codes "page") rows) call.page asks.page in
     let files = listed_bound (all_of (codes "file") rows) (map file_seen call.files.items) asks.files in
-    record { smallest = page.0;
-            largest = page.1;
-            some = omega (arith, files.0, length-map call.files.items file_seen);
-            cpus = seen_bound call.files.items files.1 }
+    record {
+      smallest = page.0;
+      largest = page.1;
+      some = omega (arith, files.0, length-map call.files.items file_seen);
+      cpus = seen_bound call.files.items files.1;
+    }

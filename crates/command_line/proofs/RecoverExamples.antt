@@ -31,7 +31,7 @@ module _ (words : List Text) (named : names_command words ≡ Some (codes "recov
   asks asked (Ok (Recover call)) accepted says a =
       let asks = a.recover call refl in
       same_recovering (recovering_of call) asked (says.json (recovering_of call) asks)
-          (says.keep (recovering_of call) asks)
+      (says.keep (recovering_of call) asks)
       (same_some _ asked.files _ asks.files says.files)
   asks asked (Ok (Collect call)) accepted says a =
       absurd (recover_is_not_collect (sym named ∙ a.named (Collect call) refl))
@@ -65,7 +65,7 @@ recover_named first = refl
 
 recover_says : (first : List ℕ)
     → Says (rows_named (first ∷ codes "recover" ∷ codes "3=a" ∷ codes "b" ∷ []))
-        (record { json = false; keep = None; files = codes "3=a" ∷ codes "b" ∷ [] })
+    (record { json = false; keep = None; files = codes "3=a" ∷ codes "b" ∷ [] })
 unfolding clap_on_literals rows_named
 recover_says first = record { files = refl; json = λ asks h. h.no_json refl; keep = λ asks h. sym h.keep }
 
@@ -74,8 +74,8 @@ pub asked_recover : (first : List ℕ) (result : Result Call CallFault)
     → IsAskedToRecover result (record { json = false; keep = None; files = codes "3=a" ∷ codes "b" ∷ [] })
 asked_recover first result a =
     asks (first ∷ codes "recover" ∷ codes "3=a" ∷ codes "b" ∷ []) (recover_named first)
-        (record { json = false; keep = None; files = codes "3=a" ∷ codes "b" ∷ [] }) result (recover_accepted first)
-        (recover_says first) a
+    (record { json = false; keep = None; files = codes "3=a" ∷ codes "b" ∷ [] }) result (recover_accepted first)
+    (recover_says first) a
 
 keep_accepted : (first : List ℕ)
     → IsAccepted (first ∷ codes "recover" ∷ codes "--json" ∷ codes "-" ∷ codes "--keep" ∷ codes "k" ∷ [])
@@ -84,13 +84,13 @@ keep_accepted first = refl
 
 keep_named : (first : List ℕ)
     → names_command (first ∷ codes "recover" ∷ codes "--json" ∷ codes "-" ∷ codes "--keep" ∷ codes "k" ∷ [])
-        ≡ Some (codes "recover")
+    ≡ Some (codes "recover")
 unfolding clap_on_literals names_command
 keep_named first = refl
 
 keep_says : (first : List ℕ)
     → Says (rows_named (first ∷ codes "recover" ∷ codes "--json" ∷ codes "-" ∷ codes "--keep" ∷ codes "k" ∷ []))
-        (record { json = true; keep = Some (codes "k"); files = codes "-" ∷ [] })
+    (record { json = true; keep = Some (codes "k"); files = codes "-" ∷ [] })
 unfolding clap_on_literals rows_named
 keep_says first = record { files = refl; json = λ asks h. h.json refl; keep = λ asks h. sym h.keep }
 
@@ -99,8 +99,8 @@ pub asked_to_keep : (first : List ℕ) (result : Result Call CallFault)
     → IsAskedToRecover result (record { json = true; keep = Some (codes "k"); files = codes "-" ∷ [] })
 asked_to_keep first result a =
     asks (first ∷ codes "recover" ∷ codes "--json" ∷ codes "-" ∷ codes "--keep" ∷ codes "k" ∷ []) (keep_named first)
-        (record { json = true; keep = Some (codes "k"); files = codes "-" ∷ [] }) result (keep_accepted first)
-        (keep_says first) a
+    (record { json = true; keep = Some (codes "k"); files = codes "-" ∷ [] }) result (keep_accepted first)
+    (keep_says first) a
 
 inputs_named : (first : List ℕ)
     → names_command (first ∷ codes "recover" ∷ codes "-" ∷ codes "-" ∷ []) ≡ Some (codes "recover")
@@ -117,7 +117,7 @@ pub refused_two_inputs : (first : List ℕ) (result : Result Call CallFault)
     → (result ≡ Err Usage) ⊎ (result ≡ Err NoMemory)
 refused_two_inputs first result a =
     unreadable (first ∷ codes "recover" ∷ codes "-" ∷ codes "-" ∷ []) (inputs_named first) result (inputs_unread first)
-        a
+    a
 
 none_refused : (first : List ℕ) → IsAccepted (first ∷ codes "recover" ∷ []) → ⊥
 unfolding clap_on_literals

@@ -26,7 +26,7 @@ pub overflow_text : (fault : WordFault) (at : ℕ) (name old new : List ℕ) →
     → new ≡ old ++ word_fault_text fault
 overflow_text fault at name old new is named put =
     subst (λ (f : WordFault). new ≡ old ++ word_fault_text f) (sym is)
-        (placed_text time_overflow at name old new named put)
+    (placed_text time_overflow at name old new named put)
 
 -- what the reading of an image says of its first fault
 pub record SaysFirst (text : List ℕ) (r : Result Image ImageFault) : Type 0 where

@@ -51,9 +51,11 @@ pub events_of_some : (names names' : EventNames) (known : List EventFormat) (for
     → i < length formats → ((id : ℕ) → events_of names' id ≡ events_of names id)
     → HasEvents names (known ++ map format_seen (take i formats))
     → HasEventsOfSome names' known (map format_seen formats)
-events_of_some names names' known formats i below same has =
-    (i, rw length-map below,
-     λ id. same id ∙ has id ∙ sym (ap (λ fs. event_of id (known ++ fs)) (take-map format_seen i formats)))
+events_of_some names names' known formats i below same has = (
+  i,
+  rw length-map below,
+  λ id. same id ∙ has id ∙ sym (ap (λ fs. event_of id (known ++ fs)) (take-map format_seen i formats)),
+)
 
 pub on_err : {A E P : Type 0} (result : Result A E) → P → OnErr result P
 on_err (Ok x) p = tt

@@ -25,7 +25,7 @@ of_one [] parcel has = absurd (omega (arith, has.1))
 of_one (l ∷ ls) parcel has = ⊎_elim
     (λ here. record { index = 0; ledger = l; at = refl; has = here })
     (λ later. let o = of_one ls parcel later in
-     record { index = suc o.index; ledger = o.ledger; at = o.at; has = o.has })
+    record { index = suc o.index; ledger = o.ledger; at = o.at; has = o.has })
     (Contains-append_cases (taken_of l) (taken_in ls) parcel has)
 
 pub of_all : (ledgers : List Ledger) (k : ℕ) (ledger : Ledger) (parcel : Parcel) → slice_get ledgers k ≡ Some ledger
@@ -33,7 +33,7 @@ pub of_all : (ledgers : List Ledger) (k : ℕ) (ledger : Ledger) (parcel : Parce
 of_all [] k ledger parcel at has = absurd (none-some ledger at)
 of_all (l ∷ ls) zero ledger parcel at has =
     Contains-append_left (taken_of l) (taken_in ls) parcel
-        (subst (λ (x : Ledger). Contains (taken_of x) parcel) (sym (some_is l ledger at)) has)
+    (subst (λ (x : Ledger). Contains (taken_of x) parcel) (sym (some_is l ledger at)) has)
 of_all (l ∷ ls) (suc k) ledger parcel at has =
     Contains-append_right (taken_of l) (taken_in ls) parcel (of_all ls k ledger parcel at has)
 
@@ -60,7 +60,7 @@ module _ (ledgers : List Ledger) (own : AreOwn ledgers) where
       let (k, there) = element_at (taken_of o.ledger) parcel o.has in
       let here : o.index ≡ cpu = sym (own o.index o.ledger o.at k parcel there) ∙ is in
       subst (λ (l : Ledger). Contains (taken_of l) parcel)
-          (some_is o.ledger ledger (sym o.at ∙ ap (slice_get ledgers) here ∙ at)) o.has
+      (some_is o.ledger ledger (sym o.at ∙ ap (slice_get ledgers) here ∙ at)) o.has
 
   -- nothing was taken of a CPU without a ledger
   pub in_none : (parcel : Parcel) → length ledgers ≤ parcel.cpu → Contains (taken_in ledgers) parcel → ⊥

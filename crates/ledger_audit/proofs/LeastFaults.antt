@@ -34,8 +34,8 @@ module _ (good : Parcel → Type 0) (these : List Parcel) (x : Parcel) where
     fill_is = l.fill_is;
     least =
         λ p bad.
-               ⊎_elim (λ before. l.least p (before, bad.1)) (λ is. absurd (bad.1 (subst good is fine)))
-                   (Contains-push_cases these x p bad.0);
+        ⊎_elim (λ before. l.least p (before, bad.1)) (λ is. absurd (bad.1 (subst good is fine)))
+        (Contains-push_cases these x p bad.0);
   }
 
   abbrev IsBad : Parcel → Type 0
@@ -46,29 +46,35 @@ module _ (good : Parcel → Type 0) (these : List Parcel) (x : Parcel) where
       → (p : Parcel) → IsBad p → IsUpTo key.cpu.0 key.fill.0 p.cpu p.fill
   none_before None key all least p bad =
       ⊎_elim (λ before. absurd (bad.1 (all p before)))
-          (λ is. subst (λ (q : Parcel). IsUpTo key.cpu.0 key.fill.0 q.cpu q.fill) is least.up_to_parcel)
-          (Contains-push_cases these x p bad.0)
+      (λ is. subst (λ (q : Parcel). IsUpTo key.cpu.0 key.fill.0 q.cpu q.fill) is least.up_to_parcel)
+      (Contains-push_cases these x p bad.0)
   none_before (Some other) key l least p bad =
       ⊎_elim (λ before.
-                 up_to_all key.cpu.0 key.fill.0 other.cpu.0 other.fill.0 p.cpu p.fill (least.up_to_found other refl)
-                     (l.least p (before, bad.1)))
+      up_to_all key.cpu.0 key.fill.0 other.cpu.0 other.fill.0 p.cpu p.fill (least.up_to_found other refl)
+      (l.least p (before, bad.1)))
       (λ is. subst (λ (q : Parcel). IsUpTo key.cpu.0 key.fill.0 q.cpu q.fill) is least.up_to_parcel)
-          (Contains-push_cases these x p bad.0)
+      (Contains-push_cases these x p bad.0)
 
   -- the key that was found is a bad parcel's
   found_before : (found : Option ParcelKey) (key : ParcelKey) → IsLeastFault these good found → found ≡ Some key
       → (p : Parcel) × IsBad p × (p.cpu ≡ key.cpu.0) × (p.fill ≡ key.fill.0)
   found_before None key all is = cc
-  found_before (Some other) key l is = let same = some_key other key is in
-      (l.parcel, (Contains-append_left these (x ∷ []) l.parcel l.is_one.0, l.is_one.1),
-       l.cpu_is ∙ ap (λ (q : ParcelKey). q.cpu.0) same, l.fill_is ∙ ap (λ (q : ParcelKey). q.fill.0) same)
+  found_before (Some other) key l is = let same = some_key other key is in (
+    l.parcel,
+    (Contains-append_left these (x ∷ []) l.parcel l.is_one.0, l.is_one.1),
+    l.cpu_is ∙ ap (λ (q : ParcelKey). q.cpu.0) same,
+    l.fill_is ∙ ap (λ (q : ParcelKey). q.fill.0) same,
+  )
 
   one_bad : (found : Option ParcelKey) (key : ParcelKey) → (good x → ⊥) → IsLeastFault these good found
       → IsLeastKey found x key → (p : Parcel) × IsBad p × (p.cpu ≡ key.cpu.0) × (p.fill ≡ key.fill.0)
   one_bad found key bad l least = ⊎_elim
-      (λ own.
-          (x, (Contains-push these x, bad), sym (ap (λ (q : ParcelKey). q.cpu.0) own),
-           sym (ap (λ (q : ParcelKey). q.fill.0) own)))
+      (λ own. (
+        x,
+        (Contains-push these x, bad),
+        sym (ap (λ (q : ParcelKey). q.cpu.0) own),
+        sym (ap (λ (q : ParcelKey). q.fill.0) own),
+      ))
       (λ before. found_before found key l before) least.one_of
 
   -- one parcel more, that isn't good
@@ -90,15 +96,15 @@ pub good_at : (good : Parcel → Type 0) (these xs : List Parcel) (i : ℕ) (x :
     → IsLeastFault (these ++ take i xs) good found → IsLeastFault (these ++ take (i + 1) xs) good found
 good_at good these xs i x found within is fine l =
     subst (λ (all : List Parcel). IsLeastFault all good found) (one_more these xs i x within is)
-        (good_more good (these ++ take i xs) x found fine l)
+    (good_more good (these ++ take i xs) x found fine l)
 
 pub bad_at : (good : Parcel → Type 0) (these xs : List Parcel) (i : ℕ) (x : Parcel) (found : Option ParcelKey)
-        (key : ParcelKey) → i < length xs → x ≡ get_or xs i x → (good x → ⊥)
+    (key : ParcelKey) → i < length xs → x ≡ get_or xs i x → (good x → ⊥)
     → IsLeastFault (these ++ take i xs) good found → IsLeastKey found x key
-        → IsLeastFault (these ++ take (i + 1) xs) good (Some key)
+    → IsLeastFault (these ++ take (i + 1) xs) good (Some key)
 bad_at good these xs i x found key within is bad l least =
     subst (λ (all : List Parcel). IsLeastFault all good (Some key)) (one_more these xs i x within is)
-        (bad_more good (these ++ take i xs) x found key bad l least)
+    (bad_more good (these ++ take i xs) x found key bad l least)
 
 -- ---- there is one least key
 

@@ -31,7 +31,7 @@ module _ (cpu : ℕ) (parcels : List Parcel) where
     -- one more, whose fill is above that of the one before it
     pub rise_more : next.cpu ≡ cpu
         → ((before : ℕ) (previous : Parcel) → before + 1 ≡ end → slice_get parcels before ≡ Some previous
-           → previous.fill < next.fill)
+        → previous.fill < next.fill)
         → RiseTo cpu parcels end
         → RiseTo cpu parcels (end + 1)
     rise_more own above to = record {

@@ -16,14 +16,14 @@ pub stays_after : (n m : ℕ) (xs ys : List ℕ) → n ≤ m → drop n xs ≡ d
 stays_after n m xs ys le is =
     let sum : n + (m - n) ≡ m = omega arith in
     ap (λ (k : ℕ). drop k xs) (sym sum) ∙ sym (drop-drop (m - n) n xs) ∙ ap (drop (m - n)) is ∙ drop-drop (m - n) n ys
-        ∙ ap (λ (k : ℕ). drop k ys) sum
+    ∙ ap (λ (k : ℕ). drop k ys) sum
 
 -- the whole is its front and what stayed
 pub whole_is : (n : ℕ) (xs ys bytes : List ℕ) → take n xs ≡ bytes → drop n xs ≡ drop n ys → n ≡ length bytes
     → xs ≡ bytes ++ drop (length bytes) ys
 whole_is n xs ys bytes front behind len =
     sym (take-append-drop n xs) ∙ ap (λ (l : List ℕ). l ++ drop n xs) front ∙ ap (λ (l : List ℕ). bytes ++ l) behind
-        ∙ ap (λ (k : ℕ). bytes ++ drop k ys) len
+    ∙ ap (λ (k : ℕ). bytes ++ drop k ys) len
 
 -- ---- the count
 
@@ -64,16 +64,16 @@ stored_fits contents missed size fits =
 
 -- six numbers, the data, the count if it is stored, and zeros, each put after the last one
 pub parts_are : (cpu fill first missed time word : ℕ)
-        (contents stored zeros empty one two three four five six seven eight nine : List ℕ) (end behind n : ℕ)
+    (contents stored zeros empty one two three four five six seven eight nine : List ℕ) (end behind n : ℕ)
     → take 8 one ≡ take 0 empty ++ to_le_bytes w64 cpu → take 16 two ≡ take 8 one ++ to_le_bytes w64 fill
     → take 24 three ≡ take 16 two ++ to_le_bytes w64 first → take 32 four ≡ take 24 three ++ to_le_bytes w64 missed
-        → take 40 five ≡ take 32 four ++ to_le_bytes w64 time → take 48 six ≡ take 40 five ++ to_le_bytes w64 word
-        → take end seven ≡ take 48 six ++ contents
+    → take 40 five ≡ take 32 four ++ to_le_bytes w64 time → take 48 six ≡ take 40 five ++ to_le_bytes w64 word
+    → take end seven ≡ take 48 six ++ contents
     → take behind eight ≡ take end seven ++ stored → take n nine ≡ take behind eight ++ zeros
-        → take n nine
-            ≡ le64 cpu
-                ++ (le64 fill
-                    ++ (le64 first ++ (le64 missed ++ (le64 time ++ (le64 word ++ (contents ++ (stored ++ zeros)))))))
+    → take n nine
+    ≡ le64 cpu
+    ++ (le64 fill
+    ++ (le64 first ++ (le64 missed ++ (le64 time ++ (le64 word ++ (contents ++ (stored ++ zeros)))))))
 unfolding le64
 parts_are cpu fill first missed time word contents stored zeros empty one two three four five six seven eight nine end
     behind n p1 p2 p3 p4 p5 p6 p7 p8 p9 =

@@ -40,8 +40,8 @@ least_is xs rising count from x below lt is above = record {
       (λ (g : count ≤ k).
       ⊎_elim (λ (l : count < k). let pair = AllPairs-from_increasing xs rising count k 0 l in_list in omega arith)
       (λ (e : k ≤ count). let k_is : k ≡ count = omega arith in
-       let same : get_or xs k 0 ≡ get_or xs count 0 = λ i. get_or xs (k_is i) 0 in
-       omega arith)
+      let same : get_or xs k 0 ≡ get_or xs count 0 = λ i. get_or xs (k_is i) 0 in
+      omega arith)
       (cases_lt count k))
       (cases_lt k count);
 }
@@ -75,15 +75,15 @@ either left right from (Some x) b None l r one low high = absurd low
 either left right from a b (Some x) l r one low high =
     let far : (other : ℕ) → from ≤ other → (left other ⊎ right other) → x ≤ other =
     λ other above.
-           ⊎_elim (λ there. not_above left from a l x low other above there)
-               (λ there. not_above right from b r x high other above there) in
+    ⊎_elim (λ there. not_above left from a l x low other above there)
+    (λ there. not_above right from b r x high other above there) in
     ⊎_elim
     (λ (is : Some x ≡ a).
     let here : IsLeastFrom left from x = subst (λ (o : Option ℕ). IfSome o (IsLeastFrom left from)) (sym is) l.least in
     record { least = record { there = inl here.there; above = here.above; least = far }; none = tt })
     (λ (is : Some x ≡ b).
     let here : IsLeastFrom right from x =
-        subst (λ (o : Option ℕ). IfSome o (IsLeastFrom right from)) (sym is) r.least in
+    subst (λ (o : Option ℕ). IfSome o (IsLeastFrom right from)) (sym is) r.least in
     record { least = record { there = inr here.there; above = here.above; least = far }; none = tt })
     one
 

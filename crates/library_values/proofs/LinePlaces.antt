@@ -20,9 +20,9 @@ module _ {H : Type 0} where
   lines_stay bytes more [] all = refl
   lines_stay bytes more (place ∷ places) all =
       let one : line_in (bytes ++ more) place ≡ line_in bytes place =
-          line_stays bytes more place (all 0 place (omega arith)) in
+      line_stays bytes more place (all 0 place (omega arith)) in
       let others : map (line_in (bytes ++ more)) places ≡ map (line_in bytes) places =
-          lines_stay bytes more places (λ k d lt. all (suc k) d (omega arith)) in
+      lines_stay bytes more places (λ k d lt. all (suc k) d (omega arith)) in
       λ i. one i ∷ others i
 
   -- where the bytes of a line with this head are
@@ -40,12 +40,12 @@ module _ {H : Type 0} where
   pub pushed : (bytes new : List ℕ) (places all : List (LinePlace H)) (head : H) (line : List ℕ) (start len : ℕ)
       → All (StandsIn (length bytes)) places → start ≡ length bytes → len ≡ length line → new ≡ bytes ++ line
       → all ≡ places ++ place_of head start len ∷ []
-          → map (line_in new) all ≡ map (line_in bytes) places ++ (head, line) ∷ []
+      → map (line_in new) all ≡ map (line_in bytes) places ++ (head, line) ∷ []
   pushed bytes new places all head line start len stand start_is len_is new_is all_is =
       let there : List ℕ = bytes ++ line in
       let last : LinePlace H = place_of head start len in
       let front : map (line_in there) places ≡ map (line_in bytes) places = lines_stay bytes line places stand in
       let back : line_in there last ≡ (head, line) =
-          (λ i. line_in there (place_of head (start_is i) (len_is i))) ∙ put_line bytes head line in
+      (λ i. line_in there (place_of head (start_is i) (len_is i))) ∙ put_line bytes head line in
       (λ i. map (line_in (new_is i)) (all_is i)) ∙ map-append (line_in there) places (last ∷ [])
-          ∙ (λ i. front i ++ back i ∷ [])
+      ∙ (λ i. front i ++ back i ∷ [])

@@ -73,10 +73,10 @@ put_more out left new runs run are put past = ⊎_elim with_room without (cases_
         let left_is : left ≡ front ++ get_or out n last ∷ behind = are ∙ (λ i. front_fits i ++ next i) in
         let left_len = ap length left_is ∙ length-append front (get_or out n last ∷ behind) in
         let new_is : new ≡ front ++ last ∷ behind =
-            put (omega (arith, left_len, front_len)) ∙ ap (λ (l : List Run). slice_set l n last) left_is
-                ∙ set_at front (get_or out n last) behind last n front_len in
+        put (omega (arith, left_len, front_len)) ∙ ap (λ (l : List Run). slice_set l n last) left_is
+        ∙ set_at front (get_or out n last) behind last n front_len in
         let all_fit : take room all ≡ front ++ last ∷ [] =
-            take_all room all (omega (arith, all_len, more_len)) ∙ all_is in
+        take_all room all (omega (arith, all_len, more_len)) ∙ all_is in
         new_is ∙ sym (append_assoc front (last ∷ []) behind) ∙ sym (λ i. all_fit i ++ drop (more_len i) out)
 
     without : room ≤ n → ArePut out (runs ++ run ∷ []) new
@@ -86,9 +86,9 @@ put_more out left new runs run are put past = ⊎_elim with_room without (cases_
         let left_len = ap length left_is ∙ length-append (take room front) [] in
         let front_cut = length-take-le room front (omega (arith, front_len)) in
         let same : take room all ≡ take room front =
-            ap (take room) all_is ∙ take-append-le room front (last ∷ []) (omega (arith, front_len)) in
+        ap (take room) all_is ∙ take-append-le room front (last ∷ []) (omega (arith, front_len)) in
         let none_more : drop (length (runs ++ run ∷ [])) out ≡ [] =
-            drop_all (length (runs ++ run ∷ [])) out (omega (arith, more_len)) in
+        drop_all (length (runs ++ run ∷ [])) out (omega (arith, more_len)) in
         past (omega (arith, left_len, front_cut)) ∙ left_is ∙ sym (λ i. same i ++ none_more i)
 
 -- so is the run that a walk yields next
@@ -96,7 +96,7 @@ pub put_next : (out left new : List Run) (yielded : List (RecordNo × RecordNo))
     → count ≡ length yielded → ArePut out (map run_numbers yielded) left
     → (count < length left → new ≡ slice_set left count (run_of (run_numbers item)))
     → (length left ≤ count → new ≡ left)
-        → (count + 1 ≡ length (yielded ++ item ∷ [])) × ArePut out (map run_numbers (yielded ++ item ∷ [])) new
+    → (count + 1 ≡ length (yielded ++ item ∷ [])) × ArePut out (map run_numbers (yielded ++ item ∷ [])) new
 put_next out left new yielded item count is are put past =
     let runs : List (ℕ × ℕ) = map run_numbers yielded in
     let run : ℕ × ℕ = run_numbers item in
@@ -105,8 +105,7 @@ put_next out left new yielded item count is are put past =
     (λ lt. put (subst (λ (k : ℕ). k < length left) same lt) ∙ ap (λ (k : ℕ). slice_set left k (run_of run)) (sym same))
     (λ le. past (subst (λ (k : ℕ). length left ≤ k) same le)) in
     let both : runs ++ run ∷ [] ≡ map run_numbers (yielded ++ item ∷ []) =
-        sym (map-append run_numbers yielded (item ∷ [])) in
-    (
+    sym (map-append run_numbers yielded (item ∷ [])) in (
       omega (arith, is, length-append yielded (item ∷ [])),
       subst (λ (rs : List (ℕ × ℕ)). ArePut out rs new) both more,
     )

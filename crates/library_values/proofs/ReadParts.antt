@@ -33,18 +33,20 @@ image_more image more time size missed records fits d =
     ap (λ (l : List ℕ). l ++ more) header.whole
     ∙ append_assoc (le64 time) (word ++ (d.contents ++ d.behind)) more
     ∙ ap (λ (l : List ℕ). le64 time ++ l)
-        (append_assoc word (d.contents ++ d.behind) more
-         ∙ ap (λ (l : List ℕ). word ++ l) (append_assoc d.contents d.behind more)) in
+    (append_assoc word (d.contents ++ d.behind) more
+    ∙ ap (λ (l : List ℕ). word ++ l) (append_assoc d.contents d.behind more)) in
     record {
       commit = d.commit;
       contents = d.contents;
       behind = d.behind ++ more;
       parts = record {
         header =
-            record { whole = whole;
-                    time_fits = header.time_fits;
-                    size_fits = header.size_fits;
-                    ignored_fits = header.ignored_fits };
+            record {
+              whole = whole;
+              time_fits = header.time_fits;
+              size_fits = header.size_fits;
+              ignored_fits = header.ignored_fits;
+            };
         size_is = d.parts.size_is;
         length_fits = fits;
       };
@@ -65,7 +67,7 @@ parcel_more short more bytes parcel is fits d =
     ∙ ap (λ (l : List ℕ). l ++ more) n.whole
     ∙ append_assoc (le64 parcel.cpu) (le64 parcel.fill ++ (le64 parcel.first ++ (le64 parcel.missed ++ image))) more
     ∙ ap (λ (l : List ℕ). le64 parcel.cpu ++ l)
-        (append_assoc (le64 parcel.fill) (le64 parcel.first ++ (le64 parcel.missed ++ image)) more
+    (append_assoc (le64 parcel.fill) (le64 parcel.first ++ (le64 parcel.missed ++ image)) more
     ∙ ap (λ (l : List ℕ). le64 parcel.fill ++ l) (append_assoc (le64 parcel.first) (le64 parcel.missed ++ image) more
     ∙ ap (λ (l : List ℕ). le64 parcel.first ++ l) (append_assoc (le64 parcel.missed) image more))) in
     let len = ap length whole ∙ length-with_numbers parcel.cpu parcel.fill parcel.first parcel.missed (image ++ more) in
@@ -96,14 +98,14 @@ parcel_more short more bytes parcel is fits d =
 pub no_memory_for : {X : Type 0} (short more bytes : List ℕ) (answer : Result X ParcelFault) → bytes ≡ short ++ more
     → length bytes ≤ 32 + MAX_IMAGE → HasReading short → answer ≡ Err NoMemory
     → ((cause : ParcelCause) → (answer ≡ Err (parcel_fault cause)) ↔ FirstParcelFault short cause)
-        → IsNoParcel bytes NoMemory
+    → IsNoParcel bytes NoMemory
 no_memory_for {X} short more bytes answer is fits has refused fault =
     let reads = parcel_more short more bytes has.0 is fits has.1 in
     record {
       first = λ cause. (
         (λ e.
             absurd (DecodesParcel-FirstParcelFault short has.0 cause has.1
-                    ((fault cause).0 (refused ∙ ap (λ (f : ParcelFault). Err f) e)))),
+            ((fault cause).0 (refused ∙ ap (λ (f : ParcelFault). Err f) e)))),
         (λ f. absurd (DecodesParcel-FirstParcelFault bytes has.0 cause reads f)),
       );
       no_memory = λ same. (has.0, reads);

@@ -69,7 +69,7 @@ module _ (script : Script) (asked : ℕ) where
       → RunsOn h w behind
   from_there front event behind h w history window run =
       subst (λ (v : Window). RunsOn h v behind)
-          (fold-append window_after (first_window script.start) front (event ∷ []) ∙ window)
+      (fold-append window_after (first_window script.start) front (event ∷ []) ∙ window)
       (subst (λ (l : List HistoryEvent). RunsOn l (window_at script.start (front ++ event ∷ [])) behind) history run)
 
   abbrev same_history : (front : List RingEvent) (event : RingEvent)
@@ -195,10 +195,10 @@ line_adds script cpu (close at) before after own adds =
     at_adds before after own (writes_add script _ _ _ before after own) adds
 line_adds script cpu (step_reader at count) before after own adds =
     at_adds before after own (λ (r : ReadsOn script.start before own after). ap (λ (s : CpuState). s.events) r.after_is)
-        adds
+    adds
 line_adds script cpu (take_page at) before after own adds =
     at_adds before after own
-        (λ (t : TakesPage script.start before own after). ap (λ (s : CpuState). s.events) t.after_is) adds
+    (λ (t : TakesPage script.start before own after). ap (λ (s : CpuState). s.events) t.after_is) adds
 line_adds script cpu (wish at) before after own adds =
     at_adds before after own (asks_adds before after own) adds
 line_adds script cpu (deliver collector at fill) before after own adds = idle_adds before after own adds

@@ -229,7 +229,7 @@ module _ (n size start : ℕ) (c : Core) (x : Exchange) (after : Core) (r : IsRi
         let step2 =
         as_event (frame ∷ below) (ends (padded top.payload)) on_top e (λ i. event_in (at i) (is.payloads_are i)) in
         let after_is =
-            ends_make n size c frame below number (padded top.payload) x.answer after on_top at (cases_of step2) in
+        ends_make n size c frame below number (padded top.payload) x.answer after on_top at (cases_of step2) in
         by_does (subst (Does n size (length c.frames - 1) c frame (top.payload ∷ others) _)
         (sym (ap writer_of after_is))
         (top_leaves n size (length c.frames - 1) c frame below

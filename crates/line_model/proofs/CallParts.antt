@@ -186,7 +186,7 @@ pub calls_step : (n size start depth count : ℕ) (s : LineWriting) (payloads : 
     → TopCalls n size start depth s payloads (x ∷ calls) t lefts
     → suc (length calls) ≤ count
     → (events : List RingEvent) × (behind : LineState) × StepsPart n size count p events behind
-        × Agrees n behind lefts t
+    × Agrees n behind lefts t
 calls_step n size start depth count s payloads x calls t lefts p agrees are some called few =
     let m = calls_make n size start depth s payloads x calls t lefts p agrees called in
     let frames_are = count_frames s.frames payloads p.frames p.finishing agrees.frames in

@@ -112,7 +112,7 @@ module _ (n size depth : ℕ) (c : Core) (frame : Frame) (below : List Frame) (d
   free_now : (history : List HistoryEvent) (xs : List OpenFrame) (l : Bool)
       → c.opened < c.done + n
       → (h : ℕ) × (d : List RingEvent → List RingEvent)
-          × Free h d (λ k. line_state history (counts k c.done c.opened) xs l)
+      × Free h d (λ k. line_state history (counts k c.done c.opened) xs l)
   free_now history xs l room = dite (ℕ_discrete c.opened (head + n))
       (λ e. (
         head + 1,

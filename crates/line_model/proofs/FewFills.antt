@@ -123,7 +123,7 @@ few_act start h w wished begins few =
 pub few_run : (n start : ℕ) (h : List HistoryEvent) (w after : Window) (events : List RingEvent)
     → WindowRunFrom n h w events after
     → ((front behind : List HistoryEvent) → h ++ history_events_of events ≡ front ++ open_fill ∷ behind
-       → tail_of front ≢ [])
+    → tail_of front ≢ [])
     → IsFew start h w.opened
     → IsFew start (h ++ history_events_of events) after.opened
 few_run n start h w after [] run begins few =
@@ -137,7 +137,7 @@ few_run n start h w after (acts a ∷ events) run begins few =
     (λ front behind e. begins front behind (one ∙ e))
     (few_act start h w a
     (λ opens. begins h (history_events_of events) (ap (λ (b : HistoryEvent). h ++ b ∷ history_events_of events) opens))
-        few))
+    few))
 few_run n start h w after (closes ∷ events) run begins few =
     few_run n start h (window_after w closes) after events run.1 begins record { all = few.all; held = few.held }
 few_run n start h w after (takes ∷ events) run begins few =

@@ -135,7 +135,7 @@ leads_same : (n : ℕ) (before after : LineState) (events : List RingEvent)
     → Leads n before events after
 leads_same n before after events none e =
     subst (λ (l : List RingEvent). Leads n before l after) (sym none)
-        (subst (Leads n before []) e (leads_none n before))
+    (subst (Leads n before []) e (leads_none n before))
 
 pub leads_lines : (n size : ℕ) (lines : List Command) (before after : LineState) (events : List RingEvent)
     → LineParts n size lines before events after

@@ -59,7 +59,7 @@ module _ (script : Script) (asked : ℕ) where
       (subst (λ (l : List RingEvent). IsDue (situation_after script asked l) event) (sym (append-nil before)) first)
   more_due before own event first due (other ∷ front) rest here is =
       subst (λ (e : RingEvent). IsDue (situation_after script asked (before ++ e ∷ front)) here)
-          (ap (first_of event) is)
+      (ap (first_of event) is)
       (subst (λ (l : List RingEvent). IsDue (situation_after script asked l) here)
       (append_assoc before (event ∷ []) front)
       (due front rest here (ap others_of is)))
@@ -132,7 +132,7 @@ module _ (script : Script) (lane next : Lane) (state : CpuState) (stands : Stand
         let closed : now.head < now.done =
         subst (λ (k : ℕ). k < now.done) head_now (subst (λ (k : ℕ). lane.core.head < k) done_now one.closed) in
         more_due script state.wish state.events [] takes closed
-            (none_due script state.wish (state.events ++ takes ∷ []))
+        (none_due script state.wish (state.events ++ takes ∷ []))
 
     abbrev SeenBy : Type 0
     SeenBy = (next.core.reader.seen ≡ now.done) ⊎ (next.core.reader.seen ≡ state.seen)
@@ -183,7 +183,7 @@ module _ (script : Script) (lane next : Lane) (state : CpuState) (stands : Stand
           by_take false is =
               let looked : Knows lane.core =
               subst (λ (p : ReaderPhase). HasLooked p lane.core.reader.seen lane.core.done) (sym (stands.at_rest is))
-                  tt in
+              tt in
               ⊎_elim
               (λ all. inl (all ∙ done_now))
               (λ (same, none, way). inr (same ∙ sym stands.seen, inr (empty none, is_moving way)))
@@ -243,7 +243,7 @@ module _ (script : Script) (lane next : Lane) (state : CpuState) (stands : Stand
       payloads = next_fits script lane next state stands xs (wish at) line;
       run = run_rests script.pages script.start lane.core next.core state.events stands.run
           (ap (λ (c : Core). c.history) next_is) (sym (ap window_of next_is))
-              (ap (λ (c : Core). c.reader.taken) next_is);
+          (ap (λ (c : Core). c.reader.taken) next_is);
       frames =
           subst (λ (c : Core). FramesStand c.frames next.payloads state.frames) (sym next_is)
           (subst (λ (l : List (List ℕ)). FramesStand lane.core.frames l state.frames) (sym payloads_are) stands.frames);

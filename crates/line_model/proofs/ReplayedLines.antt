@@ -101,15 +101,17 @@ module _ (script : Script) (line : ℕ) (before after : World) (kept : IsWorldKe
     -- a line of the reader
     by_reader : (cpu ≡ of
         → (made : List Exchange)
-            × NoCalls (writer_of lane.core) lane.payloads made (writer_of r.next.core) r.next.payloads)
+        × NoCalls (writer_of lane.core) lane.payloads made (writer_of r.next.core) r.next.payloads)
         → writer_line cpu command ≡ false
         → Here command
     by_reader none not = dite (ℕ_discrete cpu of)
         (λ e.
-            record { next = r.next;
-                    next_is = next_at e;
-                    fit = own_fit e;
-                    called = let (made, calls) = none e in inr (not, made, calls) })
+        record {
+          next = r.next;
+          next_is = next_at e;
+          fit = own_fit e;
+          called = let (made, calls) = none e in inr (not, made, calls);
+        })
         (λ ne. elsewhere command (apart ne) not)
 
   delivered : (collector of fill : ℕ)

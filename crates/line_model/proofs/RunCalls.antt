@@ -73,7 +73,7 @@ module _ (n size start : ℕ) where
         → StepsFrame n size count before xs after
         → (made : List Exchange)
         × StepsCalls n size start count (writer_of before.core) before.payloads made (writer_of after.core)
-            after.payloads
+        after.payloads
     steps_calls count xs one (lacks_to_step h) =
         let (same, all) = stays_calls h.stays in ([], none_to_step h.none refl same all)
     steps_calls count [] one (steps_on some same (few, inl all)) = absurd (let none : 0 ≡ count = all in omega arith)
@@ -225,7 +225,7 @@ module _ (n size start : ℕ) where
       → NoCalls (writer_of before.core) before.payloads [] (writer_of after.core) after.payloads
   wish_calls before after xs many w =
       let (none, same, all) =
-          behind_stays before w.core (reader_stays before.core wishes w.answer w.core tt w.step) many in
+      behind_stays before w.core (reader_stays before.core wishes w.answer w.core tt w.step) many in
       (refl, ap (λ (l : Lane). writer_of l.core) w.after_is ∙ same, ap (λ (l : Lane). l.payloads) w.after_is ∙ all)
 
 pub line_runs_are_calls : LineRunsAreCalls

@@ -67,8 +67,8 @@ module _ (n size start records : ℕ) (c : Core) (x : Exchange) (after : Core) (
   few some =
       let (events, run) = run_reported n size start c reached in
       let packed =
-          subst (λ (l : List HistoryEvent). IsPacked l size) (sym run.history_events)
-              (runs_packed n size start c kept) in
+      subst (λ (l : List HistoryEvent). IsPacked l size) (sym run.history_events)
+      (runs_packed n size start c kept) in
       let (all, held) = fills_are_few n size start events _ run.window packed in
       subst (λ (l : List HistoryEvent). c.opened ≤ start + length (reserved_records l)) run.history_events
       (held (λ none. some (ap tail_of (sym run.history_events) ∙ none)))

@@ -597,8 +597,8 @@ module _ (script : Script) (before : Lane) (state : CpuState) (p : Option (List 
           afterwards = let st = opened_stack c.history (close_frame ∷ pushed_frames fs) (stack_of_kind for_close k w) in
               subst (λ (xs : List PushedFrame). Leaves (situation_moved s (acts open_fill)) xs None) (sym st)
               (λ again.
-                  absurd
-                      (subst (IsFillNeededFor (situation_moved s (acts open_fill))) st again (opened_tail c.history)))
+              absurd
+              (subst (IsFillNeededFor (situation_moved s (acts open_fill))) st again (opened_tail c.history)))
 
           second : IsDue (situation_after script state.wish (state.events ++ acts open_fill ∷ [])) (acts (leave None))
           second = subst (λ (x : Situation). IsDue x (acts (leave None)))
@@ -702,7 +702,7 @@ module _ (script : Script) (before : Lane) (state : CpuState) (p : Option (List 
   unneeded at alone needs =
       let is_left = wishing_left frame.kind frame.state (may_be wishing at) in
       let found =
-          (subst (IsFillNeededFor s) (stack_empty n script.start c frame fs kept.history top is_left alone) needs).0 in
+      (subst (IsFillNeededFor s) (stack_empty n script.start c frame fs kept.history top is_left alone) needs).0 in
       let serves = subst (Serves c.opened) (top ∙ ap (λ (xs : List Frame). frame ∷ xs) alone)
       (reached_serves n size script.start c stands.reached found) in
       let both : None ≡ Some c.opened = sym (ap noted_fill at) ∙ serves.1 in cc

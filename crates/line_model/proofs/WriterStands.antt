@@ -160,7 +160,7 @@ module _ (script : Script) (lane : Lane) (state : CpuState) (stands : Stands scr
       (λ why. subst (Refuses script.size moment (length payload)) (sym many) why)
       (λ why. subst (Refuses script.size moment (length payload)) many why)
       (reached_further script.pages script.size script.start lane.core _ x.answer p.core stands.reached p.step)
-          p.after_is
+      p.after_is
       (record_push script.pages script.size lane.core moment (length payload) x.answer p.core (cases_of p.step))
 
   close_pushes : (x : Exchange) (between : Lane)
@@ -168,10 +168,10 @@ module _ (script : Script) (lane : Lane) (state : CpuState) (stands : Stands scr
       → PushStands (MAX_FRAMES ≤ length state.frames) push_close [] x.answer between
   close_pushes x between p =
       push_stands (MAX_FRAMES ≤ length lane.core.frames) _ for_close _ [] x.answer between p.core refl
-          (λ n h w. (tt, refl))
+      (λ n h w. (tt, refl))
       (λ why. subst (λ (k : ℕ). MAX_FRAMES ≤ k) (sym many) why) (λ why. subst (λ (k : ℕ). MAX_FRAMES ≤ k) many why)
       (reached_further script.pages script.size script.start lane.core _ x.answer p.core stands.reached p.step)
-          p.after_is
+      p.after_is
       (close_push script.pages script.size lane.core x.answer p.core (cases_of p.step))
 
   -- nothing is done
@@ -267,7 +267,7 @@ module _ (script : Script) (lane : Lane) (state : CpuState) (stands : Stands scr
       has_some none =
           let same : lane ≡ next =
           subst (λ (l : List Exchange). FrameRun script.pages script.size (length lane.core.frames) lane l next) none
-              run in
+          run in
           let long = ap (λ (l : Lane). length l.core.frames) same in
           let made = ap (λ (l : List Exchange). length l) none in
           ⊎_elim (λ all. (let no : ⊥ = omega (arith, all, made, least) in no))
@@ -348,7 +348,7 @@ module _ (script : Script) (lane : Lane) (state : CpuState) (stands : Stands scr
   finish_stands next xs are (lacks_to_finish h) =
       idle_stands (FinishesTop script) next h.stays
       (λ idle.
-          FinishesTop.lacks_to_finish (no_lines lane.core.frames lane.payloads state.frames stands.frames h.none) idle)
+      FinishesTop.lacks_to_finish (no_lines lane.core.frames lane.payloads state.frames stands.frames h.none) idle)
   finish_stands next xs are (finishes some run ended) =
       let (top, below, is) = some_lines lane.core.frames lane.payloads state.frames stands.frames some in
       let g = goes_away top below next xs is (record_fresh are) run ended in record {
@@ -379,7 +379,7 @@ module _ (script : Script) (lane : Lane) (state : CpuState) (stands : Stands scr
           after = with_own state (acts event ∷ g.own) state.frames;
           part = writes_it g.own g.last may refl g.does
               (subst (λ (l : List RingEvent). HasGone (situation_after script state.wish l) state.frames g.last) same
-               g.gone)
+              g.gone)
               refl;
           due = more_due script state.wish state.events g.own (acts event)
               (any (situation_after script state.wish state.events)) g.due;

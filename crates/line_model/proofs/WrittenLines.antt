@@ -230,7 +230,7 @@ module _ (n size start : ℕ) (two : MIN_PAGES ≤ n) (rs : List Reservation) (m
         → IsAllowed size (p.history ++ a ∷ []) (history_events_of behind ++ more)
     begun_allowed a front behind events cut one allowed =
         let same : p.history ++ (history_events_of events ++ more)
-            ≡ (p.history ++ a ∷ []) ++ (history_events_of behind ++ more) =
+        ≡ (p.history ++ a ∷ []) ++ (history_events_of behind ++ more) =
         ap (λ (l : List RingEvent). p.history ++ (history_events_of l ++ more)) cut
         ∙ ap (λ (l : List HistoryEvent). p.history ++ (l ++ more))
         (history_events-append front behind ∙ ap (λ (l : List HistoryEvent). l ++ history_events_of behind) one)
@@ -268,7 +268,7 @@ module _ (n size start : ℕ) (two : MIN_PAGES ≤ n) (rs : List Reservation) (m
         let a : HistoryEvent = push moment (length payload) in
         let (done, opened) =
         push_window n p.history p.window between.window front a is_push.window is_push.acts_one (λ v. refl)
-            rest.closed in
+        rest.closed in
         let short : IsTooLong size (length payload) → ⊥ = (λ long. may (inr (inl long))) in
         let early : moment < MOMENT_LIMIT = in_time (λ late. may (inr (inr late))) in
         let o : IsOpen payload (record_frame moment (length payload) None) rs (begun a payload between.window) =
@@ -399,7 +399,7 @@ module _ (n size start : ℕ) (two : MIN_PAGES ≤ n) where
       (front, behind, between, cut, part, parts) =
       by_line (λ next low r. lines_written lines between q behind next more whole.1 low r.keeps r.few r.allowed parts)
       (write_line n size start two rs (history_events_of behind ++ more) p rest few moment payload cpu between front
-       part
+      part
       (cut_allowed p between front behind events more cut allowed))
     where
       by_line : ((next : List Reservation)
@@ -503,11 +503,11 @@ whole_lines_commit n size start lines h two whole room is_history packed made =
     let by_rest = leads_rest n size made.count made.behind made.last made.by_rest made.rest in
     let same : h ≡ history_events_of made.by_lines ++ (history_events_of made.by_rest ++ []) =
     made.history_is ∙ by_rest.history
-        ∙ ap (λ (l : List HistoryEvent). l ++ history_events_of made.by_rest) by_lines.history
+    ∙ ap (λ (l : List HistoryEvent). l ++ history_events_of made.by_rest) by_lines.history
     ∙ ap (λ (l : List HistoryEvent). history_events_of made.by_lines ++ l)
-        (sym (append-nil (history_events_of made.by_rest))) in
+    (sym (append-nil (history_events_of made.by_rest))) in
     let allowed : IsAllowed size [] (history_events_of made.by_lines ++ (history_events_of made.by_rest ++ [])) =
-        record {
+    record {
       history = subst IsHistory same is_history;
       packed = subst (λ (l : List HistoryEvent). IsPacked l size) same packed;
     } in
@@ -604,7 +604,7 @@ lines_from_rest_commit n size start lines line p q events more two whole parts r
     let before = leads_lines n size lines (first_state start) p events parts in
     let leads = leads_line n size line p q more part in
     let begins : (front behind : List HistoryEvent) → history_events_of events ≡ front ++ open_fill ∷ behind
-        → tail_of front ≢ [] =
+    → tail_of front ≢ [] =
     (λ front behind e. packed.begins front (behind ++ history_events_of more)
     (leads.history ∙ ap (λ (l : List HistoryEvent). l ++ history_events_of more) (before.history ∙ e)
     ∙ append_assoc front (open_fill ∷ behind) (history_events_of more))) in

@@ -42,13 +42,13 @@ module _ (s after : Stack) (top : Frame) (below : List Frame) (top_is : s.frames
       → IsAllotted s s.frames (Err Crowded) after
   crowded_after w is =
       subst (λ (fs : List Frame). IsAllotted s fs (Err Crowded) after) (sym top_is)
-          (is, leaves (wants_waiting s top.purpose top.progress w) is)
+      (is, leaves (wants_waiting s top.purpose top.progress w) is)
 
   pub worn_after : WantsPage s top.purpose top.progress → after ≡ after_leave s top below
       → IsAllotted s s.frames (Err Worn) after
   worn_after w is =
       subst (λ (fs : List Frame). IsAllotted s fs (Err Worn) after) (sym top_is)
-          (is, leaves (wants_waiting s top.purpose top.progress w) is)
+      (is, leaves (wants_waiting s top.purpose top.progress w) is)
 
   notes : (purpose : Purpose) (progress : Progress) → top.purpose ≡ purpose → top.progress ≡ progress
       → WantsPage s purpose progress → (start : ℕ) (h : List HistoryEvent) → IsStack start h s
@@ -65,31 +65,32 @@ module _ (s after : Stack) (top : Frame) (below : List Frame) (top_is : s.frames
 
   pub noted_after : WantsPage s top.purpose top.progress → after ≡ with_progress s top below (Waiting (Some (opened s)))
       → IsAllotted s s.frames (Ok NeedsPage) after
-  noted_after w is = subst (λ (fs : List Frame). IsAllotted s fs (Ok NeedsPage) after) (sym top_is)
-      (is,
-       λ start h k.
-              subst (λ (g : List HistoryEvent). IsStack start g after) (sym (append-nil h))
-                  (subst (IsStack start h) (sym is) (notes top.purpose top.progress refl refl w start h k)))
+  noted_after w is = subst (λ (fs : List Frame). IsAllotted s fs (Ok NeedsPage) after) (sym top_is) (
+    is,
+    λ start h k.
+        subst (λ (g : List HistoryEvent). IsStack start g after) (sym (append-nil h))
+        (subst (IsStack start h) (sym is) (notes top.purpose top.progress refl refl w start h k)),
+  )
 
   passes : (noted : ℕ) → top.purpose ≡ Close → state_of top.progress ≡ waiting
       → ((start : ℕ) (h : List HistoryEvent) → IsStack start h s → noted ≤ opened s)
       → after ≡ with_progress s top below (Through noted) → HasEvents s [] after
   passes noted p q le is start h k =
       subst (λ (g : List HistoryEvent). IsStack start g after) (sym (append-nil h))
-          (subst (IsStack start h) (sym is) (gone_through start h s top below noted p' p q (le start h k) k))
+      (subst (IsStack start h) (sym is) (gone_through start h s top below noted p' p q (le start h k) k))
     where
       p' : s.frames ≡ top ∷ below
       p' = top_is
 
   stands : (progress : Progress) → top.progress ≡ progress → (start : ℕ) (h : List HistoryEvent) → IsStack start h s
       → StandsAt s.size s.done s.older s.tail (opens_of h) (reserved_records h) (is_wished h) (kind_of top.purpose)
-          progress
+      progress
   stands progress q start h k =
       subst
-          (StandsAt s.size s.done s.older s.tail (opens_of h) (reserved_records h) (is_wished h) (kind_of top.purpose))
-          q
-          (subst (FramesStand s.size s.done s.older s.tail (opens_of h) (reserved_records h) (is_wished h)) top_is
-           k.holds.frames_are).1
+      (StandsAt s.size s.done s.older s.tail (opens_of h) (reserved_records h) (is_wished h) (kind_of top.purpose))
+      q
+      (subst (FramesStand s.size s.done s.older s.tail (opens_of h) (reserved_records h) (is_wished h)) top_is
+      k.holds.frames_are).1
 
   tried_first : (noted : Option ℕ) → IsNoted (opened s) noted → unwrap_or noted (opened s) ≤ opened s
   tried_first None n = omega arith
@@ -105,27 +106,30 @@ module _ (s after : Stack) (top : Frame) (below : List Frame) (top_is : s.frames
       → after ≡ with_progress s top below (Through tried) → IsAllotted s s.frames (Ok (Fits place)) after
   waited_through noted tried place p q t none is =
       subst (λ (fs : List Frame). IsAllotted s fs (Ok (Fits place)) after) (sym top_is)
-          (subst (λ (x : Purpose). HasFit s top below x top.progress place after) (sym p)
-           (subst (λ (x : Progress). HasFit s top below Close x place after) (sym q)
-      (none, is ∙ ap (λ (n : ℕ). with_progress s top below (Through n)) (t ∙ first_is noted),
-       passes tried p (ap state_of q)
-           (λ start h k.
-               subst (λ (n : ℕ). n ≤ opened s) (sym t) (tried_first noted (stands (Waiting noted) q start h k).0)) is)))
+      (subst (λ (x : Purpose). HasFit s top below x top.progress place after) (sym p)
+      (subst (λ (x : Progress). HasFit s top below Close x place after) (sym q) (
+        none,
+        is ∙ ap (λ (n : ℕ). with_progress s top below (Through n)) (t ∙ first_is noted),
+        passes tried p (ap state_of q)
+            (λ start h k.
+            subst (λ (n : ℕ). n ≤ opened s) (sym t) (tried_first noted (stands (Waiting noted) q start h k).0)) is,
+      )))
 
   pub stayed_through : (noted : ℕ) (place : Place) → top.purpose ≡ Close → top.progress ≡ Through noted → place.len ≡ 0
       → after ≡ with_progress s top below (Through noted) → IsAllotted s s.frames (Ok (Fits place)) after
   stayed_through noted place p q none is =
       subst (λ (fs : List Frame). IsAllotted s fs (Ok (Fits place)) after) (sym top_is)
-          (subst (λ (x : Purpose). HasFit s top below x top.progress place after) (sym p)
-           (subst (λ (x : Progress). HasFit s top below Close x place after) (sym q)
+      (subst (λ (x : Purpose). HasFit s top below x top.progress place after) (sym p)
+      (subst (λ (x : Progress). HasFit s top below Close x place after) (sym q)
       (none, is, passes noted p (ap state_of q) (λ start h k. (stands (Through noted) q start h k).1) is)))
 
 -- a record as nearly all are is reserved
 pub plain_after : (s after : Stack) (pushed : Pushed) (place : Place) → IsPlainTop s pushed
     → ((top : Frame) (below : List Frame) → IsTop s top below
-       → ReservesRecord s top below pushed.moment pushed.len place after) → HasEvents s (reserve ∷ []) after
+    → ReservesRecord s top below pushed.moment pushed.len place after) → HasEvents s (reserve ∷ []) after
     → IsAllotted s s.frames (Ok (Fits place)) after
 plain_after s after pushed place p reserved has_events =
-    subst (λ (fs : List Frame). IsAllotted s fs (Ok (Fits place)) after) (sym p.on_top)
-        (reserved record { purpose = Record pushed.moment pushed.len; progress = Waiting None } p.below p.on_top,
-         has_events)
+    subst (λ (fs : List Frame). IsAllotted s fs (Ok (Fits place)) after) (sym p.on_top) (
+      reserved record { purpose = Record pushed.moment pushed.len; progress = Waiting None } p.below p.on_top,
+      has_events,
+    )

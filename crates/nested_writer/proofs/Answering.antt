@@ -31,7 +31,7 @@ module _ (start : ℕ) (h : List HistoryEvent) (s : Stack) (k : IsStack start h 
       → fill_len (tail_of h ++ reservation_for moment len (reserved_records h) ∷ []) ≡ end_with s moment len
   tail_end moment len =
       ap (λ (l : List Reservation). fill_len (l ++ reservation_for moment len (reserved_records h) ∷ [])) (tail_is h)
-          ∙ end_is start (opens_of h) (reserved_records h) (is_wished h) s k.holds moment len
+      ∙ end_is start (opens_of h) (reserved_records h) (is_wished h) s k.holds moment len
 
   pub number_counts : next_number s ≡ length (reserved_records h)
   number_counts = number_is start (opens_of h) (reserved_records h) (is_wished h) s k.holds
@@ -90,30 +90,30 @@ module _ (start : ℕ) (h : List HistoryEvent) (s : Stack) (k : IsStack start h 
         → (WantsPage s top.purpose top.progress → ⊥) → IsAllotAnswer s h s.frames (Ok (Fits place))
     fits_answer noted place q not =
         answered (Ok (Fits place))
-            (subst (HasItsFill s h top.purpose) (sym q)
-             (has_its_fill top.purpose noted (λ wants. not (subst (WantsPage s top.purpose) (sym q) wants))))
+        (subst (HasItsFill s h top.purpose) (sym q)
+        (has_its_fill top.purpose noted (λ wants. not (subst (WantsPage s top.purpose) (sym q) wants))))
 
     pub close_answer : (noted : ℕ) (place : Place) → top.purpose ≡ Close → top.progress ≡ Through noted
         → (WantsPage s top.purpose top.progress → ⊥) → IsAllotAnswer s h s.frames (Ok (Fits place))
     close_answer noted place p q not =
         answered (Ok (Fits place))
-            (subst (λ (x : Purpose). HasItsFill s h x top.progress) (sym p)
-             (subst (HasItsFill s h Close) (sym q)
-              (close_has_its_fill noted
-               (λ wants.
-                   not (subst (λ (x : Purpose). WantsPage s x top.progress) (sym p)
-                        (subst (WantsPage s Close) (sym q) wants))))))
+        (subst (λ (x : Purpose). HasItsFill s h x top.progress) (sym p)
+        (subst (HasItsFill s h Close) (sym q)
+        (close_has_its_fill noted
+        (λ wants.
+        not (subst (λ (x : Purpose). WantsPage s x top.progress) (sym p)
+        (subst (WantsPage s Close) (sym q) wants))))))
 
     -- only a close frame is through
     pub through_closes : (noted moment len : ℕ) → top.purpose ≡ Record moment len → top.progress ≡ Through noted → ⊥
     through_closes noted moment len p q =
         let stands =
-            (subst (FramesStand s.size s.done s.older s.tail (opens_of h) (reserved_records h) (is_wished h)) top_is
-             k.holds.frames_are).1 in
+        (subst (FramesStand s.size s.done s.older s.tail (opens_of h) (reserved_records h) (is_wished h)) top_is
+        k.holds.frames_are).1 in
         let closes =
-            (subst
-             (StandsAt s.size s.done s.older s.tail (opens_of h) (reserved_records h) (is_wished h)
-              (kind_of top.purpose)) q stands).0 in
+        (subst
+        (StandsAt s.size s.done s.older s.tail (opens_of h) (reserved_records h) (is_wished h)
+        (kind_of top.purpose)) q stands).0 in
         let record_closes = sym (ap kind_of p) ∙ closes in cc
 
   -- a record as nearly all are
@@ -121,4 +121,4 @@ module _ (start : ℕ) (h : List HistoryEvent) (s : Stack) (k : IsStack start h 
       → IsAllotAnswer s h s.frames (Ok (Fits place))
   plain_answer pushed place p =
       fits_answer record { purpose = Record pushed.moment pushed.len; progress = Waiting None } p.below p.on_top None
-          place refl (λ wants. let room = plain_room s pushed.moment pushed.len p.fits in omega arith)
+      place refl (λ wants. let room = plain_room s pushed.moment pushed.len p.fits in omega arith)

@@ -24,22 +24,22 @@ last_is [] fill prev all same = tt
 last_is (r ∷ rs) [] prev all same = absurd all
 last_is (r ∷ rs) (t ∷ ts) prev all same =
     subst (λ (m : ℕ). IfSome (moment_of_last (r ∷ rs)) (λ last. last ≡ m)) (same t ts refl)
-        (AreOf-last (r ∷ rs) (t ∷ ts) all)
+    (AreOf-last (r ∷ rs) (t ∷ ts) all)
 
 module _ (start : ℕ) (cuts : List ℕ) (records : List Reservation) (found : Bool) (s : Stack)
     (k : IsStackOf start cuts records found s) where
   pub tail_ends_at : IfSome (moment_of_last (records_of_page s.tail)) (λ last. last ≡ s.last_moment)
   tail_ends_at =
       last_is (records_of_page s.tail) (tail_at cuts records) s.last_moment k.tail_is.holds.each
-          (tail_last start cuts records found s k)
+      (tail_last start cuts records found s k)
 
   few : (fills : ℕ) → length cuts + 1 ≤ fills → 8 * length records ≤ MAX_SIZE * fills
   few fills le =
       let low : 8 * length records ≤ MAX_SIZE * length (cut_from 0 cuts records) =
       subst (λ (l : List Reservation). 8 * length l ≤ MAX_SIZE * length (cut_from 0 cuts records))
-          (joined_all 0 cuts records k.rising)
+      (joined_all 0 cuts records k.rising)
       (fills_hold MAX_SIZE (cut_from 0 cuts records)
-       (λ i inside. let fits = k.room i in let large = k.large in omega arith)) in
+      (λ i inside. let fits = k.room i in let large = k.large in omega arith)) in
       let count = length-cut_from 0 cuts records in omega arith
 
   -- the next record's number fits

@@ -26,9 +26,9 @@ module _ (start : ℕ) (cuts : List ℕ) (records : List Reservation) (found : B
   pub oldest : IsPageOf s.size s.done cuts records (s.done - start) first
   oldest = let q = k.older_are 0 first (ap (λ (l : List Contents). slice_get l 0) older) in
       subst (λ (f : ℕ). IsPageOf s.size f cuts records (s.done - start) first)
-          (let e : s.done + 0 ≡ s.done = omega arith in e)
+      (let e : s.done + 0 ≡ s.done = omega arith in e)
       (subst (λ (i : ℕ). IsPageOf s.size (s.done + 0) cuts records i first)
-       (let e : s.done - start + 0 ≡ s.done - start = omega arith in e) q)
+      (let e : s.done - start + 0 ≡ s.done - start = omega arith in e) q)
 
   of_released : IsAtBottom s.frames → IsStackOf start cuts records found (record s { done = s.done + 1; older = rest })
   of_released bottom =
@@ -44,16 +44,16 @@ module _ (start : ℕ) (cuts : List ℕ) (records : List Reservation) (found : B
         large = k.large;
         older_are = λ j page at.
             subst (λ (f : ℕ). IsPageOf s.size f cuts records (s.done + 1 - start + j) page)
-                (let e : s.done + suc j ≡ s.done + 1 + j = omega arith in e)
+            (let e : s.done + suc j ≡ s.done + 1 + j = omega arith in e)
             (subst (λ (i : ℕ). IsPageOf s.size (s.done + suc j) cuts records i page)
-             (let e : s.done - start + suc j ≡ s.done + 1 - start + j = omega arith in e)
+            (let e : s.done - start + suc j ≡ s.done + 1 - start + j = omega arith in e)
             (k.older_are (suc j) page (ap (λ (l : List Contents). slice_get l (suc j)) older ∙ at)));
         tail_is =
             subst (λ (f : ℕ). IsPageOf s.size f cuts records (length cuts) s.tail)
-                (let e : tail_fill s ≡ s.done + 1 + length rest = omega arith in e) k.tail_is;
+            (let e : tail_fill s ≡ s.done + 1 + length rest = omega arith in e) k.tail_is;
         frames_are =
             frames_on s.size s.done s.older s.tail cuts records found (s.done + 1) rest s.tail cuts records found 0
-                (as_many (omega arith) (λ kind state needs. needs)) (λ n l none. absurd (omega arith))
+            (as_many (omega arith) (λ kind state needs. needs)) (λ n l none. absurd (omega arith))
             s.frames (none_reserved s.frames bottom) k.frames_are;
       }
 
@@ -62,9 +62,9 @@ pub released : (start : ℕ) (h : List HistoryEvent) (s : Stack) (first : Conten
     → IsStack start (h ++ []) (record s { done = closed; older = rest })
 released start h s first rest closed older is bottom k =
     subst (λ (g : List HistoryEvent). IsStack start g (record s { done = closed; older = rest })) (sym (append-nil h))
-        (rw is record {
-  keeps = k.keeps;
-  stack_is = k.stack_is;
-  fit = k.fit;
-  holds = of_released start (opens_of h) (reserved_records h) (is_wished h) s first rest older k.holds bottom;
-})
+    (rw is record {
+      keeps = k.keeps;
+      stack_is = k.stack_is;
+      fit = k.fit;
+      holds = of_released start (opens_of h) (reserved_records h) (is_wished h) s first rest older k.holds bottom;
+    })

@@ -53,8 +53,13 @@ fill_ends cuts xs i low rising =
     let here = first_below 0 cuts (length xs) i (omega arith) rising in
     let next = first_below 0 cuts (length xs) (suc i) (omega arith) rising in
     let whole = ap length (fill_behind 0 cuts xs i low rising) in
-    omega (arith, whole, length-append (take (get_or (0 ∷ cuts) i 0) xs) (get_or (cut_from 0 cuts xs) i []),
-           length-take-le (get_or (0 ∷ cuts) i 0) xs here, length-take-le (get_or (0 ∷ cuts) (suc i) 0) xs next)
+    omega (
+      arith,
+      whole,
+      length-append (take (get_or (0 ∷ cuts) i 0) xs) (get_or (cut_from 0 cuts xs) i []),
+      length-take-le (get_or (0 ∷ cuts) i 0) xs here,
+      length-take-le (get_or (0 ∷ cuts) (suc i) 0) xs next,
+    )
 
 -- a number is in one fill only
 apart_below : (cuts : List ℕ) (xs : List Reservation) (i j number : ℕ) → IsRising 0 cuts (length xs) → i < j
@@ -102,20 +107,23 @@ pub place_inside : (time : ℕ) (bytes : List ℕ) (k start len : ℕ) (fill : L
 place_inside time bytes k start len fill h place =
     let within = place-within bytes start len place.place in
     let long : length (bytes_at start len bytes) ≡ len =
-        length-take-le len (drop start bytes) (omega (arith, length-drop start bytes)) in
+    length-take-le len (drop start bytes) (omega (arith, length-drop start bytes)) in
     let d =
-        Decodes-overwritten bytes time (records_in time bytes) k start len (bytes_at start len bytes) place long
-            h.reads in
+    Decodes-overwritten bytes time (records_in time bytes) k start len (bytes_at start len bytes) place long
+    h.reads in
     let count = ap length d.2.was in
-    omega (arith,
-           length-append d.2.front (record { moment = d.2.moment; bytes = bytes_at start len bytes } ∷ d.2.behind),
-           d.2.at, AreOf-length (records_in time bytes) fill h.each)
+    omega (
+      arith,
+      length-append d.2.front (record { moment = d.2.moment; bytes = bytes_at start len bytes } ∷ d.2.behind),
+      d.2.at,
+      AreOf-length (records_in time bytes) fill h.each,
+    )
 
 -- ---- a page
 
 -- the page of a fill, if the record of this number gets the bytes in its slot, on the page of that fill
 page_finished : (size fill : ℕ) (cuts : List ℕ) (xs : List Reservation) (index : ℕ) (page : Contents) (number : ℕ)
-        (payload : List ℕ) (home : ℕ) (lies : Contents) (start len : ℕ) → IsRising 0 cuts (length xs)
+    (payload : List ℕ) (home : ℕ) (lies : Contents) (start len : ℕ) → IsRising 0 cuts (length xs)
     → index ≤ length cuts → home ≤ length cuts
     → (index ≡ home → page ≡ lies)
     → lies.first ≡ get_or (0 ∷ cuts) home 0
@@ -126,27 +134,28 @@ page_finished : (size fill : ℕ) (cuts : List ℕ) (xs : List Reservation) (ind
     → IsPageOf size fill cuts xs index page
     → IsPageOf size fill cuts (records_with_payload (Some number) (Some payload) xs) index page
 page_finished size fill cuts xs index page number payload home lies start len rising inside inside' same first low high
-        place are q =
+    place are q =
     record {
-  page_reads = q.page_reads;
-  size_is = q.size_is;
-  fill_is = q.fill_is;
-  first_is = q.first_is;
-  holds =
-      subst (HoldsRecords page.time page.bytes)
+      page_reads = q.page_reads;
+      size_is = q.size_is;
+      fill_is = q.fill_is;
+      first_is = q.first_is;
+      holds =
+          subst (HoldsRecords page.time page.bytes)
           (ap (λ (h : PageRecords). h.records) (finished_fill (Some number) (Some payload) cuts xs index inside))
           (dite (dec_le (get_or (0 ∷ cuts) index 0) number)
-      (λ at.
+          (λ at.
           subst (HoldsRecords page.time page.bytes)
-              (sym
-               (cond-false (ltb number (get_or (0 ∷ cuts) index 0)) _ _ (le-ltb number (get_or (0 ∷ cuts) index 0) at)))
-      (holds_finished page.time page.bytes (get_or (cut_from 0 cuts xs) index []) (number - get_or (0 ∷ cuts) index 0)
-       payload q.holds (bytes_are at)))
-      (λ before.
+          (sym
+          (cond-false (ltb number (get_or (0 ∷ cuts) index 0)) _ _ (le-ltb number (get_or (0 ∷ cuts) index 0) at)))
+          (holds_finished page.time page.bytes (get_or (cut_from 0 cuts xs) index [])
+          (number - get_or (0 ∷ cuts) index 0)
+          payload q.holds (bytes_are at)))
+          (λ before.
           subst (HoldsRecords page.time page.bytes)
-              (sym (cond-true (ltb number (get_or (0 ∷ cuts) index 0)) _ _
-                    (lt-ltb number (get_or (0 ∷ cuts) index 0) (omega arith)))) q.holds));
-}
+          (sym (cond-true (ltb number (get_or (0 ∷ cuts) index 0)) _ _
+          (lt-ltb number (get_or (0 ∷ cuts) index 0) (omega arith)))) q.holds));
+    }
   where
     bytes_are : get_or (0 ∷ cuts) index 0 ≤ number → (r : Record)
         → slice_get (records_in page.time page.bytes) (number - get_or (0 ∷ cuts) index 0) ≡ Some r
@@ -154,15 +163,15 @@ page_finished size fill cuts xs index page number payload home lies start len ri
     bytes_are at r found =
         let there = slice_get_within (records_in page.time page.bytes) (number - get_or (0 ∷ cuts) index 0) r found in
         let count =
-            AreOf-length (records_in page.time page.bytes) (get_or (cut_from 0 cuts xs) index []) q.holds.each in
+        AreOf-length (records_in page.time page.bytes) (get_or (cut_from 0 cuts xs) index []) q.holds.each in
         let one : index ≡ home =
-            apart cuts xs index home number rising inside inside' at (omega arith) (omega arith) (omega arith) in
+        apart cuts xs index home number rising inside inside' at (omega arith) (omega arith) (omega arith) in
         let is : page ≡ lies = same one in
         let number_is : number - get_or (0 ∷ cuts) index 0 ≡ number - lies.first =
-            ap (λ (m : ℕ). number - m) (ap (λ (i : ℕ). get_or (0 ∷ cuts) i 0) one ∙ sym first) in
+        ap (λ (m : ℕ). number - m) (ap (λ (i : ℕ). get_or (0 ∷ cuts) i 0) one ∙ sym first) in
         bytes_of_place page.time page.bytes (number - get_or (0 ∷ cuts) index 0) start len r q.holds.reads
         (subst (λ (k : ℕ). IsPlaceOf page.bytes k start len) (sym number_is)
-         (subst (λ (p : Contents). IsPlaceOf p.bytes (number - lies.first) start len) (sym is) place)) found
+        (subst (λ (p : Contents). IsPlaceOf p.bytes (number - lies.first) start len) (sym is) place)) found
         ∙ ap (λ (p : Contents). bytes_at start len p.bytes) is ∙ sym are
 
 -- ---- the stack
@@ -172,12 +181,12 @@ pub open_page_is : (done : ℕ) (older : List Contents) (tail : Contents) (fill 
     → IsOpenPage done older tail fill p → IsOpenPage done older tail fill q → p ≡ q
 open_page_is done older tail fill p q (is_tail at is) (is_tail at' is') = is ∙ sym is'
 open_page_is done older tail fill p q (is_tail at is) (is_older j at' is') =
-        let inside =
-        slice_get_within older j q is' in
+    let inside =
+    slice_get_within older j q is' in
     absurd (omega arith)
 open_page_is done older tail fill p q (is_older j at is) (is_tail at' is') =
-        let inside =
-        slice_get_within older j p is in
+    let inside =
+    slice_get_within older j p is in
     absurd (omega arith)
 open_page_is done older tail fill p q (is_older j at is) (is_older j' at' is') = let same : j ≡ j' = omega arith in
     some_is p q (sym is ∙ ap (slice_get older) same ∙ is')
@@ -203,13 +212,13 @@ module _ (start : ℕ) (cuts : List ℕ) (xs : List Reservation) (found : Bool) 
   home_of fill page (is_older i at is) = let count = cuts_are start cuts xs found s k in
       let here = slice_get_within s.older i page is in
       record {
-    home = s.done - start + i;
-    inside = omega arith;
-    is_page = (s.done + i, k.older_are i page is);
-    tail_alone = λ same. absurd (omega arith);
-    older_alone = λ j other there same. let e : j ≡ i = omega arith in
-        some_is other page (sym there ∙ ap (slice_get s.older) e ∙ is);
-  }
+        home = s.done - start + i;
+        inside = omega arith;
+        is_page = (s.done + i, k.older_are i page is);
+        tail_alone = λ same. absurd (omega arith);
+        older_alone = λ j other there same. let e : j ≡ i = omega arith in
+            some_is other page (sym there ∙ ap (slice_get s.older) e ∙ is);
+      }
 
 module _ (start : ℕ) (cuts : List ℕ) (xs : List Reservation) (found : Bool) (s : Stack)
     (k : IsStackOf start cuts xs found s) (top : Frame) (below : List Frame) (slot : Slot) (len : ℕ)
@@ -223,7 +232,7 @@ module _ (start : ℕ) (cuts : List ℕ) (xs : List Reservation) (found : Bool) 
   pub payload_len : length payload ≡ slot_len len
   payload_len = let within = place-within lies.page.bytes slot.place.start slot.place.len lies.place.place in
       length-take-le slot.place.len (drop slot.place.start lies.page.bytes)
-              (omega (arith, length-drop slot.place.start lies.page.bytes)) ∙ lies.fills_slot
+      (omega (arith, length-drop slot.place.start lies.page.bytes)) ∙ lies.fills_slot
 
   whole : padded payload ≡ payload
   whole = padded_whole payload (ap slot_len payload_len ∙ slot_len-slot_len len ∙ sym payload_len)
@@ -235,20 +244,20 @@ module _ (start : ℕ) (cuts : List ℕ) (xs : List Reservation) (found : Bool) 
       → IsUnwritten s.done s.older s.tail xs' n l
   lies_on n l low other =
       unwritten_in other.page other other.open_page other.first_le other.place
-          (get_unfinished slot.number l.number payload xs low ∙ other.at)
+      (get_unfinished slot.number l.number payload xs low ∙ other.at)
 
   pub of_ended : s.frames ≡ top ∷ below → top.progress ≡ Reserved slot
       → IsStackOf start cuts xs' found (after_leave s top below)
   of_ended top_is has =
       let frames = subst (FramesStand s.size s.done s.older s.tail cuts xs found) top_is k.frames_are in
       let before =
-          subst (λ (p : Progress). IfSome (number_of (state_of p)) (λ number. AreBefore number below)) has frames.2 in
+      subst (λ (p : Progress). IfSome (number_of (state_of p)) (λ number. AreBefore number below)) has frames.2 in
       let home = home_of start cuts xs found s k slot.fill lies.page lies.open_page in
       let count = cuts_are start cuts xs found s k in
       let q = home.is_page.1 in
       let high : slot.number - lies.page.first < length (get_or (cut_from 0 cuts xs) home.home []) =
-          place_inside lies.page.time lies.page.bytes (slot.number - lies.page.first) slot.place.start slot.place.len
-              (get_or (cut_from 0 cuts xs) home.home []) q.holds lies.place in
+      place_inside lies.page.time lies.page.bytes (slot.number - lies.page.first) slot.place.start slot.place.len
+      (get_or (cut_from 0 cuts xs) home.home []) q.holds lies.place in
       record {
         begun = k.begun;
         from_start = k.from_start;
@@ -260,59 +269,59 @@ module _ (start : ℕ) (cuts : List ℕ) (xs : List Reservation) (found : Bool) 
         large = k.large;
         older_are = λ j older at. let inside = slice_get_within s.older j older at in
             page_finished s.size (s.done + j) cuts xs (s.done - start + j) older slot.number payload home.home lies.page
-                slot.place.start slot.place.len k.rising (omega arith) home.inside (home.older_alone j older at)
-                q.first_is lies.first_le high lies.place whole (k.older_are j older at);
+            slot.place.start slot.place.len k.rising (omega arith) home.inside (home.older_alone j older at)
+            q.first_is lies.first_le high lies.place whole (k.older_are j older at);
         tail_is =
             page_finished s.size (tail_fill s) cuts xs (length cuts) s.tail slot.number payload home.home lies.page
-                slot.place.start slot.place.len k.rising (omega arith) home.inside home.tail_alone q.first_is
-                lies.first_le high lies.place whole k.tail_is;
+            slot.place.start slot.place.len k.rising (omega arith) home.inside home.tail_alone q.first_is
+            lies.first_le high lies.place whole k.tail_is;
         frames_are = frames_left s.size s.done s.older s.tail cuts xs' found top below frames.0
             (frames_on s.size s.done s.older s.tail cuts xs found s.done s.older s.tail cuts xs' found slot.number
-             (as_many refl (λ kind state needs. needs_alike s.size cuts xs xs' found kind state same_plain needs))
-             lies_on below before frames.4);
+            (as_many refl (λ kind state needs. needs_alike s.size cuts xs xs' found kind state same_plain needs))
+            lies_on below before frames.4);
       }
 
 -- ---- the history
 
 pub ended : (start : ℕ) (h : List HistoryEvent) (s : Stack) (top : Frame) (below : List Frame) (slot : Slot)
-        (page : Contents) → s.frames ≡ top ∷ below → top.progress ≡ Reserved slot
+    (page : Contents) → s.frames ≡ top ∷ below → top.progress ≡ Reserved slot
     → IsOpenPage s.done s.older s.tail slot.fill page
     → IsStack start h s
     → IsStack start (h ++ leave (Some (bytes_at slot.place.start slot.place.len page.bytes)) ∷ [])
-        (after_leave s top below)
+    (after_leave s top below)
 ended start h s top below slot page top_is has there k =
     let xs : List Reservation = reserved_records h in
     let frames =
-        subst (FramesStand s.size s.done s.older s.tail (opens_of h) xs (is_wished h)) top_is k.holds.frames_are in
+    subst (FramesStand s.size s.done s.older s.tail (opens_of h) xs (is_wished h)) top_is k.holds.frames_are in
     let (moment, len, kind, lies) =
-        subst (StandsAt s.size s.done s.older s.tail (opens_of h) xs (is_wished h) (kind_of top.purpose)) has
-            frames.1 in
+    subst (StandsAt s.size s.done s.older s.tail (opens_of h) xs (is_wished h) (kind_of top.purpose)) has
+    frames.1 in
     let same : lies.page ≡ page = open_page_is s.done s.older s.tail slot.fill lies.page page lies.open_page there in
     let p : List ℕ = bytes_at slot.place.start slot.place.len lies.page.bytes in
     let rest : List PushedFrame = pushed_of (model_frames below) in
     let stack : (writer_after h).stack ≡ record_frame moment len (Some slot.number) ∷ rest =
-        k.stack_is ∙ ap (λ (fs : List Frame). pushed_of (model_frames fs)) top_is
+    k.stack_is ∙ ap (λ (fs : List Frame). pushed_of (model_frames fs)) top_is
     ∙ ap (λ (x : Progress). pushed_onto (kind_of top.purpose) (state_of x) rest) has
-        ∙ ap (λ (x : Purpose). pushed_onto x (reserved slot.number) rest) kind in
+    ∙ ap (λ (x : Purpose). pushed_onto x (reserved slot.number) rest) kind in
     let long = payload_len start (opens_of h) xs (is_wished h) s k.holds top below slot len lies in
     let done : IsStack start (h ++ leave (Some p) ∷ []) (after_leave s top below) = record {
       keeps =
           IsHistory-push h (leave (Some p)) k.keeps
-              (subst (λ (st : List PushedFrame). MayLeave st (Some p)) (sym stack)
-               (ap slot_len long ∙ slot_len-slot_len len));
+          (subst (λ (st : List PushedFrame). MayLeave st (Some p)) (sym stack)
+          (ap slot_len long ∙ slot_len-slot_len len));
       stack_is =
           left_stack h (record_frame moment len (Some slot.number)) rest (Some p) stack
-              ∙ sym (pushed_after_leave top below);
+          ∙ sym (pushed_after_leave top below);
       fit = fit_more s.size h (leave (Some p)) k.fit tt;
       holds =
           same_of start (opens_of h) (opens_of (h ++ leave (Some p) ∷ []))
-              (records_with_payload (Some slot.number) (Some p) xs) (reserved_records (h ++ leave (Some p) ∷ []))
-              (is_wished h) (is_wished (h ++ leave (Some p) ∷ [])) _
+          (records_with_payload (Some slot.number) (Some p) xs) (reserved_records (h ++ leave (Some p) ∷ []))
+          (is_wished h) (is_wished (h ++ leave (Some p) ∷ [])) _
           (opens_of-leave h (Some p)) (records_left h (record_frame moment len (Some slot.number)) rest (Some p) stack)
-              (is_wished-leave h (Some p))
+          (is_wished-leave h (Some p))
           (of_ended start (opens_of h) xs (is_wished h) s k.holds top below slot len lies top_is has);
     } in
     subst
-        (λ (q : Contents).
-            IsStack start (h ++ leave (Some (bytes_at slot.place.start slot.place.len q.bytes)) ∷ [])
-                (after_leave s top below)) same done
+    (λ (q : Contents).
+    IsStack start (h ++ leave (Some (bytes_at slot.place.start slot.place.len q.bytes)) ∷ [])
+    (after_leave s top below)) same done

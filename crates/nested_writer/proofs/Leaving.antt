@@ -34,7 +34,7 @@ pushed_after_leave top [] = refl
 pushed_after_leave top (next ∷ below) = refl
 
 pub frames_left : (size done : ℕ) (older : List Contents) (tail : Contents) (cuts : List ℕ) (records : List Reservation)
-        (found : Bool) (top : Frame) (below : List Frame) → MayBePushed size (kind_of top.purpose)
+    (found : Bool) (top : Frame) (below : List Frame) → MayBePushed size (kind_of top.purpose)
     → FramesStand size done older tail cuts records found below
     → FramesStand size done older tail cuts records found (frames_after_leave top below)
 frames_left size done older tail cuts records found top [] may st =
@@ -42,12 +42,12 @@ frames_left size done older tail cuts records found top [] may st =
 frames_left size done older tail cuts records found top (next ∷ below) may st = st
 
 pub of_left : (start : ℕ) (cuts : List ℕ) (records : List Reservation) (found : Bool) (s : Stack) (top : Frame)
-        (below : List Frame) → MayBePushed s.size (kind_of top.purpose)
+    (below : List Frame) → MayBePushed s.size (kind_of top.purpose)
     → FramesStand s.size s.done s.older s.tail cuts records found below → IsStackOf start cuts records found s
     → IsStackOf start cuts records found (after_leave s top below)
 of_left start cuts records found s top below may st k =
     of_frames found (frames_after_leave top below)
-        (frames_left s.size s.done s.older s.tail cuts records found top below may st) k
+    (frames_left s.size s.done s.older s.tail cuts records found top below may st) k
 
 may_leave : (kind : Purpose) (stack : List PushedFrame) → MayLeave (pushed_frame kind waiting ∷ stack) None
 may_leave (for_record moment len) stack = refl
@@ -65,25 +65,25 @@ pub left_none : (start : ℕ) (h : List HistoryEvent) (s : Stack) (top : Frame) 
 left_none start h s top below top_is waits k =
     let rest : List PushedFrame = pushed_of (model_frames below) in
     let frames =
-        subst (FramesStand s.size s.done s.older s.tail (opens_of h) (reserved_records h) (is_wished h)) top_is
-            k.holds.frames_are in
+    subst (FramesStand s.size s.done s.older s.tail (opens_of h) (reserved_records h) (is_wished h)) top_is
+    k.holds.frames_are in
     let stack : (writer_after h).stack ≡ pushed_frame (kind_of top.purpose) waiting ∷ rest =
-        k.stack_is ∙ ap (λ (fs : List Frame). pushed_of (model_frames fs)) top_is
-            ∙ ap (λ (st : frames_model.Progress). pushed_onto (kind_of top.purpose) st rest) waits in
+    k.stack_is ∙ ap (λ (fs : List Frame). pushed_of (model_frames fs)) top_is
+    ∙ ap (λ (st : frames_model.Progress). pushed_onto (kind_of top.purpose) st rest) waits in
     record {
       keeps =
           IsHistory-push h (leave None) k.keeps
-              (subst (λ (st : List PushedFrame). MayLeave st None) (sym stack) (may_leave (kind_of top.purpose) rest));
+          (subst (λ (st : List PushedFrame). MayLeave st None) (sym stack) (may_leave (kind_of top.purpose) rest));
       stack_is =
           left_stack h (pushed_frame (kind_of top.purpose) waiting) rest None stack
-              ∙ sym (pushed_after_leave top below);
+          ∙ sym (pushed_after_leave top below);
       fit = fit_more s.size h (leave None) k.fit tt;
       holds =
           same_of start (opens_of h) (opens_of (h ++ leave None ∷ [])) (reserved_records h)
-              (reserved_records (h ++ leave None ∷ [])) (is_wished h) (is_wished (h ++ leave None ∷ [])) _
+          (reserved_records (h ++ leave None ∷ [])) (is_wished h) (is_wished (h ++ leave None ∷ [])) _
           (opens_of-leave h None)
-              (records_left h (pushed_frame (kind_of top.purpose) waiting) rest None stack
-               ∙ same_records (kind_of top.purpose) (reserved_records h)) (is_wished-leave h None)
+          (records_left h (pushed_frame (kind_of top.purpose) waiting) rest None stack
+          ∙ same_records (kind_of top.purpose) (reserved_records h)) (is_wished-leave h None)
           (of_left start (opens_of h) (reserved_records h) (is_wished h) s top below frames.0 frames.4 k.holds);
     }
 
@@ -91,16 +91,20 @@ left_none start h s top below top_is waits k =
 
 -- one without a record stays so
 of_progress : (start : ℕ) (cuts : List ℕ) (records : List Reservation) (found : Bool) (s : Stack) (top : Frame)
-        (below : List Frame) (progress : Progress) → s.frames ≡ top ∷ below → state_of progress ≡ waiting
+    (below : List Frame) (progress : Progress) → s.frames ≡ top ∷ below → state_of progress ≡ waiting
     → StandsAt s.size s.done s.older s.tail cuts records found (kind_of top.purpose) progress
     → IsStackOf start cuts records found s
     → IsStackOf start cuts records found (with_progress s top below progress)
 of_progress start cuts records found s top below progress top_is waits st k =
     let frames = subst (FramesStand s.size s.done s.older s.tail cuts records found) top_is k.frames_are in
-    of_frames found (record top { progress = progress } ∷ below)
-    (frames.0, st,
-     subst (λ (state : frames_model.Progress). IfSome (number_of state) (λ number. AreBefore number below)) (sym waits)
-         tt, (λ e. absurd (waits_not_left (sym waits ∙ e))), frames.4) k
+    of_frames found (record top { progress = progress } ∷ below) (
+      frames.0,
+      st,
+      subst (λ (state : frames_model.Progress). IfSome (number_of state) (λ number. AreBefore number below)) (sym waits)
+          tt,
+      (λ e. absurd (waits_not_left (sym waits ∙ e))),
+      frames.4,
+    ) k
   where
     waits_not_left : waiting ≡ left → ⊥
     waits_not_left e = cc
@@ -108,16 +112,16 @@ of_progress start cuts records found s top below progress top_is waits st k =
 is_progress : (start : ℕ) (h : List HistoryEvent) (s : Stack) (top : Frame) (below : List Frame) (progress : Progress)
     → s.frames ≡ top ∷ below → state_of top.progress ≡ waiting → state_of progress ≡ waiting
     → StandsAt s.size s.done s.older s.tail (opens_of h) (reserved_records h) (is_wished h) (kind_of top.purpose)
-        progress
+    progress
     → IsStack start h s
     → IsStack start h (with_progress s top below progress)
 is_progress start h s top below progress top_is waits goes st k = record {
   keeps = k.keeps;
   stack_is =
       k.stack_is ∙ ap (λ (fs : List Frame). pushed_of (model_frames fs)) top_is
-          ∙ ap
-              (λ (state : frames_model.Progress).
-                  pushed_onto (kind_of top.purpose) state (pushed_of (model_frames below))) (waits ∙ sym goes);
+      ∙ ap
+      (λ (state : frames_model.Progress).
+      pushed_onto (kind_of top.purpose) state (pushed_of (model_frames below))) (waits ∙ sym goes);
   fit = k.fit;
   holds = of_progress start (opens_of h) (reserved_records h) (is_wished h) s top below progress top_is goes st k.holds;
 }
@@ -127,8 +131,8 @@ needs_record : (start : ℕ) (h : List HistoryEvent) (s : Stack) (moment len : �
     → IsStack start h s
     → NeedsFill s.size (opens_of h) (reserved_records h) (is_wished h) (for_record moment len) waiting
 needs_record start h s moment len past k fits =
-        let e =
-        end_is start (opens_of h) (reserved_records h) (is_wished h) s k.holds moment len in
+    let e =
+    end_is start (opens_of h) (reserved_records h) (is_wished h) s k.holds moment len in
     absurd (omega arith)
 
 -- it noted that it needs a page
@@ -138,23 +142,25 @@ pub noted_record : (start : ℕ) (h : List HistoryEvent) (s : Stack) (top : Fram
     → IsStack start h s
     → IsStack start h (with_progress s top below (Waiting (Some (opened s))))
 noted_record start h s top below moment len top_is purpose waits past k =
-    is_progress start h s top below (Waiting (Some (opened s))) top_is waits refl
-    (omega arith,
-     λ e.
-            subst (λ (kind : Purpose). NeedsFill s.size (opens_of h) (reserved_records h) (is_wished h) kind waiting)
-                (sym (ap kind_of purpose)) (needs_record start h s moment len past k)) k
+    is_progress start h s top below (Waiting (Some (opened s))) top_is waits refl (
+      omega arith,
+      λ e.
+          subst (λ (kind : Purpose). NeedsFill s.size (opens_of h) (reserved_records h) (is_wished h) kind waiting)
+          (sym (ap kind_of purpose)) (needs_record start h s moment len past k),
+    ) k
 
 pub noted_close : (start : ℕ) (h : List HistoryEvent) (s : Stack) (top : Frame) (below : List Frame)
     → s.frames ≡ top ∷ below → top.purpose ≡ Close → state_of top.progress ≡ waiting → s.tail.bytes ≢ []
     → IsStack start h s
     → IsStack start h (with_progress s top below (Waiting (Some (opened s))))
 noted_close start h s top below top_is purpose waits some k =
-    is_progress start h s top below (Waiting (Some (opened s))) top_is waits refl
-    (omega arith,
-     λ e.
-            subst (λ (kind : Purpose). NeedsFill s.size (opens_of h) (reserved_records h) (is_wished h) kind waiting)
-                (sym (ap kind_of purpose))
-                (tail_some start (opens_of h) (reserved_records h) (is_wished h) s k.holds some)) k
+    is_progress start h s top below (Waiting (Some (opened s))) top_is waits refl (
+      omega arith,
+      λ e.
+          subst (λ (kind : Purpose). NeedsFill s.size (opens_of h) (reserved_records h) (is_wished h) kind waiting)
+          (sym (ap kind_of purpose))
+          (tail_some start (opens_of h) (reserved_records h) (is_wished h) s k.holds some),
+    ) k
 
 -- a close frame has nothing to close
 pub gone_through : (start : ℕ) (h : List HistoryEvent) (s : Stack) (top : Frame) (below : List Frame) (noted : ℕ)
@@ -176,7 +182,7 @@ left_empty : (start : ℕ) (h : List HistoryEvent) (s : Stack) (bottom : Frame) 
     → state_of bottom.progress ≡ left → IsStack start h s → (writer_after h).stack ≡ []
 left_empty start h s bottom top_is gone k =
     k.stack_is ∙ ap (λ (fs : List Frame). pushed_of (model_frames fs)) top_is
-        ∙ ap (λ (state : frames_model.Progress). pushed_onto (kind_of bottom.purpose) state []) gone
+    ∙ ap (λ (state : frames_model.Progress). pushed_onto (kind_of bottom.purpose) state []) gone
 
 -- it is asked to close the tail, which holds a record
 pub asked : (start : ℕ) (h : List HistoryEvent) (s : Stack) (bottom : Frame) → s.frames ≡ bottom ∷ []
@@ -186,20 +192,23 @@ asked start h s bottom top_is gone some k =
     let empty = left_empty start h s bottom top_is gone k in
     let o = k.holds in
     let frames =
-        subst (FramesStand s.size s.done s.older s.tail (opens_of h) (reserved_records h) (is_wished h)) top_is
-            o.frames_are in
+    subst (FramesStand s.size s.done s.older s.tail (opens_of h) (reserved_records h) (is_wished h)) top_is
+    o.frames_are in
     record {
       keeps = IsHistory-push h wished k.keeps (subst MayWish (sym empty) tt);
       stack_is = wished_stack h [] empty;
       fit = fit_more s.size h wished k.fit tt;
       holds =
           same_of start (opens_of h) (opens_of (h ++ wished ∷ [])) (reserved_records h)
-              (reserved_records (h ++ wished ∷ [])) true (is_wished (h ++ wished ∷ [])) _
+          (reserved_records (h ++ wished ∷ [])) true (is_wished (h ++ wished ∷ [])) _
           (opens_of-wished h) (records_snoc h wished) (is_wished-wished h)
-          (of_frames true (record bottom { progress = Left (Some (opened s)) } ∷ [])
-           (frames.0,
-            (omega arith, (λ e. (tail_some start (opens_of h) (reserved_records h) (is_wished h) s o some, refl))), tt,
-            (λ e. refl), tt) o);
+          (of_frames true (record bottom { progress = Left (Some (opened s)) } ∷ []) (
+            frames.0,
+            (omega arith, (λ e. (tail_some start (opens_of h) (reserved_records h) (is_wished h) s o some, refl))),
+            tt,
+            (λ e. refl),
+            tt,
+          ) o);
     }
 
 -- the same, by the number as it is worked out

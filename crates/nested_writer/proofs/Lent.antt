@@ -72,8 +72,8 @@ pub older_stays : (s : Stack) (slot : Slot) (payload : Lent) → IsTopSlot s.fra
 older_stays s slot payload is other at =
     let index : ℕ = slot.fill - s.done in
     let found =
-        ap (slice_set s.older index) (sym (get_or_from_slice_get s.older index payload.page s.tail at))
-            ∙ set-get_or s.older index s.tail in
+    ap (slice_set s.older index) (sym (get_or_from_slice_get s.older index payload.page s.tail at))
+    ∙ set-get_or s.older index s.tail in
     sym (top_in_older s slot payload is other) ∙ (λ i. record s { older = found i })
 
 -- both borrows of one name leave the same, if each value does
@@ -95,8 +95,8 @@ has_slot (top ∷ below) slot is lacks = subst HasNoSlot is lacks
 len_is : (purpose : Purpose) (len moment' len' : ℕ) → len_of purpose ≡ Some len
     → kind_of purpose ≡ for_record moment' len' → len ≡ len'
 len_is (Record moment len'') len moment' len' is kind =
-        let same : for_record moment len'' ≡ for_record moment' len' =
-        kind in
+    let same : for_record moment len'' ≡ for_record moment' len' =
+    kind in
     let lens : len'' ≡ len' = cc in
     sym (some_is len'' len is) ∙ lens
 len_is Close len moment' len' is kind = absurd (let e = is in cc)
@@ -151,7 +151,7 @@ module _ (start : ℕ) (h : List HistoryEvent) (s : Stack) (slot : Slot) (is : I
   tail_within same = let found = slot_page in
       subst (λ (p : Contents). slot.place.start + slot.place.len ≤ length p.bytes)
       (open_page_is s.done s.older s.tail slot.fill found.page s.tail found.there
-       (is_tail (same ∙ k.holds.tail_is.fill_is) refl)) found.within
+      (is_tail (same ∙ k.holds.tail_is.fill_is) refl)) found.within
 
   pub tail_lent : slot.fill ≡ s.tail.fill → IsLent s (record { page = s.tail; place = slot.place })
   tail_lent same = record {
@@ -162,8 +162,8 @@ module _ (start : ℕ) (h : List HistoryEvent) (s : Stack) (slot : Slot) (is : I
     long = lent_len start h s slot s.tail is (is_tail (same ∙ k.holds.tail_is.fill_is) refl) k;
     in_slot =
         λ part.
-               sym (top_in_tail s slot (with_bytes (record { page = s.tail; place = slot.place }) part) is same)
-                   ∙ in_tail s slot part same;
+        sym (top_in_tail s slot (with_bytes (record { page = s.tail; place = slot.place }) part) is same)
+        ∙ in_tail s slot part same;
   }
 
   -- the page of a slot that isn't in the tail
@@ -181,7 +181,7 @@ module _ (start : ℕ) (h : List HistoryEvent) (s : Stack) (slot : Slot) (is : I
   older_lent other page at =
       let found = other_page other in
       let there : IsOpenPage s.done s.older s.tail slot.fill page =
-          is_older (slot.fill - s.done) (let from = found.from in omega arith) at in
+      is_older (slot.fill - s.done) (let from = found.from in omega arith) at in
       record {
         slot = slot;
         on_top = is;
@@ -190,8 +190,8 @@ module _ (start : ℕ) (h : List HistoryEvent) (s : Stack) (slot : Slot) (is : I
         long = lent_len start h s slot page is there k;
         in_slot =
             λ part.
-                   sym (top_in_older s slot (with_bytes (record { page = page; place = slot.place }) part) is other)
-                       ∙ in_older s slot part page other at;
+            sym (top_in_older s slot (with_bytes (record { page = page; place = slot.place }) part) is other)
+            ∙ in_older s slot part page other at;
       }
 
   -- its record's slot, of one word at least
@@ -201,9 +201,9 @@ module _ (start : ℕ) (h : List HistoryEvent) (s : Stack) (slot : Slot) (is : I
   fits_kind len [] none is st = absurd none
   fits_kind len (top ∷ below) has is st =
       let (moment', len', kind, lies) =
-          subst
-              (StandsAt s.size s.done s.older s.tail (opens_of h) (reserved_records h) (is_wished h)
-               (kind_of top.purpose)) has st.1 in
+      subst
+      (StandsAt s.size s.done s.older s.tail (opens_of h) (reserved_records h) (is_wished h)
+      (kind_of top.purpose)) has st.1 in
       lies.fills_slot ∙ ap slot_len (sym (len_is top.purpose len moment' len' is kind))
 
   pub slot_fits : (len : ℕ) → pushed_len s.frames ≡ Some len → slot.place.len ≡ slot_len len
@@ -222,10 +222,10 @@ overwritten_there bytes start len part long within =
     let more : ℕ = length bytes - start in
     let behind : List ℕ = drop (start + length part) bytes in
     ap (λ (k : ℕ). take len (drop start (take k (overwritten bytes start part))))
-        (let sum : length bytes ≡ start + more = omega arith in sum)
+    (let sum : length bytes ≡ start + more = omega arith in sum)
     ∙ ap (take len) (drop-take start more (overwritten bytes start part))
     ∙ ap (λ (l : List ℕ). take len (take more l))
-        (drop_at (take start bytes) (part ++ behind) start (length-take-le start bytes (omega arith)))
+    (drop_at (take start bytes) (part ++ behind) start (length-take-le start bytes (omega arith)))
     ∙ take-take len more (part ++ behind) (omega arith)
     ∙ take_at part behind len long
 
@@ -235,7 +235,7 @@ lent_there payload part within long =
     let start : ℕ = payload.place.start in
     let len : ℕ = payload.place.len in
     ap (λ (m : ℕ). take m (drop start (with_payload payload.page start part).bytes))
-        (let same : (start + len) - start ≡ len = omega arith in same)
+    (let same : (start + len) - start ≡ len = omega arith in same)
     ∙ overwritten_there payload.page.bytes start len part long within
 
 -- what is written there leaves the stack that of its history
@@ -244,7 +244,7 @@ pub lent_written : (start : ℕ) (h : List HistoryEvent) (s : Stack) (payload : 
     → IsStack start h (with_top s (with_bytes payload part))
 lent_written start h s payload part lent fills k =
     subst (IsStack start h) (sym (lent.in_slot part))
-        (written start h s lent.slot part lent.on_top (fills ∙ lent.long ∙ ap (λ (p : Place). p.len) lent.place_is) k)
+    (written start h s lent.slot part lent.on_top (fills ∙ lent.long ∙ ap (λ (p : Place). p.len) lent.place_is) k)
 
 pub lent_stays : (s : Stack) (payload : Lent) (part : List ℕ) → IsLent s payload
     → length part ≡ length (lent_bytes payload) → IsReachedStack s

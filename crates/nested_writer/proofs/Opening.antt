@@ -74,7 +74,7 @@ module _ (start : ℕ) (cuts : List ℕ) (records : List Reservation) (found : B
       (elim lies.open_page [
         | is_tail at is ↦ is_older (length s.older) at
             (ap (slice_get (s.older ++ s.tail ∷ [])) (plus_none (length s.older)) ∙ get_behind s.older (s.tail ∷ []) 0
-             ∙ ap Some (sym is))
+            ∙ ap Some (sym is))
         | is_older j at is ↦ is_older j at (get_in_front s.older (s.tail ∷ []) j lies.page is)
       ])
       lies.first_le lies.place lies.at
@@ -89,8 +89,8 @@ module _ (start : ℕ) (cuts : List ℕ) (records : List Reservation) (found : B
       let one = length_push s.older s.tail in
       let longer = length_push cuts (length records) in
       let none : HoldsRecords 0 [] [] =
-          let r : IsPage (blank_page s.size (next_number s) (opened s)) =
-          subst IsPage blank reads in
+      let r : IsPage (blank_page s.size (next_number s) (opened s)) =
+      subst IsPage blank reads in
       holds_none r.reads (nothing (records_in 0 []) r.counted) EndsInRecord-nil in
       record {
         begun = let begun = k.begun in omega arith;
@@ -102,14 +102,14 @@ module _ (start : ℕ) (cuts : List ℕ) (records : List Reservation) (found : B
         large = k.large;
         older_are = λ j older at. ⊎_elim
             (λ there. let inside = slice_get_within s.older j older there in
-             page_stays s.size (s.done + j) cuts records (s.done - start + j) older (omega arith)
-                 (k.older_are j older there))
+            page_stays s.size (s.done + j) cuts records (s.done - start + j) older (omega arith)
+            (k.older_are j older there))
             (λ (e, is).
-                subst (IsPageOf s.size (s.done + j) (cuts ++ length records ∷ []) records (s.done - start + j)) is
+            subst (IsPageOf s.size (s.done + j) (cuts ++ length records ∷ []) records (s.done - start + j)) is
             (subst (λ (i : ℕ). IsPageOf s.size (s.done + j) (cuts ++ length records ∷ []) records i s.tail)
-             (let same : length cuts ≡ s.done - start + j = omega arith in same)
+            (let same : length cuts ≡ s.done - start + j = omega arith in same)
             (subst (λ (f : ℕ). IsPageOf s.size f (cuts ++ length records ∷ []) records (length cuts) s.tail)
-             (let same : tail_fill s ≡ s.done + j = omega arith in same)
+            (let same : tail_fill s ≡ s.done + j = omega arith in same)
             (page_stays s.size (tail_fill s) cuts records (length cuts) s.tail (omega arith) k.tail_is))))
             (get_in_longer s.older s.tail j older at);
         tail_is = record {
@@ -118,25 +118,25 @@ module _ (start : ℕ) (cuts : List ℕ) (records : List Reservation) (found : B
           fill_is = let fill = ap (λ (p : Contents). p.fill) blank in omega arith;
           first_is =
               ap (λ (p : Contents). p.first) blank ∙ number ∙ sym (first_last 0 cuts (length records))
-                  ∙ ap (λ (i : ℕ). get_or (0 ∷ cuts ++ length records ∷ []) i 0)
-                      (let same : suc (length cuts) ≡ length (cuts ++ length records ∷ []) = omega arith in same);
+              ∙ ap (λ (i : ℕ). get_or (0 ∷ cuts ++ length records ∷ []) i 0)
+              (let same : suc (length cuts) ≡ length (cuts ++ length records ∷ []) = omega arith in same);
           holds =
               subst (λ (l : List Reservation). HoldsRecords page.time page.bytes l)
-                  (sym (opened_last 0 cuts records)
-                   ∙ ap (λ (i : ℕ). get_or (cut_from 0 (cuts ++ length records ∷ []) records) i [])
-                       (let same : suc (length cuts) ≡ length (cuts ++ length records ∷ []) = omega arith in same))
+              (sym (opened_last 0 cuts records)
+              ∙ ap (λ (i : ℕ). get_or (cut_from 0 (cuts ++ length records ∷ []) records) i [])
+              (let same : suc (length cuts) ≡ length (cuts ++ length records ∷ []) = omega arith in same))
               (subst (λ (p : Contents). HoldsRecords p.time p.bytes []) (sym blank) none);
         };
         frames_are =
             frames_on s.size s.done s.older s.tail cuts records found s.done (s.older ++ s.tail ∷ []) page
-                (cuts ++ length records ∷ []) records false (length records)
+            (cuts ++ length records ∷ []) records false (length records)
             (more (omega arith)) lies_on s.frames
-                (all_before s.size s.done s.older s.tail cuts records found s.frames k.frames_are) k.frames_are;
+            (all_before s.size s.done s.older s.tail cuts records found s.frames k.frames_are) k.frames_are;
       }
 
 -- what the frame that noted its need still needs
 still_needs : (size done : ℕ) (older : List Contents) (tail : Contents) (cuts : List ℕ) (records : List Reservation)
-        (found : Bool) (s : Stack) (kind : Purpose) (progress : Progress) → opened s ≡ done + length older + 1
+    (found : Bool) (s : Stack) (kind : Purpose) (progress : Progress) → opened s ≡ done + length older + 1
     → HasNoted s progress → StandsAt size done older tail cuts records found kind progress
     → NeedsFill size cuts records found kind (state_of progress)
 still_needs size done older tail cuts records found s kind (Waiting noted) same has st = st.1 (has ∙ ap Some same)
@@ -168,28 +168,28 @@ pub page_added : (start : ℕ) (h : List HistoryEvent) (s : Stack) (top : Frame)
 page_added start h s top below page top_is has blank reads k =
     let rest : List PushedFrame = pushed_of (model_frames below) in
     let frames =
-        subst (FramesStand s.size s.done s.older s.tail (opens_of h) (reserved_records h) (is_wished h)) top_is
-            k.holds.frames_are in
+    subst (FramesStand s.size s.done s.older s.tail (opens_of h) (reserved_records h) (is_wished h)) top_is
+    k.holds.frames_are in
     let stack : (writer_after h).stack ≡ pushed_onto (kind_of top.purpose) (state_of top.progress) rest =
-        k.stack_is ∙ ap (λ (fs : List Frame). pushed_of (model_frames fs)) top_is in
+    k.stack_is ∙ ap (λ (fs : List Frame). pushed_of (model_frames fs)) top_is in
     let alone : state_of top.progress ≡ left → rest ≡ [] =
-        λ gone. ap (λ (fs : List Frame). pushed_of (model_frames fs)) (frames.3 gone) in
+    λ gone. ap (λ (fs : List Frame). pushed_of (model_frames fs)) (frames.3 gone) in
     record {
       keeps =
           IsHistory-push h open_fill k.keeps
-              (subst MayOpen (sym stack) (may_open (kind_of top.purpose) top.progress s rest has alone));
+          (subst MayOpen (sym stack) (may_open (kind_of top.purpose) top.progress s rest has alone));
       stack_is = opened_stack h (pushed_of (model_frames s.frames)) k.stack_is;
       fit =
           fit_more s.size h open_fill k.fit
-              (fit_open s.size h (kind_of top.purpose) (state_of top.progress) rest stack alone
-               (fits_page s.size (kind_of top.purpose) frames.0)
+          (fit_open s.size h (kind_of top.purpose) (state_of top.progress) rest stack alone
+          (fits_page s.size (kind_of top.purpose) frames.0)
           (still_needs s.size s.done s.older s.tail (opens_of h) (reserved_records h) (is_wished h) s
-           (kind_of top.purpose) top.progress refl has frames.1));
+          (kind_of top.purpose) top.progress refl has frames.1));
       holds =
           same_of start (opens_of h ++ length (reserved_records h) ∷ []) (opens_of (h ++ open_fill ∷ []))
-              (reserved_records h) (reserved_records (h ++ open_fill ∷ [])) false (is_wished (h ++ open_fill ∷ [])) _
+          (reserved_records h) (reserved_records (h ++ open_fill ∷ [])) false (is_wished (h ++ open_fill ∷ [])) _
           (opens_of-open_fill h) (records_snoc h open_fill) (is_wished-open_fill h)
-              (of_opened start (opens_of h) (reserved_records h) (is_wished h) s k.holds page blank reads);
+          (of_opened start (opens_of h) (reserved_records h) (is_wished h) s k.holds page blank reads);
     }
 
 pub page_may_be_added : (start : ℕ) (h : List HistoryEvent) (s : Stack) (page : Contents) → MayAddPage s s.frames

@@ -40,10 +40,10 @@ pub begins : (moment len : ℕ) (s after : Stack) → length s.frames < MAX_FRAM
     → Begins moment len s (Ok (tt {0})) after
 begins moment len s after room short early is =
     let pushed : (start : ℕ) (history : List HistoryEvent) → IsStack start history s
-        → IsStack start (history ++ push moment len ∷ []) after =
+    → IsStack start (history ++ push moment len ∷ []) after =
     λ start history k.
-           subst (IsStack start (history ++ push moment len ∷ [])) (sym is)
-               (pushed_record start history s moment len (fits_page s.size len short) early k) in
+    subst (IsStack start (history ++ push moment len ∷ [])) (sym is)
+    (pushed_record start history s moment len (fits_page s.size len short) early k) in
     record {
       too_deep = search rules;
       too_long = search rules;
@@ -62,10 +62,10 @@ pub stands_alone : (moment len : ℕ) (s after : Stack) → s.frames ≡ [] → 
     → after ≡ with_left s moment len → StandsAgain moment len s after
 stands_alone moment len s after none may is =
     let stack : HasEvents s [] after =
-        λ start history k.
-               subst (IsStack start (history ++ [])) (sym is)
-                   (subst (λ (g : List HistoryEvent). IsStack start g (with_left s moment len))
-                    (sym (append-nil history)) (stands_again start history s moment len none may k)) in
+    λ start history k.
+    subst (IsStack start (history ++ [])) (sym is)
+    (subst (λ (g : List HistoryEvent). IsStack start g (with_left s moment len))
+    (sym (append-nil history)) (stands_again start history s moment len none may k)) in
     record {
       left = is;
       stack = stack;
@@ -85,9 +85,10 @@ ends_top s after top below ended frames may has is stands pending full =
     let bottom : ended ≡ Full → IsAtBottom after.frames =
     λ e. subst (λ (x : Stack). IsAtBottom x.frames) (sym is) (left_bottom top below (full e)) in
     let may_end : MayEndTop s.frames = subst MayEndTop (sym frames) may in
-    let depth : (ended ≡ Pending → 1 < length s.frames) × (ended ≡ Full → length s.frames ≤ 1) =
-    ((λ e. subst (λ (fs : List Frame). 1 < length fs) (sym frames) (longer below (pending e))),
-     (λ e. subst (λ (fs : List Frame). length fs ≤ 1) (sym frames) (let none = ap length (full e) in omega arith))) in
+    let depth : (ended ≡ Pending → 1 < length s.frames) × (ended ≡ Full → length s.frames ≤ 1) = (
+      (λ e. subst (λ (fs : List Frame). 1 < length fs) (sym frames) (longer below (pending e))),
+      (λ e. subst (λ (fs : List Frame). length fs ≤ 1) (sym frames) (let none = ap length (full e) in omega arith)),
+    ) in
     record {
       no_frame = ((λ e. absurd (let no = e in cc)), (λ none. absurd (some_frame s top below frames none)));
       not_reserved = ((λ e. absurd (let no = e in cc)), (λ not. absurd (not_both s.frames may_end not)));
@@ -130,8 +131,8 @@ ends_top s after top below ended frames may has is stands pending full =
 pub allots_place : (s after : Stack) (place : Place) → (NeedsPage s s.frames → ⊥) → (s.frames ≡ [] → ⊥)
     → (HasTopLeft s.frames → ⊥) → IsAllotted s s.frames (Ok (Fits place)) after
     → ((start : ℕ) (history : List HistoryEvent) → IsStack start history s
-       → IsAllotAnswer s history s.frames (Ok (Fits place))) → SameFills s after → IsPlaced s after place
-        → IsSameFrame s after → IsReachedStack s → Allots s (Ok (Fits place)) after
+    → IsAllotAnswer s history s.frames (Ok (Fits place))) → SameFills s after → IsPlaced s after place
+    → IsSameFrame s after → IsReachedStack s → Allots s (Ok (Fits place)) after
 allots_place s after place needs_none some stays is answered kept placed same stands = record {
   crowded = ((λ e. absurd (let no = e in cc)), (λ n. absurd (needs_none n.0)));
   worn = ((λ e. absurd (let no = e in cc)), (λ n. absurd (needs_none n.0)));
@@ -169,12 +170,14 @@ pub allots_page : (s after : Stack) (result : Result Allot WriteFault) → Needs
 allots_page s after result needs meets stands = record {
   crowded = ((λ e. (needs, meets.crowded.0 e)), (λ n. meets.crowded.1 n.1));
   worn = ((λ e. let n = meets.worn.0 e in (needs, n.0, n.1)), (λ n. meets.worn.1 (n.1, n.2)));
-  no_frame =
-      ((λ e. absurd (no_other (Err NoFrame) e (λ no. cc) (λ no. cc) (λ no. cc))),
-       (λ none. absurd (subst (NeedsPage s) none needs)));
-  not_reserved =
-      ((λ e. absurd (no_other (Err NotReserved) e (λ no. cc) (λ no. cc) (λ no. cc))),
-       (λ left. absurd (has_not_left s.frames needs left)));
+  no_frame = (
+    (λ e. absurd (no_other (Err NoFrame) e (λ no. cc) (λ no. cc) (λ no. cc))),
+    (λ none. absurd (subst (NeedsPage s) none needs)),
+  );
+  not_reserved = (
+    (λ e. absurd (no_other (Err NotReserved) e (λ no. cc) (λ no. cc) (λ no. cc))),
+    (λ left. absurd (has_not_left s.frames needs left)),
+  );
   needs_page = ((λ e. let n = meets.noted.0 e in (needs, n.0, n.1)), (λ n. meets.noted.1 (n.1, n.2)));
   after = meets.allotted;
   stays = allotted_stays s after result meets.allotted stands;

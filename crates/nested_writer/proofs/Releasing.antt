@@ -44,7 +44,7 @@ all_committed h none = ap (λ (front : List HistoryEvent). map as_record (reserv
 all_written : (h : List HistoryEvent) → IsHistory h → (writer_after h).stack ≡ [] → All HasItsBytes (reserved_records h)
 all_written h keeps none =
     subst (λ (front : List HistoryEvent). All HasItsBytes (reserved_records front)) (whole_prefix h none)
-        (committed-IsWritten h keeps)
+    (committed-IsWritten h keeps)
 
 -- ---- a fill of them
 
@@ -64,7 +64,7 @@ take_counted (suc n) (x ∷ xs) = ap (λ (ys : List Reservation). x ∷ ys) (tak
 -- it is as many of the records as it has, from its first number on
 fill_counted : (from : ℕ) (cuts : List ℕ) (xs : List Reservation) (i : ℕ) → i ≤ length cuts
     → get_or (cut_from from cuts xs) i []
-        ≡ take (length (get_or (cut_from from cuts xs) i [])) (drop (get_or (from ∷ cuts) i 0) xs)
+    ≡ take (length (get_or (cut_from from cuts xs) i [])) (drop (get_or (from ∷ cuts) i 0) xs)
 fill_counted from [] xs zero low = sym (take_all (length (drop from xs)) (drop from xs) (omega arith))
 fill_counted from [] xs (suc i) low = absurd (omega arith)
 fill_counted from (cut ∷ cuts) xs zero low = take_counted (cut - from) (drop from xs)
@@ -88,36 +88,36 @@ records_read [] (s ∷ fill) all written = absurd all
 records_read (r ∷ records) [] all written = absurd all
 records_read (r ∷ records) (s ∷ fill) all written =
     λ i.
-           record_read r s all.0 (All-head HasItsBytes s fill written) i
-               ∷ records_read records fill all.1 (All-tail HasItsBytes s fill written) i
+    record_read r s all.0 (All-head HasItsBytes s fill written) i
+    ∷ records_read records fill all.1 (All-tail HasItsBytes s fill written) i
 
 -- ---- a page of an open fill, if the stack is empty
 
 module _ (size start : ℕ) (h : List HistoryEvent) (fill : ℕ) (page : Contents) (keeps : IsHistory h)
     (none : (writer_after h).stack ≡ []) (p : IsPageOf size fill (opens_of h) (reserved_records h) (fill - start) page)
-    where
-  abbrev its : List Reservation
-  its = (fill_of h start fill).records
+  where
+    abbrev its : List Reservation
+    its = (fill_of h start fill).records
 
-  its_written : All HasItsBytes its
-  its_written = fill_written 0 (opens_of h) (reserved_records h) (fill - start) (all_written h keeps none)
+    its_written : All HasItsBytes its
+    its_written = fill_written 0 (opens_of h) (reserved_records h) (fill - start) (all_written h keeps none)
 
-  reads_as : records_of_page page ≡ map as_record its
-  reads_as = records_read (records_of_page page) its p.holds.each its_written
+    reads_as : records_of_page page ≡ map as_record its
+    reads_as = records_read (records_of_page page) its p.holds.each its_written
 
-  pub page_written : IsWrittenPage size fill (fill_of h start fill) page
-  page_written = assumption (p, its_written, reads_as)
+    pub page_written : IsWrittenPage size fill (fill_of h start fill) page
+    page_written = assumption (p, its_written, reads_as)
 
-  pub page_committed : fill - start ≤ length (opens_of h) → AreCommitted h page
-  page_committed low =
-      let from : ℕ = first_of_fill h start fill in
-      let count : length its ≡ page.count =
-          sym (p.page_reads.counted ∙ AreOf-length (records_of_page page) its p.holds.each) in
-      reads_as
-      ∙ ap (map as_record) (fill_counted 0 (opens_of h) (reserved_records h) (fill - start) low)
-      ∙ sym (take-map as_record (length its) (drop from (reserved_records h)))
-      ∙ ap (take (length its)) (sym (drop-map as_record from (reserved_records h)))
-      ∙ (λ i. take (count i) (drop (sym p.first_is i) (sym (all_committed h none) i)))
+    pub page_committed : fill - start ≤ length (opens_of h) → AreCommitted h page
+    page_committed low =
+        let from : ℕ = first_of_fill h start fill in
+        let count : length its ≡ page.count =
+        sym (p.page_reads.counted ∙ AreOf-length (records_of_page page) its p.holds.each) in
+        reads_as
+        ∙ ap (map as_record) (fill_counted 0 (opens_of h) (reserved_records h) (fill - start) low)
+        ∙ sym (take-map as_record (length its) (drop from (reserved_records h)))
+        ∙ ap (take (length its)) (sym (drop-map as_record from (reserved_records h)))
+        ∙ (λ i. take (count i) (drop (sym p.first_is i) (sym (all_committed h none) i)))
 
 -- ---- the bottom frame, which has left
 
@@ -131,7 +131,7 @@ pub none_stands : (start : ℕ) (h : List HistoryEvent) (s : Stack) → IsAtBott
     → (writer_after h).stack ≡ []
 none_stands start h s at k = let bottom = bottom_of s.frames at in
     k.stack_is ∙ ap (λ (fs : List Frame). pushed_of (model_frames fs)) bottom.1
-        ∙ ap (λ (state : Progress). pushed_onto (kind_of bottom.0.purpose) state []) bottom.2
+    ∙ ap (λ (state : Progress). pushed_onto (kind_of bottom.0.purpose) state []) bottom.2
 
 -- ---- the oldest page goes
 
@@ -159,16 +159,16 @@ module _ (start : ℕ) (h : List HistoryEvent) (s : Stack) (page : Contents) (ol
   pub front_committed : AreCommitted h page
   front_committed =
       page_committed s.size start h s.done page k.keeps (none_stands start h s at k) front_page
-          (let low = not_last in omega arith)
+      (let low = not_last in omega arith)
 
   pub front_some : 0 < page.count
   front_some =
       let some =
       packed_full h s.size (s.done - start) (is_packed s.size h k.holds.room k.fit)
-          (let low = not_last in let all = length-cut_from 0 cuts xs in omega arith) in
+      (let low = not_last in let all = length-cut_from 0 cuts xs in omega arith) in
       let count = front_page.page_reads.counted in
       let same =
-          AreOf-length (records_of_page page) (get_or (cut_from 0 cuts xs) (s.done - start) []) front_page.holds.each in
+      AreOf-length (records_of_page page) (get_or (cut_from 0 cuts xs) (s.done - start) []) front_page.holds.each in
       let few = some_counted (get_or (cut_from 0 cuts xs) (s.done - start) []) some in omega arith
     where
       some_counted : (l : List Reservation) → l ≢ [] → 0 < length l
@@ -199,9 +199,9 @@ module _ (start : ℕ) (h : List HistoryEvent) (s : Stack) (none : s.frames ≡ 
   tail_page : IsPageOf s.size s.done (opens_of h) (reserved_records h) (s.done - start) s.tail
   tail_page = let few : length s.older ≡ 0 = ap length alone in
       subst (λ (n : ℕ). IsPageOf s.size n (opens_of h) (reserved_records h) (s.done - start) s.tail)
-          (let fill : tail_fill s ≡ s.done = omega arith in fill)
+      (let fill : tail_fill s ≡ s.done = omega arith in fill)
       (subst (λ (n : ℕ). IsPageOf s.size (tail_fill s) (opens_of h) (reserved_records h) n s.tail) last_fill
-       k.holds.tail_is)
+      k.holds.tail_is)
 
   pub tail_written : IsWrittenPage s.size s.done (fill_of h start s.done) s.tail
   tail_written = page_written s.size start h s.done s.tail k.keeps (all_left start h s none k) tail_page
@@ -209,7 +209,7 @@ module _ (start : ℕ) (h : List HistoryEvent) (s : Stack) (none : s.frames ≡ 
   pub tail_committed : AreCommitted h s.tail
   tail_committed =
       page_committed s.size start h s.done s.tail k.keeps (all_left start h s none k) tail_page
-          (let last = last_fill in omega arith)
+      (let last = last_fill in omega arith)
 
 -- ---- whether the tail holds a record
 
@@ -232,6 +232,7 @@ tail_holds start h s k some none =
 -- so an empty one isn't closed
 pub none_to_close : (start : ℕ) (h : List HistoryEvent) (s : Stack) → IsStack start h s → length s.tail.bytes ≡ 0
     → IsTrue false ↔ tail_of h ≢ []
-none_to_close start h s k none =
-    ((λ truth. absurd (let no = truth in cc)),
-     (λ some. absurd (some (tail_empty start h s k (nil_from_length s.tail.bytes none)))))
+none_to_close start h s k none = (
+  (λ truth. absurd (let no = truth in cc)),
+  (λ some. absurd (some (tail_empty start h s k (nil_from_length s.tail.bytes none)))),
+)

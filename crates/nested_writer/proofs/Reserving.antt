@@ -169,20 +169,22 @@ module _ (start : ℕ) (cuts : List ℕ) (records : List Reservation) (found : B
 
   abbrev pub after : Stack
   after =
-      record s { tail = tail';
-                last_moment = max moment s.last_moment;
-                frames = record top { progress = Reserved slot } ∷ below }
+      record s {
+        tail = tail';
+        last_moment = max moment s.last_moment;
+        frames = record top { progress = Reserved slot } ∷ below;
+      }
 
   r_is : r ≡ record { moment = max moment s.last_moment; len = slot_len len; bytes = None }
   r_is =
       ap (λ (m : ℕ). let q : Reservation = record { moment = max moment m; len = slot_len len; bytes = None } in q)
-          (sym k.last_is)
+      (sym k.last_is)
 
   tail_holds : HoldsRecords tail'.time tail'.bytes (tail_at cuts records ++ r ∷ [])
   tail_holds =
       subst (λ (q : Reservation). HoldsRecords tail'.time tail'.bytes (tail_at cuts records ++ q ∷ [])) (sym r_is)
       (put_holds s.tail tail' s.last_moment (max moment s.last_moment) len place (tail_at cuts records)
-       k.tail_is.page_reads p k.tail_is.holds (tail_last start cuts records found s k))
+      k.tail_is.page_reads p k.tail_is.holds (tail_last start cuts records found s k))
 
   -- it fits
   fits_behind : s.tail.size ≡ s.size → length tail'.bytes ≤ s.size → FitsBehind s.size (tail_at cuts records) r
@@ -194,8 +196,8 @@ module _ (start : ℕ) (cuts : List ℕ) (records : List Reservation) (found : B
     | is_tail at is ↦ unwritten_in tail' lies (is_tail at refl)
         (let le = lies.first_le in let same = ap (λ (q : Contents). q.first) is in let stays = p.first in omega arith)
         (subst (λ (f : ℕ). IsPlaceOf tail'.bytes (l.number - f) l.place.start l.place.len) (sym p.first)
-         (p.places_stay _ _ _
-          (subst (λ (q : Contents). IsPlaceOf q.bytes (l.number - q.first) l.place.start l.place.len) is lies.place)))
+        (p.places_stay _ _ _
+        (subst (λ (q : Contents). IsPlaceOf q.bytes (l.number - q.first) l.place.start l.place.len) is lies.place)))
         (get_in_front records (r ∷ []) l.number lies.reservation lies.at)
     | is_older j at is ↦ unwritten_in lies.page lies (is_older j at is) lies.first_le lies.place
         (get_in_front records (r ∷ []) l.number lies.reservation lies.at)
@@ -213,7 +215,7 @@ module _ (start : ℕ) (cuts : List ℕ) (records : List Reservation) (found : B
         from_start = k.from_start;
         rising =
             IsRising-more 0 cuts (length records) (length (records ++ r ∷ [])) (omega (arith, length_push records r))
-                k.rising;
+            k.rising;
         room = room_reserved s.size cuts records r k.rising (fits_behind k.tail_is.size_is low) k.room;
         last_is = ap (max moment) k.last_is ∙ sym (last_moment-push records r);
         in_time = let old = k.in_time in omega arith;
@@ -222,14 +224,14 @@ module _ (start : ℕ) (cuts : List ℕ) (records : List Reservation) (found : B
             let cuts_len = cuts_are start cuts records found s k in
             let q = k.older_are j older at in
             record {
-          page_reads = q.page_reads;
-          size_is = q.size_is;
-          fill_is = q.fill_is;
-          first_is = q.first_is;
-          holds =
-              subst (HoldsRecords older.time older.bytes)
+              page_reads = q.page_reads;
+              size_is = q.size_is;
+              fill_is = q.fill_is;
+              first_is = q.first_is;
+              holds =
+                  subst (HoldsRecords older.time older.bytes)
                   (sym (reserved_before 0 cuts records r (s.done - start + j) k.rising (omega arith))) q.holds;
-        };
+            };
         tail_is = record {
           page_reads = p.page page;
           size_is = p.size ∙ k.tail_is.size_is;
@@ -250,13 +252,13 @@ module _ (start : ℕ) (cuts : List ℕ) (records : List Reservation) (found : B
               first_le = let stays = p.first in omega arith;
               place =
                   subst (λ (n : ℕ). IsPlaceOf tail'.bytes n place.start place.len)
-                      (let stays = p.first in let e : s.tail.count ≡ next_number s - tail'.first = omega arith in e)
-                      (p.number page);
+                  (let stays = p.first in let e : s.tail.count ≡ next_number s - tail'.first = omega arith in e)
+                  (p.number page);
               fills_slot = p.len_is;
               reservation = r;
               at =
                   ap (slice_get (records ++ r ∷ [])) (number ∙ plus_none (length records))
-                      ∙ get_behind records (r ∷ []) 0;
+                  ∙ get_behind records (r ∷ []) 0;
               len_is = refl;
               unwritten = refl;
             },
@@ -266,7 +268,7 @@ module _ (start : ℕ) (cuts : List ℕ) (records : List Reservation) (found : B
           frames_on s.size s.done s.older s.tail cuts records found s.done s.older tail' cuts (records ++ r ∷ []) found
               (length records)
               (as_many refl (λ kind state needs. needs_reserved s.size cuts records r found kind state k.rising needs))
-                  lies_on below all frames.4,
+              lies_on below all frames.4,
         );
       }
     where
@@ -284,10 +286,10 @@ module _ (start : ℕ) (cuts : List ℕ) (records : List Reservation) (found : B
   end_of : (fill : List Reservation) (prev moment len : ℕ) → HoldsRecords s.tail.time s.tail.bytes fill
       → ((t : Reservation) (ts : List Reservation) → fill ≡ t ∷ ts → last_moment (t ∷ ts) ≡ prev)
       → fill_len (fill ++ record { moment = moment; len = slot_len len; bytes = None } ∷ [])
-          ≡ length s.tail.bytes + encoded_len len (moment - prev) (is_blank s.tail.bytes)
+      ≡ length s.tail.bytes + encoded_len len (moment - prev) (is_blank s.tail.bytes)
   end_of [] prev moment len h last = let blank = blank_none s.tail.bytes h.len_is in
       fill_len-first record { moment = moment; len = slot_len len; bytes = None } ∙ encoded_len-slot len 0 true
-          ∙ plus (encoded_len len 0 true) ∙ ap (λ (n : ℕ). n + encoded_len len (moment - prev) true) (sym h.len_is)
+      ∙ plus (encoded_len len 0 true) ∙ ap (λ (n : ℕ). n + encoded_len len (moment - prev) true) (sym h.len_is)
       ∙ ap (λ (b : Bool). length s.tail.bytes + encoded_len len (moment - prev) b) (sym blank)
     where
       plus : (n : ℕ) → n ≡ 0 + n
@@ -296,7 +298,7 @@ module _ (start : ℕ) (cuts : List ℕ) (records : List Reservation) (found : B
       let blank =
       blank_some s.tail.bytes (let long = h.len_is in let some = fill_len-some t ts in omega arith) in
       fill_len-push t ts record { moment = moment; len = slot_len len; bytes = None }
-          ∙ ap (λ (n : ℕ). fill_len (t ∷ ts) + n) (encoded_len-slot len (moment - last_moment (t ∷ ts)) false)
+      ∙ ap (λ (n : ℕ). fill_len (t ∷ ts) + n) (encoded_len-slot len (moment - last_moment (t ∷ ts)) false)
       ∙ ap (λ (m : ℕ). fill_len (t ∷ ts) + encoded_len len (moment - m) false) (last t ts refl)
       ∙ ap (λ (n : ℕ). n + encoded_len len (moment - prev) false) (sym h.len_is)
       ∙ ap (λ (b : Bool). length s.tail.bytes + encoded_len len (moment - prev) b) (sym blank)
@@ -306,10 +308,10 @@ module _ (start : ℕ) (cuts : List ℕ) (records : List Reservation) (found : B
       → fill_len (tail_at cuts records ++ reservation_for moment len records ∷ []) ≡ end_with s moment len
   end_is moment len =
       ap
-          (λ (m : ℕ). let q : Reservation = record { moment = max moment m; len = slot_len len; bytes = None } in
-           fill_len (tail_at cuts records ++ q ∷ [])) (sym k.last_is)
+      (λ (m : ℕ). let q : Reservation = record { moment = max moment m; len = slot_len len; bytes = None } in
+      fill_len (tail_at cuts records ++ q ∷ [])) (sym k.last_is)
       ∙ end_of (tail_at cuts records) s.last_moment (max moment s.last_moment) len k.tail_is.holds
-          (tail_last start cuts records found s k)
+      (tail_last start cuts records found s k)
 
   -- a tail of some bytes holds a record
   pub tail_some : s.tail.bytes ≢ [] → tail_at cuts records ≢ []
@@ -327,44 +329,48 @@ pub reserved_record : (start : ℕ) (h : List HistoryEvent) (s : Stack) (top : F
     → IsPut s.tail tail' s.last_moment (max moment s.last_moment) len place
     → IsStack start h s
     → IsStack start (h ++ reserve ∷ [])
-        (record s { tail = tail';
-                   last_moment = max moment s.last_moment;
-                   frames =
-                       record top { progress =
-                                   Reserved record { number = next_number s; fill = tail_fill s; place = place } }
-                           ∷ below })
+    (record s {
+      tail = tail';
+      last_moment = max moment s.last_moment;
+      frames =
+          record top {
+            progress =
+                Reserved record { number = next_number s; fill = tail_fill s; place = place };
+          }
+          ∷ below;
+    })
 reserved_record start h s top below moment len noted tail' place top_is purpose waits low p k =
     let xs : List Reservation = reserved_records h in
     let q : Reservation = reservation_for moment len xs in
     let o = k.holds in
     let rest : List PushedFrame = pushed_of (model_frames below) in
     let stack : (writer_after h).stack ≡ record_frame moment len None ∷ rest =
-        k.stack_is ∙ ap (λ (fs : List Frame). pushed_of (model_frames fs)) top_is
-            ∙ (λ i. pushed_onto (kind_of (purpose i)) (state_of (waits i)) rest) in
+    k.stack_is ∙ ap (λ (fs : List Frame). pushed_of (model_frames fs)) top_is
+    ∙ (λ i. pushed_onto (kind_of (purpose i)) (state_of (waits i)) rest) in
     let early =
-        (subst (λ (kind : frames_model.Purpose). MayBePushed s.size kind) (ap kind_of purpose)
-         (subst (FramesStand s.size s.done s.older s.tail (opens_of h) xs (is_wished h)) top_is o.frames_are).0).1 in
+    (subst (λ (kind : frames_model.Purpose). MayBePushed s.size kind) (ap kind_of purpose)
+    (subst (FramesStand s.size s.done s.older s.tail (opens_of h) xs (is_wished h)) top_is o.frames_are).0).1 in
     let fits : FitsBehind s.size (tail_at (opens_of h) xs) q =
-        fits_behind start (opens_of h) xs (is_wished h) s o top below moment len tail' place p o.tail_is.size_is low in
+    fits_behind start (opens_of h) xs (is_wished h) s o top below moment len tail' place p o.tail_is.size_is low in
     record {
       keeps = IsHistory-push h reserve k.keeps (subst MayReserve (sym stack) refl);
       stack_is =
           reserved_stack h moment len rest stack
-              ∙ ap (λ (n : ℕ). record_frame moment len (Some n) ∷ rest)
-                  (sym (number_is start (opens_of h) xs (is_wished h) s o))
-              ∙ ap (λ (x : Purpose). pushed_onto (kind_of x) (reserved (next_number s)) rest) (sym purpose);
+          ∙ ap (λ (n : ℕ). record_frame moment len (Some n) ∷ rest)
+          (sym (number_is start (opens_of h) xs (is_wished h) s o))
+          ∙ ap (λ (x : Purpose). pushed_onto (kind_of x) (reserved (next_number s)) rest) (sym purpose);
       fit =
           fit_more s.size h reserve k.fit
-              (λ r wants.
-                  subst (FitsBehind s.size (tail_of h))
-                      (same_Some q r (sym (wanted_record h moment len rest stack) ∙ wants))
-                      (subst (λ (l : List Reservation). FitsBehind s.size l q) (sym (tail_is h)) fits));
+          (λ r wants.
+          subst (FitsBehind s.size (tail_of h))
+          (same_Some q r (sym (wanted_record h moment len rest stack) ∙ wants))
+          (subst (λ (l : List Reservation). FitsBehind s.size l q) (sym (tail_is h)) fits));
       holds =
           same_of start (opens_of h) (opens_of (h ++ reserve ∷ [])) (xs ++ q ∷ [])
-              (reserved_records (h ++ reserve ∷ [])) (is_wished h) (is_wished (h ++ reserve ∷ [])) _
+          (reserved_records (h ++ reserve ∷ [])) (is_wished h) (is_wished (h ++ reserve ∷ [])) _
           (opens_of-reserve h) (records_reserved h moment len rest stack) (is_wished-reserve h)
           (of_reserved start (opens_of h) xs (is_wished h) s o top below moment len tail' place p top_is purpose early
-           low);
+          low);
     }
 
 -- the same, by the numbers as they are worked out
@@ -380,12 +386,14 @@ pub reserved_with : (start : ℕ) (h : List HistoryEvent) (s : Stack) (top : Fra
     → IsPut s.tail tail' s.last_moment raised len place
     → IsStack start h s
     → IsStack start (h ++ reserve ∷ [])
-        (record s { tail = tail';
-                   last_moment = raised;
-                   frames =
-                       record top { progress = Reserved record { number = number; fill = fill; place = place } }
-                           ∷ below })
+    (record s {
+      tail = tail';
+      last_moment = raised;
+      frames =
+          record top { progress = Reserved record { number = number; fill = fill; place = place } }
+          ∷ below;
+    })
 reserved_with start h s top below moment len noted tail' place raised number fill a b d top_is purpose waits low p k =
     rw (a, b, d)
-        (reserved_record start h s top below moment len noted tail' place top_is purpose waits low
-         (subst (λ (m : ℕ). IsPut s.tail tail' s.last_moment m len place) a p) k)
+    (reserved_record start h s top below moment len noted tail' place top_is purpose waits low
+    (subst (λ (m : ℕ). IsPut s.tail tail' s.last_moment m len place) a p) k)

@@ -54,7 +54,7 @@ pub data BecomesOther (size done : ℕ) (older : List Contents) (cuts : List ℕ
     (done' : ℕ) (older' : List Contents) (cuts' : List ℕ) (records' : List Reservation) (found' : Bool) : Type 0 where
   as_many : done' + length older' ≡ done + length older
       → ((kind : Purpose) (state : frames_model.Progress) → NeedsFill size cuts records found kind state
-         → NeedsFill size cuts' records' found' kind state)
+      → NeedsFill size cuts' records' found' kind state)
       → BecomesOther size done older cuts records found done' older' cuts' records' found'
   more : done + length older < done' + length older'
       → BecomesOther size done older cuts records found done' older' cuts' records' found'
@@ -63,8 +63,8 @@ module _ (size done : ℕ) (older : List Contents) (tail : Contents) (cuts : Lis
     (found : Bool) (done' : ℕ) (older' : List Contents) (tail' : Contents) (cuts' : List ℕ)
     (records' : List Reservation) (found' : Bool) (bound : ℕ)
     (becomes : BecomesOther size done older cuts records found done' older' cuts' records' found')
-        (lies : (len : ℕ) (slot : Slot) → slot.number < bound → IsUnwritten done older tail records len slot
-         → IsUnwritten done' older' tail' records' len slot) where
+    (lies : (len : ℕ) (slot : Slot) → slot.number < bound → IsUnwritten done older tail records len slot
+    → IsUnwritten done' older' tail' records' len slot) where
   no_fewer : done + length older ≤ done' + length older'
   no_fewer = elim becomes [ as_many same needs ↦ omega arith | more low ↦ omega arith ]
 
@@ -81,16 +81,18 @@ module _ (size done : ℕ) (older : List Contents) (tail : Contents) (cuts : Lis
   stands_on : (kind : Purpose) (progress : Progress) → IfSome (number_of (state_of progress)) (λ number. number < bound)
       → StandsAt size done older tail cuts records found kind progress
       → StandsAt size done' older' tail' cuts' records' found' kind progress
-  stands_on kind (Waiting noted) before st =
-      (let fewer = no_fewer in
-       noted_later (done + length older + 1) (done' + length older' + 1) noted (omega arith) st.0,
-           needs_on kind waiting noted st.0 st.1)
+  stands_on kind (Waiting noted) before st = (
+    let fewer = no_fewer in
+        noted_later (done + length older + 1) (done' + length older' + 1) noted (omega arith) st.0,
+    needs_on kind waiting noted st.0 st.1,
+  )
   stands_on kind (Through noted) before st = (st.0, let fewer = no_fewer in let low = st.1 in omega arith)
   stands_on kind (Reserved slot) before (moment, len, is, open_yet) = (moment, len, is, lies len slot before open_yet)
-  stands_on kind (Left noted) before st =
-      (let fewer = no_fewer in
-       noted_later (done + length older + 1) (done' + length older' + 1) noted (omega arith) st.0,
-           needs_on kind left noted st.0 st.1)
+  stands_on kind (Left noted) before st = (
+    let fewer = no_fewer in
+        noted_later (done + length older + 1) (done' + length older' + 1) noted (omega arith) st.0,
+    needs_on kind left noted st.0 st.1,
+  )
 
   pub frames_on : (frames : List Frame) → AreBefore bound frames
       → FramesStand size done older tail cuts records found frames
@@ -106,7 +108,7 @@ module _ (size done : ℕ) (older : List Contents) (tail : Contents) (cuts : Lis
 
 -- the frames' records are among those that are reserved
 pub all_before : (size done : ℕ) (older : List Contents) (tail : Contents) (cuts : List ℕ) (records : List Reservation)
-        (found : Bool) (frames : List Frame) → FramesStand size done older tail cuts records found frames
+    (found : Bool) (frames : List Frame) → FramesStand size done older tail cuts records found frames
     → AreBefore (length records) frames
 all_before size done older tail cuts records found [] st = tt
 all_before size done older tail cuts records found (f ∷ below) st =

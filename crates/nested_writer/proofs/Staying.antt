@@ -33,7 +33,7 @@ pub unmoved : (start : ℕ) (s after : Stack) → after ≡ s → StandsFrom sta
 unmoved start s after same st = subst (StandsFrom start) (sym same) st
 
 fit_stands : (start : ℕ) (s after : Stack) (top : Frame) (below : List Frame) (purpose : Purpose) (progress : Progress)
-        (place : Place) → HasFit s top below purpose progress place after → StandsFrom start s → StandsFrom start after
+    (place : Place) → HasFit s top below purpose progress place after → StandsFrom start s → StandsFrom start after
 fit_stands start s after top below (Record moment len) (Reserved slot) place fit st = unmoved start s after fit.0 st
 fit_stands start s after top below Close (Reserved slot) place fit st = unmoved start s after fit.0 st
 fit_stands start s after top below (Record moment len) (Waiting noted) place fit st =
@@ -66,7 +66,7 @@ ended_stands start s after (Through noted) top ended st = has_events start s aft
 ended_stands start s after (Reserved slot) top ended (h, k) =
     let (len, lies) = slot_lies start h s slot (top slot refl) k in
     has_events start s after (leave (Some (bytes_at slot.place.start slot.place.len lies.page.bytes)) ∷ [])
-        (ended lies.page lies.open_page) (h, k)
+    (ended lies.page lies.open_page) (h, k)
 ended_stands start s after (Left noted) top ended st = absurd ended
 
 pub end_stands : (start : ℕ) (s after : Stack) (frames : List Frame) → s.frames ≡ frames → IsEnd s frames after
@@ -74,7 +74,7 @@ pub end_stands : (start : ℕ) (s after : Stack) (frames : List Frame) → s.fra
 end_stands start s after [] same is st = absurd is
 end_stands start s after (top ∷ below) same is st =
     ended_stands start s after top.progress (λ slot has. subst (λ (fs : List Frame). IsTopSlot fs slot) (sym same) has)
-        is.1 st
+    is.1 st
 
 -- ---- from some fill on
 

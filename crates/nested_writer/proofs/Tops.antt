@@ -32,15 +32,15 @@ reported_by Empty pushed noted slot other moment len apart e = cc
 reported_by Waits pushed noted slot other moment len apart e = ap (λ (f : Frame). f.purpose) (same_Some _ _ e)
 reported_by Tries pushed noted slot other moment len apart e = ap (λ (f : Frame). f.purpose) (same_Some _ _ e)
 reported_by Holds pushed noted slot other moment len apart e =
-        let progress =
-        ap (λ (f : Frame). f.progress) (same_Some _ _ e) in
+    let progress =
+    ap (λ (f : Frame). f.progress) (same_Some _ _ e) in
     cc
 reported_by HoldsClose pushed noted slot other moment len apart e =
-        let progress =
-        ap (λ (f : Frame). f.progress) (same_Some _ _ e) in
+    let progress =
+    ap (λ (f : Frame). f.progress) (same_Some _ _ e) in
     cc
 reported_by Stays pushed noted slot other moment len apart e =
-        let progress =
-        ap (λ (f : Frame). f.progress) (same_Some _ _ e) in
+    let progress =
+    ap (λ (f : Frame). f.progress) (same_Some _ _ e) in
     cc
 reported_by Other pushed noted slot other moment len apart e = absurd (apart refl (same_Some _ _ e))

@@ -23,8 +23,8 @@ module _ (start : ℕ) (h : List HistoryEvent) (s : Stack) (k : IsStack start h 
       let begun = k.holds.begun in
       let from = k.holds.from_start in
       k.holds.tail_is.first_is
-          ∙ ap (λ (i : ℕ). get_or (0 ∷ opens_of h) i 0)
-              (let last : length (opens_of h) ≡ s.done - start = omega arith in last)
+      ∙ ap (λ (i : ℕ). get_or (0 ∷ opens_of h) i 0)
+      (let last : length (opens_of h) ≡ s.done - start = omega arith in last)
   first_by (page ∷ older) is =
       (oldest start (opens_of h) (reserved_records h) (is_wished h) s page older is k.holds).first_is
 
@@ -36,7 +36,7 @@ module _ (start : ℕ) (h : List HistoryEvent) (s : Stack) (k : IsStack start h 
       let begun = k.holds.begun in
       let from = k.holds.from_start in
       let low =
-          first_below 0 (opens_of h) (length (reserved_records h)) (s.done - start) (omega arith) k.holds.rising in
+      first_below 0 (opens_of h) (length (reserved_records h)) (s.done - start) (omega arith) k.holds.rising in
       let first = first_is in
       let counts = number_counts start h s k in omega arith
 

@@ -62,31 +62,31 @@ module _ (size fill : ℕ) (cuts : List ℕ) (xs : List Reservation) (index : �
   same_bytes : (with_payload page start part).bytes ≡ overwritten page.bytes start part
   same_bytes =
       take_all (length page.bytes) (overwritten page.bytes start part)
-          (let same = length-overwritten page.bytes start len place.place part fills in omega arith)
+      (let same = length-overwritten page.bytes start len place.place part fills in omega arith)
 
   pub page_written : IsPageOf size fill cuts xs index (with_payload page start part)
   page_written =
       let first = q.first_is in
       let inside =
-          place_inside page.time page.bytes (number - page.first) start len (get_or (cut_from 0 cuts xs) index [])
-              q.holds place in
+      place_inside page.time page.bytes (number - page.first) start len (get_or (cut_from 0 cuts xs) index [])
+      q.holds place in
       let found : slice_get (get_or (cut_from 0 cuts xs) index []) (number - page.first) ≡ Some r =
-          cut_get 0 cuts xs index (number - page.first) inside
-              ∙ ap (slice_get xs)
-                  (let e : get_or (0 ∷ cuts) index 0 + (number - page.first) ≡ number = omega arith in e) ∙ at in
+      cut_get 0 cuts xs index (number - page.first) inside
+      ∙ ap (slice_get xs)
+      (let e : get_or (0 ∷ cuts) index 0 + (number - page.first) ≡ number = omega arith in e) ∙ at in
       let holds : HoldsRecords page.time (with_payload page start part).bytes (get_or (cut_from 0 cuts xs) index []) =
-          subst (λ (b : List ℕ). HoldsRecords page.time b (get_or (cut_from 0 cuts xs) index [])) (sym same_bytes)
+      subst (λ (b : List ℕ). HoldsRecords page.time b (get_or (cut_from 0 cuts xs) index [])) (sym same_bytes)
       (holds_written page.time page.bytes (get_or (cut_from 0 cuts xs) index []) (number - page.first) start len r part
-       q.holds place found unwritten fills) in
+      q.holds place found unwritten fills) in
       record {
         page_reads = record {
           reads = holds.reads;
           counted =
               q.page_reads.counted
-                  ∙ AreOf-length (records_in page.time page.bytes) (get_or (cut_from 0 cuts xs) index []) q.holds.each
-                  ∙ sym
-                      (AreOf-length (records_in page.time (with_payload page start part).bytes)
-                       (get_or (cut_from 0 cuts xs) index []) holds.each);
+              ∙ AreOf-length (records_in page.time page.bytes) (get_or (cut_from 0 cuts xs) index []) q.holds.each
+              ∙ sym
+              (AreOf-length (records_in page.time (with_payload page start part).bytes)
+              (get_or (cut_from 0 cuts xs) index []) holds.each);
           in_time = q.page_reads.in_time;
         };
         size_is = q.size_is;
@@ -100,7 +100,7 @@ module _ (size fill : ℕ) (cuts : List ℕ) (xs : List Reservation) (index : �
       → IsPlaceOf (with_payload page start part).bytes other at' size'
   place_stays other at' size' there =
       subst (λ (b : List ℕ). IsPlaceOf b other at' size') (sym same_bytes)
-          (IsPlaceOf-overwritten page.bytes other at' size' start len part there place.place fills)
+      (IsPlaceOf-overwritten page.bytes other at' size' start len part there place.place fills)
 
 -- ---- one of the older pages
 
@@ -113,7 +113,7 @@ get_set (p ∷ pages) zero page (suc j) other at = inr ((λ e. absurd (omega ari
 get_set (p ∷ pages) (suc i) page zero other at = inr ((λ e. absurd (omega arith)), at)
 get_set (p ∷ pages) (suc i) page (suc j) other at =
     ⊎_elim (λ (e, is). inl (ap suc e, is)) (λ (ne, there). inr ((λ e. ne (omega arith)), there))
-        (get_set pages i page j other at)
+    (get_set pages i page j other at)
 
 set_here : (pages : List Contents) (i : ℕ) (page old : Contents) → slice_get pages i ≡ Some old
     → slice_get (slice_set pages i page) i ≡ Some page
@@ -144,7 +144,7 @@ module _ (start : ℕ) (cuts : List ℕ) (xs : List Reservation) (found : Bool) 
     tail_place : IsPlaceOf s.tail.bytes (slot.number - s.tail.first) slot.place.start slot.place.len
     tail_place =
         subst (λ (p : Contents). IsPlaceOf p.bytes (slot.number - p.first) slot.place.start slot.place.len) is
-            lies.place
+        lies.place
 
     lies_in_tail : (n : ℕ) (l : Slot) → l.number < length xs → IsUnwritten s.done s.older s.tail xs n l
         → IsUnwritten s.done s.older tail' xs n l
@@ -152,10 +152,10 @@ module _ (start : ℕ) (cuts : List ℕ) (xs : List Reservation) (found : Bool) 
       | is_tail at page_is ↦ unwritten_in tail' other (is_tail at refl)
           (let le = other.first_le in let e = ap (λ (p : Contents). p.first) page_is in omega arith)
           (place_stays s.size (tail_fill s) cuts xs (length cuts) s.tail k.tail_is slot.number slot.place.start
-           slot.place.len lies.reservation part tail_low tail_place lies.at lies.unwritten fills
-           (l.number - s.tail.first) l.place.start l.place.len
+          slot.place.len lies.reservation part tail_low tail_place lies.at lies.unwritten fills
+          (l.number - s.tail.first) l.place.start l.place.len
           (subst (λ (p : Contents). IsPlaceOf p.bytes (l.number - p.first) l.place.start l.place.len) page_is
-           other.place))
+          other.place))
           other.at
       | is_older j at there ↦ unwritten_in other.page other (is_older j at there) other.first_le other.place other.at
     ]
@@ -196,14 +196,14 @@ module _ (start : ℕ) (cuts : List ℕ) (xs : List Reservation) (found : Bool) 
             unwritten_in page' other (is_older j at (ap (slice_get older') e ∙ set_here s.older i page' lies.page is))
             (let le = other.first_le in let f = ap (λ (p : Contents). p.first) same in omega arith)
             (place_stays s.size (s.done + i) cuts xs (s.done - start + i) lies.page (k.older_are i lies.page is)
-             slot.number slot.place.start slot.place.len lies.reservation part lies.first_le lies.place lies.at
-             lies.unwritten fills (l.number - lies.page.first) l.place.start l.place.len
+            slot.number slot.place.start slot.place.len lies.reservation part lies.first_le lies.place lies.at
+            lies.unwritten fills (l.number - lies.page.first) l.place.start l.place.len
             (subst (λ (p : Contents). IsPlaceOf p.bytes (l.number - p.first) l.place.start l.place.len) same
-             other.place))
+            other.place))
             other.at
         by_index j at there (inr ne) =
             unwritten_in other.page other (is_older j at (set_other s.older i page' j other.page ne there))
-                other.first_le other.place other.at
+            other.first_le other.place other.at
 
     pub of_older_written : IsStackOf start cuts xs found
         (record s { older = slice_set s.older i (with_payload lies.page slot.place.start part) })
@@ -217,19 +217,19 @@ module _ (start : ℕ) (cuts : List ℕ) (xs : List Reservation) (found : Bool) 
       large = k.large;
       older_are = λ j page at. ⊎_elim
           (λ (e, is').
-              subst (λ (m : ℕ). IsPageOf s.size (s.done + m) cuts xs (s.done - start + m) page) (sym e)
-                  (subst (IsPageOf s.size (s.done + i) cuts xs (s.done - start + i)) (sym is')
+          subst (λ (m : ℕ). IsPageOf s.size (s.done + m) cuts xs (s.done - start + m) page) (sym e)
+          (subst (IsPageOf s.size (s.done + i) cuts xs (s.done - start + i)) (sym is')
           (page_written s.size (s.done + i) cuts xs (s.done - start + i) lies.page (k.older_are i lies.page is)
-           slot.number slot.place.start slot.place.len lies.reservation part lies.first_le lies.place lies.at
-           lies.unwritten fills)))
+          slot.number slot.place.start slot.place.len lies.reservation part lies.first_le lies.place lies.at
+          lies.unwritten fills)))
           (λ (ne, there). k.older_are j page there)
           (get_set s.older i page' j page at);
       tail_is =
           subst (λ (f : ℕ). IsPageOf s.size f cuts xs (length cuts) s.tail) (ap (λ (m : ℕ). s.done + m) (sym long))
-              k.tail_is;
+          k.tail_is;
       frames_are =
           frames_on s.size s.done s.older s.tail cuts xs found s.done older' s.tail cuts xs found (length xs)
-              (as_many (ap (λ (m : ℕ). s.done + m) long) (λ kind state needs. needs)) lies_in_older
+          (as_many (ap (λ (m : ℕ). s.done + m) long) (λ kind state needs. needs)) lies_in_older
           s.frames (all_before s.size s.done s.older s.tail cuts xs found s.frames k.frames_are) k.frames_are;
     }
 
@@ -243,8 +243,8 @@ module _ (start : ℕ) (cuts : List ℕ) (xs : List Reservation) (found : Bool) 
         let index : slot.fill - s.done ≡ j = omega arith in
         let there : slice_get s.older (slot.fill - s.done) ≡ Some lies.page = ap (slice_get s.older) index ∙ is in
         subst (IsStackOf start cuts xs found)
-            (in_older s slot part lies.page (λ same. absurd (let fill = k.tail_is.fill_is in omega arith)) there)
-            (of_older_written (slot.fill - s.done) there)
+        (in_older s slot part lies.page (λ same. absurd (let fill = k.tail_is.fill_is in omega arith)) there)
+        (of_older_written (slot.fill - s.done) there)
   ]
 
 same_frames : (s : Stack) (slot : Slot) (part : List ℕ) (test : Bool) (one other : Stack) → one.frames ≡ s.frames
@@ -266,8 +266,8 @@ written start h s slot part top fills k =
       keeps = k.keeps;
       stack_is =
           k.stack_is
-              ∙ ap (λ (fs : List Frame). pushed_of (model_frames fs))
-                  (sym (same_frames s slot part (eqb slot.fill s.tail.fill) _ _ refl refl));
+          ∙ ap (λ (fs : List Frame). pushed_of (model_frames fs))
+          (sym (same_frames s slot part (eqb slot.fill s.tail.fill) _ _ refl refl));
       fit = subst (λ (n : ℕ). AreFit n h) (sym (same_size s (eqb slot.fill s.tail.fill) _ _ refl refl)) k.fit;
       holds = of_written start (opens_of h) (reserved_records h) (is_wished h) s k.holds slot len lies part fills;
     }

@@ -17,16 +17,16 @@ use Rattle.page_borrow.specs.Entries.{entries_of, entries_left}
 pub left-first : (bytes : List ℕ) (reached behind : Reached) (place : Place) (number end : ℕ) → number < end
     → records_left bytes reached ≡ records_at_place bytes behind.moment (Some place) ++ records_left bytes behind
     → entries_left bytes reached number end
-        ≡ (number, record { moment = behind.moment; bytes = slice_range bytes place.start (place.start + place.len) })
-            ∷ entries_left bytes behind (number + 1) end
+    ≡ (number, record { moment = behind.moment; bytes = slice_range bytes place.start (place.start + place.len) })
+    ∷ entries_left bytes behind (number + 1) end
 left-first bytes reached behind place number end more is =
     let count : end - number ≡ suc (end - (number + 1)) = omega arith in
     let len : place.len ≡ place.start + place.len - place.start = omega arith in
     ap (λ (k : ℕ). enumerate_from number (take k (records_left bytes reached))) count
     ∙ ap (λ (rs : List Record). enumerate_from number (take (suc (end - (number + 1))) rs)) is
     ∙ ap
-        (λ (n : ℕ). let r : Record = record { moment = behind.moment; bytes = take n (drop place.start bytes) } in
-         (number, r) ∷ entries_left bytes behind (number + 1) end) len
+    (λ (n : ℕ). let r : Record = record { moment = behind.moment; bytes = take n (drop place.start bytes) } in
+    (number, r) ∷ entries_left bytes behind (number + 1) end) len
 
 -- where no record is left, there is no entry
 pub left-none : (bytes : List ℕ) (reached : Reached) (number end : ℕ) → records_left bytes reached ≡ []
@@ -50,7 +50,7 @@ pub left-all : (bytes : List ℕ) (reached : Reached) (number end : ℕ) → len
     → entries_left bytes reached number end ≡ []
 left-all bytes reached number end past = left-none bytes reached number end
     (ap (λ (b : List ℕ). records_held reached.moment (words_in b)) (drop_all reached.at bytes past)
-     ∙ ap (records_held reached.moment) (words_in-none [] word_at_front-nil))
+    ∙ ap (records_held reached.moment) (words_in-none [] word_at_front-nil))
 
 -- at the front of a page that reads all of its records are left
 pub left-whole : (page : Contents) (reached : Reached) → IsPage page
@@ -59,6 +59,6 @@ pub left-whole : (page : Contents) (reached : Reached) → IsPage page
 left-whole page reached is left =
     let count = is.counted in
     let all : take (page.first + page.count - page.first) (records_of_page page) ≡ records_of_page page =
-        take_all (page.first + page.count - page.first) (records_of_page page) (omega arith) in
+    take_all (page.first + page.count - page.first) (records_of_page page) (omega arith) in
     ap (λ (rs : List Record). enumerate_from page.first (take (page.first + page.count - page.first) rs)) left
-        ∙ ap (λ (rs : List Record). enumerate_from page.first rs) all
+    ∙ ap (λ (rs : List Record). enumerate_from page.first rs) all

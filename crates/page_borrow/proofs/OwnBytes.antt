@@ -37,13 +37,15 @@ held-here : (time : ℕ) (before words : List Word) (w : Word) (r : Record) → 
     → record { moment = moment_after time (before ++ w ∷ []); bytes = payload_of w } ≡ r
     → HoldsRecord time before (w ∷ words) 0 r
 held-here time before words w r is same =
-    record { front = [];
-            word = w;
-            behind = words;
-            split = refl;
-            holds = is;
-            count = refl;
-            bytes_are = sym (ap (λ (s : Record). s.bytes) same) }
+    record {
+      front = [];
+      word = w;
+      behind = words;
+      split = refl;
+      holds = is;
+      count = refl;
+      bytes_are = sym (ap (λ (s : Record). s.bytes) same);
+    }
 
 -- a word after the one at the front does
 held-behind : (time : ℕ) (before words : List Word) (w : Word) (index : ℕ) (r : Record)
@@ -57,7 +59,7 @@ held-behind time before words w index r found = record {
   holds = found.holds;
   count =
       length-append (records_at time before w) (records_behind time (before ++ w ∷ []) found.front)
-          ∙ ap (λ (n : ℕ). length (records_at time before w) + n) found.count;
+      ∙ ap (λ (n : ℕ). length (records_at time before w) + n) found.count;
   bytes_are = found.bytes_are;
 }
 
@@ -78,19 +80,19 @@ word-found time before (w ∷ words) index r at =
     let one = records_at-data time before w is in
     ⊎_elim
     (λ first.
-        subst (λ (n : ℕ). HoldsRecord time before (w ∷ words) n r) (sym first.0)
-            (held-here time before words w r is first.1))
+    subst (λ (n : ℕ). HoldsRecord time before (w ∷ words) n r) (sym first.0)
+    (held-here time before words w r is first.1))
     (λ behind.
-        subst (λ (n : ℕ). HoldsRecord time before (w ∷ words) n r)
-            (ap (λ (rs : List Record). length rs + behind.0) one ∙ sym behind.1)
+    subst (λ (n : ℕ). HoldsRecord time before (w ∷ words) n r)
+    (ap (λ (rs : List Record). length rs + behind.0) one ∙ sym behind.1)
     (held-behind time before words w behind.0 r (word-found time (before ++ w ∷ []) words behind.0 r behind.2)))
     (first_or_behind _ r more index (subst (λ (rs : List Record). slice_get (rs ++ more) index ≡ Some r) one at)))
     (λ none.
-        subst (λ (n : ℕ). HoldsRecord time before (w ∷ words) n r)
-            (ap (λ (rs : List Record). length rs + index) none ∙ (let e : 0 + index ≡ index = omega arith in e))
+    subst (λ (n : ℕ). HoldsRecord time before (w ∷ words) n r)
+    (ap (λ (rs : List Record). length rs + index) none ∙ (let e : 0 + index ≡ index = omega arith in e))
     (held-behind time before words w index r
-     (word-found time (before ++ w ∷ []) words index r
-      (subst (λ (rs : List Record). slice_get (rs ++ more) index ≡ Some r) none at))))
+    (word-found time (before ++ w ∷ []) words index r
+    (subst (λ (rs : List Record). slice_get (rs ++ more) index ≡ Some r) none at))))
     (one_or_none time before w)
 
 -- a numbered record is the record at its index
@@ -105,14 +107,14 @@ pub all-stand : (page : Contents) → IsPage page → AllStandInPage page (entri
 all-stand page is index entry at =
     let reads = is.reads in
     let found =
-        word-found page.time [] reads.words index entry.1
-            (subst (λ (rs : List Record). slice_get rs index ≡ Some entry.1) reads.read
-             (unnumbered page.first (records_of_page page) index entry at)) in
+    word-found page.time [] reads.words index entry.1
+    (subst (λ (rs : List Record). slice_get rs index ≡ Some entry.1) reads.read
+    (unnumbered page.first (records_of_page page) index entry at)) in
     let start : ℕ = length (joined found.front) + length (head_of found.word) in
     let len : ℕ = length (payload_of found.word) in
     let spelled =
-        ap length (bytes_of_word-data found.word found.holds)
-            ∙ length-append (head_of found.word) (payload_of found.word) in
+    ap length (bytes_of_word-data found.word found.holds)
+    ∙ length-append (head_of found.word) (payload_of found.word) in
     let place : IsPlaceIn page.bytes start len = record {
       front = found.front;
       word = found.word;
@@ -130,5 +132,5 @@ all-stand page is index entry at =
       place = record { place = place; number_is = sym found.count ∙ records_of-count page.time 0 found.front };
       bytes_is =
           found.bytes_are ∙ sym (place-payload page.bytes start len place)
-              ∙ ap (λ (n : ℕ). take n (drop start page.bytes)) size;
+          ∙ ap (λ (n : ℕ). take n (drop start page.bytes)) size;
     }

@@ -16,20 +16,20 @@ take-put_behind body part encoded rest end n k within n_is part_is =
     ∙ ap (λ (xs : List ℕ). take end body ++ xs) (append_assoc encoded rest (drop k (drop end body)))
     ∙ sym (append_assoc (take end body) encoded (rest ++ drop k (drop end body))) in
     ap (take n) whole
-        ∙ take_at (take end body ++ encoded) (rest ++ drop k (drop end body)) n
-            (omega (arith, length-append (take end body) encoded))
+    ∙ take_at (take end body ++ encoded) (rest ++ drop k (drop end body)) n
+    (omega (arith, length-append (take end body) encoded))
 
 -- a record without a time extend is one data word
 encoding-one : (delta word_delta : ℕ) (first : Bool) (payload : List ℕ) → word_delta ≡ cond first 0 delta
     → word_delta < 2 ^ 27 → encoding delta first payload ≡ bytes_of_word (data_word word_delta payload)
 encoding-one delta word_delta true payload delta_is small =
     append-nil (bytes_of_word (data_word 0 payload))
-        ∙ ap (λ (d : ℕ). bytes_of_word (data_word d payload)) (sym delta_is)
+    ∙ ap (λ (d : ℕ). bytes_of_word (data_word d payload)) (sym delta_is)
 encoding-one delta word_delta false payload delta_is small =
     ap (λ (t : Bool). joined (cond t (data_word delta payload ∷ []) (time_extend delta ∷ data_word 0 payload ∷ [])))
-        (lt-ltb delta (2 ^ 27) (omega arith))
+    (lt-ltb delta (2 ^ 27) (omega arith))
     ∙ append-nil (bytes_of_word (data_word delta payload))
-        ∙ ap (λ (d : ℕ). bytes_of_word (data_word d payload)) (sym delta_is)
+    ∙ ap (λ (d : ℕ). bytes_of_word (data_word d payload)) (sym delta_is)
 
 -- after a write after the first end bytes that begins with that word
 pub take-put_one : (body part payload : List ℕ) (end n k size delta word_delta : ℕ) (first : Bool) → end ≤ length body
@@ -39,5 +39,5 @@ pub take-put_one : (body part payload : List ℕ) (end n k size delta word_delta
 take-put_one body part payload end n k size delta word_delta first within n_is long front delta_is small =
     let size_is : length (take size part) ≡ size = length-take-le size part long in
     take-put_behind body part (take size part) (drop size part) end n k within (omega arith)
-        (sym (take-append-drop size part))
+    (sym (take-append-drop size part))
     ∙ ap (λ (b : List ℕ). take end body ++ b) (front ∙ sym (encoding-one delta word_delta first payload delta_is small))

@@ -37,7 +37,7 @@ module _ (bytes body : List ℕ) (outline : Outline) (is : IsOutlined bytes outl
   is_page_in =
       let counted = is.counted in
       let cut : take outline.size body ≡ take outline.size (behind_header bytes) =
-          ap (λ (b : List ℕ). take outline.size b) behind in
+      ap (λ (b : List ℕ). take outline.size b) behind in
       cc (counted, cut, long)
 
   pub reads_page : (page : Contents) → page ≡ page_with outline body → outline.time < 2 ^ 64 → IsPage page
@@ -49,9 +49,9 @@ module _ (bytes : List ℕ) (outline : Outline) (is : IsOutlined bytes outline) 
   pub reads_image : DecodesImage bytes outline.time outline.size (missed_of outline.missed) (records_of_page page)
   reads_image =
       subst
-          (λ (p : Contents).
-              DecodesImage bytes outline.time outline.size (missed_of outline.missed) (records_of_page p)) (sym page_is)
-          is.reads
+      (λ (p : Contents).
+      DecodesImage bytes outline.time outline.size (missed_of outline.missed) (records_of_page p)) (sym page_is)
+      is.reads
 
   pub few_records : 4 * page.count ≤ length bytes
   few_records = let count = ap (λ (p : Contents). p.count) page_is ∙ sym is.counted in

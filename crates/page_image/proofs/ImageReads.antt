@@ -36,7 +36,7 @@ header_from bytes time word reported small long time_is word_is w =
     record {
       whole = le64-front bytes (omega arith) small
           ∙ ap (λ (b : List ℕ). le64 (from_le64 bytes) ++ b)
-              (le64-front behind (omega (arith, length-drop 8 bytes)) (AreBytes-drop 8 bytes small))
+          (le64-front behind (omega (arith, length-drop 8 bytes)) (AreBytes-drop 8 bytes small))
           ∙ (λ i. le64 (sym time_is i) ++ (le64 (spelled i) ++ drop-drop 8 8 bytes i));
       time_fits = subst (λ (n : ℕ). n < 2 ^ 64) (sym time_is) (from_le64_lt bytes small);
       size_fits = w.size_fits;
@@ -47,11 +47,13 @@ pub bad_size_from : (bytes : List ℕ) (time word : ℕ) (reported : CommitRepor
     → time ≡ from_le64 bytes → word ≡ from_le64 (drop 8 bytes) → IsCommitWord word reported
     → (length (behind_header bytes) < reported.size) ⊎ (MAX_IMAGE < length bytes) → HasBadSize bytes
 bad_size_from bytes time word reported small long time_is word_is w wrong =
-    record { time = time;
-            commit = commit_with reported w.ignored;
-            rest = behind_header bytes;
-            header = header_from bytes time word reported small long time_is word_is w;
-            wrong = wrong }
+    record {
+      time = time;
+      commit = commit_with reported w.ignored;
+      rest = behind_header bytes;
+      header = header_from bytes time word reported small long time_is word_is w;
+      wrong = wrong;
+    }
 
 pub parts_from : (bytes : List ℕ) (time word : ℕ) (reported : CommitReported) → AreBytes bytes
     → 16 + reported.size ≤ length bytes → time ≡ from_le64 bytes → word ≡ from_le64 (drop 8 bytes)
@@ -61,8 +63,8 @@ parts_from bytes time word reported small there time_is word_is w limit = record
   ignored = w.ignored;
   parts =
       HasParts-of MAX_IMAGE bytes time (commit_with reported w.ignored) (behind_header bytes)
-          (header_from bytes time word reported small (omega arith) time_is word_is w)
-          (omega (arith, length-drop 16 bytes)) limit;
+      (header_from bytes time word reported small (omega arith) time_is word_is w)
+      (omega (arith, length-drop 16 bytes)) limit;
 }
 
 -- ---- missed events
@@ -111,14 +113,14 @@ pub outlined : (bytes : List ℕ) (outline : Outline) (reported : CommitReported
     → HasPartsOf bytes (record { time = outline.time; commit = reported })
     → ReportsOf bytes (record { time = outline.time; commit = reported }) (missed_of outline.missed)
     → 16 + reported.size ≤ length bytes → IsCounted (data_in bytes reported.size) outline.time outline.count
-        → 4 * outline.count ≤ length (data_in bytes reported.size) → IsOutlined bytes outline
+    → 4 * outline.count ≤ length (data_in bytes reported.size) → IsOutlined bytes outline
 outlined bytes outline reported size_is p reports there counts few =
     let size : length (data_in bytes reported.size) ≡ reported.size = p.parts.size_is in
     let limit = p.parts.length_fits in
     subst
-        (λ (n : ℕ).
-            IsOutlined bytes (record { time = outline.time; size = n; missed = outline.missed; count = outline.count }))
-        (sym size_is) (record {
+    (λ (n : ℕ).
+    IsOutlined bytes (record { time = outline.time; size = n; missed = outline.missed; count = outline.count }))
+    (sym size_is) (record {
       reads = record {
         commit = commit_with reported p.ignored;
         contents = data_in bytes reported.size;
@@ -170,7 +172,7 @@ reports_cause : (bytes : List ℕ) (r : Result Image ImageFault) (cause : ImageC
     → r ≡ Err (fault_of cause)
 reports_cause bytes (Ok image) cause reads fault is =
     absurd (DecodesImage-FirstImageFault bytes image.time image.size (missed_of image.missed)
-            (records_of_page image.page) cause reads is)
+    (records_of_page image.page) cause reads is)
 reports_cause bytes (Err reported) cause reads fault is =
     ap (λ (f : ImageFault). Err f) (reported_is bytes reported cause fault is)
 
@@ -208,6 +210,7 @@ pub bad_word-iff : (bytes : List ℕ) (r : Result Image ImageFault) (cause : Cau
     → IfOk r (λ image. ReadsAs bytes image) → IfErr r (λ f. IsImageFault bytes f)
     → (r ≡ Err (Word (word_fault cause at))) ↔ FirstImageFault bytes (bad_word cause at)
 unfolding fault_of
-bad_word-iff bytes r cause at reads fault =
-    (λ e. bad_word_is bytes cause at (is_reported bytes r (Word (word_fault cause at)) fault e),
-     λ is. reports_cause bytes r (bad_word cause at) reads fault is)
+bad_word-iff bytes r cause at reads fault = (
+  λ e. bad_word_is bytes cause at (is_reported bytes r (Word (word_fault cause at)) fault e),
+  λ is. reports_cause bytes r (bad_word cause at) reads fault is,
+)

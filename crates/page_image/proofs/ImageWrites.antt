@@ -14,9 +14,14 @@ parts time contents stored word = le64 time ++ (le64 word ++ (contents ++ stored
 length-parts : (time : ℕ) (contents stored : List ℕ) (word : ℕ)
     → length (parts time contents stored word) ≡ 16 + (length contents + length stored)
 length-parts time contents stored word =
-    omega (arith, length-append (le64 time) (le64 word ++ (contents ++ stored)),
-           length-append (le64 word) (contents ++ stored), length-append contents stored, length-le64 time,
-           length-le64 word)
+    omega (
+      arith,
+      length-append (le64 time) (le64 word ++ (contents ++ stored)),
+      length-append (le64 word) (contents ++ stored),
+      length-append contents stored,
+      length-le64 time,
+      length-le64 word,
+    )
 
 -- with zeros after them they are the image
 parts-zeros : (time : ℕ) (contents stored zeros : List ℕ) (word : ℕ)
@@ -44,8 +49,8 @@ pub written-image_of : (time missed size len : ℕ) (contents empty one two thre
     → one ≡ empty ++ to_le_bytes w64 time → two ≡ one ++ to_le_bytes w64 (commit_word (commit_of contents missed size))
     → three ≡ two ++ contents
     → four ≡ three ++ stored_count contents missed size → len ≡ length four
-        → final ≡ take (16 + size) four ++ replicate (16 + size - len) 0 → length contents ≤ size
-        → final ≡ image_of time contents missed size
+    → final ≡ take (16 + size) four ++ replicate (16 + size - len) 0 → length contents ≤ size
+    → final ≡ image_of time contents missed size
 unfolding le64
 written-image_of time missed size len contents empty one two three four final none first second third fourth len_is is
     fits =
@@ -53,15 +58,15 @@ written-image_of time missed size len contents empty one two three four final no
     let word : ℕ = commit_word (commit_of contents missed size) in
     let all : four ≡ parts time contents stored word =
     fourth
-        ∙ ap (λ (b : List ℕ). b ++ stored)
-            (third
-             ∙ ap (λ (b : List ℕ). b ++ contents)
-                 (second ∙ ap (λ (b : List ℕ). b ++ le64 word) (first ∙ ap (λ (b : List ℕ). b ++ le64 time) none)))
+    ∙ ap (λ (b : List ℕ). b ++ stored)
+    (third
+    ∙ ap (λ (b : List ℕ). b ++ contents)
+    (second ∙ ap (λ (b : List ℕ). b ++ le64 word) (first ∙ ap (λ (b : List ℕ). b ++ le64 time) none)))
     ∙ ap (λ (b : List ℕ). b ++ stored) (append_assoc (le64 time) (le64 word) contents)
     ∙ append_assoc (le64 time) (le64 word ++ contents) stored
     ∙ ap (λ (b : List ℕ). le64 time ++ b) (append_assoc (le64 word) contents stored) in
     let size_is : length four ≡ 16 + (length contents + length stored) =
-        ap length all ∙ length-parts time contents stored word in
+    ap length all ∙ length-parts time contents stored word in
     let room = stored_fits time contents missed size fits in
     let zeros : 16 + size - len ≡ size - length contents - length stored = omega arith in
     is ∙ ap (λ (b : List ℕ). b ++ replicate (16 + size - len) 0) (take_all (16 + size) four (omega arith) ∙ all)
@@ -71,18 +76,23 @@ written-image_of time missed size len contents empty one two three four final no
 -- what follows the data
 pub behind-image_of : (time : ℕ) (contents : List ℕ) (missed size : ℕ)
     → drop (16 + length contents) (image_of time contents missed size)
-        ≡ stored_count contents missed size
-            ++ replicate (size - length contents - length (stored_count contents missed size)) 0
+    ≡ stored_count contents missed size
+    ++ replicate (size - length contents - length (stored_count contents missed size)) 0
 behind-image_of time contents missed size =
     let word : ℕ = commit_word (commit_of contents missed size) in
     let behind : List ℕ =
-        stored_count contents missed size
-            ++ replicate (size - length contents - length (stored_count contents missed size)) 0 in
+    stored_count contents missed size
+    ++ replicate (size - length contents - length (stored_count contents missed size)) 0 in
     let whole : image_of time contents missed size ≡ (le64 time ++ (le64 word ++ contents)) ++ behind =
     sym
-        (append_assoc (le64 time) (le64 word ++ contents) behind
-         ∙ ap (λ (b : List ℕ). le64 time ++ b) (append_assoc (le64 word) contents behind)) in
+    (append_assoc (le64 time) (le64 word ++ contents) behind
+    ∙ ap (λ (b : List ℕ). le64 time ++ b) (append_assoc (le64 word) contents behind)) in
     ap (drop (16 + length contents)) whole
     ∙ drop_at (le64 time ++ (le64 word ++ contents)) behind (16 + length contents)
-        (omega (arith, length-append (le64 time) (le64 word ++ contents), length-append (le64 word) contents,
-                length-le64 time, length-le64 word))
+    (omega (
+      arith,
+      length-append (le64 time) (le64 word ++ contents),
+      length-append (le64 word) contents,
+      length-le64 time,
+      length-le64 word,
+    ))

@@ -24,7 +24,7 @@ held-fits : (moment m : ℕ) (w : Word) (words : List Word) → moment_behind mo
     → records_held moment (w ∷ words) ≡ record_held m w ++ records_held m words
 held-fits moment m w words is fits =
     cond-true (ltb (moment_behind moment w) (2 ^ 64)) _ _
-        (lt-ltb (moment_behind moment w) (2 ^ 64) (subst (λ (n : ℕ). n < 2 ^ 64) (sym is) fits))
+    (lt-ltb (moment_behind moment w) (2 ^ 64) (subst (λ (n : ℕ). n < 2 ^ 64) (sym is) fits))
     ∙ ap (λ (n : ℕ). record_held n w ++ records_held n words) is
 
 -- a word after which it doesn't
@@ -61,11 +61,11 @@ pub left-data : (bytes : List ℕ) (reached behind : Reached) (delta : ℕ) (pla
     → records_left bytes reached ≡ records_at_place bytes behind.moment (Some place) ++ records_left bytes behind
 left-data bytes reached behind delta place here is fits =
     left-word bytes reached behind here.word here.at_offset
-        (data-behind reached.moment here.word here.is_data ∙ ap (λ (d : ℕ). reached.moment + d) here.delta_is ∙ sym is)
-        fits
+    (data-behind reached.moment here.word here.is_data ∙ ap (λ (d : ℕ). reached.moment + d) here.delta_is ∙ sym is)
+    fits
     ∙ ap (λ (rs : List Record). rs ++ records_left bytes behind)
     (data-held behind.moment here.word here.is_data
-     ∙ ap (λ (b : List ℕ). let r : Record = record { moment = behind.moment; bytes = b } in r ∷ []) here.payload_is)
+    ∙ ap (λ (b : List ℕ). let r : Record = record { moment = behind.moment; bytes = b } in r ∷ []) here.payload_is)
 
 pub left-extend : (bytes : List ℕ) (reached behind : Reached) (delta : ℕ)
     → StandsAt bytes reached.at behind.at (time_extend delta) → behind.moment ≡ reached.moment + delta
@@ -102,13 +102,13 @@ left-overflow : (bytes : List ℕ) (reached : Reached) (w : Word) (next : ℕ) �
     → 2 ^ 64 ≤ moment_behind reached.moment w → records_left bytes reached ≡ []
 left-overflow bytes reached w next here past =
     ap (records_held reached.moment) (words_in-found (drop reached.at bytes) w (drop next bytes) here.found)
-        ∙ held-overflows reached.moment w (words_in (drop next bytes)) past
+    ∙ held-overflows reached.moment w (words_in (drop next bytes)) past
 
 pub left-late_data : (bytes : List ℕ) (reached : Reached) (delta : ℕ) (place : Place) (next : ℕ)
     → DataAt bytes reached.at delta place next → 2 ^ 64 ≤ reached.moment + delta → records_left bytes reached ≡ []
 left-late_data bytes reached delta place next here past =
     left-overflow bytes reached here.word next here.at_offset
-        (let e = data-behind reached.moment here.word here.is_data in let d = here.delta_is in omega arith)
+    (let e = data-behind reached.moment here.word here.is_data in let d = here.delta_is in omega arith)
 
 pub left-late_extend : (bytes : List ℕ) (reached : Reached) (delta next : ℕ)
     → StandsAt bytes reached.at next (time_extend delta) → 2 ^ 64 ≤ reached.moment + delta
@@ -133,8 +133,8 @@ fits-push : (time : ℕ) (front : List Word) (w : Word) → IsWord w
 fits-push time front (short_data delta payload) is moved fits = moved tt
 fits-push time front (long_data delta payload) is moved fits = moved tt
 fits-push time front (padding delta skipped) is moved fits =
-        let e =
-        moment_after-push time front (padding delta skipped) refl in
+    let e =
+    moment_after-push time front (padding delta skipped) refl in
     omega arith
 fits-push time front (time_extend delta) is moved fits = moved tt
 fits-push time front (time_stamp stamp) is moved fits = let e = moment_after-stamp time front stamp in omega arith
@@ -153,12 +153,12 @@ held-behind : (time : ℕ) (front words : List Word) → FitsTime time (front ++
 held-behind time front [] in_time each fits = refl
 held-behind time front (w ∷ words) in_time each fits =
     let later : moment_after time (front ++ w ∷ []) < 2 ^ 64 =
-        fits-push time front w each.0 (in_time front w words refl) fits in
+    fits-push time front w each.0 (in_time front w words refl) fits in
     let more : FitsTime time ((front ++ w ∷ []) ++ words) =
-        subst (FitsTime time) (sym (append_assoc front (w ∷ []) words)) in_time in
+    subst (FitsTime time) (sym (append_assoc front (w ∷ []) words)) in_time in
     held-fits (moment_after time front) (moment_after time (front ++ w ∷ [])) w words (behind-push time front w) later
     ∙ ap₂ (λ (a b : List Record). a ++ b) (held-at time front w)
-        (held-behind time (front ++ w ∷ []) words more each.1 later)
+    (held-behind time (front ++ w ∷ []) words more each.1 later)
 
 -- at the front of data that reads all of its records are left
 pub left-start : (bytes : List ℕ) (time : ℕ) (records : List Record) (reached : Reached) → Decodes bytes time records

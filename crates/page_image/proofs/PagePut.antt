@@ -35,9 +35,9 @@ module _ (body new : List ℕ) (old_time time end end' first count fill prev mom
       let short : len ≤ 2 ^ 30 = omega (arith, slot_len_ge len) in
       let bytes : take end' new ≡ take end body ++ encoding delta (is_blank (take end body)) slot =
       ap (λ (n : ℕ). take n new) end_is ∙ put.bytes
-          ∙ ap (λ (b : Bool). take end body ++ encoding delta b slot) blank_is in
+      ∙ ap (λ (b : Bool). take end body ++ encoding delta b slot) blank_is in
       let long : length (take end' new) ≡ at.start + at.len = length-take-le end' new (omega arith) ∙ end_is in
       has_put (page_of body old_time end first count fill) (page_of new time end' first (count + 1) fill) prev moment
-          len slot at
+      len slot at
       can.ends can.last can.order can.in_time short slot_is bytes (long ∙ longer)
-          (time_is ∙ ap (λ (b : Bool). cond b moment old_time) blank_is) refl refl refl same_size (sym long) put.len_is
+      (time_is ∙ ap (λ (b : Bool). cond b moment old_time) blank_is) refl refl refl same_size (sym long) put.len_is

@@ -38,14 +38,14 @@ written_delta delta false = cond (ltb delta (2 ^ 27)) delta 0
 
 written_words-split : (delta : ℕ) (first : Bool) (payload : List ℕ)
     → written_words delta first payload
-        ≡ written_front delta first ++ data_word (written_delta delta first) payload ∷ []
+    ≡ written_front delta first ++ data_word (written_delta delta first) payload ∷ []
 unfolding written_front written_delta
 written_words-split delta true payload = refl
 written_words-split delta false payload = by_test (ltb delta (2 ^ 27))
   where
     by_test : (short : Bool)
         → cond short (data_word delta payload ∷ []) (time_extend delta ∷ data_word 0 payload ∷ [])
-            ≡ cond short [] (time_extend delta ∷ []) ++ data_word (cond short delta 0) payload ∷ []
+        ≡ cond short [] (time_extend delta ∷ []) ++ data_word (cond short delta 0) payload ∷ []
     by_test true = refl
     by_test false = refl
 
@@ -55,7 +55,7 @@ data_word-holds delta payload = by_test (leb (length payload) 112)
   where
     by_test : (short : Bool)
         → IsData (cond short (short_data delta payload) (long_data delta payload))
-            × (payload_of (cond short (short_data delta payload) (long_data delta payload)) ≡ payload)
+        × (payload_of (cond short (short_data delta payload) (long_data delta payload)) ≡ payload)
     by_test true = (tt, refl)
     by_test false = (tt, refl)
 
@@ -73,7 +73,7 @@ last_place bytes front w start len whole each holds len_is end_is = record {
   start_is =
       let split : length (joined (front ++ w ∷ [])) ≡ length (joined front) + length (bytes_of_word w) =
       ap length (flat_map-append bytes_of_word front (w ∷ [])) ∙ length-append (joined front) (bytes_of_word w ++ [])
-          ∙ ap (λ (b : List ℕ). length (joined front) + length b) (append-nil (bytes_of_word w)) in
+      ∙ ap (λ (b : List ℕ). length (joined front) + length b) (append-nil (bytes_of_word w)) in
       omega (arith, ap length whole);
   len_is = len_is;
 }
@@ -86,14 +86,14 @@ place_behind : (bytes : List ℕ) (words : List Word) (delta : ℕ) (first : Boo
 place_behind bytes words delta first payload start whole each end_is =
     let d : ℕ = written_delta delta first in
     let split : words ++ written_words delta first payload
-        ≡ (words ++ written_front delta first) ++ data_word d payload ∷ [] =
+    ≡ (words ++ written_front delta first) ++ data_word d payload ∷ [] =
     ap (λ (ws : List Word). words ++ ws) (written_words-split delta first payload)
-        ∙ sym (append_assoc words (written_front delta first) (data_word d payload ∷ [])) in
+    ∙ sym (append_assoc words (written_front delta first) (data_word d payload ∷ [])) in
     let all : bytes ++ encoding delta first payload ≡ joined (words ++ written_words delta first payload) =
     ap (λ (b : List ℕ). b ++ encoding delta first payload) whole
-        ∙ sym (flat_map-append bytes_of_word words (written_words delta first payload)) in
+    ∙ sym (flat_map-append bytes_of_word words (written_words delta first payload)) in
     last_place (bytes ++ encoding delta first payload) (words ++ written_front delta first) (data_word d payload) start
-        (length payload)
+    (length payload)
     (all ∙ ap joined split)
     (subst (AllByRecursion IsWord) split each)
     (data_word-holds d payload).0
@@ -122,10 +122,10 @@ ends_at byte bytes time prev ends behind = ⊎_elim
     (λ none. absurd (let no_bytes : byte ∷ bytes ≡ [] = ends.whole ∙ ap joined none in cc))
     (λ last.
     let push : records_in time (byte ∷ bytes)
-        ≡ records_of time last.0
-            ++ record { moment = moment_after time last.0 + delta_of last.1; bytes = payload_of last.1 } ∷ [] =
+    ≡ records_of time last.0
+    ++ record { moment = moment_after time last.0 + delta_of last.1; bytes = payload_of last.1 } ∷ [] =
     reads_words (byte ∷ bytes) time ends.words ends.whole ends.each ∙ ap (records_of time) last.2
-        ∙ records_of-push_data time last.0 last.1 last.3 in
+    ∙ records_of-push_data time last.0 last.1 last.3 in
     let P : List Record → Type 0 = λ rs. IfSome (moment_of_last rs) (λ (m : ℕ). m ≡ prev) in
     let Q : List Record → Type 0 = λ rs. EndsAt rs prev in
     subst Q (sym push) (has_last (records_of time last.0) _ prev (subst P push behind)))
@@ -134,13 +134,13 @@ ends_at byte bytes time prev ends behind = ⊎_elim
 -- the moment of the record that is written after words
 moment_there : (time delta : ℕ) (words : List Word)
     → moment_after time (words ++ written_front delta false) + written_delta delta false
-        ≡ moment_after time words + delta
+    ≡ moment_after time words + delta
 unfolding written_front written_delta
 moment_there time delta words = by_test (ltb delta (2 ^ 27))
   where
     by_test : (short : Bool)
         → moment_after time (words ++ cond short [] (time_extend delta ∷ [])) + cond short delta 0
-            ≡ moment_after time words + delta
+        ≡ moment_after time words + delta
     by_test true = ap (λ (ws : List Word). moment_after time ws + delta) (append-nil words)
     by_test false = let h = moment_after-push time words (time_extend delta) refl in omega arith
 
@@ -148,23 +148,25 @@ moment_there time delta words = by_test (ltb delta (2 ^ 27))
 newest_behind : (bytes : List ℕ) (words : List Word) (time delta moment : ℕ) (first : Bool) (payload : List ℕ)
     → bytes ≡ joined words → AllByRecursion IsWord (words ++ written_words delta first payload)
     → moment_after time (words ++ written_front delta first) + written_delta delta first ≡ moment
-        → EndsAt (records_in time (bytes ++ encoding delta first payload)) moment
+    → EndsAt (records_in time (bytes ++ encoding delta first payload)) moment
 newest_behind bytes words time delta moment first payload whole each there =
     let d : ℕ = written_delta delta first in
     let front : List Word = words ++ written_front delta first in
     let split : words ++ written_words delta first payload ≡ front ++ data_word d payload ∷ [] =
     ap (λ (ws : List Word). words ++ ws) (written_words-split delta first payload)
-        ∙ sym (append_assoc words (written_front delta first) (data_word d payload ∷ [])) in
+    ∙ sym (append_assoc words (written_front delta first) (data_word d payload ∷ [])) in
     let all : bytes ++ encoding delta first payload ≡ joined (words ++ written_words delta first payload) =
     ap (λ (b : List ℕ). b ++ encoding delta first payload) whole
-        ∙ sym (flat_map-append bytes_of_word words (written_words delta first payload)) in
+    ∙ sym (flat_map-append bytes_of_word words (written_words delta first payload)) in
     ap moment_of_last
-        (reads_words (bytes ++ encoding delta first payload) time (words ++ written_words delta first payload) all each
-         ∙ ap (records_of time) split
-         ∙ records_of-push_data time front (data_word d payload) (data_word-holds d payload).0)
+    (reads_words (bytes ++ encoding delta first payload) time (words ++ written_words delta first payload) all each
+    ∙ ap (records_of time) split
+    ∙ records_of-push_data time front (data_word d payload) (data_word-holds d payload).0)
     ∙ moment_of_last-push (records_of time front)
-        record { moment = moment_after time front + delta_of (data_word d payload);
-                bytes = payload_of (data_word d payload) }
+    record {
+      moment = moment_after time front + delta_of (data_word d payload);
+      bytes = payload_of (data_word d payload);
+    }
     ∙ ap (λ (m : ℕ). Some m) (ap (λ (n : ℕ). moment_after time front + n) (data_word-delta d payload) ∙ there)
 
 -- What the data becomes when a record with this payload is put after it: its end, and the payload's place.
@@ -181,9 +183,11 @@ pub record IsSlot (payload : List ℕ) : Type 0 where
 
 pub IsSlot-of : (payload : List ℕ) (len : ℕ) → length payload ≡ slot_len len → len ≤ 2 ^ 30 → IsSlot payload
 IsSlot-of payload len size limit =
-    record { whole = ap (λ (n : ℕ). n % 4) size ∙ slot_len-mod len;
-            some = omega (arith, slot_len_ge_four len);
-            fits = omega arith }
+    record {
+      whole = ap (λ (n : ℕ). n % 4) size ∙ slot_len-mod len;
+      some = omega (arith, slot_len_ge_four len);
+      fits = omega arith;
+    }
 
 pub put_end : (bytes : List ℕ) (prev moment : ℕ) (payload : List ℕ) → EndsInRecord bytes → moment < MOMENT_LIMIT
     → IsSlot payload → PutEnd bytes prev moment payload
@@ -192,40 +196,40 @@ put_end [] prev moment payload ends small slot =
       ends = EndsInRecord-first (moment - prev) payload slot.whole slot.some slot.fits;
       place =
           λ start end_is.
-                 place_behind [] [] (moment - prev) true payload start refl
-                     (data_word-IsWord 0 payload (omega arith) slot.whole slot.some slot.fits, tt) end_is;
+          place_behind [] [] (moment - prev) true payload start refl
+          (data_word-IsWord 0 payload (omega arith) slot.whole slot.some slot.fits, tt) end_is;
     }
 put_end (byte ∷ bytes) prev moment payload ends small slot =
     record {
       ends =
           EndsInRecord-appended (byte ∷ bytes) (moment - prev) payload ends (omega arith) slot.whole slot.some
-              slot.fits;
+          slot.fits;
       place =
           λ start end_is.
-                 place_behind (byte ∷ bytes) ends.words (moment - prev) false payload start ends.whole
-                     (each-append ends.words _ ends.each
-                      (written-each (moment - prev) payload (omega arith) slot.whole slot.some slot.fits)) end_is;
+          place_behind (byte ∷ bytes) ends.words (moment - prev) false payload start ends.whole
+          (each-append ends.words _ ends.each
+          (written-each (moment - prev) payload (omega arith) slot.whole slot.some slot.fits)) end_is;
     }
 
 pub put_data : (bytes : List ℕ) (time prev moment : ℕ) (payload : List ℕ) → EndsInRecord bytes
     → Decodes bytes time (records_in time bytes) → IfSome (moment_of_last (records_in time bytes)) (λ last. last ≡ prev)
     → prev ≤ moment → moment < MOMENT_LIMIT → IsSlot payload
     → Decodes (bytes ++ encoding (moment - prev) (is_blank bytes) payload) (cond (is_blank bytes) moment time)
-        (records_in time bytes ++ record { moment = moment; bytes = payload } ∷ [])
+    (records_in time bytes ++ record { moment = moment; bytes = payload } ∷ [])
 put_data [] time prev moment payload ends reads behind order small slot =
     subst
-        (λ (rs : List Record).
-            Decodes (encoding (moment - prev) true payload) moment
-                (rs ++ record { moment = moment; bytes = payload } ∷ [])) (sym (records_in-blank time))
-        (Decodes-first moment (moment - prev) payload (omega arith) slot.whole slot.some slot.fits)
+    (λ (rs : List Record).
+    Decodes (encoding (moment - prev) true payload) moment
+    (rs ++ record { moment = moment; bytes = payload } ∷ [])) (sym (records_in-blank time))
+    (Decodes-first moment (moment - prev) payload (omega arith) slot.whole slot.some slot.fits)
 put_data (byte ∷ bytes) time prev moment payload ends reads behind order small slot =
     let there : prev + (moment - prev) ≡ moment = omega arith in
     subst
-        (λ (m : ℕ).
-            Decodes ((byte ∷ bytes) ++ encoding (moment - prev) false payload) time
-                (records_in time (byte ∷ bytes) ++ record { moment = m; bytes = payload } ∷ [])) there
+    (λ (m : ℕ).
+    Decodes ((byte ∷ bytes) ++ encoding (moment - prev) false payload) time
+    (records_in time (byte ∷ bytes) ++ record { moment = m; bytes = payload } ∷ [])) there
     (Decodes-appended (byte ∷ bytes) time (records_in time (byte ∷ bytes)) prev (moment - prev) payload ends reads
-     (ends_at byte bytes time prev ends behind) (omega arith) (omega arith) slot.whole slot.some slot.fits)
+    (ends_at byte bytes time prev ends behind) (omega arith) (omega arith) slot.whole slot.some slot.fits)
 
 first_there : (moment delta : ℕ)
     → moment_after moment ([] ++ written_front delta true) + written_delta delta true ≡ moment
@@ -237,20 +241,20 @@ newest : (bytes : List ℕ) (time prev moment : ℕ) (payload : List ℕ) → En
     → IfSome (moment_of_last (records_in time bytes)) (λ last. last ≡ prev) → prev ≤ moment → moment < MOMENT_LIMIT
     → IsSlot payload
     → EndsAt
-        (records_in (cond (is_blank bytes) moment time) (bytes ++ encoding (moment - prev) (is_blank bytes) payload))
-        moment
+    (records_in (cond (is_blank bytes) moment time) (bytes ++ encoding (moment - prev) (is_blank bytes) payload))
+    moment
 newest [] time prev moment payload ends behind order small slot =
     newest_behind [] [] moment (moment - prev) moment true payload refl
-        (data_word-IsWord 0 payload (omega arith) slot.whole slot.some slot.fits, tt)
-        (first_there moment (moment - prev))
+    (data_word-IsWord 0 payload (omega arith) slot.whole slot.some slot.fits, tt)
+    (first_there moment (moment - prev))
 newest (byte ∷ bytes) time prev moment payload ends behind order small slot =
     let read = reads_words (byte ∷ bytes) time ends.words ends.whole ends.each in
     let last : moment_after time ends.words ≡ prev =
-        moment_after-last (byte ∷ bytes) time (records_in time (byte ∷ bytes)) prev ends read
-            (ends_at byte bytes time prev ends behind) in
+    moment_after-last (byte ∷ bytes) time (records_in time (byte ∷ bytes)) prev ends read
+    (ends_at byte bytes time prev ends behind) in
     newest_behind (byte ∷ bytes) ends.words time (moment - prev) moment false payload ends.whole
     (each-append ends.words _ ends.each
-     (written-each (moment - prev) payload (omega arith) slot.whole slot.some slot.fits))
+    (written-each (moment - prev) payload (omega arith) slot.whole slot.some slot.fits))
     (moment_there time (moment - prev) ends.words ∙ (omega arith))
 
 pub blank_is : (bytes : List ℕ) → nat_eq (length bytes) 0 ≡ is_blank bytes
@@ -273,10 +277,10 @@ no_place number start len there =
     let some = bytes_of_word_ge p.word in
     let none : 0 ≡ length (joined (p.front ++ p.word ∷ p.behind) ++ p.rest) = ap length p.cut.whole in
     let split : length (joined (p.front ++ p.word ∷ p.behind))
-        ≡ length (joined p.front) + (length (bytes_of_word p.word) + length (joined p.behind)) =
+    ≡ length (joined p.front) + (length (bytes_of_word p.word) + length (joined p.behind)) =
     ap length (flat_map-append bytes_of_word p.front (p.word ∷ p.behind))
-        ∙ length-append (joined p.front) (bytes_of_word p.word ++ joined p.behind)
-        ∙ ap (λ (n : ℕ). length (joined p.front) + n) (length-append (bytes_of_word p.word) (joined p.behind)) in
+    ∙ length-append (joined p.front) (bytes_of_word p.word ++ joined p.behind)
+    ∙ ap (λ (n : ℕ). length (joined p.front) + n) (length-append (bytes_of_word p.word) (joined p.behind)) in
     absurd (omega (arith, length-append (joined (p.front ++ p.word ∷ p.behind)) p.rest))
 
 put_places_stay : (bytes : List ℕ) (prev moment : ℕ) (payload : List ℕ) → EndsInRecord bytes → moment < MOMENT_LIMIT
@@ -285,20 +289,20 @@ put_places_stay : (bytes : List ℕ) (prev moment : ℕ) (payload : List ℕ) �
 put_places_stay [] prev moment payload ends small slot number at size there = absurd (no_place number at size there)
 put_places_stay (byte ∷ bytes) prev moment payload ends small slot number at size there =
     IsPlaceOf-appended (byte ∷ bytes) number at size (moment - prev) payload ends there (omega arith) slot.whole
-        slot.some slot.fits
+    slot.some slot.fits
 
 put_number : (bytes : List ℕ) (time prev moment : ℕ) (payload : List ℕ) (start : ℕ) → EndsInRecord bytes
     → Decodes bytes time (records_in time bytes) → moment < MOMENT_LIMIT → IsSlot payload
     → start + length payload ≡ length (bytes ++ encoding (moment - prev) (is_blank bytes) payload)
     → IsPlaceOf (bytes ++ encoding (moment - prev) (is_blank bytes) payload) (length (records_in time bytes)) start
-        (length payload)
+    (length payload)
 put_number [] time prev moment payload start ends reads small slot end_is =
     subst (λ (n : ℕ). IsPlaceOf (encoding (moment - prev) true payload) n start (length payload))
-        (sym (ap length (records_in-blank time)))
+    (sym (ap length (records_in-blank time)))
     (IsPlaceOf-first (moment - prev) payload start slot.whole slot.some slot.fits end_is)
 put_number (byte ∷ bytes) time prev moment payload start ends reads small slot end_is =
     IsPlaceOf-new (byte ∷ bytes) time (records_in time (byte ∷ bytes)) (moment - prev) payload start ends reads
-        (omega arith) slot.whole slot.some slot.fits end_is
+    (omega arith) slot.whole slot.some slot.fits end_is
 
 -- data of some length isn't blank
 pub not_blank : (bytes : List ℕ) → 4 ≤ length bytes → is_blank bytes ≡ false
@@ -315,9 +319,9 @@ pub has_put : (old new : Contents) (prev moment len : ℕ) (payload : List ℕ) 
     → IfSome (moment_of_last (records_of_page old)) (λ last. last ≡ prev) → prev ≤ moment → moment < MOMENT_LIMIT
     → len ≤ 2 ^ 30 → length payload ≡ slot_len len
     → new.bytes ≡ old.bytes ++ encoding (moment - prev) (is_blank old.bytes) payload
-        → length new.bytes ≡ length old.bytes + encoded_len len (moment - prev) (is_blank old.bytes)
-        → new.time ≡ cond (is_blank old.bytes) moment old.time → new.count ≡ old.count + 1 → new.first ≡ old.first
-        → new.fill ≡ old.fill → new.size ≡ old.size → at.start + at.len ≡ length new.bytes → at.len ≡ slot_len len
+    → length new.bytes ≡ length old.bytes + encoded_len len (moment - prev) (is_blank old.bytes)
+    → new.time ≡ cond (is_blank old.bytes) moment old.time → new.count ≡ old.count + 1 → new.first ≡ old.first
+    → new.fill ≡ old.fill → new.size ≡ old.size → at.start + at.len ≡ length new.bytes → at.len ≡ slot_len len
     → HasPut old new prev moment len payload at
 has_put old new prev moment len payload at ends last order small limit size bytes_is longer time_is count_is first_is
     fill_is size_is end_is len_is =
@@ -327,23 +331,23 @@ has_put old new prev moment len payload at ends last order small limit size byte
     let slot : IsSlot payload = IsSlot-of payload len size limit in
     let end = put_end old.bytes prev moment payload ends small slot in
     let there : start + length payload ≡ length (old.bytes ++ encoding (moment - prev) (is_blank old.bytes) payload) =
-        ap (λ (n : ℕ). start + n) size_at ∙ end_is ∙ ap length bytes_is in
+    ap (λ (n : ℕ). start + n) size_at ∙ end_is ∙ ap length bytes_is in
     let reads : IsPage old → Decodes new.bytes new.time (records_of_page old ++ r ∷ []) = λ page.
     subst (λ (t : ℕ). Decodes new.bytes t (records_of_page old ++ r ∷ [])) (sym time_is)
     (subst (λ (b : List ℕ). Decodes b (cond (is_blank old.bytes) moment old.time) (records_of_page old ++ r ∷ []))
-     (sym bytes_is) (put_data old.bytes old.time prev moment payload ends page.reads last order small slot)) in
+    (sym bytes_is) (put_data old.bytes old.time prev moment payload ends page.reads last order small slot)) in
     let now : IsPage old → records_of_page new ≡ records_of_page old ++ r ∷ [] =
-        λ page. records_in-Decodes new.bytes new.time (records_of_page old ++ r ∷ []) (reads page) in
+    λ page. records_in-Decodes new.bytes new.time (records_of_page old ++ r ∷ []) (reads page) in
     let stay : (number at size : ℕ) → IsPlaceOf old.bytes number at size → IsPlaceOf new.bytes number at size =
-        λ number at size was.
-               subst (λ (b : List ℕ). IsPlaceOf b number at size) (sym bytes_is)
-                   (put_places_stay old.bytes prev moment payload ends small slot number at size was) in
+    λ number at size was.
+    subst (λ (b : List ℕ). IsPlaceOf b number at size) (sym bytes_is)
+    (put_places_stay old.bytes prev moment payload ends small slot number at size was) in
     record {
       page = λ page. record {
         reads = subst (Decodes new.bytes new.time) (sym (now page)) (reads page);
         counted =
-                let one : length (records_of_page new) ≡ length (records_of_page old) + 1 =
-                ap length (now page) ∙ length-append (records_of_page old) (r ∷ []) in
+            let one : length (records_of_page new) ≡ length (records_of_page old) + 1 =
+            ap length (now page) ∙ length-append (records_of_page old) (r ∷ []) in
             omega (arith, page.counted);
         in_time = fits_either (is_blank old.bytes) new.time moment old.time time_is (omega arith) page.in_time;
       };
@@ -359,25 +363,25 @@ has_put old new prev moment len payload at ends last order small limit size byte
       ends = subst EndsInRecord (sym bytes_is) end.ends;
       place =
           subst (λ (n : ℕ). IsPlaceIn new.bytes start n) size_at
-              (subst (λ (b : List ℕ). IsPlaceIn b start (length payload)) (sym bytes_is) (end.place start there));
+          (subst (λ (b : List ℕ). IsPlaceIn b start (length payload)) (sym bytes_is) (end.place start there));
       number =
           λ page.
-                 subst (λ (n : ℕ). IsPlaceOf new.bytes old.count start n) size_at
-                     (subst (λ (b : List ℕ). IsPlaceOf b old.count start (length payload)) (sym bytes_is)
+          subst (λ (n : ℕ). IsPlaceOf new.bytes old.count start n) size_at
+          (subst (λ (b : List ℕ). IsPlaceOf b old.count start (length payload)) (sym bytes_is)
           (subst
-           (λ (n : ℕ).
-               IsPlaceOf (old.bytes ++ encoding (moment - prev) (is_blank old.bytes) payload) n start (length payload))
-           (sym page.counted)
+          (λ (n : ℕ).
+          IsPlaceOf (old.bytes ++ encoding (moment - prev) (is_blank old.bytes) payload) n start (length payload))
+          (sym page.counted)
           (put_number old.bytes old.time prev moment payload start ends page.reads small slot there)));
       places_stay = stay;
       payloads_stay = λ at size was. (stay _ at size (place_of old.bytes at size was)).place;
       last = subst (λ (o : Option ℕ). IfSome o (λ last. last ≡ moment))
           (sym (ap (λ (b : List ℕ). moment_of_last (records_in new.time b)) bytes_is
-                ∙ ap
-                    (λ (t : ℕ).
-                        moment_of_last
-                            (records_in t (old.bytes ++ encoding (moment - prev) (is_blank old.bytes) payload))) time_is
-                ∙ newest old.bytes old.time prev moment payload ends last order small slot)) refl;
+          ∙ ap
+          (λ (t : ℕ).
+          moment_of_last
+          (records_in t (old.bytes ++ encoding (moment - prev) (is_blank old.bytes) payload))) time_is
+          ∙ newest old.bytes old.time prev moment payload ends last order small slot)) refl;
       end = end_is;
       len_is = len_is;
     }

@@ -18,10 +18,10 @@ overwritten-behind : (front behind new : List ℕ) (at : ℕ) → length front �
     → overwritten (front ++ behind) (8 + at) new ≡ front ++ overwritten behind at new
 overwritten-behind front behind new at eight =
     let kept : take (8 + at) (front ++ behind) ≡ front ++ take at behind =
-        ap (λ (n : ℕ). take (n + at) (front ++ behind)) (sym eight) ∙ take-append-add front behind at in
+    ap (λ (n : ℕ). take (n + at) (front ++ behind)) (sym eight) ∙ take-append-add front behind at in
     let past : 8 + at + length new ≡ length front + (at + length new) = omega arith in
     let rest : drop (8 + at + length new) (front ++ behind) ≡ drop (at + length new) behind =
-        ap (λ (n : ℕ). drop n (front ++ behind)) past ∙ drop-append-add front behind (at + length new) in
+    ap (λ (n : ℕ). drop n (front ++ behind)) past ∙ drop-append-add front behind (at + length new) in
     (λ i. kept i ++ (new ++ rest i)) ∙ append_assoc front (take at behind) (new ++ drop (at + length new) behind)
 
 -- a number is overwritten by another
@@ -45,7 +45,7 @@ module _ (old : List ℕ) (at n : ℕ) (within : at + 8 ≤ 48) (long : 48 ≤ l
   stored_is : overwritten old at (le64 n) ≡ (take at old ++ le64 n) ++ drop (at + 8) old
   stored_is =
       ap (λ (k : ℕ). take at old ++ (le64 n ++ drop (at + k) old)) (length-le64 n)
-          ∙ sym (append_assoc (take at old) (le64 n) (drop (at + 8) old))
+      ∙ sym (append_assoc (take at old) (le64 n) (drop (at + 8) old))
 
   pub behind_stays : drop 48 (overwritten old at (le64 n)) ≡ drop 48 old
   behind_stays =
@@ -60,8 +60,8 @@ module _ (old : List ℕ) (at n : ℕ) (within : at + 8 ≤ 48) (long : 48 ≤ l
   pub length_stays : length (overwritten old at (le64 n)) ≡ length old
   length_stays =
       ap length stored_is
-          ∙ (let front = front_long in
-             omega (arith, length-append (take at old ++ le64 n) (drop (at + 8) old), length-drop (at + 8) old))
+      ∙ (let front = front_long in
+      omega (arith, length-append (take at old ++ le64 n) (drop (at + 8) old), length-drop (at + 8) old))
 
 pub stores_fill : (old : List ℕ) (n : ℕ) → 48 ≤ length old
     → StoresHeader old (overwritten old 8 (le64 n)) (λ was. record was { fill = n })
@@ -152,14 +152,14 @@ pub number_put : (slot part : List ℕ) (at n : ℕ) → part ≡ le64 n ++ drop
     → put_mid at (length slot - at) slot part ≡ overwritten slot at (le64 n)
 number_put slot part at n part_is =
     let past : drop (length slot - at) (drop at slot) ≡ [] =
-        drop_all (length slot - at) (drop at slot) (omega (arith, length-drop at slot)) in
+    drop_all (length slot - at) (drop at slot) (omega (arith, length-drop at slot)) in
     let rest : drop 8 (take (length slot - at) (drop at slot)) ≡ drop (at + length (le64 n)) slot =
-        ap (drop 8) (take_rest slot at) ∙ drop-drop 8 at slot
-            ∙ ap (λ (k : ℕ). drop (at + k) slot) (sym (length-le64 n)) in
+    ap (drop 8) (take_rest slot at) ∙ drop-drop 8 at slot
+    ∙ ap (λ (k : ℕ). drop (at + k) slot) (sym (length-le64 n)) in
     (λ i. take at slot ++ (part_is i ++ past i))
-        ∙ ap (λ (b : List ℕ). take at slot ++ b)
-            (append-nil (le64 n ++ drop 8 (take (length slot - at) (drop at slot)))
-             ∙ ap (λ (b : List ℕ). le64 n ++ b) rest)
+    ∙ ap (λ (b : List ℕ). take at slot ++ b)
+    (append-nil (le64 n ++ drop 8 (take (length slot - at) (drop at slot)))
+    ∙ ap (λ (b : List ℕ). le64 n ++ b) rest)
 
 pub length-slot_bytes : (header : SlotHeader) (behind : List ℕ) → length (slot_bytes header behind) ≡ 48 + length behind
 length-slot_bytes h behind =
@@ -203,12 +203,14 @@ slot_in bytes small long =
     let long4 : 24 ≤ length four = omega (arith, length-drop 8 three) in
     let long5 : 16 ≤ length five = omega (arith, length-drop 8 four) in
     let long6 : 8 ≤ length six = omega (arith, length-drop 8 five) in (
-      record { cpu = from_le64 bytes;
-              fill = from_le64 two;
-              first = from_le64 three;
-              missed = from_le64 four;
-              time = from_le64 five;
-              commit = from_le64 six },
+      record {
+        cpu = from_le64 bytes;
+        fill = from_le64 two;
+        first = from_le64 three;
+        missed = from_le64 four;
+        time = from_le64 five;
+        commit = from_le64 six;
+      },
       drop 8 six,
       le64-front bytes (omega arith) small
           ∙ ap (λ (b : List ℕ). le64 (from_le64 bytes) ++ b) (le64-front two (omega arith) small2

@@ -43,8 +43,8 @@ ReadUpTo-step bytes at next w read stands = record {
   front = read.front ++ w ∷ [];
   whole =
       read.whole ∙ ap (λ (b : List ℕ). joined read.front ++ b) stands.stands
-          ∙ sym (append_assoc (joined read.front) (bytes_of_word w) (drop next bytes))
-          ∙ ap (λ (b : List ℕ). b ++ drop next bytes) (sym (joined-push read.front w));
+      ∙ sym (append_assoc (joined read.front) (bytes_of_word w) (drop next bytes))
+      ∙ ap (λ (b : List ℕ). b ++ drop next bytes) (sym (joined-push read.front w));
   each = each-append read.front (w ∷ []) read.each (stands.is_word, tt);
   at_is = let size = ap length (joined-push read.front w) ∙ length-append (joined read.front) (bytes_of_word w) in
       omega (arith, stands.next_is, read.at_is);
@@ -78,8 +78,8 @@ here_or_behind bytes start len at next w sought stands p =
     ⊎_elim
     (λ within.
     let here =
-        place-here bytes start len read.front (drop at bytes) w (drop next bytes) p read.whole read.each stands.found
-            (omega (arith, read.at_is)) (omega (arith, read.at_is, stands.next_is)) in
+    place-here bytes start len read.front (drop at bytes) w (drop next bytes) p read.whole read.each stands.found
+    (omega (arith, read.at_is)) (omega (arith, read.at_is, stands.next_is)) in
     inr (here.0, here.1, (let e = here.2 in omega (arith, read.at_is, stands.next_is))))
     (λ behind. inl (omega (arith, more.at_is)))
     (place-beside bytes start len more.front (drop next bytes) p more.whole more.each)
@@ -91,8 +91,8 @@ IsAhead-other bytes start len at next w sought stands other = record {
   read = ReadUpTo-step bytes at next w sought.read stands;
   ahead =
       λ p.
-             ⊎_elim (λ behind. behind) (λ here. absurd (other here.0))
-                 (here_or_behind bytes start len at next w sought stands p);
+      ⊎_elim (λ behind. behind) (λ here. absurd (other here.0))
+      (here_or_behind bytes start len at next w sought stands p);
 }
 
 -- past a record with another place
@@ -103,9 +103,9 @@ IsAhead-record bytes start len at delta found next sought stands other = record 
   ahead = λ p. ⊎_elim
       (λ behind. behind)
       (λ here.
-          absurd (other (let e = here.1 in
-                         let f = here.2 in
-                         (omega (arith, stands.len_is, stands.end_is), omega (arith, stands.len_is)))))
+      absurd (other (let e = here.1 in
+      let f = here.2 in
+      (omega (arith, stands.len_is, stands.end_is), omega (arith, stands.len_is)))))
       (here_or_behind bytes start len at next stands.word sought stands.at_offset p);
 }
 
@@ -118,8 +118,8 @@ IsAhead-none bytes start len at sought none p =
     let stop = place-stop bytes start len p in
     let words : p.front ++ p.word ∷ p.behind ≡ read.front =
     sym (words_in-IsPlaceIn bytes start len p) ∙ ap words_in read.whole
-        ∙ words_in-behind read.front (drop at bytes) read.each
-        ∙ ap (λ (ws : List Word). read.front ++ ws) (words_in-none (drop at bytes) none) ∙ append-nil read.front in
+    ∙ words_in-behind read.front (drop at bytes) read.each
+    ∙ ap (λ (ws : List Word). read.front ++ ws) (words_in-none (drop at bytes) none) ∙ append-nil read.front in
     let size = sym (length-joined_split p.front p.word p.behind) ∙ ap (λ (ws : List Word). length (joined ws)) words in
     omega (arith, read.at_is)
 
@@ -130,6 +130,6 @@ pub IsAhead-found : (bytes : List ℕ) (start len at delta : ℕ) (found : Place
 IsAhead-found bytes start len at delta found next time records sought stands reads =
     let read = sought.read in
     (IsPlaceOf-read bytes time records read.front (drop at bytes) stands.word (drop next bytes) found.start found.len
-     reads read.whole read.each stands.at_offset.found stands.is_data
+    reads read.whole read.each stands.at_offset.found stands.is_data
     (stands.end_is ∙ stands.at_offset.next_is ∙ ap (λ (n : ℕ). n + length (bytes_of_word stands.word)) read.at_is)
-        stands.len_is).place
+    stands.len_is).place

@@ -28,8 +28,8 @@ pub parcel_is : (kept : List ParcelValue) (parcels : List Parcel) (i : ℕ) (par
 parcel_is kept parcels i parcel same within is =
     subst (λ (l : List Parcel). as_parcel parcel ≡ get_or l i (as_parcel parcel)) same
     (ap as_parcel is
-     ∙ sym (get_or-map as_parcel kept i parcel (as_parcel parcel)
-            (subst (λ (k : ℕ). i < k) (sym (as_many kept parcels same)) within)))
+    ∙ sym (get_or-map as_parcel kept i parcel (as_parcel parcel)
+    (subst (λ (k : ℕ). i < k) (sym (as_many kept parcels same)) within)))
 
 -- ---- in the list of all of them
 

@@ -26,50 +26,60 @@ image_refused bytes cpu fill first missed image TooShort h known is not =
     let long = h.long in
     absurd (omega (arith, is))
 image_refused bytes cpu fill first missed image BadSize h known is not =
-    record { cpu = cpu;
-            fill = fill;
-            first = first;
-            missed = missed;
-            image = image;
-            numbers = h;
-            cpu_known = known;
-            fault = is }
+    record {
+      cpu = cpu;
+      fill = fill;
+      first = first;
+      missed = missed;
+      image = image;
+      numbers = h;
+      cpu_known = known;
+      fault = is;
+    }
 image_refused bytes cpu fill first missed image BadCount h known is not =
-    record { cpu = cpu;
-            fill = fill;
-            first = first;
-            missed = missed;
-            image = image;
-            numbers = h;
-            cpu_known = known;
-            fault = is }
+    record {
+      cpu = cpu;
+      fill = fill;
+      first = first;
+      missed = missed;
+      image = image;
+      numbers = h;
+      cpu_known = known;
+      fault = is;
+    }
 image_refused bytes cpu fill first missed image (Word (Cut at)) h known is not =
-    record { cpu = cpu;
-            fill = fill;
-            first = first;
-            missed = missed;
-            image = image;
-            numbers = h;
-            cpu_known = known;
-            fault = is }
+    record {
+      cpu = cpu;
+      fill = fill;
+      first = first;
+      missed = missed;
+      image = image;
+      numbers = h;
+      cpu_known = known;
+      fault = is;
+    }
 image_refused bytes cpu fill first missed image (Word (BadLength at)) h known is not =
-    record { cpu = cpu;
-            fill = fill;
-            first = first;
-            missed = missed;
-            image = image;
-            numbers = h;
-            cpu_known = known;
-            fault = is }
+    record {
+      cpu = cpu;
+      fill = fill;
+      first = first;
+      missed = missed;
+      image = image;
+      numbers = h;
+      cpu_known = known;
+      fault = is;
+    }
 image_refused bytes cpu fill first missed image (Word (TimeOverflow at)) h known is not =
-    record { cpu = cpu;
-            fill = fill;
-            first = first;
-            missed = missed;
-            image = image;
-            numbers = h;
-            cpu_known = known;
-            fault = is }
+    record {
+      cpu = cpu;
+      fill = fill;
+      first = first;
+      missed = missed;
+      image = image;
+      numbers = h;
+      cpu_known = known;
+      fault = is;
+    }
 image_refused bytes cpu fill first missed image NoMemory h known is not = absurd (not refl)
 
 -- an image that was outlined is that of the parcel of its page, under its CPU and numbers
@@ -77,12 +87,12 @@ pub HasImage-outlined : (bytes : List ℕ) (cpu named : ℕ) (numbers : Numbers)
     → image ≡ drop 32 bytes → HasNumbers bytes cpu numbers.fill numbers.first numbers.missed (drop 32 bytes)
     → named ≡ cpu → cpu < MAX_CPUS → IsOutlined image outline
     → HasImage bytes
-        (parcel_of_page named (page_under (page_in image outline.time outline.size) numbers) numbers.missed)
-        (missed_of outline.missed)
+    (parcel_of_page named (page_under (page_in image outline.time outline.size) numbers) numbers.missed)
+    (missed_of outline.missed)
 HasImage-outlined bytes cpu named numbers image outline image_is h named_is known is =
     let page : Contents = page_under (page_in image outline.time outline.size) numbers in
     subst (λ (k : ℕ). HasImage bytes (parcel_of_page k page numbers.missed) (missed_of outline.missed)) (sym named_is)
-        (record {
+    (record {
       image = image;
       numbers =
           subst (λ (b : List ℕ). HasNumbers bytes cpu numbers.fill numbers.first numbers.missed b) (sym image_is) h;
@@ -103,9 +113,9 @@ IsPageRead-outlined bytes numbers image outline image_is is =
       reported = missed_of outline.missed;
       reads =
           subst
-              (λ (b : List ℕ).
-                  DecodesImage b outline.time outline.size (missed_of outline.missed) (records_of_page page)) image_is
-              is.reads;
+          (λ (b : List ℕ).
+          DecodesImage b outline.time outline.size (missed_of outline.missed) (records_of_page page)) image_is
+          is.reads;
       page_is = ap (λ (b : List ℕ). page_under (page_in b outline.time outline.size) numbers) image_is;
     }
 

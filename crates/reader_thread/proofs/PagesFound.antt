@@ -72,21 +72,25 @@ pub none_found : (before after : ReaderEndValue) (done : ℕ) (back : List ℕ)
     → after.reader.empty_at ≡ Some done → IsEmptyFound before.reader.shape before.reader.part done after.reader.part
     → after.taken ≡ before.taken → after.body ≡ Some back → IsNoneFound before after
 none_found before after done back steps empty_at is kept body =
-    record { done = done;
-            back = back;
-            answer = record { steps = steps; empty_at = empty_at };
-            is = is;
-            kept = body;
-            taken_are = kept }
+    record {
+      done = done;
+      back = back;
+      answer = record { steps = steps; empty_at = empty_at };
+      is = is;
+      kept = body;
+      taken_are = kept;
+    }
 
 pub put_off : (before after : ReaderEndValue) (fill : FillNo) (back : List ℕ)
     → TakesSteps before.reader.shape before.reader.part (Moving fill back) after.reader.part
     → after.reader.empty_at ≡ None → IsMovingFound before.reader.shape before.reader.part fill.0 after.reader.part
     → after.taken ≡ before.taken → after.body ≡ Some back → IsPutOff before after
 put_off before after fill back steps empty_at is kept body =
-    record { fill = fill;
-            back = back;
-            answer = record { steps = steps; empty_at = empty_at };
-            is = is;
-            kept = body;
-            taken_are = kept }
+    record {
+      fill = fill;
+      back = back;
+      answer = record { steps = steps; empty_at = empty_at };
+      is = is;
+      kept = body;
+      taken_are = kept;
+    }

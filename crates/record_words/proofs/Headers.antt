@@ -20,10 +20,10 @@ puts_part old mid a b n k n_is k_is first =
     let front : take n mid ≡ a = ap (take n) first ∙ take_at a (drop (length a) old) n (sym n_is) in
     let behind : drop n mid ≡ drop (length a) old = ap (drop n) first ∙ drop_at a (drop (length a) old) n (sym n_is) in
     let rest : drop k (drop n mid) ≡ drop (length (a ++ b)) old =
-        ap (drop k) behind ∙ drop-drop k (length a) old
-            ∙ ap (λ (i : ℕ). drop i old) (ap (λ (i : ℕ). length a + i) k_is ∙ sym (length-append a b)) in
+    ap (drop k) behind ∙ drop-drop k (length a) old
+    ∙ ap (λ (i : ℕ). drop i old) (ap (λ (i : ℕ). length a + i) k_is ∙ sym (length-append a b)) in
     ap (λ (xs : List ℕ). xs ++ (b ++ drop k (drop n mid))) front ∙ ap (λ (xs : List ℕ). a ++ (b ++ xs)) rest
-        ∙ sym (append_assoc a b _)
+    ∙ sym (append_assoc a b _)
 
 -- a write at the front, and then one at the front of all that follows it
 pub puts_behind : (old mid part a b : List ℕ) (n k : ℕ) → n ≡ length a → k ≡ length mid - n → Puts old mid a
@@ -31,15 +31,15 @@ pub puts_behind : (old mid part a b : List ℕ) (n k : ℕ) → n ≡ length a �
 puts_behind old mid part a b n k n_is k_is first second =
     let front : take n mid ≡ a = ap (take n) first ∙ take_at a (drop (length a) old) n (sym n_is) in
     let behind : take k (drop n mid) ≡ drop (length a) old =
-        ap (λ (i : ℕ). take i (drop n mid)) k_is ∙ take_rest mid n ∙ ap (drop n) first
-            ∙ drop_at a (drop (length a) old) n (sym n_is) in
+    ap (λ (i : ℕ). take i (drop n mid)) k_is ∙ take_rest mid n ∙ ap (drop n) first
+    ∙ drop_at a (drop (length a) old) n (sym n_is) in
     let none : drop k (drop n mid) ≡ [] = drop_all k (drop n mid) (omega (arith, length-drop n mid)) in
     let rest : drop (length b) (take k (drop n mid)) ≡ drop (length (a ++ b)) old =
-        ap (drop (length b)) behind ∙ drop-drop (length b) (length a) old
-            ∙ ap (λ (i : ℕ). drop i old) (sym (length-append a b)) in
+    ap (drop (length b)) behind ∙ drop-drop (length b) (length a) old
+    ∙ ap (λ (i : ℕ). drop i old) (sym (length-append a b)) in
     ap (λ (xs : List ℕ). xs ++ (part ++ drop k (drop n mid))) front ∙ ap (λ (xs : List ℕ). a ++ (part ++ xs)) none
-        ∙ ap (λ (xs : List ℕ). a ++ xs) (append-nil part ∙ second ∙ ap (λ (xs : List ℕ). b ++ xs) rest)
-        ∙ sym (append_assoc a b _)
+    ∙ ap (λ (xs : List ℕ). a ++ xs) (append-nil part ∙ second ∙ ap (λ (xs : List ℕ). b ++ xs) rest)
+    ∙ sym (append_assoc a b _)
 
 pub length-data_header : (delta slot : ℕ) → length (data_header delta slot) ≡ header_len slot
 length-data_header delta slot = by_test (leb slot 112)
@@ -49,18 +49,18 @@ length-data_header delta slot = by_test (leb slot 112)
     by_test true = length-le32 _
     by_test false =
         length-append (first_word 0 delta) (le32 (slot + 4))
-            ∙ omega (arith, length-le32 (0 + 32 * delta), length-le32 (slot + 4))
+        ∙ omega (arith, length-le32 (0 + 32 * delta), length-le32 (slot + 4))
 
 -- a data word is its header and its payload
 pub bytes-data_word_of : (delta slot : ℕ) (payload : List ℕ) → length payload ≡ slot
     → bytes_of_word (data_word delta payload) ≡ data_header delta slot ++ payload
 bytes-data_word_of delta slot payload size =
     ap (λ (n : ℕ). bytes_of_word (cond (leb n 112) (short_data delta payload) (long_data delta payload))) size
-        ∙ by_test (leb slot 112)
+    ∙ by_test (leb slot 112)
   where
     by_test : (t : Bool)
         → bytes_of_word (cond t (short_data delta payload) (long_data delta payload))
-            ≡ cond t (first_word (slot / 4) delta) (first_word 0 delta ++ le32 (slot + 4)) ++ payload
+        ≡ cond t (first_word (slot / 4) delta) (first_word 0 delta ++ le32 (slot + 4)) ++ payload
     by_test true = ap (λ (n : ℕ). first_word (n / 4) delta ++ payload) size
     by_test false = ap (λ (n : ℕ). (first_word 0 delta ++ le32 (n + 4)) ++ payload) size
 
@@ -71,12 +71,12 @@ bytes-data_word delta slot = bytes-data_word_of delta slot (replicate slot 0) (l
 pub data_header-short : (delta slot : ℕ) → slot ≤ 112 → data_header delta slot ≡ first_word (slot / 4) delta
 data_header-short delta slot short =
     ap (λ (t : Bool). cond t (first_word (slot / 4) delta) (first_word 0 delta ++ le32 (slot + 4)))
-        (le-leb slot 112 short)
+    (le-leb slot 112 short)
 
 pub data_header-long : (delta slot : ℕ) → 112 < slot → data_header delta slot ≡ first_word 0 delta ++ le32 (slot + 4)
 data_header-long delta slot long =
     ap (λ (t : Bool). cond t (first_word (slot / 4) delta) (first_word 0 delta ++ le32 (slot + 4)))
-        (lt-leb slot 112 long)
+    (lt-leb slot 112 long)
 
 -- a delta of 2^27 or more is written as an extend, and then the data with none
 pub encoding-extended : (delta : ℕ) (first : Bool) (payload : List ℕ) → first ≡ false → 2 ^ 27 ≤ delta
@@ -84,5 +84,5 @@ pub encoding-extended : (delta : ℕ) (first : Bool) (payload : List ℕ) → fi
 encoding-extended delta true payload is_first late = absurd (true≢false is_first)
 encoding-extended delta false payload is_first late =
     ap (λ (t : Bool). joined (cond t (data_word delta payload ∷ []) (time_extend delta ∷ data_word 0 payload ∷ [])))
-        (lt-leb (suc delta) (2 ^ 27) (omega arith))
+    (lt-leb (suc delta) (2 ^ 27) (omega arith))
     ∙ ap (λ (xs : List ℕ). bytes_of_word (time_extend delta) ++ xs) (append-nil (bytes_of_word (data_word 0 payload)))

@@ -19,16 +19,16 @@ short_put old mid delta slot short word =
     let rest : List ℕ = drop (length (head ++ replicate 112 0)) old in
     let count : 112 ≡ slot + (112 - slot) = omega arith in
     let zeros : replicate {A = ℕ} 112 0 ≡ own ++ past =
-        ap (λ (n : ℕ). replicate {A = ℕ} n 0) count ∙ sym (replicate-append-replicate slot (112 - slot) 0) in
+    ap (λ (n : ℕ). replicate {A = ℕ} n 0) count ∙ sym (replicate-append-replicate slot (112 - slot) 0) in
     let whole : put_mid 4 112 mid (replicate 112 0) ≡ (head ++ own) ++ (past ++ rest) =
     puts_part old mid head (replicate 112 0) 4 112 (sym (length-le32 _)) (sym (length-replicate {A = ℕ} 112 0)) word
     ∙ ap (λ (xs : List ℕ). (head ++ xs) ++ rest) zeros
     ∙ ap (λ (xs : List ℕ). xs ++ rest) (sym (append_assoc head own past))
     ∙ append_assoc (head ++ own) past rest in
     let size : length (head ++ own) ≡ 4 + slot =
-        length-append head own ∙ omega (arith, length-le32 (slot / 4 + 32 * delta), length-replicate {A = ℕ} slot 0) in
+    length-append head own ∙ omega (arith, length-le32 (slot / 4 + 32 * delta), length-replicate {A = ℕ} slot 0) in
     ap (take (4 + slot)) whole ∙ take_at (head ++ own) (past ++ rest) (4 + slot) size
-        ∙ ap (λ (xs : List ℕ). xs ++ own) (sym (data_header-short delta slot short)) ∙ sym (bytes-data_word delta slot)
+    ∙ ap (λ (xs : List ℕ). xs ++ own) (sym (data_header-short delta slot short)) ∙ sym (bytes-data_word delta slot)
 
 -- a number of 0 is four zeros
 le32-zero : le32 0 ≡ replicate 4 0
@@ -39,7 +39,7 @@ le32-zero = refl
 pub padded_put : (old part payload : List ℕ) (slot : ℕ) → slot ≡ slot_len (length payload) → slot ≤ length old
     → slot - 4 ≤ length payload → Puts (take (length old - (slot - 4)) (drop (slot - 4) old)) part (le32 0)
     → Puts old (payload ++ drop (length payload) (put_mid (slot - 4) (length old - (slot - 4)) old part))
-        (padded payload)
+    (padded payload)
 padded_put old part payload slot slot_is room near zeroed =
     let len : ℕ = length payload in
     let least = slot_len_ge_four len in
@@ -47,21 +47,21 @@ padded_put old part payload slot slot_is room near zeroed =
     let front : List ℕ = take (slot - 4) old in
     let front_len : length front ≡ slot - 4 = length-take-le (slot - 4) old (omega arith) in
     let kept : Puts old old front =
-        sym (ap (λ (n : ℕ). front ++ drop n old) front_len ∙ take-append-drop (slot - 4) old) in
+    sym (ap (λ (n : ℕ). front ++ drop n old) front_len ∙ take-append-drop (slot - 4) old) in
     let size : length (front ++ le32 0) ≡ slot = length-append front (le32 0) ∙ omega (arith, length-le32 0) in
     let whole : put_mid (slot - 4) (length old - (slot - 4)) old part ≡ (front ++ le32 0) ++ drop slot old =
     puts_behind old old part front (le32 0) (slot - 4) (length old - (slot - 4)) (sym front_len) refl kept zeroed
-        ∙ ap (λ (n : ℕ). (front ++ le32 0) ++ drop n old) size in
+    ∙ ap (λ (n : ℕ). (front ++ le32 0) ++ drop n old) size in
     let from : len ≡ (slot - 4) + (len - (slot - 4)) = omega arith in
     let left : 4 - (len - (slot - 4)) ≡ slot - len = omega arith in
     let past : drop len (front ++ le32 0) ≡ replicate (slot - len) 0 =
     ap (λ (n : ℕ). drop n (front ++ le32 0)) from ∙ past_front front (le32 0) (len - (slot - 4)) (slot - 4) front_len
     ∙ ap (drop (len - (slot - 4))) le32-zero ∙ drop-replicate (len - (slot - 4)) 4 0
-        ∙ ap (λ (n : ℕ). replicate {A = ℕ} n 0) left in
+    ∙ ap (λ (n : ℕ). replicate {A = ℕ} n 0) left in
     let behind : drop len (put_mid (slot - 4) (length old - (slot - 4)) old part)
-        ≡ replicate (slot - len) 0 ++ drop slot old =
+    ≡ replicate (slot - len) 0 ++ drop slot old =
     ap (drop len) whole ∙ drop-append-le len (front ++ le32 0) (drop slot old) (omega arith)
-        ∙ ap (λ (xs : List ℕ). xs ++ drop slot old) past in
+    ∙ ap (λ (xs : List ℕ). xs ++ drop slot old) past in
     ap (λ (xs : List ℕ). payload ++ xs) behind ∙ sym (append_assoc payload (replicate (slot - len) 0) (drop slot old))
     ∙ ap (λ (n : ℕ). (payload ++ replicate (n - len) 0) ++ drop n old) slot_is
     ∙ ap (λ (n : ℕ). padded payload ++ drop n old) (sym (length-padded payload))

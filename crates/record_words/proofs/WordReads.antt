@@ -44,15 +44,19 @@ pub faulty_past : (bytes : List ℕ) (at : ℕ) → at + 8 ≤ length bytes → 
     → length bytes < at + 4 + number_behind (drop at bytes) → FaultyAt bytes at at cut
 faulty_past bytes at long states least whole past =
     faulty bytes at cut
-        (inr (length_good (drop at bytes) least whole,
-              inr (omega (arith, length-drop at bytes), states, omega (arith, length-drop at bytes))))
+    (inr (
+      length_good (drop at bytes) least whole,
+      inr (omega (arith, length-drop at bytes), states, omega (arith, length-drop at bytes)),
+    ))
 
 pub faulty_short : (bytes : List ℕ) (at : ℕ) → at + 4 ≤ length bytes → CountsWords (drop at bytes)
     → length bytes < at + 4 + 4 * type_at_front (drop at bytes) → FaultyAt bytes at at cut
 faulty_short bytes at head counts past =
     faulty bytes at cut
-        (inr (short_good (drop at bytes) counts,
-              inl (omega (arith, length-drop at bytes), counts, omega (arith, length-drop at bytes))))
+    (inr (
+      short_good (drop at bytes) counts,
+      inl (omega (arith, length-drop at bytes), counts, omega (arith, length-drop at bytes)),
+    ))
 
 pub faulty_few : (bytes : List ℕ) (at : ℕ) → at < length bytes → length bytes < at + 4 → FaultyAt bytes at at cut
 faulty_few bytes at some few =
@@ -64,15 +68,17 @@ stands : (bytes : List ℕ) (at next : ℕ) (word : Word) → AreBytes bytes →
 stands bytes at next word small start within found =
     let read = word_at_front-found (drop at bytes) word (drop next bytes) (AreBytes-drop at bytes small) found in
     let len : length (drop at bytes) ≡ length (bytes_of_word word) + length (drop next bytes) =
-        ap length read.0 ∙ length-append (bytes_of_word word) (drop next bytes) in
+    ap length read.0 ∙ length-append (bytes_of_word word) (drop next bytes) in
     let next_is : next ≡ at + length (bytes_of_word word) =
-        omega (arith, length-drop at bytes, length-drop next bytes) in
-    record { is_word = read.1;
-            stands = read.0;
-            found = found;
-            next_is = next_is;
-            behind = omega (arith, bytes_of_word_ge word);
-            within = within }
+    omega (arith, length-drop at bytes, length-drop next bytes) in
+    record {
+      is_word = read.1;
+      stands = read.0;
+      found = found;
+      next_is = next_is;
+      behind = omega (arith, bytes_of_word_ge word);
+      within = within;
+    }
 
 -- ---- each kind of word
 
@@ -82,7 +88,7 @@ behind_head bytes at = drop-drop 4 at bytes
 behind_two : (bytes : List ℕ) (at : ℕ) → drop 4 (drop 4 (drop at bytes)) ≡ drop (at + 8) bytes
 behind_two bytes at =
     ap (drop 4) (behind_head bytes at) ∙ drop-drop 4 (at + 4) bytes
-        ∙ ap (λ (n : ℕ). drop n bytes) (let e : at + 4 + 4 ≡ at + 8 = omega arith in e)
+    ∙ ap (λ (n : ℕ). drop n bytes) (let e : at + 4 + 4 ≡ at + 8 = omega arith in e)
 
 drop_on : (bytes : List ℕ) (k start next : ℕ) → start + k ≡ next → drop k (drop start bytes) ≡ drop next bytes
 drop_on bytes k start next is = drop-drop k start bytes ∙ ap (λ (n : ℕ). drop n bytes) is
@@ -91,11 +97,11 @@ drop_on bytes k start next is = drop-drop k start bytes ∙ ap (λ (n : ℕ). dr
 data_at : (bytes : List ℕ) (at delta start next : ℕ) (word : Word) → AreBytes bytes → at ≤ length bytes → start ≤ next
     → next ≤ length bytes
     → word_at_front (drop at bytes) ≡ Some (word, drop next bytes) → IsData word → delta_of word ≡ delta
-        → payload_of word ≡ take (next - start) (drop start bytes)
+    → payload_of word ≡ take (next - start) (drop start bytes)
     → DataAt bytes at delta (record { start = start; len = next - start }) next
 data_at bytes at delta start next word small here order within found is_data delta_is payload_is =
     let len : length (take (next - start) (drop start bytes)) ≡ next - start =
-        length-take-le (next - start) (drop start bytes) (omega (arith, length-drop start bytes)) in
+    length-take-le (next - start) (drop start bytes) (omega (arith, length-drop start bytes)) in
     record {
       word = word;
       at_offset = stands bytes at next word small here within found;
@@ -109,36 +115,36 @@ data_at bytes at delta start next word small here order within found is_data del
 pub long_read : (bytes : List ℕ) (at delta next : ℕ) → AreBytes bytes → type_at_front (drop at bytes) ≡ 0
     → delta ≡ delta_at_front (drop at bytes) → HasGoodLength (drop at bytes)
     → next ≡ at + 4 + number_behind (drop at bytes)
-        → DataAt bytes at delta (record { start = at + 8; len = next - (at + 8) }) next
+    → DataAt bytes at delta (record { start = at + 8; len = next - (at + 8) }) next
 long_read bytes at delta next small is delta_is good next_is =
     let left = length-drop at bytes in
     let n : ℕ = number_behind (drop at bytes) in
     let len : n - 4 ≡ next - (at + 8) = (let least = good.least in omega arith) in
     let rest : drop (n - 4) (drop 4 (drop 4 (drop at bytes))) ≡ drop next bytes =
-        ap (drop (n - 4)) (behind_two bytes at)
-            ∙ drop_on bytes (n - 4) (at + 8) next (let least = good.least in omega arith) in
+    ap (drop (n - 4)) (behind_two bytes at)
+    ∙ drop_on bytes (n - 4) (at + 8) next (let least = good.least in omega arith) in
     let found =
-        front-long (drop at bytes) is good
-            ∙ (λ i. Some (long_data (sym delta_is i) (take (len i) (behind_two bytes at i)), rest i)) in
+    front-long (drop at bytes) is good
+    ∙ (λ i. Some (long_data (sym delta_is i) (take (len i) (behind_two bytes at i)), rest i)) in
     data_at bytes at delta (at + 8) next (long_data delta (take (next - (at + 8)) (drop (at + 8) bytes))) small
     (let head = good.head in omega arith) (let least = good.least in omega arith)
-        (let head = good.head in let fits = good.fits in omega arith) found tt refl refl
+    (let head = good.head in let fits = good.fits in omega arith) found tt refl refl
 
 pub short_read : (bytes : List ℕ) (at words delta next : ℕ) → AreBytes bytes → at + 4 ≤ length bytes
     → CountsWords (drop at bytes) → words ≡ type_at_front (drop at bytes) → delta ≡ delta_at_front (drop at bytes)
     → next ≡ at + 4 + 4 * words → next ≤ length bytes
-        → DataAt bytes at delta (record { start = at + 4; len = next - (at + 4) }) next
+    → DataAt bytes at delta (record { start = at + 4; len = next - (at + 4) }) next
 short_read bytes at words delta next small head counts words_is delta_is next_is within =
     let left = length-drop at bytes in
     let len : 4 * type_at_front (drop at bytes) ≡ next - (at + 4) = omega arith in
     let rest : drop (4 * type_at_front (drop at bytes)) (drop 4 (drop at bytes)) ≡ drop next bytes =
-        ap (drop (4 * type_at_front (drop at bytes))) (behind_head bytes at)
-            ∙ drop_on bytes (4 * type_at_front (drop at bytes)) (at + 4) next (omega arith) in
+    ap (drop (4 * type_at_front (drop at bytes))) (behind_head bytes at)
+    ∙ drop_on bytes (4 * type_at_front (drop at bytes)) (at + 4) next (omega arith) in
     let found =
-        front-short (drop at bytes) (omega arith) counts (omega arith)
-            ∙ (λ i. Some (short_data (sym delta_is i) (take (len i) (behind_head bytes at i)), rest i)) in
+    front-short (drop at bytes) (omega arith) counts (omega arith)
+    ∙ (λ i. Some (short_data (sym delta_is i) (take (len i) (behind_head bytes at i)), rest i)) in
     data_at bytes at delta (at + 4) next (short_data delta (take (next - (at + 4)) (drop (at + 4) bytes))) small
-        (omega arith) (omega arith) within found tt refl refl
+    (omega arith) (omega arith) within found tt refl refl
 
 pub padding_read : (bytes : List ℕ) (at next : ℕ) → AreBytes bytes → type_at_front (drop at bytes) ≡ 29
     → 1 ≤ delta_at_front (drop at bytes) → HasGoodLength (drop at bytes)
@@ -148,23 +154,23 @@ padding_read bytes at next small is some good next_is =
     let n : ℕ = number_behind (drop at bytes) in
     let skipped : List ℕ = take (n - 4) (drop 4 (drop 4 (drop at bytes))) in
     let rest : drop (n - 4) (drop 4 (drop 4 (drop at bytes))) ≡ drop next bytes =
-        ap (drop (n - 4)) (behind_two bytes at)
-            ∙ drop_on bytes (n - 4) (at + 8) next (let least = good.least in omega arith) in
+    ap (drop (n - 4)) (behind_two bytes at)
+    ∙ drop_on bytes (n - 4) (at + 8) next (let least = good.least in omega arith) in
     let found =
-        front-padding (drop at bytes) is some good
-            ∙ (λ i. Some (padding (delta_at_front (drop at bytes)) skipped, rest i)) in
+    front-padding (drop at bytes) is some good
+    ∙ (λ i. Some (padding (delta_at_front (drop at bytes)) skipped, rest i)) in
     record {
       delta = delta_at_front (drop at bytes);
       skipped = skipped;
       at_offset =
           stands bytes at next (padding (delta_at_front (drop at bytes)) skipped) small
-              (let head = good.head in omega arith) (let head = good.head in let fits = good.fits in omega arith) found;
+          (let head = good.head in omega arith) (let head = good.head in let fits = good.fits in omega arith) found;
     }
 
 -- the time of an extend or a stamp
 high_bits : (bytes : List ℕ)
     → from_le32 (take 4 (drop 4 bytes)) * 2 ^ 27 + delta_at_front bytes
-        ≡ number_behind bytes * 2 ^ 27 + delta_at_front bytes
+    ≡ number_behind bytes * 2 ^ 27 + delta_at_front bytes
 high_bits bytes = ap (λ (n : ℕ). n * 2 ^ 27 + delta_at_front bytes) (from_le32-take (drop 4 bytes))
 
 pub extend_read : (bytes : List ℕ) (at time low : ℕ) → AreBytes bytes → type_at_front (drop at bytes) ≡ 30
@@ -173,10 +179,10 @@ pub extend_read : (bytes : List ℕ) (at time low : ℕ) → AreBytes bytes → 
 extend_read bytes at time low small is low_is head time_is =
     let left = length-drop at bytes in
     let time_too : from_le32 (take 4 (drop 4 (drop at bytes))) * 2 ^ 27 + delta_at_front (drop at bytes) ≡ time =
-        high_bits (drop at bytes) ∙ ap (λ (d : ℕ). number_behind (drop at bytes) * 2 ^ 27 + d) (sym low_is)
-            ∙ sym time_is in
+    high_bits (drop at bytes) ∙ ap (λ (d : ℕ). number_behind (drop at bytes) * 2 ^ 27 + d) (sym low_is)
+    ∙ sym time_is in
     let found =
-        front-extend (drop at bytes) is (omega arith) ∙ (λ i. Some (time_extend (time_too i), behind_two bytes at i)) in
+    front-extend (drop at bytes) is (omega arith) ∙ (λ i. Some (time_extend (time_too i), behind_two bytes at i)) in
     stands bytes at (at + 8) (time_extend time) small (omega arith) head found
 
 pub stamp_read : (bytes : List ℕ) (at time low : ℕ) → AreBytes bytes → type_at_front (drop at bytes) ≡ 31
@@ -185,11 +191,11 @@ pub stamp_read : (bytes : List ℕ) (at time low : ℕ) → AreBytes bytes → t
 stamp_read bytes at time low small is low_is head time_is =
     let left = length-drop at bytes in
     let time_too : from_le32 (take 4 (drop 4 (drop at bytes))) * 2 ^ 27 + delta_at_front (drop at bytes) ≡ time =
-        high_bits (drop at bytes) ∙ ap (λ (d : ℕ). number_behind (drop at bytes) * 2 ^ 27 + d) (sym low_is)
-            ∙ sym time_is in
+    high_bits (drop at bytes) ∙ ap (λ (d : ℕ). number_behind (drop at bytes) * 2 ^ 27 + d) (sym low_is)
+    ∙ sym time_is in
     let found =
-        front-stamp (drop at bytes) (omega arith) (omega arith)
-            ∙ (λ i. Some (time_stamp (time_too i), behind_two bytes at i)) in
+    front-stamp (drop at bytes) (omega arith) (omega arith)
+    ∙ (λ i. Some (time_stamp (time_too i), behind_two bytes at i)) in
     stands bytes at (at + 8) (time_stamp time) small (omega arith) head found
 
 pub ending_read : (bytes : List ℕ) (at : ℕ) → at + 4 ≤ length bytes → type_at_front (drop at bytes) ≡ 29
@@ -253,5 +259,5 @@ pub from_no_number : (bytes : List ℕ) (at : ℕ) (f : WordFault) → at + 4 �
     → IsFaultAt bytes at f
 from_no_number bytes at f head needs is never =
     let short : length bytes < at + 8 =
-        ⊎_elim (λ less. less) (λ more. absurd (false≢true (never more))) (cases_lt (length bytes) (at + 8)) in
+    ⊎_elim (λ less. less) (λ more. absurd (false≢true (never more))) (cases_lt (length bytes) (at + 8)) in
     subst (λ (g : WordFault). IsFaultAt bytes at g) (sym is) (faulty_no_number bytes at head short needs)

@@ -103,7 +103,7 @@ module _ (script : Script) (w : World) (limits : IsWithinLimits script) (of : Wo
       let (j, place) = kept_by (λ p. p.cpu == cpu) (behind k).taken i parcel there (eq-eqb parcel.cpu cpu is) in
       subst (λ (l : List ℕ). Contains l parcel.fill) (sym (taken_behind script w limits of cpu low k))
       (contains_at (map (λ p. p.fill) (parcels_from cpu (behind k).taken)) j parcel.fill
-       (get_map (λ (p : Parcel). p.fill) (parcels_from cpu (behind k).taken) j parcel place))
+      (get_map (λ (p : Parcel). p.fill) (parcels_from cpu (behind k).taken) j parcel place))
   was_taken cpu (unknown past) k parcel is has =
       absurd (let low = (behind_kept k).of_a_cpu parcel has in let no : ⊥ = omega (arith, past, low, is) in no)
 
@@ -119,8 +119,8 @@ module _ (script : Script) (w : World) (limits : IsWithinLimits script) (of : Wo
   unfolding IsTaken
   taken_from cpu (known low) fill k has =
       let (j, at) =
-          element_at (map (λ p. p.fill) (parcels_from cpu (behind k).taken)) fill
-              (subst (λ (l : List ℕ). Contains l fill) (taken_behind script w limits of cpu low k) has) in
+      element_at (map (λ p. p.fill) (parcels_from cpu (behind k).taken)) fill
+      (subst (λ (l : List ℕ). Contains l fill) (taken_behind script w limits of cpu low k) has) in
       let (parcel, there, is) = get_from_map (λ (p : Parcel). p.fill) (parcels_from cpu (behind k).taken) j fill at in
       let (i, place, passes) = kept_from (λ p. p.cpu == cpu) (behind k).taken j parcel there in
       (parcel, contains_at (behind k).taken i parcel place, (eqb-true parcel.cpu cpu passes, is))
@@ -145,11 +145,11 @@ module _ (script : Script) (w : World) (limits : IsWithinLimits script) (of : Wo
       let (parcels, at, is) = get_from_map keys_of w.delivered collector own own_at in
       let (k, there) = element_at own (cpu, fill) has in
       let (parcel, parcel_at, same) =
-          get_from_map key_of parcels k (cpu, fill)
-              (subst (λ (l : List (ℕ × ℕ)). slice_get l k ≡ Some (cpu, fill)) (sym is) there) in
+      get_from_map key_of parcels k (cpu, fill)
+      (subst (λ (l : List (ℕ × ℕ)). slice_get l k ≡ Some (cpu, fill)) (sym is) there) in
       subst (λ (key : ℕ × ℕ). IsHandedOver collector key.0 key.1) same
       (handed collector parcel
-       (handed_by_lines script w collector parcels parcel of at (contains_at parcels k parcel parcel_at)))
+      (handed_by_lines script w collector parcels parcel of at (contains_at parcels k parcel parcel_at)))
 
   was_delivered : (collector : ℕ) (own : List (ℕ × ℕ)) (cpu fill : ℕ)
       → slice_get (map keys_of w.delivered) collector ≡ Some own
@@ -159,15 +159,15 @@ module _ (script : Script) (w : World) (limits : IsWithinLimits script) (of : Wo
   was_delivered collector own cpu fill own_at (k, line, at, has) =
       let (parcel, taken, is) = taken_from cpu (known_at cpu) fill k has in
       let (other, same, got) =
-          hands_lines script script.commands of.new w of.obeyed k line collector cpu fill parcel at taken is in
+      hands_lines script script.commands of.new w of.obeyed k line collector cpu fill parcel at taken is in
       let (parcels, parcels_at, one) = got in
       let (i, place) = element_at parcels other one in
       let own_is : own ≡ keys_of parcels =
-          some_is own (keys_of parcels) (sym own_at ∙ get_map keys_of w.delivered collector parcels parcels_at) in
+      some_is own (keys_of parcels) (sym own_at ∙ get_map keys_of w.delivered collector parcels parcels_at) in
       let key : key_of other ≡ (cpu, fill) = (λ i. (same.0 i, same.1 i)) in
       subst (λ (l : List (ℕ × ℕ)). Contains l (cpu, fill)) (sym own_is)
       (contains_at (keys_of parcels) i (cpu, fill)
-       (get_map key_of parcels i other place ∙ ap (λ (x : ℕ × ℕ). Some x) key))
+      (get_map key_of parcels i other place ∙ ap (λ (x : ℕ × ℕ). Some x) key))
 
   -- ---- what is shown
 
@@ -175,12 +175,12 @@ module _ (script : Script) (w : World) (limits : IsWithinLimits script) (of : Wo
     low : (cpu : ℕ) (parcel : Parcel) → parcel.cpu ≡ cpu → Contains parcels parcel → cpu < script.cpus
     low cpu parcel is has =
         subst (λ (j : ℕ). j < script.cpus) is
-            (genuine.of_a_cpu parcel (genuine.delivered collector parcels parcel at_parcels has))
+        (genuine.of_a_cpu parcel (genuine.delivered collector parcels parcel at_parcels has))
 
     key_in : (cpu : ℕ) (parcel : Parcel) → IsOneOf parcels cpu parcel → Contains (keys_of parcels) (cpu, parcel.fill)
     key_in cpu parcel (has, is) = let (k, at) = element_at parcels parcel has in
         subst (λ (j : ℕ). Contains (keys_of parcels) (j, parcel.fill)) is
-            (contains_at (keys_of parcels) k (key_of parcel) (get_map key_of parcels k parcel at))
+        (contains_at (keys_of parcels) k (key_of parcel) (get_map key_of parcels k parcel at))
 
     key_of_one : (cpu fill : ℕ) → Contains (keys_of parcels) (cpu, fill)
         → (parcel : Parcel) × IsOneOf parcels cpu parcel × (parcel.fill ≡ fill)
@@ -211,47 +211,49 @@ module _ (script : Script) (w : World) (limits : IsWithinLimits script) (of : Wo
         let h : List HistoryEvent = history_events_of here in
         let e : IsExact h script.start cut.events cpu parcels parcels =
         subst (λ (l : List HistoryEvent). IsExact l script.start cut.events cpu parcels parcels)
-            (sym reported.history_events) (genuine.exact collector cpu parcels lane at_parcels at) in
+        (sym reported.history_events) (genuine.exact collector cpu parcels lane at_parcels at) in
         record {
           has = λ number r. (
             λ there. let (committed, parcel, one, stands) = (e.has number r).0 there in
                 (committed, parcel.fill, key_in cpu parcel one, stands),
             λ (committed, fill, key, stands). let (parcel, one, is) = key_of_one cpu fill key in
                 (e.has number r).1
-                    (committed, parcel, one, subst (λ (f : ℕ). StandsIn h script.start f number) (sym is) stands),
+                (committed, parcel, one, subst (λ (f : ℕ). StandsIn h script.start f number) (sym is) stands),
           );
           misses = λ number. (
-            λ there. let (parcel, one, over) = (e.misses number).0 there in
-                (parcel.fill, key_in cpu parcel one,
-                 overwritten_same script.pages script.start lane.core cut.events here cut.reported reported parcel.fill
-                     number over),
+            λ there. let (parcel, one, over) = (e.misses number).0 there in (
+              parcel.fill,
+              key_in cpu parcel one,
+              overwritten_same script.pages script.start lane.core cut.events here cut.reported reported parcel.fill
+                  number over,
+            ),
             λ (fill, key, over). let (parcel, one, is) = key_of_one cpu fill key in
                 (e.misses number).1 (
                   parcel,
                   one,
                   subst (λ (f : ℕ). IsOverwrittenBefore script.start cut.events f number) (sym is)
                       (overwritten_same script.pages script.start lane.core here cut.events reported cut.reported fill
-                       number over),
+                      number over),
                 ),
           );
         }
     is_of cpu (unknown past) =
         let none : (parcel : Parcel) → parcel.cpu ≡ cpu → Contains parcels parcel → ⊥ =
-            λ parcel is has. (let below = low cpu parcel is has in omega (arith, past, below)) in
+        λ parcel is has. (let below = low cpu parcel is has in omega (arith, past, below)) in
         record {
           has = λ number r. (
             λ there.
-                   absurd
-                       (none there.parcel (sym there.pair.cpu_is)
-                        (contains_at parcels there.index there.parcel there.at)),
+                absurd
+                (none there.parcel (sym there.pair.cpu_is)
+                (contains_at parcels there.index there.parcel there.at)),
             λ (committed, fill, key, stands). let (parcel, one, is) = key_of_one cpu fill key in
                 absurd (none parcel one.1 one.0),
           );
           misses = λ number. (
             λ there.
-                   absurd
-                       (none there.parcel (sym there.missing.cpu_is)
-                        (contains_at parcels there.index there.parcel there.at)),
+                absurd
+                (none there.parcel (sym there.missing.cpu_is)
+                (contains_at parcels there.index there.parcel there.at)),
             λ (fill, key, over). let (parcel, one, is) = key_of_one cpu fill key in absurd (none parcel one.1 one.0),
           );
         }
@@ -260,28 +262,28 @@ module _ (script : Script) (w : World) (limits : IsWithinLimits script) (of : Wo
     is_shown shown print = record {
       ordered = print.lines.ordered;
       lines = λ line. let here = is_of line.cpu (known_at line.cpu) in
-          let r : Record = record { moment = line.moment; bytes = line.bytes } in
-          (
-        λ has. let (k, at) = element_at shown.lines line has in
-            (here.has line.number r).0 (print.lines.of_them k line at),
-        λ there. let (k, at) = print.lines.whole line.cpu line.number r ((here.has line.number r).1 there) in
-            contains_at shown.lines k line at,
-      );
+          let r : Record = record { moment = line.moment; bytes = line.bytes } in (
+            λ has. let (k, at) = element_at shown.lines line has in
+                (here.has line.number r).0 (print.lines.of_them k line at),
+            λ there. let (k, at) = print.lines.whole line.cpu line.number r ((here.has line.number r).1 there) in
+                contains_at shown.lines k line at,
+          );
       missing =
           λ cpu. same_runs _ _ (slice_index_or shown.runs cpu []) (is_of cpu (known_at cpu)).misses (print.runs cpu);
     }
 
   all_shown : (delivered : List (List Parcel)) (shown : List Shown)
       → ((k : ℕ) (parcels : List Parcel) → slice_get delivered k ≡ Some parcels
-         → (collector : ℕ) × (slice_get w.delivered collector ≡ Some parcels))
+      → (collector : ℕ) × (slice_get w.delivered collector ≡ Some parcels))
       → AllZip IsPrintOf delivered shown
       → AllZip (IsShownOf script.start all_events) (map keys_of delivered) shown
   all_shown [] [] places all = tt
   all_shown [] (s ∷ shown) places all = absurd all
   all_shown (d ∷ delivered) [] places all = absurd all
-  all_shown (d ∷ delivered) (s ∷ shown) places all = let (collector, at) = places zero d refl in
-      (is_shown collector d at s all.0,
-       all_shown delivered shown (λ k parcels there. places (suc k) parcels there) all.1)
+  all_shown (d ∷ delivered) (s ∷ shown) places all = let (collector, at) = places zero d refl in (
+    is_shown collector d at s all.0,
+    all_shown delivered shown (λ k parcels there. places (suc k) parcels there) all.1,
+  )
 
 pub accounted : (script : Script) (asked : Bool) (bytes : List ℕ) → IsWithinLimits script
     → IsPrinting script asked bytes → IsAccounted script asked bytes
@@ -317,7 +319,14 @@ pub account_written : (asked : Bool) (source : SourceRun) (sink : SinkRun) (stat
     → WritesOutput (AccountGives asked) source.unread source.left sink.contents sink.contents_after status
 account_written asked source sink status run is =
     let (bytes, output, written) = run.finished (inl is) in
-    let (text, read, at_end, limited, given) = output in
-    (bytes,
-     (text, read, at_end, limited,
-      case_accounted asked text bytes status (cases_given asked text bytes status given) is), written)
+    let (text, read, at_end, limited, given) = output in (
+      bytes,
+      (
+        text,
+        read,
+        at_end,
+        limited,
+        case_accounted asked text bytes status (cases_given asked text bytes status given) is,
+      ),
+      written,
+    )

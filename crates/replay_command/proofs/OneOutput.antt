@@ -37,10 +37,10 @@ pub given_by_cases : (asked : Bool) (text bytes : List ℕ) (status : ℕ)
     → PrintsReplay asked text bytes status ⊎ PrintsFault text bytes status → ReplayGives asked text bytes status
 given_by_cases asked text bytes status (inl a) =
     subst (λ (r : Result Script (ℕ × LineFault)). PrintsReading asked r bytes status) (sym a.spelled)
-        (a.printing, a.done)
+    (a.printing, a.done)
 given_by_cases asked text bytes status (inr a) =
     subst (λ (r : Result Script (ℕ × LineFault)). PrintsReading asked r bytes status) (sym a.first)
-        (a.printed, a.refused)
+    (a.printed, a.refused)
 
 -- ---- one output
 

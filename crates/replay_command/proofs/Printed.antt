@@ -16,7 +16,7 @@ use Rattle.replay_command.specs.Commands.{IsPrinting}
 
 pub all_report : (collectors delivered : List (List Parcel)) (shown : List Shown) → length collectors ≡ length delivered
     → ((collector : ℕ) (kept parcels : List Parcel) → slice_get collectors collector ≡ Some kept
-       → slice_get delivered collector ≡ Some parcels → IsSame kept parcels)
+    → slice_get delivered collector ≡ Some parcels → IsSame kept parcels)
     → AllZip IsPrintOf collectors shown → AllZip IsPrintOf delivered shown
 all_report [] [] [] count same all = tt
 all_report [] [] (s ∷ shown) count same all = absurd all

@@ -49,7 +49,7 @@ none_written None h = refl
 none_written (Some k) h =
     ap (λ (rs : List Reservation). let g : PageRecords = record { first = h.first; records = rs } in g)
     (cond_both (nat_lt k h.first) h.records (records_with_payload (Some (k - h.first)) None h.records)
-     (λ (rs : List Reservation). ◌≡◌ {A = List Reservation} rs h.records) (λ _. refl) (λ _. refl))
+    (λ (rs : List Reservation). ◌≡◌ {A = List Reservation} rs h.records) (λ _. refl) (λ _. refl))
 
 all_stay : (number : Option ℕ) (held : List PageRecords) → map (model.held_with_payload number None) held ≡ held
 all_stay number [] = refl
@@ -72,7 +72,7 @@ module _ (n size start : ℕ) (v : CoreValue) (c : Core) (core : IsCore n size s
   opens : PhaseKept n c.links c.order c.head c.done c.opened (opening c.opened page)
   opens = let s = core.shows in let top = topped n size start (frames_of v) c s.frames some in
       subst (PhaseKept n c.links c.order c.head c.done c.opened)
-          (top.phase_is ∙ ap phase_of is ∙ ap (λ (o : ℕ). opening o page) (sym s.frames.opened_is))
+      (top.phase_is ∙ ap phase_of is ∙ ap (λ (o : ℕ). opening o page) (sym s.frames.opened_is))
       (top_kept n c top.frame top.below kept.links top.is_top)
 
   page_is : page ≡ page_at n c.order c.opened
@@ -98,14 +98,14 @@ module _ (n size start : ℕ) (v : CoreValue) (c : Core) (core : IsCore n size s
 
   closed : (f : ℕ) → c.head ≤ f → f < c.done
       → IsHome (slice_set v.homes page None) size (page_at n c.order f) f
-          (model.contents_of (model.with_new_tail c page) (page_at n c.order f))
+      (model.contents_of (model.with_new_tail c page) (page_at n c.order f))
   closed f low high = let some_pages = kept.links.some_pages in
       let behind = kept.links.done_lt in
       let unread = kept.links.head_le in
       let within = below_head in
       let ne : page_at n c.order f ≢ page_at n c.order c.opened =
-          pages_differ n c.order c.spare c.head f c.opened (omega arith) kept.links.apart low (omega arith)
-              (omega arith) within (λ e. omega arith) in
+      pages_differ n c.order c.spare c.head f c.opened (omega arith) kept.links.apart low (omega arith)
+      (omega arith) within (λ e. omega arith) in
       let (body, there, written) = core.shows.closed f low high in
       (body, others f ne ∙ there, subst (λ (h : PageRecords). IsWrittenPage size f h body) (sym (holds f ne)) written)
 
@@ -114,8 +114,8 @@ module _ (n size start : ℕ) (v : CoreValue) (c : Core) (core : IsCore n size s
       let behind = kept.links.done_lt in
       let within = below_done in
       let ne : page_at n c.order f ≢ page_at n c.order c.opened =
-          pages_differ n c.order c.spare c.done f c.opened (omega arith) kept.links.apart (omega arith) high
-              (omega arith) within (λ e. omega arith) in
+      pages_differ n c.order c.spare c.done f c.opened (omega arith) kept.links.apart (omega arith) high
+      (omega arith) within (λ e. omega arith) in
       let (body, there, wide) = core.shows.free f (omega arith) high in
       (body, others f ne ∙ there, wide)
 
@@ -129,22 +129,22 @@ module _ (n size start : ℕ) (v : CoreValue) (c : Core) (core : IsCore n size s
       let value : CoreValue = record (with_frames v new) { homes = slice_set v.homes page None } in
       let (reports, are) = fill n size start page c top.frame top.below s.frames top.is_top in
       let same : after ≡ private_state tail after.frames after.history after.held =
-          changes_privately tail after
-              (begin_result tail top.frame.kind top.frame.state top.frame top.below top.is_top) in
+      changes_privately tail after
+      (begin_result tail top.frame.kind top.frame.state top.frame top.below top.is_top) in
       let held : after.held ≡ tail.held = begin_holds tail top.frame.kind top.frame.state top.frame top.below in
       stepped n size start v value c model.steps result answer after core
       (step_by (cases.frame_step top.frame top.below refl top.is_top
-                (subst (λ (p : ModelPhase). cases.FrameStep n size c top.frame top.below p answer after)
-                 (sym (top.phase_is ∙ ap phase_of is)) (cases.opens (sym s.frames.opened_is) refl refl))))
+      (subst (λ (p : ModelPhase). cases.FrameStep n size c top.frame top.below p answer after)
+      (sym (top.phase_is ∙ ap phase_of is)) (cases.opens (sym s.frames.opened_is) refl refl))))
       reports
       (subst (HasStateOf n size start value) (sym same) (assumption (
         subst (AreFrames n size start new) same are,
         (λ (f : ℕ) (low : c.head ≤ f) (high : f < c.done).
             subst
-                (λ (pages : List PageRecords).
-                    IsHome (slice_set v.homes page None) size (page_at n c.order f) f
-                        (model.contents_of (private_state tail after.frames after.history pages) (page_at n c.order f)))
-                (sym held) (closed f low high)),
+            (λ (pages : List PageRecords).
+            IsHome (slice_set v.homes page None) size (page_at n c.order f) f
+            (model.contents_of (private_state tail after.frames after.history pages) (page_at n c.order f)))
+            (sym held) (closed f low high)),
         free,
         s,
       )))

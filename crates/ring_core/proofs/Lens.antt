@@ -18,7 +18,7 @@ module _ (old new : CoreValue) (result : Answer) (some : IsSomeCore old) where
       let (n, size, start, c, core) = some in
       let s = makes n size start c core in
       frames.keeps_lens n size start (frames_of old) (frames_of new) c s.after core.shows.frames s.is_core.shows.frames
-          result s.answer s.reports s.step
+      result s.answer s.reports s.step
 
   pushed_lens : (moment len : ℕ) → MakesStep old (model.pushes moment len) result new → result ≡ Pushed
       → lens new.stack ≡ Some len ∷ lens old.stack
@@ -26,14 +26,14 @@ module _ (old new : CoreValue) (result : Answer) (some : IsSomeCore old) where
       let (n, size, start, c, core) = some in
       let s = makes n size start c core in
       frames.pushes_lens n size start (frames_of old) (frames_of new) c s.after core.shows.frames s.is_core.shows.frames
-          result s.answer s.reports moment len s.step
+      result s.answer s.reports moment len s.step
 
   pushed_none : MakesStep old model.pushes_close result new → result ≡ Pushed → lens new.stack ≡ None ∷ lens old.stack
   pushed_none makes =
       let (n, size, start, c, core) = some in
       let s = makes n size start c core in
       frames.pushes_none n size start (frames_of old) (frames_of new) c s.after core.shows.frames s.is_core.shows.frames
-          result s.answer s.reports s.step
+      result s.answer s.reports s.step
 
   pending_lens : (payload : List ℕ) → MakesStep old (model.ends payload) result new → result ≡ Ended Pending
       → IsOneMore (lens old.stack) (lens new.stack)
@@ -41,7 +41,7 @@ module _ (old new : CoreValue) (result : Answer) (some : IsSomeCore old) where
       let (n, size, start, c, core) = some in
       let s = makes n size start c core in
       frames.ends_lens n size start (frames_of old) (frames_of new) c s.after core.shows.frames s.is_core.shows.frames
-          result s.answer s.reports payload s.step
+      result s.answer s.reports payload s.step
 
   -- what is refused
   refused_lens : (event : model.Event) → IsPushOrEnd event → MakesStep old event result new → (fault : WriteFault)
@@ -50,7 +50,7 @@ module _ (old new : CoreValue) (result : Answer) (some : IsSomeCore old) where
       let (n, size, start, c, core) = some in
       let s = makes n size start c core in
       frames.refused_lens n size start (frames_of old) (frames_of new) c s.after core.shows.frames
-          s.is_core.shows.frames result s.answer s.reports event may s.step
+      s.is_core.shows.frames result s.answer s.reports event may s.step
 
   pub pushes_lens : (moment len : ℕ) → MakesStep old (model.pushes moment len) result new
       → PushesLens (Some len) result old.stack new.stack

@@ -28,7 +28,7 @@ slot_stays n size start v c slot part core stays long = record {
   reached = core.reached;
   shows =
       shows_reframed n size start v c (frames_of (with_slot_payload v slot part)) c.frames c.history c.held core.shows
-          (stays n size start c part core.shows.frames long) (λ f low high. refl);
+      (stays n size start c part core.shows.frames long) (λ f low high. refl);
 }
 
 -- so for what is written over the frame on top
@@ -37,7 +37,7 @@ pub top_stays : (n size start : ℕ) (v : CoreValue) (c : Core) (slot : Slot) (p
     → IsCore n size start (with_top_payload v part) c
 top_stays n size start v c slot part core is stays long =
     subst (λ (s : Stack). IsCore n size start (record v { stack = s }) c)
-        (sym (top_is_slot v.stack v.stack.frames slot part is)) (slot_stays n size start v c slot part core stays long)
+    (sym (top_is_slot v.stack v.stack.frames slot part is)) (slot_stays n size start v c slot part core stays long)
 
 -- so for what is written into the payload that the stack lends
 pub lent_stays : (n size start : ℕ) (v : CoreValue) (c : Core) (payload : Lent) (part : List ℕ)

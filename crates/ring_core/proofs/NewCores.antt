@@ -48,7 +48,7 @@ module _ (n size start : ℕ) (laid : List code.Link) (v : CoreValue) (some : MI
       let inside : f % n < length laid = omega arith in
       subst (IsFirstLink n start (f % n))
       (sym (get_or-map link_of laid (f % n) no_link (normal_link 0 0) inside)
-       ∙ ap (λ ls. get_or ls (f % n) (normal_link 0 0)) (sym p.links_are))
+      ∙ ap (λ ls. get_or ls (f % n) (normal_link 0 0)) (sym p.links_are))
       (p.links (f % n) (get_or laid (f % n) no_link) (slice_get-get_or laid (f % n) no_link inside))
 
   page_is : (position : ℕ) → position < n → get_or v.order position 0 ≡ position
@@ -96,7 +96,7 @@ module _ (n size start : ℕ) (laid : List code.Link) (v : CoreValue) (some : MI
   free : (f : ℕ) → start + 1 ≤ f → f < start + n → HasBody v.homes size (page_at n v.order f)
   free f low high = let below : f % n < n = mod-lt f (omega arith) in let wide = p.homes_are in
       let ne : f % n ≢ start % n =
-          apart start n f start (omega arith) high (omega arith) (omega arith) (λ e. omega arith) in
+      apart start n f start (omega arith) high (omega arith) (omega arith) (λ e. omega arith) in
       let there = slice_get-get_or v.homes (f % n) None (omega arith) in
       let (body, home, sized) = p.homes (f % n) (get_or v.homes (f % n) None) there below ne in
       subst (HasBody v.homes size) (sym (page_is (f % n) below)) (body, there ∙ ap Some home, sized)
@@ -124,11 +124,13 @@ module _ (n size start : ℕ) (laid : List code.Link) (v : CoreValue) (some : MI
     starts,
     record {
       reached =
-          record { from = first_core;
-                  exchanges = [];
-                  may_start = record { some_pages = some; numbers_left = omega arith };
-                  is_new = starts;
-                  run = refl };
+          record {
+            from = first_core;
+            exchanges = [];
+            may_start = record { some_pages = some; numbers_left = omega arith };
+            is_new = starts;
+            run = refl;
+          };
       shows = first_shown;
     },
   )

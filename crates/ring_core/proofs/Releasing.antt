@@ -45,7 +45,7 @@ module _ (n size start : ℕ) (v : CoreValue) (c : Core) (core : IsCore n size s
   laid : slice_get (slice_set v.homes at (Some page)) (page_at n c.order c.done) ≡ Some (Some page)
   laid =
       subst (λ (a : ℕ). slice_get (slice_set v.homes a (Some page)) (page_at n c.order c.done) ≡ Some (Some page))
-          (sym at_done)
+      (sym at_done)
       (get_set_same v.homes (page_at n c.order c.done) (Some page) bound)
 
   others : (p : ℕ) → p ≢ page_at n c.order c.done → slice_get (slice_set v.homes at (Some page)) p ≡ slice_get v.homes p
@@ -53,38 +53,42 @@ module _ (n size start : ℕ) (v : CoreValue) (c : Core) (core : IsCore n size s
 
   closed : (f : ℕ) → c.head ≤ f → f < c.done + 1
       → IsHome (slice_set v.homes at (Some page)) size (page_at n c.order f) f
-          (model.contents_of c (page_at n c.order f))
+      (model.contents_of c (page_at n c.order f))
   closed f low high = let s = core.shows in
       let some = kept.links.some_pages in
       let behind = kept.links.done_lt in
       let within = kept.links.opened_le in
       dite (ℕ_discrete f c.done)
       (λ e.
-          subst
-              (λ (g : ℕ).
-                  IsHome (slice_set v.homes at (Some page)) size (page_at n c.order g) g
-                      (model.contents_of c (page_at n c.order g))) (sym e) (page, laid, let_go.written))
-      (λ ne. let (body, home, is) = s.closed f low (omega arith) in
-      (body,
-       others (page_at n c.order f)
-               (pages_differ n c.order c.spare c.head f c.done (omega arith) kept.links.apart (omega arith)
-                (omega arith) (omega arith) (omega arith) ne) ∙ home, is))
+      subst
+      (λ (g : ℕ).
+      IsHome (slice_set v.homes at (Some page)) size (page_at n c.order g) g
+      (model.contents_of c (page_at n c.order g))) (sym e) (page, laid, let_go.written))
+      (λ ne. let (body, home, is) = s.closed f low (omega arith) in (
+        body,
+        others (page_at n c.order f)
+            (pages_differ n c.order c.spare c.head f c.done (omega arith) kept.links.apart (omega arith)
+            (omega arith) (omega arith) (omega arith) ne) ∙ home,
+        is,
+      ))
 
   free : (f : ℕ) → c.opened ≤ f → f < c.done + 1 + n
       → HasBody (slice_set v.homes at (Some page)) size (page_at n c.order f)
   free f low high = let s = core.shows in let some = kept.links.some_pages in let behind = kept.links.done_lt in
       dite (ℕ_discrete f (c.done + n))
       (λ e. let here : page_at n c.order f ≡ page_at n c.order c.done =
-       ap (page_at n c.order) e ∙ page_turn n c.order c.done in
+      ap (page_at n c.order) e ∙ page_turn n c.order c.done in
       (page, ap (slice_get (slice_set v.homes at (Some page))) here ∙ laid, let_go.written.size_is))
-      (λ ne. let (body, home, is) = s.free f low (omega arith) in
-      (body,
-       others (page_at n c.order f)
-               (pages_differ n c.order c.spare c.done f c.done (omega arith) kept.links.apart (omega arith)
-                (omega arith) (omega arith) (omega arith) (λ e. omega arith)) ∙ home, is))
+      (λ ne. let (body, home, is) = s.free f low (omega arith) in (
+        body,
+        others (page_at n c.order f)
+            (pages_differ n c.order c.spare c.done f c.done (omega arith) kept.links.apart (omega arith)
+            (omega arith) (omega arith) (omega arith) (λ e. omega arith)) ∙ home,
+        is,
+      ))
 
   pub released : IsStep n size start c model.steps Going
       (record (with_frames v new) { homes = slice_set v.homes at (Some page) })
   released = let s = core.shows in
       stepped n size start v (record (with_frames v new) { homes = slice_set v.homes at (Some page) }) c model.steps
-          Going model.going (released_in c let_go.frame) core let_go.step refl (assumption (let_go, closed, free, s))
+      Going model.going (released_in c let_go.frame) core let_go.step refl (assumption (let_go, closed, free, s))

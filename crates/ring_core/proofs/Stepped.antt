@@ -20,7 +20,7 @@ pub kept_of : (n size start : ℕ) (v : CoreValue) (c : Core) → IsCore n size 
 kept_of n size start v c core = reached_kept n size start c core.reached
 
 pub stepped : (n size start : ℕ) (old new : CoreValue) (c : Core) (event : model.Event) (result : Answer)
-        (answer : model.Answer) (after : Core) → IsCore n size start old c → model.Step n size c event answer after
+    (answer : model.Answer) (after : Core) → IsCore n size start old c → model.Step n size c event answer after
     → IsAnswerOf size result answer → HasStateOf n size start new after → IsStep n size start c event result new
 stepped n size start old new c event result answer after core step reports shows = record {
   answer = answer;
@@ -62,7 +62,7 @@ pub whole_page : (old new : CoreValue) (event : model.Event) (result : Answer) �
 whole_page old new event result (n, size, start, c, core) makes =
     let s = makes n size start c core in
     subst (λ (bytes : ℕ). HasWholePage bytes result) (sym core.shows.frames.size_is)
-        (reported_whole size result s.answer s.reports)
+    (reported_whole size result s.answer s.reports)
 
 -- ---- only a step reserves
 
@@ -76,10 +76,10 @@ who_reserves n size c event number after (cases.close_refused e many a is) = abs
 who_reserves n size c event number after (cases.frame_step frame below e is step) = inl e
 who_reserves n size c event number after (cases.frame_lacks e none a is) = inl e
 who_reserves n size c event number after
-        (cases.end_step payload frame [] number' moment len e is x kind slot a after_is) =
+    (cases.end_step payload frame [] number' moment len e is x kind slot a after_is) =
     absurd (cc)
 who_reserves n size c event number after
-        (cases.end_step payload frame (next ∷ below) number' moment len e is x kind slot a after_is) =
+    (cases.end_step payload frame (next ∷ below) number' moment len e is x kind slot a after_is) =
     absurd (cc)
 who_reserves n size c event number after (cases.end_lacks payload e none a is) = absurd (cc)
 who_reserves n size c event number after (cases.end_early payload frame below e is none a after_is) = absurd (cc)
@@ -92,7 +92,7 @@ pub unreserved : (old new : CoreValue) (event : model.Event) (result : Answer) �
 unreserved old new event result no_step no_read (n, size, start, c, core) makes number slot is lacks at =
     let s = makes n size start c core in
     let answer : s.answer ≡ model.reserved_as number.0 =
-        subst (λ (r : Answer). IsAnswerOf size r s.answer) is s.reports in
+    subst (λ (r : Answer). IsAnswerOf size r s.answer) is s.reports in
     absurd (⊎_elim no_step no_read
-            (who_reserves n size c event number.0 s.after
-             (cases_of (subst (λ (a : model.Answer). model.Step n size c event a s.after) answer s.step))))
+    (who_reserves n size c event number.0 s.after
+    (cases_of (subst (λ (a : model.Answer). model.Step n size c event a s.after) answer s.step))))

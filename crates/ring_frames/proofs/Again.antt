@@ -27,7 +27,7 @@ use Rattle.ring_frames.proofs.Left.{tops_are, closing_is, left_notes}
 
 -- the frame on top is in this phase, which is that of the model
 pub rephased : (n size start : ℕ) (v : FramesValue) (c : Core) (top : Frame) (frames : List Frame) (frame : ModelFrame)
-        (below : List ModelFrame) (phase : Phase) (in_model : ModelPhase) → AreFrames n size start v c
+    (below : List ModelFrame) (phase : Phase) (in_model : ModelPhase) → AreFrames n size start v c
     → v.stack.frames ≡ top ∷ frames → c.frames ≡ frame ∷ below
     → phase_of phase ≡ in_model
     → NotedAlike top.purpose top.progress phase
@@ -35,7 +35,7 @@ pub rephased : (n size start : ℕ) (v : FramesValue) (c : Core) (top : Frame) (
 rephased n size start v c top frames frame below phase in_model k stack_is model_is phase_is alike =
     let (frame_is, below_is, same) = tops_are v c n size start top frames frame below k stack_is model_is in
     reshown n size start v c v.stack phase v.below (record frame { phase = in_model } ∷ below) c.history c.held k
-        record {
+    record {
       pages_is = refl;
       size_is = refl;
       done_is = refl;
@@ -43,30 +43,30 @@ rephased n size start v c top frames frame below phase in_model k stack_is model
       stack_is = k.stack_is;
       frames_are =
           (λ i. record (frame_is i) { phase = sym phase_is i } ∷ below_is i)
-              ∙ ap (λ (fs : List Frame). frames_in_phases fs (phase ∷ v.below)) (sym stack_is);
+          ∙ ap (λ (fs : List Frame). frames_in_phases fs (phase ∷ v.below)) (sym stack_is);
       below_are = k.below_are;
       noted =
           subst (λ (fs : List Frame). AreNotedAlike fs (phase ∷ v.below)) (sym stack_is)
-              (alike, (subst (λ (fs : List Frame). AreNotedAlike fs (v.phase ∷ v.below)) stack_is k.noted).1);
+          (alike, (subst (λ (fs : List Frame). AreNotedAlike fs (v.phase ∷ v.below)) stack_is k.noted).1);
     }
 
 -- ---- beginning again, by what the frame is
 
 -- what beginning again makes of a frame
 abbrev Again : (n size start : ℕ) (c : Core) (kind : frames_model.Purpose) (state : frames_model.Progress)
-        (frame : ModelFrame) (below : List ModelFrame) → Answer → FramesValue → Type 0
+    (frame : ModelFrame) (below : List ModelFrame) → Answer → FramesValue → Type 0
 Again n size start c kind state frame below result new =
     IsAnswerOf size result (model.begin_answer kind state below)
-        × AreFrames n size start new (model.after_begin kind state c frame below)
+    × AreFrames n size start new (model.after_begin kind state c frame below)
 
 again_left : (n size start : ℕ) (c : Core) (kind : frames_model.Purpose) (frame : ModelFrame) (below : List ModelFrame)
-        (new : FramesValue) → AreFrames n size start new (model.in_phase c frame below (model.closing_phase c))
+    (new : FramesValue) → AreFrames n size start new (model.in_phase c frame below (model.closing_phase c))
     → Again n size start c kind left frame below Going new
 again_left n size start c (for_record moment len) frame below new k = (refl, k)
 again_left n size start c for_close frame below new k = (refl, k)
 
 again_idle : (n size start : ℕ) (c : Core) (purpose : Purpose) (progress : Progress) (frame : ModelFrame)
-        (below : List ModelFrame) (new : FramesValue)
+    (below : List ModelFrame) (new : FramesValue)
     → (((noted : Option ℕ) → purpose ≡ Close → progress ≡ Waiting noted → ⊥))
     → ((noted : Option ℕ) → progress ≡ Left noted → ⊥) → ((noted : ℕ) → progress ≡ Through noted → ⊥)
     → AreFrames n size start new (model.in_phase c frame below idle)
@@ -80,7 +80,7 @@ again_idle n size start c purpose (Left noted) frame below new close gone throug
 
 -- the frame of the model is what that of the stack is
 reported_of : (n size start : ℕ) (v : FramesValue) (c : Core) (top : Frame) (frames : List Frame) (frame : ModelFrame)
-        (below : List ModelFrame) (result : Answer) (new : FramesValue) → AreFrames n size start v c
+    (below : List ModelFrame) (result : Answer) (new : FramesValue) → AreFrames n size start v c
     → v.stack.frames ≡ top ∷ frames → c.frames ≡ frame ∷ below
     → Again n size start c (kind_of top.purpose) (state_of top.progress) frame below result new
     → Again n size start c frame.kind frame.state frame below result new
@@ -89,30 +89,30 @@ reported_of n size start v c top frames frame below result new k stack_is model_
     subst (λ (f : ModelFrame). Again n size start c f.kind f.state frame below result new) (sym frame_is) again
 
 pub closes_again : (v : FramesValue) (top : Frame) (frames : List Frame) (noted : Option ℕ) (result : Answer)
-        (new : FramesValue) → v.stack.frames ≡ top ∷ frames → top.purpose ≡ Close → top.progress ≡ Waiting noted
+    (new : FramesValue) → v.stack.frames ≡ top ∷ frames → top.purpose ≡ Close → top.progress ≡ Waiting noted
     → LeavesWithout v result new → BeginsAgain v result new
 closes_again v top frames noted result new stack_is close waits leaves = λ n size start c frame below k model_is.
     reported_of n size start v c top frames frame below result new k stack_is model_is
     (subst (λ (p : Progress). Again n size start c (kind_of top.purpose) (state_of p) frame below result new)
-     (sym waits)
+    (sym waits)
     (subst (λ (p : Purpose). Again n size start c (kind_of p) waiting frame below result new) (sym close)
-     (leaves n size start c frame below k model_is)))
+    (leaves n size start c frame below k model_is)))
 
 pub leaver_again : (v : FramesValue) (top : Frame) (frames : List Frame) (noted : Option ℕ) (phase : Phase)
     → v.stack.frames ≡ top ∷ frames → top.progress ≡ Left noted → phase ≡ closing_phase v.stack
     → BeginsAgain v Going (record v { phase = phase })
 leaver_again v top frames noted phase stack_is has phase_is = λ n size start c frame below k model_is.
     let alike : NotedAlike top.purpose top.progress phase =
-        subst (λ (p : Progress). NotedAlike top.purpose p phase) (sym has)
-            (subst (NotedAlike top.purpose (Left noted)) (sym phase_is) (left_notes v.stack top.purpose noted)) in
+    subst (λ (p : Progress). NotedAlike top.purpose p phase) (sym has)
+    (subst (NotedAlike top.purpose (Left noted)) (sym phase_is) (left_notes v.stack top.purpose noted)) in
     reported_of n size start v c top frames frame below Going (record v { phase = phase }) k stack_is model_is
     (subst
-     (λ (p : Progress).
-         Again n size start c (kind_of top.purpose) (state_of p) frame below Going (record v { phase = phase }))
-     (sym has)
+    (λ (p : Progress).
+    Again n size start c (kind_of top.purpose) (state_of p) frame below Going (record v { phase = phase }))
+    (sym has)
     (again_left n size start c (kind_of top.purpose) frame below (record v { phase = phase })
     (rephased n size start v c top frames frame below phase (model.closing_phase c) k stack_is model_is
-     (ap phase_of phase_is ∙ closing_is v.stack c k.done_is k.opened_is) alike)))
+    (ap phase_of phase_is ∙ closing_is v.stack c k.done_is k.opened_is) alike)))
 
 -- a frame that has noted nothing
 rests : (purpose : Purpose) (progress : Progress) (phase : Phase) → NotedAlike purpose progress phase
@@ -139,9 +139,9 @@ tries_again v top frames stack_is close gone = λ n size start c frame below k m
     let alike = (subst (λ (fs : List Frame). AreNotedAlike fs (v.phase ∷ v.below)) stack_is k.noted).0 in
     reported_of n size start v c top frames frame below Going (record v { phase = Idle }) k stack_is model_is
     (again_idle n size start c top.purpose top.progress frame below (record v { phase = Idle }) close gone
-     (stays_not top.purpose top.progress v.phase alike)
+    (stays_not top.purpose top.progress v.phase alike)
     (rephased n size start v c top frames frame below Idle idle k stack_is model_is refl
-     (rests top.purpose top.progress v.phase alike close)))
+    (rests top.purpose top.progress v.phase alike close)))
 
 -- ---- the frame on top, as the stack holds it
 

@@ -31,7 +31,7 @@ may_end n size start v c k frame below number moment len model_is at kind = by_f
         let (frame_is, below_is, same) = tops_are v c n size start top rest frame below k stack_is model_is in
         let (moment', len', kind', lies) = stands n size start v c k top rest slot stack_is has frame below model_is in
         let kinds : for_record moment' len' ≡ for_record moment len =
-            sym kind' ∙ sym (ap (λ (f : ModelFrame). f.kind) frame_is) ∙ kind in
+        sym kind' ∙ sym (ap (λ (f : ModelFrame). f.kind) frame_is) ∙ kind in
         let lens : len' ≡ len = cc in
         fills_slot n size start v c k top rest slot stack_is has frame below model_is ∙ ap slot_len lens
     by_progress top rest stack_is (Left noted) has state_is = absurd (let z : ⊥ = cc in z)

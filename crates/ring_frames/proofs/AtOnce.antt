@@ -75,14 +75,14 @@ module _ (n size start : ℕ) (v : FramesValue) (c : Core) (k : AreFrames n size
   push_is : model.Step n size c (model.pushes moment len) model.pushed pushed
   push_is =
       let few : length v.stack.frames < MAX_FRAMES =
-          subst (λ (fs : List Frame). length fs < MAX_FRAMES) (sym none) (omega arith) in
+      subst (λ (fs : List Frame). length fs < MAX_FRAMES) (sym none) (omega arith) in
       step_by (cases.push_step moment len refl (has_room n size start v c k few)
-               (subst (λ (s : ℕ). model.IsTooLong s len → ⊥) k.size_is fits.1) fits.2 refl refl)
+      (subst (λ (s : ℕ). model.IsTooLong s len → ⊥) k.size_is fits.1) fits.2 refl refl)
 
   pushed_frames : pushed.frames ≡ waits ∷ []
   pushed_frames =
       ap (λ (fs : List ModelFrame). waits ∷ fs)
-          (k.frames_are ∙ ap (λ (fs : List Frame). frames_in_phases fs (v.phase ∷ v.below)) none)
+      (k.frames_are ∙ ap (λ (fs : List Frame). frames_in_phases fs (v.phase ∷ v.below)) none)
 
   abbrev pushed_stack : Stack
   pushed_stack = with_frame v.stack (new_frame (Record moment len))
@@ -99,8 +99,8 @@ module _ (n size start : ℕ) (v : FramesValue) (c : Core) (k : AreFrames n size
       let tail = record_fits start pushed.history pushed_stack is_pushed moment len (λ past. omega arith) in
       step_by (cases.frame_step waits [] refl pushed_frames
       (cases.reserves moment len (model.new_reservation pushed moment len) refl refl
-       (subst (λ (s : ℕ). FitsBehind s (tail_of pushed.history) (model.new_reservation pushed moment len)) k.size_is
-        tail) (ap model.reserved_as numbered) refl))
+      (subst (λ (s : ℕ). FitsBehind s (tail_of pushed.history) (model.new_reservation pushed moment len)) k.size_is
+      tail) (ap model.reserved_as numbered) refl))
 
   same_slot : slot_len (length (padded payload)) ≡ slot_len len
   same_slot = ap slot_len (length-padded payload) ∙ slot_len-slot_len len
@@ -108,24 +108,24 @@ module _ (n size start : ℕ) (v : FramesValue) (c : Core) (k : AreFrames n size
   end_is : model.Step n size with_its_record (model.ends (padded payload)) model.full after
   end_is =
       step_by
-          (cases.end_step (padded payload) (holds number) [] number moment len refl refl refl refl same_slot refl refl)
+      (cases.end_step (padded payload) (holds number) [] number moment len refl refl refl refl same_slot refl refl)
 
   -- ---- the frames after them
 
   reserved_alone : (writer_after (pushed.history ++ reserve ∷ [])).stack ≡ record_frame moment len (Some number) ∷ []
   reserved_alone =
       reserved_stack pushed.history moment len []
-          (is_pushed.stack_is
-           ∙ ap (λ (fs : List Frame). pushed_of (model_frames (new_frame (Record moment len) ∷ fs))) none)
+      (is_pushed.stack_is
+      ∙ ap (λ (fs : List Frame). pushed_of (model_frames (new_frame (Record moment len) ∷ fs))) none)
 
   kept : HasEvents v.stack (push moment len ∷ reserve ∷ leave (Some payload) ∷ []) stack
       → IsStack start after.history stack
   kept has_events =
       let turns =
-          append_assoc pushed.history (reserve ∷ []) (leave (Some payload) ∷ [])
-              ∙ append_assoc c.history (push moment len ∷ []) (reserve ∷ leave (Some payload) ∷ []) in
+      append_assoc pushed.history (reserve ∷ []) (leave (Some payload) ∷ [])
+      ∙ append_assoc c.history (push moment len ∷ []) (reserve ∷ leave (Some payload) ∷ []) in
       left_alike start (pushed.history ++ reserve ∷ []) stack moment len number [] (padded payload) payload
-          (padded_twice payload) reserved_alone same_slot
+      (padded_twice payload) reserved_alone same_slot
       (subst (λ (h : List HistoryEvent). IsStack start h stack) (sym turns) (has_events start c.history k.stack_is))
 
   abbrev has_left : Frame
@@ -145,12 +145,12 @@ module _ (n size start : ℕ) (v : FramesValue) (c : Core) (k : AreFrames n size
         stack_is = kept has_events;
         frames_are =
             (λ i. let f : ModelFrame =
-                 record { kind = for_record moment len; state = left; phase = sym (closing_is stack c done begun) i } in
-             f ∷ []) ∙ ap (λ (fs : List Frame). frames_in_phases fs (closing_phase stack ∷ v.below)) (sym frames_is);
+            record { kind = for_record moment len; state = left; phase = sym (closing_is stack c done begun) i } in
+            f ∷ []) ∙ ap (λ (fs : List Frame). frames_in_phases fs (closing_phase stack ∷ v.below)) (sym frames_is);
         below_are = subst (λ (fs : List Frame). AreBelow fs v.below) (sym frames_is) (ap length none_below);
         noted =
             subst (λ (fs : List Frame). AreNotedAlike fs (closing_phase stack ∷ v.below)) (sym frames_is)
-                (left_notes stack (Record moment len) None, tt);
+            (left_notes stack (Record moment len) None, tt);
       }
 
   pub written : HasEvents v.stack (push moment len ∷ reserve ∷ leave (Some payload) ∷ []) stack
@@ -174,13 +174,13 @@ left_has_events : (s stack : Stack) (moment : ℕ) (payload : List ℕ) → Fits
     → stack ≡ with_written s moment payload
     → HasEvents s (push moment (length payload) ∷ reserve ∷ leave (Some payload) ∷ []) stack
     → HasEvents s (push moment (length payload) ∷ reserve ∷ leave (Some payload) ∷ [])
-        (with_left stack moment (length payload))
+    (with_left stack moment (length payload))
 left_has_events s stack moment payload fits is has_events = λ start h k.
     let none : stack.frames ≡ [] = ap (λ (x : Stack). x.frames) is ∙ fits.0 in
     let short =
-        subst (λ (z : ℕ). model.IsTooLong z (length payload) → ⊥) (sym (ap (λ (x : Stack). x.size) is)) fits.1 in
+    subst (λ (z : ℕ). model.IsTooLong z (length payload) → ⊥) (sym (ap (λ (x : Stack). x.size) is)) fits.1 in
     stands_again start (h ++ push moment (length payload) ∷ reserve ∷ leave (Some payload) ∷ []) stack moment
-        (length payload) none (short, fits.2) (has_events start h k)
+    (length payload) none (short, fits.2) (has_events start h k)
 
 pub writes_at_once : (v : FramesValue) (stack : Stack) (moment : ℕ) (payload : List ℕ)
     → FitsAtOnce v.stack moment (length payload) → stack ≡ with_written v.stack moment payload
@@ -188,8 +188,8 @@ pub writes_at_once : (v : FramesValue) (stack : Stack) (moment : ℕ) (payload :
     → WritesAtOnce v moment payload (with_left_frame (record v { stack = stack }) moment (length payload))
 writes_at_once v stack moment payload fits is has_events = λ n size start c reached are.
     written n size start v c are moment payload fits (with_left stack moment (length payload))
-        (ap (λ (s : Stack). with_left s moment (length payload)) is)
-        (left_has_events v.stack stack moment payload fits is has_events)
+    (ap (λ (s : Stack). with_left s moment (length payload)) is)
+    (left_has_events v.stack stack moment payload fits is has_events)
 
 -- if no frame is on the stack, no fill is left to close
 pub closed_at_rest : (v : FramesValue) → IsFrames v → v.stack.frames ≡ [] → closing_phase v.stack ≡ Wishing
@@ -200,7 +200,7 @@ closed_at_rest v (n, size, start, c, core) none =
     let done = k.done_is in let begun = k.opened_is in
     let last : v.stack.done + 1 ≡ opened v.stack = omega arith in
     subst (λ (b : Bool). (let phase : Phase = if b then Wishing else Releasing in phase) ≡ Wishing)
-        (sym (eq-eqb (v.stack.done + 1) (opened v.stack) last)) refl
+    (sym (eq-eqb (v.stack.done + 1) (opened v.stack) last)) refl
 
 pub written_alone : (v : FramesValue) (stack : Stack) (moment : ℕ) (payload : List ℕ) → IsFrames v
     → FitsAtOnce v.stack moment (length payload) → stack ≡ with_written v.stack moment payload

@@ -29,7 +29,7 @@ module _ (n size start : ℕ) (v : FramesValue) (c : Core) (core : HasFrames n s
   opens : PhaseKept n c.links c.order c.head c.done c.opened (opening c.opened page)
   opens = let top = topped n size start v c core.are some in
       subst (PhaseKept n c.links c.order c.head c.done c.opened)
-          (top.phase_is ∙ ap phase_of is ∙ ap (λ (o : ℕ). opening o page) (sym core.are.opened_is))
+      (top.phase_is ∙ ap phase_of is ∙ ap (λ (o : ℕ). opening o page) (sym core.are.opened_is))
       (top_kept n c top.frame top.below (kept_of n size start v c core).links top.is_top)
 
   room : length v.stack.older + 1 < v.stack.pages
@@ -61,7 +61,7 @@ pub begun : (n size start : ℕ) (v : FramesValue) (c : Core) (page : ℕ) (late
 begun n size start v c page later first s added has_events =
     let same_done : later.done ≡ v.stack.done = ap (λ (x : Stack). x.done) added in
     let long : length later.older ≡ length v.stack.older + 1 =
-        ap (λ (x : Stack). length x.older) added ∙ length-append v.stack.older (v.stack.tail ∷ []) in
+    ap (λ (x : Stack). length x.older) added ∙ length-append v.stack.older (v.stack.tail ∷ []) in
     let same_frames : later.frames ≡ v.stack.frames = ap (λ (x : Stack). x.frames) added in
     let was_done = s.done_is in let was_opened = s.opened_is in record {
       pages_is = ap (λ (x : Stack). x.pages) added ∙ s.pages_is;
@@ -81,5 +81,5 @@ pub one_more : (v : FramesValue) (later : Stack) (first : ℕ)
 one_more v later first added =
     let same_done : later.done ≡ v.stack.done = ap (λ (x : Stack). x.done) added in
     let long : length later.older ≡ length v.stack.older + 1 =
-        ap (λ (x : Stack). length x.older) added ∙ length-append v.stack.older (v.stack.tail ∷ []) in
+    ap (λ (x : Stack). length x.older) added ∙ length-append v.stack.older (v.stack.tail ∷ []) in
     omega arith

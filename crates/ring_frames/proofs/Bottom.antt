@@ -49,7 +49,7 @@ OnlyOfLeft phase =
 alone_in : (frames : List stack.Frame) (phase : Phase) (below : List Phase) → frames ≢ [] → AreBelow frames below
     → FramesAgree (frames_in_phases frames (phase ∷ below)) → OnlyOfLeft phase
     → (purpose : Purpose) × (noted : Option ℕ) × (frames ≡ record { purpose = purpose; progress = Left noted } ∷ [])
-        × (below ≡ [])
+    × (below ≡ [])
 alone_in [] phase below some many agree only = absurd (some refl)
 alone_in (f ∷ frames) phase below some many agree only =
     let has_left = only (kind_of f.purpose) (state_of f.progress) agree.0 in
@@ -61,7 +61,7 @@ pub alone : (n size start : ℕ) (v : FramesValue) (c : Core) → AreFrames n si
     → v.stack.frames ≢ [] → OnlyOfLeft v.phase → IsAlone v c
 alone n size start v c s k some only =
     let (purpose, noted, frames_are, below_is) =
-        alone_in v.stack.frames v.phase v.below some s.below_are (subst FramesAgree s.frames_are k.stack.agree) only in
+    alone_in v.stack.frames v.phase v.below some s.below_are (subst FramesAgree s.frames_are k.stack.agree) only in
     record {
       purpose = purpose;
       noted = noted;

@@ -61,22 +61,22 @@ covered_slot n size start v w c d next slot are then above had =
     has : HasNumber c.frames slot.number
     has = subst (λ (fs : List ModelFrame). HasNumber fs slot.number) (sym are.frames_are)
         (held_number v.stack.frames (v.phase ∷ v.below) slot
-         (enough_phases v.stack.frames v.phase v.below are.below_are) had)
+        (enough_phases v.stack.frames v.phase v.below are.below_are) had)
 
     s : Stack
     s = w.stack
 
     by_frames : (frames : List Frame)
         → FramesStand s.size s.done s.older s.tail (opens_of d.history) (reserved_records d.history)
-            (is_wished d.history) frames → next ∷ c.frames ≡ frames_in_phases frames (w.phase ∷ w.below)
+        (is_wished d.history) frames → next ∷ c.frames ≡ frames_in_phases frames (w.phase ∷ w.below)
         → HoldSlot frames slot → HoldSlot (below_top frames) slot
     by_frames [] stand same none = none
     by_frames (top ∷ rest) stand same (inr there) = there
     by_frames (top ∷ rest) stand same (inl is) =
         let before =
-            subst (λ (p : Progress). IfSome (number_of (state_of p)) (λ number. AreBefore number rest)) is stand.2 in
+        subst (λ (p : Progress). IfSome (number_of (state_of p)) (λ number. AreBefore number rest)) is stand.2 in
         let there =
-            subst (λ (fs : List ModelFrame). HasNumber fs slot.number)
-                (same_rest _ _ c.frames (frames_in_phases rest w.below) same) has in
+        subst (λ (fs : List ModelFrame). HasNumber fs slot.number)
+        (same_rest _ _ c.frames (frames_in_phases rest w.below) same) has in
         let less : slot.number < slot.number = number_low slot.number slot.number rest w.below before there in
         absurd (omega (arith, less))

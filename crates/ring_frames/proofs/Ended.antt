@@ -69,49 +69,49 @@ module _ (n size start : ℕ) (v : FramesValue) (c : Core) (k : AreFrames n size
       × IsUnwritten v.stack.done v.stack.older v.stack.tail (reserved_records c.history) len slot
   stands =
       let all =
-          subst
-              (FramesStand v.stack.size v.stack.done v.stack.older v.stack.tail (opens_of c.history)
-               (reserved_records c.history) (is_wished c.history)) stack_is k.stack_is.holds.frames_are in
       subst
-          (StandsAt v.stack.size v.stack.done v.stack.older v.stack.tail (opens_of c.history)
-           (reserved_records c.history) (is_wished c.history) (kind_of top.purpose)) has all.1
+      (FramesStand v.stack.size v.stack.done v.stack.older v.stack.tail (opens_of c.history)
+      (reserved_records c.history) (is_wished c.history)) stack_is k.stack_is.holds.frames_are in
+      subst
+      (StandsAt v.stack.size v.stack.done v.stack.older v.stack.tail (opens_of c.history)
+      (reserved_records c.history) (is_wished c.history) (kind_of top.purpose)) has all.1
 
   pub bytes_are : (page : Contents) → IsOpenPage v.stack.done v.stack.older v.stack.tail slot.fill page
       → bytes ≡ bytes_at slot.place.start slot.place.len page.bytes
   bytes_are page is = ap (top_bytes v.stack) stack_is ∙ ap (bytes_of_progress v.stack) has
       ∙ ap (λ (p : Contents). bytes_at slot.place.start slot.place.len p.bytes)
-          (page_found v.stack slot.fill page k.stack_is.holds.tail_is.fill_is is)
+      (page_found v.stack slot.fill page k.stack_is.holds.tail_is.fill_is is)
 
   pub fills_slot : slot_len (length bytes) ≡ slot_len stands.1
   fills_slot =
       let (moment, len, kind, lies) = stands in
       let within = place-within lies.page.bytes slot.place.start slot.place.len lies.place.place in
       let long : length (bytes_at slot.place.start slot.place.len lies.page.bytes) ≡ slot_len len =
-          length-take-le slot.place.len (drop slot.place.start lies.page.bytes)
-                  (omega (arith, length-drop slot.place.start lies.page.bytes)) ∙ lies.fills_slot in
+      length-take-le slot.place.len (drop slot.place.start lies.page.bytes)
+      (omega (arith, length-drop slot.place.start lies.page.bytes)) ∙ lies.fills_slot in
       ap (λ (xs : List ℕ). slot_len (length xs)) (bytes_are lies.page lies.open_page) ∙ ap slot_len long
-          ∙ slot_len-slot_len len
+      ∙ slot_len-slot_len len
 
   end_is : model.Step n size c (model.ends bytes) (model.end_answer below)
       (model.after_leave c frame below (Some bytes))
   end_is =
       let (frame_is, below_is, same) = tops_are v c n size start top frames frame below k stack_is model_is in
       step_by (cases.end_step bytes frame below slot.number stands.0 stands.1 refl model_is
-               (ap (λ (f : ModelFrame). f.state) frame_is ∙ ap state_of has)
-               (ap (λ (f : ModelFrame). f.kind) frame_is ∙ stands.2) fills_slot refl refl)
+      (ap (λ (f : ModelFrame). f.state) frame_is ∙ ap state_of has)
+      (ap (λ (f : ModelFrame). f.kind) frame_is ∙ stands.2) fills_slot refl refl)
 
   shown : (stack : Stack) → stack ≡ after_leave v.stack top frames → HasEnded v.stack (Reserved slot) stack
       → AreFrames n size start (left_value v stack) (model.after_leave c frame below (Some bytes))
   shown stack is has_events =
       let (moment, len, kind, lies) = stands in
       let kept : IsStack start (c.history ++ leave (Some bytes) ∷ []) stack =
-          subst (λ (xs : List ℕ). IsStack start (c.history ++ leave (Some xs) ∷ []) stack)
-              (sym (bytes_are lies.page lies.open_page))
-              (has_events lies.page lies.open_page start c.history k.stack_is) in
+      subst (λ (xs : List ℕ). IsStack start (c.history ++ leave (Some xs) ∷ []) stack)
+      (sym (bytes_are lies.page lies.open_page))
+      (has_events lies.page lies.open_page start c.history k.stack_is) in
       subst (λ (s : Stack). AreFrames n size start (left_value v s) (model.after_leave c frame below (Some bytes)))
-          (sym is)
+      (sym is)
       (left_shown n size start v c top frames frame below (Some bytes) k stack_is model_is
-       (subst (IsStack start (c.history ++ leave (Some bytes) ∷ [])) is kept))
+      (subst (IsStack start (c.history ++ leave (Some bytes) ∷ [])) is kept))
 
   answered : (ended : Ended) (frames : List Frame) (phases : List Phase) → length phases ≡ length frames
       → (1 < suc (length frames) → ended ≡ Pending) → (suc (length frames) ≤ 1 → ended ≡ Full)
@@ -131,10 +131,10 @@ module _ (n size start : ℕ) (v : FramesValue) (c : Core) (k : AreFrames n size
       let may : MayEndTop v.stack.frames = subst MayEndTop (sym stack_is) (subst MayEnd (sym has) tt) in
       let deep : length v.stack.frames ≡ suc (length frames) = ap length stack_is in
       privately n size start (left_value v stack) c (model.ends bytes) (HasEndedSo ended) (model.end_answer below)
-          (model.after_leave c frame below (Some bytes)) end_is tt
+      (model.after_leave c frame below (Some bytes)) end_is tt
       (subst (λ (fs : List ModelFrame). IsAnswerOf size (HasEndedSo ended) (model.end_answer fs)) (sym below_is)
-       (answered ended frames v.below same (λ many. pending may (omega (arith, deep, many)))
-        (λ one. full may (omega (arith, deep, one)))))
+      (answered ended frames v.below same (λ many. pending may (omega (arith, deep, many)))
+      (λ one. full may (omega (arith, deep, one)))))
       (shown stack is has_events)
 
 -- the frames of the model, if one is on the stack
@@ -149,26 +149,26 @@ pub frame_ended : (n size start : ℕ) (v : FramesValue) (c : Core) (ended : End
     → (MayEndTop v.stack.frames → length v.stack.frames ≤ 1 → ended ≡ Full)
     → IsEnd v.stack v.stack.frames stack
     → IsPrivateStep n size start c (model.ends (top_bytes v.stack v.stack.frames)) (HasEndedSo ended)
-        (left_value v stack)
+    (left_value v stack)
 frame_ended n size start v c ended stack k pending full is = by_frames v.stack.frames refl
   where
     by_progress : (top : Frame) (rest : List Frame) → v.stack.frames ≡ top ∷ rest → (progress : Progress)
         → top.progress ≡ progress → stack ≡ after_leave v.stack top rest → HasEnded v.stack progress stack
         → NotedAlike top.purpose progress v.phase
         → IsPrivateStep n size start c (model.ends (top_bytes v.stack v.stack.frames)) (HasEndedSo ended)
-            (left_value v stack)
+        (left_value v stack)
     by_progress top rest stack_is (Waiting noted) has left has_events alike = absurd has_events
     by_progress top rest stack_is (Through noted) has left has_events alike =
         absurd (through_not top.purpose noted v.phase alike)
     by_progress top rest stack_is (Reserved slot) has left has_events alike =
         let (frame, below, model_is) = model_top v.stack.frames v.phase v.below top rest stack_is in
         made n size start v c k top rest slot stack_is has frame below (k.frames_are ∙ model_is) ended stack pending
-            full left has_events
+        full left has_events
     by_progress top rest stack_is (Left noted) has left has_events alike = absurd has_events
 
     by_frames : (frames : List Frame) → v.stack.frames ≡ frames
         → IsPrivateStep n size start c (model.ends (top_bytes v.stack v.stack.frames)) (HasEndedSo ended)
-            (left_value v stack)
+        (left_value v stack)
     by_frames [] none = absurd (subst (λ (fs : List Frame). IsEnd v.stack fs stack) none is)
     by_frames (top ∷ rest) stack_is =
         let end = subst (λ (fs : List Frame). IsEnd v.stack fs stack) stack_is is in
@@ -191,7 +191,7 @@ end_refused n size start v c fault k none early may = by_frames v.stack.frames r
         → IsPrivateStep n size start c event (Refused fault) v
     refused_for why is step =
         privately n size start v c event (Refused fault) (model.refused (refusal_of why)) c step tt
-            (ap (λ (f : WriteFault). model.refused (refusal_of f)) (sym is)) k
+        (ap (λ (f : WriteFault). model.refused (refusal_of f)) (sym is)) k
 
     without : (progress : Progress) → (MayEnd progress → ⊥) → number_of (state_of progress) ≡ None
     without (Waiting noted) may = refl
@@ -202,13 +202,13 @@ end_refused n size start v c fault k none early may = by_frames v.stack.frames r
     by_frames : (frames : List Frame) → v.stack.frames ≡ frames → IsPrivateStep n size start c event (Refused fault) v
     by_frames [] is =
         refused_for NoFrame (none is)
-            (step_by (cases.end_lacks (top_bytes v.stack v.stack.frames) refl
-                      (k.frames_are ∙ ap (λ (fs : List Frame). frames_in_phases fs (v.phase ∷ v.below)) is) refl refl))
+        (step_by (cases.end_lacks (top_bytes v.stack v.stack.frames) refl
+        (k.frames_are ∙ ap (λ (fs : List Frame). frames_in_phases fs (v.phase ∷ v.below)) is) refl refl))
     by_frames (top ∷ rest) is =
         let not_yet : MayEnd top.progress → ⊥ = λ can. may (subst MayEndTop (sym is) can) in
         let (frame, below, model_is) = model_top v.stack.frames v.phase v.below top rest is in
         let (frame_is, below_is, same) =
-            tops_are v c n size start top rest frame below k is (k.frames_are ∙ model_is) in
+        tops_are v c n size start top rest frame below k is (k.frames_are ∙ model_is) in
         refused_for NotReserved (early (subst MayNotEndTop (sym is) not_yet))
         (step_by (cases.end_early (top_bytes v.stack v.stack.frames) frame below refl (k.frames_are ∙ model_is)
-                  (ap (λ (f : ModelFrame). number_of f.state) frame_is ∙ without top.progress not_yet) refl refl))
+        (ap (λ (f : ModelFrame). number_of f.state) frame_is ∙ without top.progress not_yet) refl refl))

@@ -47,10 +47,10 @@ late_private v result new noted some is own again = λ n size start c reached ar
     let top = topped n size start v c are some in
     let (reports, shows) = again n size start c top.frame top.below are top.is_top in
     let own_phase : PhaseIsPrivate top.frame.phase c.opened =
-        subst (λ (o : ℕ). PhaseIsPrivate top.frame.phase o) (sym are.opened_is)
-            (subst (λ (p : Phase). PhaseIsPrivate p (opened v.stack)) (sym top.phase_is) own) in
+    subst (λ (o : ℕ). PhaseIsPrivate top.frame.phase o) (sym are.opened_is)
+    (subst (λ (p : Phase). PhaseIsPrivate p (opened v.stack)) (sym top.phase_is) own) in
     privately n size start new c model.steps result (model.begin_answer top.frame.kind top.frame.state top.below)
-        (model.after_begin top.frame.kind top.frame.state c top.frame top.below)
+    (model.after_begin top.frame.kind top.frame.state c top.frame top.below)
     (step_by (cases.frame_step top.frame top.below refl top.is_top
-              (late_in n size c top.frame top.below top.frame.phase noted (ap noted_fill top.phase_is ∙ is) own_phase)))
+    (late_in n size c top.frame top.below top.frame.phase noted (ap noted_fill top.phase_is ∙ is) own_phase)))
     (top_is_private c top.frame top.below top.is_top own_phase) reports shows

@@ -52,23 +52,23 @@ top_is a b xs ys e = (cc, cc)
 
 -- the frame on top of the model's is that of the stack's
 pub tops_are : (v : FramesValue) (c : Core) (n size start : ℕ) (top : Frame) (frames : List Frame) (frame : ModelFrame)
-        (below : List ModelFrame) → AreFrames n size start v c → v.stack.frames ≡ top ∷ frames
+    (below : List ModelFrame) → AreFrames n size start v c → v.stack.frames ≡ top ∷ frames
     → c.frames ≡ frame ∷ below
     → (frame ≡ record { kind = kind_of top.purpose; state = state_of top.progress; phase = phase_of v.phase })
-        × (below ≡ frames_in_phases frames v.below) × (length v.below ≡ length frames)
+    × (below ≡ frames_in_phases frames v.below) × (length v.below ≡ length frames)
 tops_are v c n size start top frames frame below k stack_is model_is =
     let both =
-        top_is frame record { kind = kind_of top.purpose; state = state_of top.progress; phase = phase_of v.phase }
-            below (frames_in_phases frames v.below)
-            (sym model_is ∙ k.frames_are
-              ∙ ap (λ (fs : List Frame). frames_in_phases fs (v.phase ∷ v.below)) stack_is) in
+    top_is frame record { kind = kind_of top.purpose; state = state_of top.progress; phase = phase_of v.phase }
+    below (frames_in_phases frames v.below)
+    (sym model_is ∙ k.frames_are
+    ∙ ap (λ (fs : List Frame). frames_in_phases fs (v.phase ∷ v.below)) stack_is) in
     (both.0, both.1, subst (λ (fs : List Frame). AreBelow fs v.below) stack_is k.below_are)
 
 left_frames : (c : Core) (s : Stack) (frame : ModelFrame) (top : Frame) (frames : List Frame) (phases : List Phase)
     → frame.kind ≡ kind_of top.purpose → phase_of (closing_phase s) ≡ model.closing_phase c
     → length phases ≡ length frames
     → model.frames_after_leave c frame (frames_in_phases frames phases)
-        ≡ frames_in_phases (frames_after_leave top frames) (phase_after_leave s phases ∷ below_after_leave phases)
+    ≡ frames_in_phases (frames_after_leave top frames) (phase_after_leave s phases ∷ below_after_leave phases)
 left_frames c s frame top [] [] kind closing same =
     (λ i. let f : ModelFrame = record { kind = kind i; state = left; phase = sym closing i } in f ∷ [])
 left_frames c s frame top [] (p ∷ phases) kind closing same = absurd (omega (arith, same))
@@ -103,7 +103,7 @@ pub leave_reported : (size : ℕ) (frames : List Frame) (phases : List Phase) (b
     → IsAnswerOf size (left_answer phases) (model.leave_answer below)
 leave_reported size frames phases below is same =
     subst (λ (fs : List ModelFrame). IsAnswerOf size (left_answer phases) (model.leave_answer fs)) (sym is)
-        (answer_for size frames phases same)
+    (answer_for size frames phases same)
 
 -- ---- the ring
 
@@ -112,7 +112,7 @@ abbrev pub left_value : FramesValue → Stack → FramesValue
 left_value v stack = with_left_phase (record v { stack = stack })
 
 pub left_shown : (n size start : ℕ) (v : FramesValue) (c : Core) (top : Frame) (frames : List Frame)
-        (frame : ModelFrame) (below : List ModelFrame) (payload : Option (List ℕ)) → AreFrames n size start v c
+    (frame : ModelFrame) (below : List ModelFrame) (payload : Option (List ℕ)) → AreFrames n size start v c
     → v.stack.frames ≡ top ∷ frames → c.frames ≡ frame ∷ below
     → IsStack start (c.history ++ leave payload ∷ []) (after_leave v.stack top frames)
     → AreFrames n size start (left_value v (after_leave v.stack top frames)) (model.after_leave c frame below payload)
@@ -121,7 +121,7 @@ left_shown n size start v c top frames frame below payload k stack_is model_is k
     let s : Stack = after_leave v.stack top frames in
     reshown n size start v c s (phase_after_leave s v.below) (below_after_leave v.below)
     (model.frames_after_leave c frame below) (c.history ++ leave payload ∷ [])
-        (map (model.held_with_payload (model.own_number frame.kind frame.state) payload) c.held) k record {
+    (map (model.held_with_payload (model.own_number frame.kind frame.state) payload) c.held) k record {
       pages_is = refl;
       size_is = refl;
       done_is = refl;
@@ -129,16 +129,16 @@ left_shown n size start v c top frames frame below payload k stack_is model_is k
       stack_is = kept;
       frames_are = ap (model.frames_after_leave c frame) below_is
           ∙ left_frames c s frame top frames v.below (ap (λ (f : ModelFrame). f.kind) frame_is)
-              (closing_is s c k.done_is k.opened_is) same;
+          (closing_is s c k.done_is k.opened_is) same;
       below_are = left_below top frames v.below same;
       noted =
           left_noted s v.phase top frames v.below same
-              (subst (λ (fs : List Frame). AreNotedAlike fs (v.phase ∷ v.below)) stack_is k.noted);
+          (subst (λ (fs : List Frame). AreNotedAlike fs (v.phase ∷ v.below)) stack_is k.noted);
     }
 
 -- a frame without a record leaves
 pub left_without : (n size start : ℕ) (v : FramesValue) (c : Core) (top : Frame) (frames : List Frame)
-        (frame : ModelFrame) (below : List ModelFrame) (stack : Stack) → AreFrames n size start v c
+    (frame : ModelFrame) (below : List ModelFrame) (stack : Stack) → AreFrames n size start v c
     → v.stack.frames ≡ top ∷ frames → c.frames ≡ frame ∷ below
     → stack ≡ after_leave v.stack top frames
     → IsStack start (c.history ++ leave None ∷ []) stack
@@ -146,7 +146,7 @@ pub left_without : (n size start : ℕ) (v : FramesValue) (c : Core) (top : Fram
 left_without n size start v c top frames frame below stack k stack_is model_is is kept =
     subst (λ (s : Stack). AreFrames n size start (left_value v s) (model.after_leave c frame below None)) (sym is)
     (left_shown n size start v c top frames frame below None k stack_is model_is
-     (subst (IsStack start (c.history ++ leave None ∷ [])) is kept))
+    (subst (IsStack start (c.history ++ leave None ∷ [])) is kept))
 
 -- ---- a frame that is alone
 
@@ -169,10 +169,10 @@ closing_value v stack = record v { stack = stack; phase = closing_phase stack }
 pub left_alone : (v : FramesValue) (stack : Stack) → v.below ≡ [] → left_value v stack ≡ closing_value v stack
 left_alone v stack none =
     ap
-        (λ (below : List Phase). let x : FramesValue =
-             record { stack = stack; phase = phase_after_leave stack below; below = below_after_leave below } in
-         x) none
+    (λ (below : List Phase). let x : FramesValue =
+    record { stack = stack; phase = phase_after_leave stack below; below = below_after_leave below } in
+    x) none
     ∙ ap
-        (λ (below : List Phase). let x : FramesValue =
-             record { stack = stack; phase = closing_phase stack; below = below } in
-         x) (sym none)
+    (λ (below : List Phase). let x : FramesValue =
+    record { stack = stack; phase = closing_phase stack; below = below } in
+    x) (sym none)

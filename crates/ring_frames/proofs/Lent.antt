@@ -54,13 +54,15 @@ pub slot_keeps : (s : Stack) (slot : Slot) (part : List ℕ) → Keeps s (with_s
 slot_keeps s slot part =
     let page : Contents = with_payload (slice_index_or s.older (slot.fill - s.done) s.tail) slot.place.start part in
     keeps_by (eqb slot.fill s.tail.fill) s (record s { tail = with_payload s.tail slot.place.start part })
-        (record s { older = slice_set s.older (slot.fill - s.done) page })
+    (record s { older = slice_set s.older (slot.fill - s.done) page })
     record { pages_is = refl; size_is = refl; done_is = refl; opened_is = refl; frames_is = refl }
-    record { pages_is = refl;
-            size_is = refl;
-            done_is = refl;
-            opened_is = ap (λ (m : ℕ). s.done + m + 1) (length-set s.older (slot.fill - s.done) page);
-            frames_is = refl }
+    record {
+      pages_is = refl;
+      size_is = refl;
+      done_is = refl;
+      opened_is = ap (λ (m : ℕ). s.done + m + 1) (length-set s.older (slot.fill - s.done) page);
+      frames_is = refl;
+    }
 
 -- ---- the slot of the frame on top
 
@@ -101,7 +103,7 @@ page_written s slot part page tail_is (is_older k at is) =
     ∙ ap (λ (p : Contents). p.bytes) (get_or-set_same s.older (slot.fill - s.done) old s.tail (omega arith))
     ∙ ap (λ (j : ℕ). (with_payload (slice_index_or s.older j s.tail) slot.place.start part).bytes) there
     ∙ ap (λ (p : Contents). (with_payload p slot.place.start part).bytes)
-        (get_or_from_slice_get s.older k page s.tail is)
+    (get_or_from_slice_get s.older k page s.tail is)
 
 module _ (n size start : ℕ) (v : FramesValue) (c : Core) (k : AreFrames n size start v c) (slot : Slot)
     (is : IsTopSlot v.stack.frames slot) where
@@ -114,13 +116,13 @@ module _ (n size start : ℕ) (v : FramesValue) (c : Core) (k : AreFrames n size
   -- what is lent are the bytes in the slot
   pub bytes_lent : (now : List ℕ)
       → ((page : Contents) → IsOpenPage v.stack.done v.stack.older v.stack.tail slot.fill page
-         → now ≡ slice_range page.bytes slot.place.start (slot.place.start + slot.place.len))
+      → now ≡ slice_range page.bytes slot.place.start (slot.place.start + slot.place.len))
       → now ≡ top_bytes v.stack v.stack.frames
   bytes_lent now lent =
       let (moment, len, kind, lies) = stands n size start v c k t.top t.rest slot t.stack_is t.has _ _ model_is in
       lent lies.page lies.open_page
       ∙ ap (λ (m : ℕ). take m (drop slot.place.start lies.page.bytes))
-          (let same : (slot.place.start + slot.place.len) - slot.place.start ≡ slot.place.len = omega arith in same)
+      (let same : (slot.place.start + slot.place.len) - slot.place.start ≡ slot.place.len = omega arith in same)
       ∙ sym (bytes_are n size start v c k t.top t.rest slot t.stack_is t.has _ _ model_is lies.page lies.open_page)
 
   -- as many as the slot has room for
@@ -128,8 +130,8 @@ module _ (n size start : ℕ) (v : FramesValue) (c : Core) (k : AreFrames n size
   top_long =
       let (moment, len, kind, lies) = stands n size start v c k t.top t.rest slot t.stack_is t.has _ _ model_is in
       ap length
-          (sym
-           (bytes_lent (slice_range lies.page.bytes slot.place.start (slot.place.start + slot.place.len)) (λ page there.
+      (sym
+      (bytes_lent (slice_range lies.page.bytes slot.place.start (slot.place.start + slot.place.len)) (λ page there.
       ap (λ (p : Contents). slice_range p.bytes slot.place.start (slot.place.start + slot.place.len))
       (open_page_is v.stack.done v.stack.older v.stack.tail slot.fill lies.page page lies.open_page there))))
       ∙ lent_len start c.history v.stack slot lies.page is lies.open_page k.stack_is
@@ -137,7 +139,7 @@ module _ (n size start : ℕ) (v : FramesValue) (c : Core) (k : AreFrames n size
   -- whatever is written there, the frames are those of the same state
   pub written_stays : (part : List ℕ) → length part ≡ slot.place.len
       → ((history : List HistoryEvent) → IsStack start history v.stack → length part ≡ slot.place.len
-         → IsStack start history (with_slot v.stack slot part))
+      → IsStack start history (with_slot v.stack slot part))
       → AreFrames n size start (with_slot_payload v slot part) c
   written_stays part fills written =
       let s : Stack = with_slot v.stack slot part in
@@ -160,7 +162,7 @@ module _ (n size start : ℕ) (v : FramesValue) (c : Core) (k : AreFrames n size
   slot_fits frame below moment len top kind =
       let (moment', len', kind', lies) = stands n size start v c k t.top t.rest slot t.stack_is t.has _ _ model_is in
       let same : for_record moment len ≡ for_record moment' len' =
-          sym kind ∙ same_kind frame _ below _ (sym top ∙ model_is) ∙ kind' in
+      sym kind ∙ same_kind frame _ below _ (sym top ∙ model_is) ∙ kind' in
       let lens : len ≡ len' = cc in
       lies.fills_slot ∙ ap slot_len (sym lens)
 
@@ -173,7 +175,7 @@ module _ (n size start : ℕ) (v : FramesValue) (c : Core) (k : AreFrames n size
       ap (λ (fs : List Frame). top_bytes (with_slot v.stack slot part) fs) t.stack_is
       ∙ ap (bytes_of_progress (with_slot v.stack slot part)) t.has
       ∙ ap (bytes_at slot.place.start slot.place.len)
-          (page_written v.stack slot part lies.page k.stack_is.holds.tail_is.fill_is lies.open_page)
+      (page_written v.stack slot part lies.page k.stack_is.holds.tail_is.fill_is lies.open_page)
       ∙ overwritten_there lies.page.bytes slot.place.start slot.place.len part long within
 
 -- ---- what the stack lends
@@ -193,7 +195,7 @@ module _ (n size start : ℕ) (v : FramesValue) (c : Core) (k : AreFrames n size
   top_written part fills =
       ap (λ (t : Stack). top_bytes t v.stack.frames) (lent.in_slot part)
       ∙ written_there n size start v c k lent.slot lent.on_top part
-          (fills ∙ lent.long ∙ ap (λ (p : Place). p.len) lent.place_is)
+      (fills ∙ lent.long ∙ ap (λ (p : Place). p.len) lent.place_is)
 
 -- it is as long as the payload that the frame on top was pushed for takes
 pub fits_top : (frames : List Frame) (result : Result (MutBor Lent) WriteFault)

@@ -42,10 +42,10 @@ ends_before : (bytes : List ℕ) (number start len other at size : ℕ) → IsPl
     → IsPlaceOf bytes other at size → other < number → at + size ≤ start
 ends_before bytes number start len other at size place there low =
     elim (places-apart bytes other at size number start len there place) [
-  | same_place same starts lens ↦ absurd (omega arith)
-  | earlier less apart ↦ omega arith
-  | later more apart ↦ absurd (omega arith)
-]
+      | same_place same starts lens ↦ absurd (omega arith)
+      | earlier less apart ↦ omega arith
+      | later more apart ↦ absurd (omega arith)
+    ]
 
 -- ---- in another page
 
@@ -62,16 +62,16 @@ other_page s slot part fill page other tail_fill_is (is_tail at is) (is_tail at'
 other_page s slot part fill page other tail_fill_is (is_tail at is) (is_older k at' is') ne =
     ap (λ (t : Stack). open_page t fill) (cond-true _ _ _ (eq-eqb slot.fill s.tail.fill (at ∙ sym tail_fill_is)))
     ∙ page_found (record s { tail = with_payload s.tail slot.place.start part }) fill other tail_fill_is
-        (is_older k at' is')
+    (is_older k at' is')
     ∙ sym (page_found s fill other tail_fill_is (is_older k at' is'))
 other_page s slot part fill page other tail_fill_is (is_older j at is) there ne =
     let inside = slice_get_within s.older j page is in
     let low = from_done s.done s.older s.tail fill other there in
     let old : Contents = with_payload (slice_index_or s.older (slot.fill - s.done) s.tail) slot.place.start part in
     ap (λ (t : Stack). open_page t fill)
-        (cond-false _ _ _ (ne_eqb slot.fill s.tail.fill (λ same. omega (arith, same, tail_fill_is))))
+    (cond-false _ _ _ (ne_eqb slot.fill s.tail.fill (λ same. omega (arith, same, tail_fill_is))))
     ∙ ap (cond (eqb fill s.tail.fill) s.tail)
-        (get_or-set_other s.older (slot.fill - s.done) (fill - s.done) old s.tail (λ same. ne (omega arith)))
+    (get_or-set_other s.older (slot.fill - s.done) (fill - s.done) old s.tail (λ same. ne (omega arith)))
 
 -- ---- the frames below
 
@@ -103,26 +103,26 @@ leaves_others start h s slot k is top below other part stack_is held =
     low : other.number < slot.number
     low =
         let all =
-            subst (FramesStand s.size s.done s.older s.tail (opens_of h) (reserved_records h) (is_wished h)) stack_is
-                k.holds.frames_are in
+        subst (FramesStand s.size s.done s.older s.tail (opens_of h) (reserved_records h) (is_wished h)) stack_is
+        k.holds.frames_are in
         number_before slot.number below other held
-            (subst (λ (p : Progress). IfSome (number_of (state_of p)) (λ number. AreBefore number below)) has all.2)
+        (subst (λ (p : Progress). IfSome (number_of (state_of p)) (λ number. AreBefore number below)) has all.2)
 
     in_page : other.fill ≡ slot.fill → bytes_in (with_slot s slot part) other ≡ bytes_in s other
     in_page e =
         let page : Contents = lies.1.page in
         let same : there.1.page ≡ page =
-            sym (page_found s other.fill there.1.page fill_is there.1.open_page) ∙ ap (open_page s) e
-                ∙ page_found s slot.fill page fill_is lies.1.open_page in
+        sym (page_found s other.fill there.1.page fill_is there.1.open_page) ∙ ap (open_page s) e
+        ∙ page_found s slot.fill page fill_is lies.1.open_page in
         let place =
-            subst (λ (p : Contents). IsPlaceOf p.bytes (other.number - p.first) other.place.start other.place.len) same
-                there.1.place in
+        subst (λ (p : Contents). IsPlaceOf p.bytes (other.number - p.first) other.place.start other.place.len) same
+        there.1.place in
         let from = subst (λ (p : Contents). p.first ≤ other.number) same there.1.first_le in
         let within = place-within page.bytes slot.place.start slot.place.len lies.1.place.place in
         let apart =
-            ends_before page.bytes (slot.number - page.first) slot.place.start slot.place.len
-                (other.number - page.first) other.place.start other.place.len lies.1.place place
-                (let less = low in omega arith) in
+        ends_before page.bytes (slot.number - page.first) slot.place.start slot.place.len
+        (other.number - page.first) other.place.start other.place.len lies.1.place place
+        (let less = low in omega arith) in
         ap (λ (fill : ℕ). bytes_at other.place.start other.place.len (open_page (with_slot s slot part) fill).bytes) e
         ∙ ap (bytes_at other.place.start other.place.len) (page_written s slot part page fill_is lies.1.open_page)
         ∙ front_stays page.bytes slot.place.start other.place.start other.place.len part apart (omega arith)
@@ -132,4 +132,4 @@ leaves_others start h s slot k is top below other part stack_is held =
     elsewhere : other.fill ≢ slot.fill → bytes_in (with_slot s slot part) other ≡ bytes_in s other
     elsewhere ne =
         ap (λ (p : Contents). bytes_at other.place.start other.place.len p.bytes)
-            (other_page s slot part other.fill lies.1.page there.1.page fill_is lies.1.open_page there.1.open_page ne)
+        (other_page s slot part other.fill lies.1.page there.1.page fill_is lies.1.open_page there.1.open_page ne)

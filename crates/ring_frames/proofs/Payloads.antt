@@ -72,7 +72,7 @@ kept_called view_is after kept = subst (λ (y : FramesValue). KeepsPayloads y.st
 pub pushed_kept : (old new : Stack) (f : Frame) → new ≡ with_frame old f → KeepsPayloads old new
 pushed_kept old new f is =
     kept_same old new (other_frames old new _ is)
-        (λ slot held. subst (λ (s : Stack). HoldSlot s.frames slot) (sym is) (inr held))
+    (λ slot held. subst (λ (s : Stack). HoldSlot s.frames slot) (sym is) (inr held))
 
 -- ---- frames that go on or leave
 
@@ -172,9 +172,11 @@ record LiesIn (s : Stack) (slot : Slot) : Type 0 where
 lies_in : (s : Stack) (slot : Slot) (records : List Reservation) (len : ℕ)
     → IsUnwritten s.done s.older s.tail records len slot → LiesIn s slot
 lies_in s slot records len lies =
-    record { page = lies.page;
-            open_page = lies.open_page;
-            inside = place-within lies.page.bytes slot.place.start slot.place.len lies.place.place }
+    record {
+      page = lies.page;
+      open_page = lies.open_page;
+      inside = place-within lies.page.bytes slot.place.start slot.place.len lies.place.place;
+    }
 
 -- its record is in an open page
 pub held_open : (start : ℕ) (h : List HistoryEvent) (s : Stack) (slot : Slot) → IsStack start h s
@@ -186,10 +188,10 @@ held_open start h s slot k held = by_frames s.frames held k.holds.frames_are
         → (len : ℕ) × IsUnwritten s.done s.older s.tail (reserved_records h) len slot
     by_frames [] none st = absurd none
     by_frames (f ∷ below) (inl is) st =
-            let (moment, len, kind, lies) =
-            subst
-                (StandsAt s.size s.done s.older s.tail (opens_of h) (reserved_records h) (is_wished h)
-                 (kind_of f.purpose)) is st.1 in
+        let (moment, len, kind, lies) =
+        subst
+        (StandsAt s.size s.done s.older s.tail (opens_of h) (reserved_records h) (is_wished h)
+        (kind_of f.purpose)) is st.1 in
         (len, lies)
     by_frames (f ∷ below) (inr there) st = by_frames below there st.4
 
@@ -224,25 +226,25 @@ grown start h s after more k done older fill bytes stay slot held =
         → slot.place.start + slot.place.len ≤ length page.bytes → bytes_in s slot ≡ bytes_in after slot
     kept page (is_tail at is) low =
         by_page s slot page k.holds.tail_is.fill_is (is_tail at is)
-            ∙ ap (λ (p : Contents). bytes_at slot.place.start slot.place.len p.bytes) is
+        ∙ ap (λ (p : Contents). bytes_at slot.place.start slot.place.len p.bytes) is
         ∙ appended s.tail.bytes more slot.place.start slot.place.len
-            (subst (λ (p : Contents). slot.place.start + slot.place.len ≤ length p.bytes) is low)
+        (subst (λ (p : Contents). slot.place.start + slot.place.len ≤ length p.bytes) is low)
         ∙ ap (bytes_at slot.place.start slot.place.len) (sym bytes)
         ∙ sym (by_page after slot after.tail fill (is_tail (at ∙ (λ i. sym done i + length (sym older i))) refl))
     kept page (is_older j at is) low =
         by_page s slot page k.holds.tail_is.fill_is (is_older j at is)
         ∙ sym (by_page after slot page fill
-               (is_older j (at ∙ ap (λ (d : ℕ). d + j) (sym done))
-                (ap (λ (ps : List Contents). slice_get ps j) older ∙ is)))
+        (is_older j (at ∙ ap (λ (d : ℕ). d + j) (sym done))
+        (ap (λ (ps : List Contents). slice_get ps j) older ∙ is)))
 
 record_kept : (start : ℕ) (h : List HistoryEvent) (s after : Stack) (top : Frame) (below : List Frame) (moment len : ℕ)
-        (place : Place) → IsStack start h s → s.frames ≡ top ∷ below → HasNoSlot top.progress
+    (place : Place) → IsStack start h s → s.frames ≡ top ∷ below → HasNoSlot top.progress
     → ReservesRecord s top below moment len place after → HasEvents s (reserve ∷ []) after → KeepsPayloads s after
 record_kept start h s after top below moment len place k at none is has_events =
     grown start h s after _ k (ap (λ (t : Stack). t.done) is.others) (ap (λ (t : Stack). t.older) is.others)
-        (has_events start h k).holds.tail_is.fill_is is.bytes
+    (has_events start h k).holds.tail_is.fill_is is.bytes
     (went_on s.frames top below after.frames at none
-     (λ slot there. subst (λ (t : Stack). HoldSlot t.frames slot) (sym is.others) (inr there)))
+    (λ slot there. subst (λ (t : Stack). HoldSlot t.frames slot) (sym is.others) (inr there)))
 
 wants_none : (s : Stack) (h : List HistoryEvent) (purpose : Purpose) (progress : Progress)
     → WantsFill s h purpose progress → HasNoSlot progress
@@ -271,7 +273,7 @@ allotted_kept start h s after result k = by_frames s.frames refl
     framed top below frames at none stay same =
         kept_same s after (other_frames s after frames same)
         (went_on s.frames top below after.frames at none
-         (λ slot there. subst (λ (t : Stack). HoldSlot t.frames slot) (sym same) (stay slot there)))
+        (λ slot there. subst (λ (t : Stack). HoldSlot t.frames slot) (sym same) (stay slot there)))
 
     by_fit : (top : Frame) (below : List Frame) (place : Place) (purpose : Purpose) (progress : Progress)
         → s.frames ≡ top ∷ below → top.progress ≡ progress → HasFit s top below purpose progress place after
@@ -321,8 +323,8 @@ module _ (start : ℕ) (h : List HistoryEvent) (s : Stack) (k : IsStack start h 
       → IsOpenPage added.done added.older added.tail fill page
   still_open fill page (is_tail at same) =
       let last : slice_get (s.older ++ s.tail ∷ []) (length s.older) ≡ Some s.tail =
-          ap (slice_get (s.older ++ s.tail ∷ [])) (let e : length s.older ≡ length s.older + 0 = omega arith in e)
-              ∙ get_behind s.older (s.tail ∷ []) 0 in
+      ap (slice_get (s.older ++ s.tail ∷ [])) (let e : length s.older ≡ length s.older + 0 = omega arith in e)
+      ∙ get_behind s.older (s.tail ∷ []) 0 in
       is_older (length s.older) at (last ∙ ap Some (sym same))
   still_open fill page (is_older j at there) = is_older j at (get_in_front s.older (s.tail ∷ []) j page there)
 
@@ -331,10 +333,11 @@ module _ (start : ℕ) (h : List HistoryEvent) (s : Stack) (k : IsStack start h 
     where
       stays : KeepsPayloads s added
       stays slot held =
-          let lies = slot_lies start h s slot k held in
-          (held,
-           by_page s slot lies.page k.holds.tail_is.fill_is lies.open_page
-               ∙ sym (by_page added slot lies.page added_fill (still_open slot.fill lies.page lies.open_page)))
+          let lies = slot_lies start h s slot k held in (
+            held,
+            by_page s slot lies.page k.holds.tail_is.fill_is lies.open_page
+                ∙ sym (by_page added slot lies.page added_fill (still_open slot.fill lies.page lies.open_page)),
+          )
 
 -- ---- zeros
 
@@ -342,10 +345,11 @@ module _ (start : ℕ) (h : List HistoryEvent) (s : Stack) (k : IsStack start h 
 word_ends : (delta : ℕ) (payload : List ℕ)
     → (front : List ℕ) × (joined (data_word delta payload ∷ []) ≡ front ++ payload)
 word_ends delta payload =
-    let w : Word = data_word delta payload in
-    (head_of w,
-     append-nil (bytes_of_word w) ∙ bytes_of_word-data w (data_word-IsData delta payload)
-         ∙ ap (λ (b : List ℕ). head_of w ++ b) (data_word-payload delta payload))
+    let w : Word = data_word delta payload in (
+      head_of w,
+      append-nil (bytes_of_word w) ∙ bytes_of_word-data w (data_word-IsData delta payload)
+          ∙ ap (λ (b : List ℕ). head_of w ++ b) (data_word-payload delta payload),
+    )
 
 encoding_ends : (delta : ℕ) (first : Bool) (payload : List ℕ)
     → (front : List ℕ) × (encoding delta first payload ≡ front ++ payload)
@@ -353,10 +357,10 @@ encoding_ends delta true payload = word_ends 0 payload
 encoding_ends delta false payload =
     let extend : List ℕ = bytes_of_word (time_extend delta) in
     cond_both (ltb delta (2 ^ 27)) (data_word delta payload ∷ []) (time_extend delta ∷ data_word 0 payload ∷ [])
-        (λ (ws : List Word). (front : List ℕ) × (joined ws ≡ front ++ payload))
+    (λ (ws : List Word). (front : List ℕ) × (joined ws ≡ front ++ payload))
     (λ short. word_ends delta payload)
     (λ long. let (front, is) = word_ends 0 payload in
-     (extend ++ front, ap (λ (b : List ℕ). extend ++ b) is ∙ sym (append_assoc extend front payload)))
+    (extend ++ front, ap (λ (b : List ℕ). extend ++ b) is ∙ sym (append_assoc extend front payload)))
 
 -- the last bytes
 last_bytes : (bytes front last : List ℕ) (start len : ℕ) → bytes ≡ front ++ last → start + len ≡ length bytes
@@ -367,20 +371,20 @@ last_bytes bytes front last start len is end long =
 
 -- the place of a record that is put into the tail holds zeros
 pub zeros_put : (start : ℕ) (h : List HistoryEvent) (s after : Stack) (top : Frame) (below : List Frame)
-        (moment len : ℕ) (place : Place) (number : ℕ) → IsStack start h s
+    (moment len : ℕ) (place : Place) (number : ℕ) → IsStack start h s
     → ReservesRecord s top below moment len place after → HasEvents s (reserve ∷ []) after
     → bytes_in after record { number = number; fill = tail_fill s; place = place } ≡ replicate place.len 0
 zeros_put start h s after top below moment len place number k is has_events =
     let zeros : List ℕ = replicate (slot_len len) 0 in
     let (front, ends) = encoding_ends (max moment s.last_moment - s.last_moment) (is_blank s.tail.bytes) zeros in
     let same : tail_fill s ≡ tail_fill after =
-        (λ i. sym (ap (λ (t : Stack). t.done) is.others) i + length (sym (ap (λ (t : Stack). t.older) is.others) i)) in
+    (λ i. sym (ap (λ (t : Stack). t.done) is.others) i + length (sym (ap (λ (t : Stack). t.older) is.others) i)) in
     let page : Contents = after.tail in
     by_page after record { number = number; fill = tail_fill s; place = place } page
-        (has_events start h k).holds.tail_is.fill_is (is_tail same refl)
+    (has_events start h k).holds.tail_is.fill_is (is_tail same refl)
     ∙ last_bytes page.bytes (s.tail.bytes ++ front) zeros place.start place.len
-        (is.bytes ∙ ap (λ (b : List ℕ). s.tail.bytes ++ b) ends ∙ sym (append_assoc s.tail.bytes front zeros))
-        is.place_end (is.place_len ∙ sym (length-replicate (slot_len len) 0))
+    (is.bytes ∙ ap (λ (b : List ℕ). s.tail.bytes ++ b) ends ∙ sym (append_assoc s.tail.bytes front zeros))
+    is.place_end (is.place_len ∙ sym (length-replicate (slot_len len) 0))
     ∙ ap (λ (n : ℕ). replicate n 0) (sym is.place_len)
 
 -- so a slot that is reserved first
@@ -402,7 +406,7 @@ zeros_reserved start h s after place k is lacks slot top_slot = by_frames s.fram
         let own : Slot = record { number = next_number s; fill = tail_fill s; place = place } in
         let same = slot_is own slot (top_of_these _ (ap (λ (t : Stack). t.frames) fit.0.others)) in
         subst (λ (z : Slot). bytes_in after z ≡ replicate z.place.len 0) same
-            (zeros_put start h s after top below moment len place (next_number s) k fit.0 fit.1)
+        (zeros_put start h s after top below moment len place (next_number s) k fit.0 fit.1)
     by_fit top below Close (Waiting noted) fit none =
         absurd (no_slot (Through _) tt slot (top_of_these _ (ap (λ (t : Stack). t.frames) fit.1)))
     by_fit top below (Record moment len) (Through noted) fit none = absurd fit

@@ -38,15 +38,15 @@ plain_rests n size start v c pushed core plain =
     let frames : List Frame = top ∷ plain.below in
     let alike = (subst (λ (fs : List Frame). AreNotedAlike fs (v.phase ∷ v.below)) plain.on_top core.are.noted).0 in
     let agree : FramesAgree (frames_in_phases frames (v.phase ∷ v.below)) =
-        subst (λ (fs : List Frame). FramesAgree (frames_in_phases fs (v.phase ∷ v.below))) plain.on_top
-            (subst FramesAgree core.are.frames_are (kept_of n size start v c core).stack.agree) in
+    subst (λ (fs : List Frame). FramesAgree (frames_in_phases fs (v.phase ∷ v.below))) plain.on_top
+    (subst FramesAgree core.are.frames_are (kept_of n size start v c core).stack.agree) in
     idle_by v.phase alike
-        (λ is.
-            not_both (releasing_left (for_record pushed.moment pushed.len) waiting (phase_of v.phase) (ap phase_of is)
-                      agree.0))
-        (λ is.
-            not_both (wishing_left (for_record pushed.moment pushed.len) waiting (phase_of v.phase) (ap phase_of is)
-                      agree.0))
+    (λ is.
+    not_both (releasing_left (for_record pushed.moment pushed.len) waiting (phase_of v.phase) (ap phase_of is)
+    agree.0))
+    (λ is.
+    not_both (wishing_left (for_record pushed.moment pushed.len) waiting (phase_of v.phase) (ap phase_of is)
+    agree.0))
   where
     not_both : waiting ≡ left → ⊥
     not_both e = cc

@@ -17,7 +17,7 @@ pub kept_of : (n size start : ℕ) (v : FramesValue) (c : Core) → HasFrames n 
 kept_of n size start v c core = reached_kept n size start c core.reached
 
 pub privately : (n size start : ℕ) (new : FramesValue) (c : Core) (event : model.Event) (result : Answer)
-        (answer : model.Answer) (after : Core) → model.Step n size c event answer after → IsPrivate c event
+    (answer : model.Answer) (after : Core) → model.Step n size c event answer after → IsPrivate c event
     → IsAnswerOf size result answer → AreFrames n size start new after → IsPrivateStep n size start c event result new
 privately n size start new c event result answer after step own reports are = record {
   answer = answer;

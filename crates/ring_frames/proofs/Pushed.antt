@@ -42,7 +42,7 @@ kept_below n phase below = cond-true _ _ _ (lt-ltb 1 (suc (suc n)) (omega arith)
 -- the phases below the new frame are those of the frames below it
 frames_below : (frames : List Frame) (phase : Phase) (below : List Phase)
     → frames_in_phases frames (phase ∷ below)
-        ≡ frames_in_phases frames (below_after_push (suc (length frames)) phase below)
+    ≡ frames_in_phases frames (below_after_push (suc (length frames)) phase below)
 frames_below [] phase below = refl
 frames_below (f ∷ frames) phase below =
     ap (frames_in_phases (f ∷ frames)) (sym (kept_below (length frames) phase below))
@@ -70,13 +70,13 @@ new_frame purpose = record { purpose = purpose; progress = Waiting None }
 pub pushed_shown : (n size start : ℕ) (v : FramesValue) (c : Core) (purpose : Purpose) (event : HistoryEvent)
     → AreFrames n size start v c → IsStack start (c.history ++ event ∷ []) (with_frame v.stack (new_frame purpose))
     → AreFrames n size start (with_pushed_phase (record v { stack = with_frame v.stack (new_frame purpose) }))
-        (with_history_event (with_model_frame c (kind_of purpose)) event)
+    (with_history_event (with_model_frame c (kind_of purpose)) event)
 pushed_shown n size start v c purpose event k is =
     let top : model = record { kind = kind_of purpose; state = waiting; phase = idle } in
     let frames : List Frame = v.stack.frames in
     reshown n size start v c (with_frame v.stack (new_frame purpose)) Idle
-        (below_after_push (suc (length frames)) v.phase v.below) (top ∷ c.frames) (c.history ++ event ∷ []) c.held k
-        record {
+    (below_after_push (suc (length frames)) v.phase v.below) (top ∷ c.frames) (c.history ++ event ∷ []) c.held k
+    record {
       pages_is = refl;
       size_is = refl;
       done_is = refl;

@@ -55,7 +55,7 @@ KeepsKinds (model.wished_for fill) before after = Unit {0}
 module _ (n size : ℕ) (c : Core) (frame : Frame) where
   leaves : (below : List Frame)
       → KeepsKinds (model.leave_answer below) (kinds_of (frame ∷ below))
-          (kinds_of (model.frames_after_leave c frame below))
+      (kinds_of (model.frames_after_leave c frame below))
   leaves [] = refl
   leaves (next ∷ below) = (frame.kind, refl)
 
@@ -66,13 +66,13 @@ module _ (n size : ℕ) (c : Core) (frame : Frame) where
 
   ended : (below : List Frame)
       → KeepsKinds (model.end_answer below) (kinds_of (frame ∷ below))
-          (kinds_of (model.frames_after_leave c frame below))
+      (kinds_of (model.frames_after_leave c frame below))
   ended [] = tt
   ended (next ∷ below) = (frame.kind, refl)
 
   begun : (kind : frames_model.Purpose) (state : Progress) (now : Core) (below : List Frame)
       → KeepsKinds (model.begin_answer kind state below) (kinds_of (frame ∷ below))
-          (kinds_of ((model.after_begin kind state now frame below).frames))
+      (kinds_of ((model.after_begin kind state now frame below).frames))
   begun (for_record moment len) waiting now below = refl
   begun for_close waiting now [] = refl
   begun for_close waiting now (next ∷ below) = (frame.kind, refl)
@@ -89,7 +89,7 @@ module _ (n size : ℕ) (c : Core) (frame : Frame) where
         → KeepsKinds a (kinds_of (frame ∷ below)) (kinds_of next.frames) → AreKept
     kept a next a_is next_is keeps =
         subst (λ (x : model.Answer). KeepsKinds x (kinds_of (frame ∷ below)) (kinds_of after.frames)) (sym a_is)
-            (subst (λ (d : Core). KeepsKinds a (kinds_of (frame ∷ below)) (kinds_of d.frames)) (sym next_is) keeps)
+        (subst (λ (d : Core). KeepsKinds a (kinds_of (frame ∷ below)) (kinds_of d.frames)) (sym next_is) keeps)
 
     again : (noted : ℕ) → cases.BeginsAgain c frame below noted answer after → AreKept
     again noted late = kept _ _ late.answer_is late.after_is (begun frame.kind frame.state c below)
@@ -143,11 +143,11 @@ module _ (n size : ℕ) (c : Core) (answer : model.Answer) (after : Core) where
   steps_kinds (cases.close_refused e many a is) = absurd (cc)
   steps_kinds (cases.frame_step frame below e is step) =
       subst (λ (fs : List Frame). KeepsKinds answer (kinds_of fs) (kinds_of after.frames)) (sym is)
-          (kept_by n size c frame below is answer after frame.phase step)
+      (kept_by n size c frame below is answer after frame.phase step)
   steps_kinds (cases.frame_lacks e none a is) =
       subst (λ (x : model.Answer). KeepsKinds x (kinds_of c.frames) (kinds_of after.frames)) (sym a)
       (ap (λ (d : Core). kinds_of d.frames) is ∙ ap kinds_of none
-       ∙ sym (ap (λ (fs : List Frame). others_of (kinds_of fs)) none))
+      ∙ sym (ap (λ (fs : List Frame). others_of (kinds_of fs)) none))
   steps_kinds (cases.end_step payload frame below number moment len e is x kind slot a after_is) = absurd (cc)
   steps_kinds (cases.end_lacks payload e none a is) = absurd (cc)
   steps_kinds (cases.end_early payload frame below e is none a after_is) = absurd (cc)
@@ -166,7 +166,7 @@ module _ (n size : ℕ) (c : Core) (answer : model.Answer) (after : Core) where
   ends_kinds payload (cases.end_step given frame below number moment len e is x kind slot a after_is) reported =
       subst (λ (fs : List Frame). (top : frames_model.Purpose) × (kinds_of fs ≡ top ∷ kinds_of after.frames)) (sym is)
       (subst (λ (x : model.Answer). KeepsKinds x (kinds_of (frame ∷ below)) (kinds_of after.frames)) reported
-       (kept_end n size c frame below is answer after given a after_is))
+      (kept_end n size c frame below is answer after given a after_is))
   ends_kinds payload (cases.end_lacks given e none a is) reported = absurd (cc)
   ends_kinds payload (cases.end_early given frame below e is none a after_is) reported = absurd (cc)
   ends_kinds payload (cases.read_step e step) reported = absurd (cc)
@@ -178,7 +178,7 @@ module _ (n size : ℕ) (c : Core) (answer : model.Answer) (after : Core) where
   push_kinds moment len (cases.push_step moment' len' e few short early a is) reported =
       ap (λ (d : Core). kinds_of d.frames) is
       ∙ (let same : for_record moment' len' ≡ for_record moment len = cc in
-         ap (λ (k : frames_model.Purpose). k ∷ kinds_of c.frames) same)
+      ap (λ (k : frames_model.Purpose). k ∷ kinds_of c.frames) same)
   push_kinds moment len (cases.push_refused moment' len' why e refused a is) reported = absurd (cc)
   push_kinds moment len (cases.close_step e few a is) reported = absurd (cc)
   push_kinds moment len (cases.close_refused e many a is) reported = absurd (cc)
@@ -224,7 +224,7 @@ module _ (n size : ℕ) (c : Core) (answer : model.Answer) (after : Core) where
       → KeepsKinds a (kinds_of c.frames) (kinds_of after.frames)
   stepped_kinds step a is =
       subst (λ (x : model.Answer). KeepsKinds x (kinds_of c.frames) (kinds_of after.frames)) is
-          (steps_kinds n size c answer after (cases_of step))
+      (steps_kinds n size c answer after (cases_of step))
 
 -- ---- of what is said of each kind
 
@@ -281,7 +281,7 @@ shown_lens (top ∷ frames) [] long = absurd (omega (arith, long))
 shown_lens (top ∷ frames) (phase ∷ phases) long =
     ap (λ (len : Option ℕ). len ∷ pushed_lens frames) (len_is top.purpose)
     ∙ ap (λ (others : List (Option ℕ)). kind_len (kind_of top.purpose) ∷ others)
-        (shown_lens frames phases (omega (arith, long)))
+    (shown_lens frames phases (omega (arith, long)))
 
 -- the first of the lengths is that of the frame on top
 pub first_len : (frames : List stack.Frame) (len : ℕ) (below : List (Option ℕ)) → pushed_lens frames ≡ Some len ∷ below
@@ -313,24 +313,24 @@ module _ (n size start : ℕ) (old new : FramesValue) (c after : Core) (before_a
     keeps_lens step = record {
       going =
           λ is.
-                 same_mapped kind_len (kinds_of c.frames) (kinds_of after.frames) (lens old.stack) (lens new.stack)
-                     old_is new_is (stepped_kinds n size c answer after step model.going (reports_so Going is));
+          same_mapped kind_len (kinds_of c.frames) (kinds_of after.frames) (lens old.stack) (lens new.stack)
+          old_is new_is (stepped_kinds n size c answer after step model.going (reports_so Going is));
       reserved =
           λ number is.
-                 same_mapped kind_len (kinds_of c.frames) (kinds_of after.frames) (lens old.stack) (lens new.stack)
-                     old_is new_is
-                     (stepped_kinds n size c answer after step (model.reserved_as number.0)
-                      (reports_so (Reserved number) is));
+          same_mapped kind_len (kinds_of c.frames) (kinds_of after.frames) (lens old.stack) (lens new.stack)
+          old_is new_is
+          (stepped_kinds n size c answer after step (model.reserved_as number.0)
+          (reports_so (Reserved number) is));
       gone =
           λ is.
-                 fewer_mapped kind_len (kinds_of c.frames) (kinds_of after.frames) (lens old.stack) (lens new.stack)
-                     old_is new_is (stepped_kinds n size c answer after step model.gone (reports_so Gone is));
+          fewer_mapped kind_len (kinds_of c.frames) (kinds_of after.frames) (lens old.stack) (lens new.stack)
+          old_is new_is (stepped_kinds n size c answer after step model.gone (reports_so Gone is));
       refused =
           λ fault is.
-                 left_mapped kind_len (kinds_of c.frames) (kinds_of after.frames) (lens old.stack) (lens new.stack)
-                     old_is new_is
-                     (stepped_kinds n size c answer after step (model.refused (refusal_of fault))
-                      (reports_so (Refused fault) is));
+          left_mapped kind_len (kinds_of c.frames) (kinds_of after.frames) (lens old.stack) (lens new.stack)
+          old_is new_is
+          (stepped_kinds n size c answer after step (model.refused (refusal_of fault))
+          (reports_so (Refused fault) is));
     }
 
     -- a frame that is pushed is for the payload that is asked for
@@ -338,21 +338,21 @@ module _ (n size start : ℕ) (old new : FramesValue) (c after : Core) (before_a
         → lens new.stack ≡ Some len ∷ lens old.stack
     pushes_lens moment len step is =
         more_mapped kind_len (kinds_of c.frames) (kinds_of after.frames) (lens old.stack) (lens new.stack) old_is new_is
-            (for_record moment len) (pushed_kinds n size c answer after moment len step (reports_so Pushed is))
+        (for_record moment len) (pushed_kinds n size c answer after moment len step (reports_so Pushed is))
 
     -- or for none
     pub pushes_none : model.Step n size c model.pushes_close answer after → result ≡ Pushed
         → lens new.stack ≡ None ∷ lens old.stack
     pushes_none step is =
         more_mapped kind_len (kinds_of c.frames) (kinds_of after.frames) (lens old.stack) (lens new.stack) old_is new_is
-            for_close (closing_kinds n size c answer after step (reports_so Pushed is))
+        for_close (closing_kinds n size c answer after step (reports_so Pushed is))
 
     -- one that ends above others leaves them
     pub ends_lens : (payload : List ℕ) → model.Step n size c (model.ends payload) answer after → result ≡ Ended Pending
         → IsOneMore (lens old.stack) (lens new.stack)
     ends_lens payload step is =
         fewer_mapped kind_len (kinds_of c.frames) (kinds_of after.frames) (lens old.stack) (lens new.stack) old_is
-            new_is (ended_kinds n size c answer after payload step (reports_so (Ended Pending) is))
+        new_is (ended_kinds n size c answer after payload step (reports_so (Ended Pending) is))
 
     -- a push or an end that is refused keeps them
     pub refused_lens : (event : model.Event) → IsPushOrEnd event → model.Step n size c event answer after
@@ -360,5 +360,5 @@ module _ (n size start : ℕ) (old new : FramesValue) (c after : Core) (before_a
     refused_lens event may step fault is =
         same_mapped kind_len (kinds_of c.frames) (kinds_of after.frames) (lens old.stack) (lens new.stack) old_is new_is
         (ap (λ (d : Core). kinds_of d.frames)
-         (same_refused n size c event answer after may (refusal_of fault) (reports_so (Refused fault) is)
-          (cases_of step)))
+        (same_refused n size c event answer after may (refusal_of fault) (reports_so (Refused fault) is)
+        (cases_of step)))

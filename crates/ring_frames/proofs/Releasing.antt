@@ -46,7 +46,7 @@ module _ (n size start : ℕ) (v : FramesValue) (c : Core) (core : HasFrames n s
   one : IsAlone v c
   one =
       alone n size start v c core.are kept some
-          (λ kind state may. releasing_left kind state (phase_of v.phase) (ap phase_of is) may)
+      (λ kind state may. releasing_left kind state (phase_of v.phase) (ap phase_of is) may)
 
   pub is_bottom : IsAtBottom v.stack.frames
   is_bottom = subst IsAtBottom (sym one.frames_are) tt
@@ -71,9 +71,9 @@ module _ (n size start : ℕ) (v : FramesValue) (c : Core) (core : HasFrames n s
     written = let s = core.are in let low = kept.links.head_le in let high = kept.links.done_lt in
         let w = gone.written start c.history s.stack_is in
         let w' : IsWrittenPage size c.done (fill_of c.history start c.done) page =
-            subst (λ (f : ℕ). IsWrittenPage size f (fill_of c.history start f) page) (sym s.done_is)
-                (subst (λ (z : ℕ). IsWrittenPage z v.stack.done (fill_of c.history start v.stack.done) page) s.size_is
-                 w) in
+        subst (λ (f : ℕ). IsWrittenPage size f (fill_of c.history start f) page) (sym s.done_is)
+        (subst (λ (z : ℕ). IsWrittenPage z v.stack.done (fill_of c.history start v.stack.done) page) s.size_is
+        w) in
         subst (λ (h : PageRecords). IsWrittenPage size c.done h page) (sym (kept.contents.each c.done low high)) w'
 
     frames_same : later.frames ≡ record { purpose = one.purpose; progress = Left one.noted } ∷ []
@@ -90,16 +90,16 @@ module _ (n size start : ℕ) (v : FramesValue) (c : Core) (core : HasFrames n s
           size_is = ap (λ (x : Stack). x.size) gone.released ∙ s.size_is;
           stack_is =
               subst (λ (h : List HistoryEvent). IsStack start h later) (append-nil c.history)
-                  (gone.has_events start c.history s.stack_is);
+              (gone.has_events start c.history s.stack_is);
           done_is = omega arith;
           opened_is = omega arith;
           frames_are = sym (λ i. frames_in_phases (frames_same i) (phase ∷ one.below_is i));
           below_are =
               subst (λ (fs : List stack.Frame). AreBelow fs v.below) (sym (ap (λ (x : Stack). x.frames) gone.released))
-                  s.below_are;
+              s.below_are;
           noted =
               subst (λ (fs : List stack.Frame). AreNotedAlike fs (phase ∷ v.below)) (sym frames_same)
-                  ((λ o e. absurd (none_some (sym none_noted ∙ e))), tt);
+              ((λ o e. absurd (none_some (sym none_noted ∙ e))), tt);
         }
 
     release_to : (phase : Phase) → noted_fill (phase_of phase) ≡ None
@@ -110,11 +110,11 @@ module _ (n size start : ℕ) (v : FramesValue) (c : Core) (core : HasFrames n s
       frame = frame_in phase;
       step =
           step_by
-              (cases.frame_step (frame_in v.phase) [] refl one.model
-               (subst
-                (λ (p : Phase).
-                    cases.FrameStep n size c (frame_in v.phase) [] (phase_of p) model.going
-                        (released_in c (frame_in phase))) (sym is) step));
+          (cases.frame_step (frame_in v.phase) [] refl one.model
+          (subst
+          (λ (p : Phase).
+          cases.FrameStep n size c (frame_in v.phase) [] (phase_of p) model.going
+          (released_in c (frame_in phase))) (sym is) step));
       written = written;
       are = are_in phase none;
     }
@@ -135,9 +135,9 @@ module _ (n size start : ℕ) (v : FramesValue) (c : Core) (core : HasFrames n s
         let done_now : later.done ≡ v.stack.done + 1 = ap (λ (x : Stack). x.done) gone.released in
         let long : length v.stack.older ≡ suc (length later.older) = ap length gone.oldest in
         let stays : ◌≡◌ {A = List Frame} (frame_in Releasing ∷ []) c.frames =
-            ap (λ (p : Phase). frame_in p ∷ []) (sym is) ∙ sym one.model in
+        ap (λ (p : Phase). frame_in p ∷ []) (sym is) ∙ sym one.model in
         release_to Releasing refl
-            (cases.releases refl (omega arith) refl (λ i. record (model.with_released c) { frames = stays i }))
+        (cases.releases refl (omega arith) refl (λ i. record (model.with_released c) { frames = stays i }))
 
     pub released : (phase : Phase) → phase ≡ closing_phase later
         → IsRelease n size start c page (record v { stack = later; phase = phase })

@@ -30,7 +30,7 @@ pub record Restacks (start : ℕ) (v : FramesValue) (stack : Stack) (phase : Pha
   pub noted : AreNotedAlike stack.frames (phase ∷ below)
 
 pub reshown : (n size start : ℕ) (v : FramesValue) (c : Core) (stack : Stack) (phase : Phase) (below : List Phase)
-        (frames : List Frame) (history : List HistoryEvent) (held : List PageRecords) → AreFrames n size start v c
+    (frames : List Frame) (history : List HistoryEvent) (held : List PageRecords) → AreFrames n size start v c
     → Restacks start v stack phase below frames history
     → AreFrames n size start (restacked stack phase below) (reframed c frames history held)
 reshown n size start v c stack phase below frames history held k r = record {

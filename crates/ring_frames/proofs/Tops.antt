@@ -16,7 +16,7 @@ pub record IsTopped (v : FramesValue) (c : Core) : Type 0 where
 
 top_in : (frames : List stack.Frame) (phase : Phase) (below : List Phase) → frames ≢ []
     → (frame : Frame) × (rest : List Frame) × (frames_in_phases frames (phase ∷ below) ≡ frame ∷ rest)
-        × (frame.phase ≡ phase_of phase)
+    × (frame.phase ≡ phase_of phase)
 top_in [] phase below some = absurd (some refl)
 top_in (f ∷ frames) phase below some = (_, _, refl, refl)
 

@@ -50,7 +50,7 @@ module _ (n size start : ℕ) (v : FramesValue) (c : Core) (core : HasFrames n s
   one : IsAlone v c
   one =
       alone n size start v c core.are (kept_of n size start v c core) some
-          (λ kind state may. wishing_left kind state (phase_of v.phase) (ap phase_of is) may)
+      (λ kind state may. wishing_left kind state (phase_of v.phase) (ap phase_of is) may)
 
   pub is_bottom : IsAtBottom v.stack.frames
   is_bottom = subst IsAtBottom (sym one.frames_are) tt
@@ -59,7 +59,7 @@ module _ (n size start : ℕ) (v : FramesValue) (c : Core) (core : HasFrames n s
   frame_in phase = record { kind = kind_of one.purpose; state = left; phase = phase_of phase }
 
   looks : (result : Answer) (new : FramesValue) (answer : model.Answer) (frames : List Frame)
-          (history : List HistoryEvent)
+      (history : List HistoryEvent)
       → cases.LoadWishStep n c (frame_in v.phase) [] answer (with_frames_and_history c frames history)
       → IsAnswerOf size result answer → AreFrames n size start new (with_frames_and_history c frames history)
       → IsLookForWish n size start c result new
@@ -70,11 +70,11 @@ module _ (n size start : ℕ) (v : FramesValue) (c : Core) (core : HasFrames n s
     history = history;
     step =
         step_by
-            (cases.frame_step (frame_in v.phase) [] refl one.model
-             (subst
-              (λ (p : Phase).
-                  cases.FrameStep n size c (frame_in v.phase) [] (phase_of p) answer
-                      (with_frames_and_history c frames history)) (sym is) step));
+        (cases.frame_step (frame_in v.phase) [] refl one.model
+        (subst
+        (λ (p : Phase).
+        cases.FrameStep n size c (frame_in v.phase) [] (phase_of p) answer
+        (with_frames_and_history c frames history)) (sym is) step));
     reports = reports;
     are = shows;
   }
@@ -87,14 +87,14 @@ module _ (n size start : ℕ) (v : FramesValue) (c : Core) (core : HasFrames n s
   granted later asks more holds asked has_events = let s = core.are in
       let begun = s.opened_is in let wide = s.pages_is in
       let same_frames : later.frames ≡ record { purpose = one.purpose; progress = Left (Some (opened v.stack)) } ∷ [] =
-          ap (λ (x : Stack). x.frames) asked
-              ∙ ap (λ (fs : List stack.Frame). asked_frames fs (Some (opened v.stack))) one.frames_are in
+      ap (λ (x : Stack). x.frames) asked
+      ∙ ap (λ (fs : List stack.Frame). asked_frames fs (Some (opened v.stack))) one.frames_are in
       looks Going (record v { stack = later; phase = Looking (opened v.stack) }) model.going
-          (frame_in (Looking c.opened) ∷ []) (c.history ++ wished ∷ [])
+      (frame_in (Looking c.opened) ∷ []) (c.history ++ wished ∷ [])
       (cases.grants refl record { asks_tail = asks ∙ sym s.opened_is; holds_record = holds; numbers_left = omega arith }
-       refl refl) refl
+      refl refl) refl
       (reshown n size start v c later (Looking (opened v.stack)) v.below (frame_in (Looking c.opened) ∷ [])
-       (c.history ++ wished ∷ []) c.held s record {
+      (c.history ++ wished ∷ []) c.held s record {
         pages_is = ap (λ (x : Stack). x.pages) asked;
         size_is = ap (λ (x : Stack). x.size) asked;
         done_is = ap (λ (x : Stack). x.done) asked;
@@ -102,13 +102,13 @@ module _ (n size start : ℕ) (v : FramesValue) (c : Core) (core : HasFrames n s
         stack_is = has_events start c.history s.stack_is;
         frames_are =
             ap (λ (o : ℕ). frame_in (Looking o) ∷ []) s.opened_is
-                ∙ sym (λ i. frames_in_phases (same_frames i) (Looking (opened v.stack) ∷ one.below_is i));
+            ∙ sym (λ i. frames_in_phases (same_frames i) (Looking (opened v.stack) ∷ one.below_is i));
         below_are =
             subst (λ (fs : List stack.Frame). AreBelow fs v.below) (sym same_frames)
-                (subst (λ (fs : List stack.Frame). AreBelow fs v.below) one.frames_are s.below_are);
+            (subst (λ (fs : List stack.Frame). AreBelow fs v.below) one.frames_are s.below_are);
         noted =
             subst (λ (fs : List stack.Frame). AreNotedAlike fs (Looking (opened v.stack) ∷ v.below)) (sym same_frames)
-                ((λ o e. e), tt);
+            ((λ o e. e), tt);
       })
 
   pub closes_more : (model.IsGranted n c → ⊥) → v.stack.done + 1 < opened v.stack
@@ -127,7 +127,7 @@ module _ (n size start : ℕ) (v : FramesValue) (c : Core) (core : HasFrames n s
         below_are = s.below_are;
         noted =
             subst (λ (fs : List stack.Frame). AreNotedAlike fs (Releasing ∷ v.below)) (sym one.frames_are)
-                ((λ o e. absurd (none_some e)), tt);
+            ((λ o e. absurd (none_some e)), tt);
       })
 
   pub goes_away : (later : Stack) (phase : Phase) → (model.IsGranted n c → ⊥) → opened v.stack ≤ v.stack.done + 1
@@ -146,7 +146,7 @@ module _ (n size start : ℕ) (v : FramesValue) (c : Core) (core : HasFrames n s
         opened_is = ap opened popped;
         stack_is =
             subst (λ (h : List HistoryEvent). IsStack start h later) (append-nil c.history)
-                (has_events start c.history s.stack_is);
+            (has_events start c.history s.stack_is);
         frames_are = ap (λ (fs : List stack.Frame). frames_in_phases fs (phase ∷ v.below)) (sym no_frames);
         below_are = subst (λ (fs : List stack.Frame). AreBelow fs v.below) (sym no_frames) one.below_is;
         noted = subst (λ (fs : List stack.Frame). AreNotedAlike fs (phase ∷ v.below)) (sym no_frames) tt;

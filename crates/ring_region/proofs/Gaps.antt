@@ -36,10 +36,10 @@ missing_above taken (first ∷ parcels) zero parcel n at low high =
     inl (omega (arith, misses, firsts, low, high))
 missing_above taken (first ∷ parcels) (suc k) parcel n at low high = ⊎_elim
     (λ above.
-        inr (record { index = 0; parcel = record first { missed = first.first - taken }; at = refl; low = above }))
+    inr (record { index = 0; parcel = record first { missed = first.first - taken }; at = refl; low = above }))
     (λ below.
-        inr (below_more (record first { missed = first.first - taken }) (recovered_from (end_of first) parcels) n
-             below))
+    inr (below_more (record first { missed = first.first - taken }) (recovered_from (end_of first) parcels) n
+    below))
     (missing_above (end_of first) parcels k parcel n at low high)
 
 -- what a parcel misses says that no slot is damaged
@@ -66,7 +66,7 @@ known_more : (first : Parcel) (parcels : List Parcel) (cpu n : ℕ) → IsKnown 
 known_more first parcels cpu n known = ⊎_elim
     (λ (r, has). inl (r, record { index = suc has.index; parcel = has.parcel; at = has.at; pair = has.pair }))
     (λ misses.
-        inr (record { index = suc misses.index; parcel = misses.parcel; at = misses.at; missing = misses.missing }))
+    inr (record { index = suc misses.index; parcel = misses.parcel; at = misses.at; missing = misses.missing }))
     known
 
 -- the record of a number that a parcel has
@@ -95,10 +95,12 @@ own parcels parcel cpu n of_cpu low high = at_index (n - parcel.first) (omega ar
 missing : (parcels : List Parcel) (parcel : Parcel) (cpu n : ℕ) → parcel.cpu ≡ cpu → parcel.first ≤ n + parcel.missed
     → n < parcel.first → IsKnown (parcel ∷ parcels) cpu n
 missing parcels parcel cpu n of_cpu low high =
-    inr (record { index = 0;
-                 parcel = parcel;
-                 at = refl;
-                 missing = record { cpu_is = sym of_cpu; low = low; high = high } })
+    inr (record {
+      index = 0;
+      parcel = parcel;
+      at = refl;
+      missing = record { cpu_is = sym of_cpu; low = low; high = high };
+    })
 
 pub all_known : (cpu taken : ℕ) (parcels : List Parcel) → ArePlain cpu parcels → (n : ℕ) → taken ≤ n
     → n < last_end (recovered_from taken parcels)
@@ -106,7 +108,7 @@ pub all_known : (cpu taken : ℕ) (parcels : List Parcel) → ArePlain cpu parce
 all_known cpu taken [] plain n above under = absurd (omega arith)
 all_known cpu taken (parcel ∷ []) plain n above under = ⊎_elim
     (λ low.
-        missing [] (record parcel { missed = parcel.first - taken }) cpu n (plain 0 parcel refl).0 (omega arith) low)
+    missing [] (record parcel { missed = parcel.first - taken }) cpu n (plain 0 parcel refl).0 (omega arith) low)
     (λ there. own [] (record parcel { missed = parcel.first - taken }) cpu n (plain 0 parcel refl).0 there under)
     (cases_lt n parcel.first)
 all_known cpu taken (parcel ∷ other ∷ parcels) plain n above under =
@@ -117,7 +119,7 @@ all_known cpu taken (parcel ∷ other ∷ parcels) plain n above under =
     (λ there. ⊎_elim
     (λ within. own rest here cpu n (plain 0 parcel refl).0 there within)
     (λ behind.
-        known_more here rest cpu n
-            (all_known cpu (end_of parcel) (other ∷ parcels) (λ k p at. plain (suc k) p at) n behind under))
+    known_more here rest cpu n
+    (all_known cpu (end_of parcel) (other ∷ parcels) (λ k p at. plain (suc k) p at) n behind under))
     (cases_lt n (end_of parcel)))
     (cases_lt n parcel.first)

@@ -29,7 +29,7 @@ unpassed-numbers : (header : Header) (bytes : List ℕ) (parcel : Parcel) → Is
     → (parcel.cpu ≡ header.cpu.0) × (parcel.missed ≡ 0)
 unpassed-numbers header bytes parcel is = page-numbers header.cpu.0 bytes parcel
     (subst (λ (s : Slot). IsSlotOf header.cpu.0 bytes s) (unpassed-intact header.taken.0 is.read parcel is.slot_is)
-     is.read_is)
+    is.read_is)
 
 module _ (bytes : List ℕ) (held : Recovered) (is : IsHeld bytes held) where
   pub plain : ArePlain held.header.cpu.0 (kept_behind None is.found)
@@ -37,9 +37,8 @@ module _ (bytes : List ℕ) (held : Recovered) (is : IsHeld bytes held) where
       let was = kept_was_found None is.found k parcel at in
       let found = is.by_fill.of_them was.0 was.1 was.2 in
       let numbers =
-          unpassed-numbers held.header (slot_in held.header.size bytes was.1.slot) was.1.parcel
-              (is.slots_are was.1.slot _ found) in
-      (
+      unpassed-numbers held.header (slot_in held.header.size bytes was.1.slot) was.1.parcel
+      (is.slots_are was.1.slot _ found) in (
         ap (λ (p : Parcel). p.cpu) (sym was.3) ∙ numbers.0,
         ap (λ (p : Parcel). p.missed) (sym was.3) ∙ numbers.1,
       )
@@ -47,8 +46,8 @@ module _ (bytes : List ℕ) (held : Recovered) (is : IsHeld bytes held) where
   apart : AreApart 0 held.parcels
   apart =
       subst (AreApart 0) (sym is.parcels_are)
-          (all-apart held.header.cpu.0 held.header.taken.0 held.damaged (kept_behind None is.found) plain
-           (kept-rising None is.found))
+      (all-apart held.header.cpu.0 held.header.taken.0 held.damaged (kept_behind None is.found) plain
+      (kept-rising None is.found))
 
   pub held_agree : Agree held.parcels
   held_agree = apart_agree 0 held.parcels apart

@@ -29,9 +29,8 @@ pub page-numbers : (cpu : ℕ) (bytes : List ℕ) (parcel : Parcel) → IsSlotOf
     → (parcel.cpu ≡ cpu) × (parcel.missed ≡ 0)
 page-numbers cpu bytes parcel is =
     let are =
-        HasNumbers-are (committed_in bytes) parcel.cpu parcel.fill parcel.first parcel.missed is.1.image.image
-            is.1.image.numbers in
-    (
+    HasNumbers-are (committed_in bytes) parcel.cpu parcel.fill parcel.first parcel.missed is.1.image.image
+    is.1.image.numbers in (
       are.cpu_is ∙ number-take bytes (48 + commit_in bytes) 0 (omega arith) ∙ is.0.unmissed.of_cpu.cpu_is,
       are.missed_is ∙ number-take bytes (48 + commit_in bytes) 24 (omega arith) ∙ is.0.unmissed.none_missed,
     )
@@ -82,9 +81,10 @@ same_slot cpu bytes other (faulty (Word (Cut at))) alike (is, bad) =
     (alike_committed cpu bytes other alike is, alike_fault bytes other (bad_image (bad_word cut at)) alike bad)
 same_slot cpu bytes other (faulty (Word (BadLength at))) alike (is, bad) =
     (alike_committed cpu bytes other alike is, alike_fault bytes other (bad_image (bad_word bad_length at)) alike bad)
-same_slot cpu bytes other (faulty (Word (TimeOverflow at))) alike (is, bad) =
-    (alike_committed cpu bytes other alike is,
-     alike_fault bytes other (bad_image (bad_word time_overflow at)) alike bad)
+same_slot cpu bytes other (faulty (Word (TimeOverflow at))) alike (is, bad) = (
+  alike_committed cpu bytes other alike is,
+  alike_fault bytes other (bad_image (bad_word time_overflow at)) alike bad,
+)
 same_slot cpu bytes other (faulty NumberOverflow) alike (is, bad) =
     (alike_committed cpu bytes other alike is, alike_fault bytes other number_overflow alike bad)
 same_slot cpu bytes other (faulty SameFill) alike is = is
@@ -96,9 +96,9 @@ pub alike-behind : (bytes other : List ℕ) → length other ≡ length bytes
 alike-behind bytes other long same =
     let n : ℕ = 48 + commit_in bytes in
     let number =
-        λ (at : ℕ) (low : at + 8 ≤ n).
-               sym (number-take bytes n at low) ∙ ap (λ (b : List ℕ). number_in b at) (sym same)
-                   ∙ number-take other n at low in
+    λ (at : ℕ) (low : at + 8 ≤ n).
+    sym (number-take bytes n at low) ∙ ap (λ (b : List ℕ). number_in b at) (sym same)
+    ∙ number-take other n at low in
     let commits = number 40 (omega arith) in
     record {
       cpus = number 0 (omega arith);

@@ -38,26 +38,26 @@ one_unpassed : (header : Header) (bytes : List ℕ) (slot other : Slot) → IsUn
     → IsUnpassedSlotOf header bytes other → slot ≡ other
 one_unpassed header bytes slot other is also =
     is.slot_is ∙ ap (unpassed header.taken.0) (one_slot header.cpu.0 bytes is.read also.read is.read_is also.read_is)
-        ∙ sym also.slot_is
+    ∙ sym also.slot_is
 
 pub one_held : (bytes : List ℕ) (held other : Recovered) → held.header ≡ other.header → IsHeld bytes held
     → IsHeld bytes other → held ≡ other
 one_held bytes held other header is also =
     let long : length is.slots ≡ length also.slots =
-        is.count_is ∙ ap (λ (h : Header). h.pages + 1) header ∙ sym also.count_is in
+    is.count_is ∙ ap (λ (h : Header). h.pages + 1) header ∙ sym also.count_is in
     let there : AreSlots held.header bytes also.slots =
-        subst (λ (h : Header). AreSlots h bytes also.slots) (sym header) also.slots_are in
+    subst (λ (h : Header). AreSlots h bytes also.slots) (sym header) also.slots_are in
     let slots : is.slots ≡ also.slots = same_lists is.slots also.slots long
     (λ k x y at here.
-        one_unpassed held.header (slot_in held.header.size bytes k) x y (is.slots_are k x at) (there k y here)) in
+    one_unpassed held.header (slot_in held.header.size bytes k) x y (is.slots_are k x at) (there k y here)) in
     let found : is.found ≡ also.found =
-        one_by_fill also.slots is.found also.found (subst (λ (ss : List Slot). AreByFill ss is.found) slots is.by_fill)
-            also.by_fill in
+    one_by_fill also.slots is.found also.found (subst (λ (ss : List Slot). AreByFill ss is.found) slots is.by_fill)
+    also.by_fill in
     let damaged : held.damaged ≡ other.damaged =
-        is.damaged_are ∙ (λ i. damaged_in (header i).size (slots i) (found i)) ∙ sym also.damaged_are in
+    is.damaged_are ∙ (λ i. damaged_in (header i).size (slots i) (found i)) ∙ sym also.damaged_are in
     let parcels : held.parcels ≡ other.parcels =
-        is.parcels_are ∙ (λ i. recovered (header i).taken.0 (damaged i) (kept_behind None (found i)))
-            ∙ sym also.parcels_are in
+    is.parcels_are ∙ (λ i. recovered (header i).taken.0 (damaged i) (kept_behind None (found i)))
+    ∙ sym also.parcels_are in
     (λ i. record { header = header i; parcels = parcels i; damaged = damaged i })
 
 pub one_region : (bytes : List ℕ) (held other : Recovered) → IsRegion bytes held → IsRegion bytes other → held ≡ other
@@ -75,16 +75,16 @@ some_slots header bytes small known limit (suc count) =
     let before = some_slots header bytes small known limit count in
     let piece : List ℕ = slot_in header.size bytes count in
     let slot =
-        some_slot header.cpu.0 piece known
-            (AreBytes-take (48 + header.size) (drop (slot_at header.size count) bytes)
-             (AreBytes-drop (slot_at header.size count) bytes small))
+    some_slot header.cpu.0 piece known
+    (AreBytes-take (48 + header.size) (drop (slot_at header.size count) bytes)
+    (AreBytes-drop (slot_at header.size count) bytes small))
     (omega (arith, limit, length-take (48 + header.size) (drop (slot_at header.size count) bytes))) in (
       before.0 ++ unpassed header.taken.0 slot.0 ∷ [],
       omega (arith, before.1, length-append before.0 (unpassed header.taken.0 slot.0 ∷ [])),
       λ number other at. ⊎_elim
           (λ was. before.2 number other was)
           (λ (last, same).
-              subst (λ (k : ℕ). IsUnpassedSlotOf header (slot_in header.size bytes k) other) (sym (last ∙ before.1))
+          subst (λ (k : ℕ). IsUnpassedSlotOf header (slot_in header.size bytes k) other) (sym (last ∙ before.1))
           (record { read = slot.0; read_is = slot.1; slot_is = sym same }))
           (get_pushed before.0 (unpassed header.taken.0 slot.0) number other at),
     )
@@ -97,9 +97,11 @@ some_region bytes small whole =
     let slots = some_slots header bytes small known limit (header.pages + 1) in
     let found = some_by_fill slots.0 in
     let damaged : List Damaged = damaged_in header.size slots.0 found.0 in (
-      record { header = header;
-              parcels = recovered header.taken.0 damaged (kept_behind None found.0);
-              damaged = damaged },
+      record {
+        header = header;
+        parcels = recovered header.taken.0 damaged (kept_behind None found.0);
+        damaged = damaged;
+      },
       record {
         whole = whole;
         header_is = refl;

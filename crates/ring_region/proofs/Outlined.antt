@@ -120,7 +120,7 @@ pub told_slot : (cpu : ℕ) (bytes : List ℕ) (fault : ImageFault) (result : Re
     → IsUnmissed cpu bytes → IsImageFault (drop 32 bytes) fault → IsTold fault result → IfOk result (SlotRead cpu bytes)
 told_slot cpu bytes (ImageWord fault) result known small limit commit is bad told =
     subst (λ (r : Result Reading NoMemory). IfOk r (SlotRead cpu bytes)) (sym told)
-        (word_slot cpu bytes fault known small limit commit is bad)
+    (word_slot cpu bytes fault known small limit commit is bad)
 told_slot cpu bytes TooShort result known small limit commit is bad told = told_error (SlotRead cpu bytes) result told
 told_slot cpu bytes BadSize result known small limit commit is bad told = told_error (SlotRead cpu bytes) result told
 told_slot cpu bytes BadCount result known small limit commit is bad told = told_error (SlotRead cpu bytes) result told
@@ -132,7 +132,7 @@ pub told_within : (bytes : List ℕ) (fault : ImageFault) (result : Result Readi
 told_within bytes (ImageWord fault) result long bad told =
     let within = word_within (drop 32 bytes) fault bad in
     subst (λ (r : Result Reading NoMemory). IfOk r (IsWithin bytes)) (sym told)
-        (refl, omega (arith, within, length-drop 32 bytes))
+    (refl, omega (arith, within, length-drop 32 bytes))
 told_within bytes TooShort result long bad told = told_error (IsWithin bytes) result told
 told_within bytes BadSize result long bad told = told_error (IsWithin bytes) result told
 told_within bytes BadCount result long bad told = told_error (IsWithin bytes) result told
@@ -152,8 +152,8 @@ module _ (cpu : ℕ) (bytes : List ℕ) (outline : Outline) (known : cpu < MAX_C
       let long = is_cut.long in
       subst (λ (n : ℕ). HasNumbers bytes n (number_in bytes 8) (number_in bytes 16) 0 (drop 32 bytes)) is_cut.cpu_is
       (subst
-       (λ (n : ℕ). HasNumbers bytes (number_in bytes 0) (number_in bytes 8) (number_in bytes 16) n (drop 32 bytes))
-       is_cut.none_missed
+      (λ (n : ℕ). HasNumbers bytes (number_in bytes 0) (number_in bytes 8) (number_in bytes 16) n (drop 32 bytes))
+      is_cut.none_missed
       (HasNumbers-of bytes small (omega arith)))
 
   has_image : HasImage bytes (unmissed cpu (page_of bytes outline)) (missed_of outline.missed)
@@ -169,7 +169,7 @@ module _ (cpu : ℕ) (bytes : List ℕ) (outline : Outline) (known : cpu < MAX_C
   none_missing : AgreesWith (missed_of outline.missed) 0
   none_missing = subst (λ (m : Missed). AgreesWith m 0)
       (sym (none_stated cpu bytes is_cut outline.time outline.size (missed_of outline.missed)
-            (unmissed cpu (page_of bytes outline)).records is.reads)) refl
+      (unmissed cpu (page_of bytes outline)).records is.reads)) refl
 
   pub page_reads : number_in bytes 16 + outline.count < 2 ^ 64
       → DecodesParcel bytes (unmissed cpu (page_of bytes outline))
@@ -205,10 +205,10 @@ sum_fits (Some sum) empty a b some refused is = is.0
 pub page_made : (bytes image : List ℕ) (outline : Outline) (read numbered new : Contents) (first fill : ℕ)
     → image ≡ drop 32 bytes → read ≡ page_in image outline.time outline.size
     → numbered ≡ record read { first = first; fill = fill } → new ≡ numbered → first ≡ number_in bytes 16
-        → fill ≡ number_in bytes 8 → page_of bytes outline ≡ new
+    → fill ≡ number_in bytes 8 → page_of bytes outline ≡ new
 page_made bytes image outline read numbered new first fill image_is read_is numbered_is new_is first_is fill_is =
     sym (new_is ∙ numbered_is ∙ (λ i. record (read_is i) { first = first_is i; fill = fill_is i })
     ∙ ap
-        (λ (b : List ℕ).
-            record (page_in b outline.time outline.size) { first = number_in bytes 16; fill = number_in bytes 8 })
-        image_is)
+    (λ (b : List ℕ).
+    record (page_in b outline.time outline.size) { first = number_in bytes 16; fill = number_in bytes 8 })
+    image_is)

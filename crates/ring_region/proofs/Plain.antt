@@ -53,7 +53,7 @@ module _ (cpu : ℕ) (bytes : List ℕ) (is : IsCutPiece cpu bytes) where
       let limit = is.limit in
       let small : number_in bytes 40 % 2 ^ 30 ≡ number_in bytes 40 = omega arith in
       ap (λ (c : Commit). c.size) (HasHeader-is (drop 32 bytes) time commit rest h).commit_is
-          ∙ ap (λ (n : ℕ). n % 2 ^ 30) image_number ∙ small
+      ∙ ap (λ (n : ℕ). n % 2 ^ 30) image_number ∙ small
 
   plain_flag : (time : ℕ) (commit : Commit) (rest : List ℕ) → HasHeader (drop 32 bytes) time commit rest
       → commit.is_missed ≡ false
@@ -72,7 +72,7 @@ module _ (cpu : ℕ) (bytes : List ℕ) (is : IsCutPiece cpu bytes) where
       let long = (HasHeader-is (drop 32 bytes) bad.time bad.commit bad.rest bad.header).long in
       let limit = is.limit in
       ⊎_elim (λ short. omega (arith, size, long, image_len, short)) (λ past. omega (arith, limit, image_len, past))
-          bad.wrong
+      bad.wrong
 
   no_bad_count : HasBadCount (drop 32 bytes) → ⊥
   no_bad_count bad =
@@ -112,22 +112,22 @@ module _ (cpu : ℕ) (bytes : List ℕ) (is : IsCutPiece cpu bytes) where
   no_too_many : FirstParcelFault bytes missed_too_many → ⊥
   no_too_many bad =
       let zero_missed =
-          missed_is bad.parcel.cpu bad.parcel.fill bad.parcel.first bad.parcel.missed bad.image.image
-              bad.image.numbers in
+      missed_is bad.parcel.cpu bad.parcel.fill bad.parcel.first bad.parcel.missed bad.image.image
+      bad.image.numbers in
       omega (arith, bad.past, zero_missed)
 
   stated_none : (parcel : Parcel) (reported : Missed) → HasImage bytes parcel reported → reported ≡ none
   stated_none parcel reported h = none_stated h.time h.size reported parcel.records
       (subst (λ (b : List ℕ). DecodesImage b h.time h.size reported parcel.records)
-       (image_is parcel.cpu parcel.fill parcel.first parcel.missed h.image h.numbers) h.reads)
+      (image_is parcel.cpu parcel.fill parcel.first parcel.missed h.image h.numbers) h.reads)
 
   no_other_missed : FirstParcelFault bytes missed_differs → ⊥
   no_other_missed bad =
       let zero_missed =
-          missed_is bad.parcel.cpu bad.parcel.fill bad.parcel.first bad.parcel.missed bad.image.image
-              bad.image.numbers in
+      missed_is bad.parcel.cpu bad.parcel.fill bad.parcel.first bad.parcel.missed bad.image.image
+      bad.image.numbers in
       bad.differs (subst (λ (m : Missed). AgreesWith m bad.parcel.missed)
-                   (sym (stated_none bad.parcel bad.reported bad.image)) zero_missed)
+      (sym (stated_none bad.parcel bad.reported bad.image)) zero_missed)
 
 -- ---- the faults that there are
 

@@ -33,9 +33,9 @@ follows_above (Some last) parcel is =
 kept_each : (last : Option Span) (page : Found) (found : List Found) (follows : Bool)
     → may_follow last page.parcel ≡ follows
     → AreRising (end_of page.parcel) (kept_behind (Some (span_of page.parcel)) found)
-        → AreRising (low_of last) (kept_behind last found)
+    → AreRising (low_of last) (kept_behind last found)
     → AreRising (low_of last)
-        (if follows then page.parcel ∷ kept_behind (Some (span_of page.parcel)) found else kept_behind last found)
+    (if follows then page.parcel ∷ kept_behind (Some (span_of page.parcel)) found else kept_behind last found)
 kept_each last page found true is behind without = (follows_above last page.parcel is, behind)
 kept_each last page found false is behind without = without
 
@@ -43,7 +43,7 @@ pub kept-rising : (last : Option Span) (found : List Found) → AreRising (low_o
 kept-rising last [] = tt
 kept-rising last (page ∷ found) =
     kept_each last page found (may_follow last page.parcel) refl (kept-rising (Some (span_of page.parcel)) found)
-        (kept-rising last found)
+    (kept-rising last found)
 
 -- before each parcel is room for the numbers that it misses, above the end of the one before it
 abbrev pub AreApart : (low : ℕ) → List Parcel → Type 0
@@ -80,7 +80,7 @@ recovered-cpu : (cpu taken : ℕ) (parcels : List Parcel) → ArePlain cpu parce
 recovered-cpu cpu taken [] plain k parcel at = absurd (none-some parcel at)
 recovered-cpu cpu taken (first ∷ parcels) plain zero parcel at =
     subst (λ (p : Parcel). p.cpu ≡ cpu) (some_is (record first { missed = first.first - taken }) parcel at)
-        (plain 0 first refl).0
+    (plain 0 first refl).0
 recovered-cpu cpu taken (first ∷ parcels) plain (suc k) parcel at =
     recovered-cpu cpu (end_of first) parcels (λ j p there. plain (suc j) p there) k parcel at
 
@@ -108,11 +108,11 @@ kept_was_found last (page ∷ found) k parcel at =
   where
     each : (follows : Bool) (k : ℕ)
         → ((j : ℕ) → slice_get (kept_behind (Some (span_of page.parcel)) found) j ≡ Some parcel
-           → WasFound (page ∷ found) parcel)
+        → WasFound (page ∷ found) parcel)
         → ((j : ℕ) → slice_get (kept_behind last found) j ≡ Some parcel → WasFound (page ∷ found) parcel)
         → slice_get
-                (if follows then page.parcel
-                 ∷ kept_behind (Some (span_of page.parcel)) found else kept_behind last found) k ≡ Some parcel
+        (if follows then page.parcel
+        ∷ kept_behind (Some (span_of page.parcel)) found else kept_behind last found) k ≡ Some parcel
         → WasFound (page ∷ found) parcel
     each true zero behind without there = (0, page, refl, some_is page.parcel parcel there)
     each true (suc j) behind without there = behind j there

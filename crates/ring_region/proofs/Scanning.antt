@@ -25,30 +25,30 @@ use Rattle.ring_region.proofs.Keeping.{put_seen}
 -- the damaged ones of slots, and of more behind them
 damaged_from-append : (size number : ℕ) (slots more : List Slot)
     → damaged_from size number (slots ++ more)
-        ≡ damaged_from size number slots ++ damaged_from size (number + length slots) more
+    ≡ damaged_from size number slots ++ damaged_from size (number + length slots) more
 damaged_from-append size number [] more =
     ap (λ (n : ℕ). damaged_from size n more) (let e : number ≡ number + 0 = omega arith in e)
 damaged_from-append size number (blank ∷ slots) more =
     damaged_from-append size (suc number) slots more
     ∙ ap (λ (n : ℕ). damaged_from size (suc number) slots ++ damaged_from size n more)
-        (let e : suc number + length slots ≡ number + suc (length slots) = omega arith in e)
+    (let e : suc number + length slots ≡ number + suc (length slots) = omega arith in e)
 damaged_from-append size number (intact parcel ∷ slots) more =
     damaged_from-append size (suc number) slots more
     ∙ ap (λ (n : ℕ). damaged_from size (suc number) slots ++ damaged_from size n more)
-        (let e : suc number + length slots ≡ number + suc (length slots) = omega arith in e)
+    (let e : suc number + length slots ≡ number + suc (length slots) = omega arith in e)
 damaged_from-append size number (faulty cause ∷ slots) more =
     ap (λ (ds : List Damaged). damage_of size number cause ∷ ds)
     (damaged_from-append size (suc number) slots more
     ∙ ap (λ (n : ℕ). damaged_from size (suc number) slots ++ damaged_from size n more)
-        (let e : suc number + length slots ≡ number + suc (length slots) = omega arith in e))
+    (let e : suc number + length slots ≡ number + suc (length slots) = omega arith in e))
 
 damaged_pushed : (size : ℕ) (slots : List Slot) (slot : Slot)
     → damaged_from size 0 (slots ++ slot ∷ [])
-        ≡ damaged_from size 0 slots ++ damaged_from size (length slots) (slot ∷ [])
+    ≡ damaged_from size 0 slots ++ damaged_from size (length slots) (slot ∷ [])
 damaged_pushed size slots slot =
     damaged_from-append size 0 slots (slot ∷ [])
-        ∙ ap (λ (n : ℕ). damaged_from size 0 slots ++ damaged_from size n (slot ∷ []))
-            (let e : 0 + length slots ≡ length slots = omega arith in e)
+    ∙ ap (λ (n : ℕ). damaged_from size 0 slots ++ damaged_from size n (slot ∷ []))
+    (let e : 0 + length slots ≡ length slots = omega arith in e)
 
 -- ---- pages that were passed
 
@@ -66,9 +66,11 @@ pub scan_blank : (header : Header) (bytes : List ℕ) (slots : List Slot) (scan 
 scan_blank header bytes slots scan read read_is is was = record {
   slot = blank;
   slot_is =
-      record { read = blank;
-              read_is = subst (λ (r : Reading). IsSlotOf header.cpu.0 bytes (reading_seen header.cpu.0 r)) read_is is;
-              slot_is = refl };
+      record {
+        read = blank;
+        read_is = subst (λ (r : Reading). IsSlotOf header.cpu.0 bytes (reading_seen header.cpu.0 r)) read_is is;
+        slot_is = refl;
+      };
   scanned = record {
     by_fill = by_fill_else slots (map (found_seen header.cpu.0) scan.pages.items) blank (λ parcel e. cc) was.by_fill;
     damaged_are =
@@ -78,9 +80,9 @@ scan_blank header bytes slots scan read read_is is was = record {
 
 -- a page that was passed
 pub scan_passed : (header : Header) (bytes : List ℕ) (slots : List Slot) (scan : Scan) (read : Reading)
-        (page : Contents) → read ≡ PageRead page
+    (page : Contents) → read ≡ PageRead page
     → IsSlotOf header.cpu.0 bytes (reading_seen header.cpu.0 read) → IsScanned header slots scan
-        → end_of (unmissed header.cpu.0 page) < header.taken.0 → AddsSlot header bytes slots scan
+    → end_of (unmissed header.cpu.0 page) < header.taken.0 → AddsSlot header bytes slots scan
 scan_passed header bytes slots scan read page read_is is was low = record {
   slot = blank;
   slot_is = record {
@@ -98,47 +100,50 @@ scan_passed header bytes slots scan read page read_is is was low = record {
 pub scan_page : (header : Header) (bytes : List ℕ) (slots : List Slot) (scan new : Scan) (read : Reading)
     (page : Contents) (number : ℕ) (found : FoundAnswer)
     → read ≡ PageRead page → IsSlotOf header.cpu.0 bytes (reading_seen header.cpu.0 read) → IsScanned header slots scan
-        → length slots ≡ number
+    → length slots ≡ number
     → found.slot ≡ number → found.page ≡ page → PutsByFill found scan.pages.items new.pages.items
-        → new.damaged.items ≡ scan.damaged.items
+    → new.damaged.items ≡ scan.damaged.items
     → header.taken.0 ≤ end_of (unmissed header.cpu.0 found.page) → AddsSlot header bytes slots new
 scan_page header bytes slots scan new read page number found read_is is was count slot_is page_is puts same high =
     record {
-  slot = intact (unmissed header.cpu.0 found.page);
-  slot_is = record {
-    read = intact (unmissed header.cpu.0 found.page);
-    read_is =
-        subst (λ (r : Reading). IsSlotOf header.cpu.0 bytes (reading_seen header.cpu.0 r))
+      slot = intact (unmissed header.cpu.0 found.page);
+      slot_is = record {
+        read = intact (unmissed header.cpu.0 found.page);
+        read_is =
+            subst (λ (r : Reading). IsSlotOf header.cpu.0 bytes (reading_seen header.cpu.0 r))
             (read_is ∙ ap PageRead (sym page_is)) is;
-    slot_is = sym (kept_in (unmissed header.cpu.0 found.page) header.taken.0 high);
-  };
-  scanned = record {
-    by_fill = put_seen header.cpu.0 slots found scan.pages.items new.pages.items (slot_is ∙ sym count) puts was.by_fill;
-    damaged_are = same ∙ was.damaged_are
-        ∙ sym
+        slot_is = sym (kept_in (unmissed header.cpu.0 found.page) header.taken.0 high);
+      };
+      scanned = record {
+        by_fill =
+            put_seen header.cpu.0 slots found scan.pages.items new.pages.items (slot_is ∙ sym count) puts was.by_fill;
+        damaged_are = same ∙ was.damaged_are
+            ∙ sym
             (damaged_pushed header.size slots (intact (unmissed header.cpu.0 found.page))
-             ∙ append-nil (damaged_from header.size 0 slots));
-  };
-}
+            ∙ append-nil (damaged_from header.size 0 slots));
+      };
+    }
 
 pub scan_damaged : (header : Header) (bytes : List ℕ) (slots : List Slot) (scan new : Scan) (read : Reading)
     (fault : SlotFault) (number : ℕ) (damage : Damaged)
     → read ≡ DamagedRead fault → IsSlotOf header.cpu.0 bytes (reading_seen header.cpu.0 read)
-        → IsScanned header slots scan → length slots ≡ number
+    → IsScanned header slots scan → length slots ≡ number
     → damage ≡ damage_of header.size number fault.cause → new.damaged.items ≡ scan.damaged.items ++ damage ∷ []
-        → new.pages.items ≡ scan.pages.items → AddsSlot header bytes slots new
+    → new.pages.items ≡ scan.pages.items → AddsSlot header bytes slots new
 scan_damaged header bytes slots scan new read fault number damage read_is is was count damage_is more same = record {
   slot = faulty fault.cause;
   slot_is =
-      record { read = faulty fault.cause;
-              read_is = subst (λ (r : Reading). IsSlotOf header.cpu.0 bytes (reading_seen header.cpu.0 r)) read_is is;
-              slot_is = refl };
+      record {
+        read = faulty fault.cause;
+        read_is = subst (λ (r : Reading). IsSlotOf header.cpu.0 bytes (reading_seen header.cpu.0 r)) read_is is;
+        slot_is = refl;
+      };
   scanned = record {
     by_fill = by_fill_else slots (map (found_seen header.cpu.0) new.pages.items) (faulty fault.cause) (λ parcel e. cc)
         (subst (λ (fs : List FoundAnswer). AreByFill slots (map (found_seen header.cpu.0) fs)) (sym same) was.by_fill);
     damaged_are = more
         ∙ (λ i.
-              was.damaged_are i ++ (damage_is ∙ ap (λ (n : ℕ). damage_of header.size n fault.cause) (sym count)) i ∷ [])
+        was.damaged_are i ++ (damage_is ∙ ap (λ (n : ℕ). damage_of header.size n fault.cause) (sym count)) i ∷ [])
         ∙ sym (damaged_pushed header.size slots (faulty fault.cause));
   };
 }
@@ -177,7 +182,7 @@ scanned_more header bytes piece count scan new piece_is was adds = record {
   slots_are = λ number slot at. ⊎_elim
       (λ there. was.slots_are number slot there)
       (λ (last, same).
-          subst (λ (k : ℕ). IsUnpassedSlotOf header (slot_in header.size bytes k) slot) (sym (last ∙ was.count_is))
+      subst (λ (k : ℕ). IsUnpassedSlotOf header (slot_in header.size bytes k) slot) (sym (last ∙ was.count_is))
       (subst (λ (s : Slot). IsUnpassedSlotOf header (slot_in header.size bytes count) s) same
       (subst (λ (b : List ℕ). IsUnpassedSlotOf header b adds.slot) piece_is adds.slot_is)))
       (get_pushed was.slots adds.slot number slot at);

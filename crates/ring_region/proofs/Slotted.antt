@@ -25,8 +25,8 @@ pub either : (m n : ℕ) → (m ≡ n) ⊎ (m ≢ n)
 either m n = ⊎_elim
     (λ below. inr (λ same. absurd (omega (arith, below, same))))
     (λ least.
-        ⊎_elim (λ above. inr (λ same. absurd (omega (arith, above, same)))) (λ most. inl (omega (arith, least, most)))
-            (cases_lt n m))
+    ⊎_elim (λ above. inr (λ same. absurd (omega (arith, above, same)))) (λ most. inl (omega (arith, least, most)))
+    (cases_lt n m))
     (cases_lt m n)
 
 abbrev IsSomeSlot : (cpu : ℕ) → List ℕ → Type 0
@@ -137,8 +137,8 @@ one_told cpu bytes slot other (told_page parcel before reads is) (told_other som
 one_told cpu bytes slot other (told_page parcel before reads is) (told_missed after misses too) =
     absurd (misses before.unmissed.none_missed)
 one_told cpu bytes slot other (told_page parcel before reads is) (told_long after past too) =
-        let there =
-        before.there in
+    let there =
+    before.there in
     absurd (omega (arith, there, past))
 one_told cpu bytes slot other (told_page parcel before reads is) (told_page page after also too) =
     is ∙ ap intact (DecodesParcel-unique (committed_in bytes) parcel page reads also) ∙ sym too
@@ -156,8 +156,8 @@ one_told cpu bytes slot other (told_fault cause before bad is) (told_page parcel
     absurd (DecodesParcel-FirstParcelFault (committed_in bytes) parcel cause reads bad)
 one_told cpu bytes slot other (told_fault cause before bad is) (told_fault reason after also too) =
     is
-        ∙ ap (λ (c : ParcelCause). faulty (slot_cause c))
-            (FirstParcelFault-unique (committed_in bytes) cause reason bad also) ∙ sym too
+    ∙ ap (λ (c : ParcelCause). faulty (slot_cause c))
+    (FirstParcelFault-unique (committed_in bytes) cause reason bad also) ∙ sym too
 
 pub one_slot : (cpu : ℕ) (bytes : List ℕ) (slot other : Slot) → IsSlotOf cpu bytes slot → IsSlotOf cpu bytes other
     → slot ≡ other

@@ -51,7 +51,7 @@ module _ (records : List Record) (cpu taken : ℕ) (before : List Parcel) (held 
     (was : AreTaken records cpu taken before) (left : AreLeft records before held) (agree : Agree held.parcels)
     (of_cpu : (k : ℕ) (parcel : Parcel) → slice_get held.parcels k ≡ Some parcel → parcel.cpu ≡ cpu)
     (gaps : (k : ℕ) (parcel : Parcel) (n : ℕ) → slice_get held.parcels k ≡ Some parcel
-     → parcel.first ≤ n + parcel.missed → n < parcel.first → IsGap taken held.damaged held.parcels n) where
+    → parcel.first ≤ n + parcel.missed → n < parcel.first → IsGap taken held.damaged held.parcels n) where
   listed_before : (n : ℕ) (r : Record) → Has before cpu n r → slice_get records n ≡ Some r
   listed_before n r has =
       of_list records has.parcel cpu n r (was.parts has.index has.parcel has.at (sym has.pair.cpu_is)) has.pair

@@ -70,12 +70,14 @@ module _ (cpu : ℕ) (page : Contents) (known : cpu < MAX_CPUS) (is : IsPage pag
   decodes = record {
     reported = none;
     image =
-        record { image = image_of_page page;
-                numbers = numbers;
-                cpu_known = known;
-                time = page.time;
-                size = length page.bytes;
-                reads = decodes_image };
+        record {
+          image = image_of_page page;
+          numbers = numbers;
+          cpu_known = known;
+          time = page.time;
+          size = length page.bytes;
+          reads = decodes_image;
+        };
     sound = record { cpu_known = known; numbers_fit = numbers_fit; missed_fit = omega arith };
     agrees = refl;
   }
@@ -83,9 +85,9 @@ module _ (cpu : ℕ) (page : Contents) (known : cpu < MAX_CPUS) (is : IsPage pag
   commit_number : number_in (slot_of_page cpu page) 40 ≡ length page.bytes
   commit_number =
       let image : drop 32 (slot_of_page cpu page) ≡ image_of_page page =
-          sym
-              (HasNumbers-are (slot_of_page cpu page) cpu page.fill page.first 0
-                  (image_of_page page) numbers).image_is in
+      sym
+      (HasNumbers-are (slot_of_page cpu page) cpu page.fill page.first 0
+      (image_of_page page) numbers).image_is in
       ap from_le64 (sym (drop-drop 8 32 (slot_of_page cpu page)))
       ∙ ap (λ (b : List ℕ). from_le64 (drop 8 b)) image
       ∙ ap from_le64 (drop-le64 page.time (le64 (length page.bytes) ++ page.bytes))
@@ -97,7 +99,7 @@ module _ (cpu : ℕ) (page : Contents) (known : cpu < MAX_CPUS) (is : IsPage pag
       let n : ℕ = 48 + length page.bytes in
       let are = HasNumbers-are (slot_of_page cpu page) cpu page.fill page.first 0 (image_of_page page) numbers in
       let number =
-          λ (at : ℕ) (low : at + 8 ≤ n). sym (number-take slot n at low) ∙ ap (λ (b : List ℕ). number_in b at) same in
+      λ (at : ℕ) (low : at + 8 ≤ n). sym (number-take slot n at low) ∙ ap (λ (b : List ℕ). number_in b at) same in
       let commit : commit_in slot ≡ length page.bytes = number 40 (omega arith) ∙ commit_number in
       let committed : committed_in slot ≡ slot_of_page cpu page = ap (λ (k : ℕ). take (48 + k) slot) commit ∙ same in (
         record {

@@ -70,7 +70,7 @@ open_stay : (n size : ℕ) (c : Core) (event : model.Event) (answer : model.Answ
     → model.Step n size c event answer after → after.open_pages ≡ c.open_pages
 open_stay n size c event answer after own step =
     ap (λ (d : Core). d.open_pages)
-        (changes_privately c after (private_result n size c event answer after own (cases_of step)))
+    (changes_privately c after (private_result n size c event answer after own (cases_of step)))
 
 -- no frame is left
 pub none_left : {before after : FramesValue} {moment : ℕ} {payload : List ℕ}
@@ -133,26 +133,26 @@ module _ (v : WriterValue) (w : AreWriterFields v) (moment : ℕ) (payload : Lis
     made_all : made_end ≡ v.part.made ++ pushes_made ∷ reserves_made ∷ ends_made ∷ []
     made_all =
         ap (λ (made : List WriterMade). made ++ ends_made ∷ [])
-                (append_assoc v.part.made (pushes_made ∷ []) (reserves_made ∷ []))
-            ∙ append_assoc v.part.made (pushes_made ∷ reserves_made ∷ []) (ends_made ∷ [])
+        (append_assoc v.part.made (pushes_made ∷ []) (reserves_made ∷ []))
+        ∙ append_assoc v.part.made (pushes_made ∷ reserves_made ∷ []) (ends_made ∷ [])
 
     pushed_part : writing_of made_push h.pushed ≡ part_after v.shape v.part (model.pushes moment (length payload))
     pushed_part =
         part_after_is v.shape v.part (writer_made_of reached) c (model.pushes moment (length payload)) model.pushed
-            h.pushed is h.push_private h.push
+        h.pushed is h.push_private h.push
 
     reserved_part : writing_of made_reserve h.reserved
         ≡ part_after v.shape (part_after v.shape v.part (model.pushes moment (length payload))) model.steps
     reserved_part = ap (λ (w : Writing). writing_after w.made x_reserve (writing_of [] h.reserved)) pushed_part
         ∙ part_after_is v.shape (part_after v.shape v.part (model.pushes moment (length payload))) made_push h.pushed
-            model.steps (model.reserved_as (next_number v.frames.stack)) h.reserved pushed_part h.reserve_private
-            h.reserve
+        model.steps (model.reserved_as (next_number v.frames.stack)) h.reserved pushed_part h.reserve_private
+        h.reserve
 
     now_part : writing_of made_end h.after ≡ now
     now_part = ap (λ (w : Writing). writing_after w.made x_end (writing_of [] h.after)) reserved_part
         ∙ part_after_is v.shape
-            (part_after v.shape (part_after v.shape v.part (model.pushes moment (length payload))) model.steps)
-            made_reserve h.reserved (model.ends (padded payload)) model.full h.after reserved_part h.end_private h.end
+        (part_after v.shape (part_after v.shape v.part (model.pushes moment (length payload))) model.steps)
+        made_reserve h.reserved (model.ends (padded payload)) model.full h.after reserved_part h.end_private h.end
 
   pub leads_write : Leads v.shape v.part now
   leads_write = λ c reached is. (
@@ -179,26 +179,26 @@ module _ (v : WriterValue) (w : AreWriterFields v) (moment : ℕ) (payload : Lis
   abbrev pushed_reached : IsReached n size start first.pushed
   pushed_reached =
       reached_on n size start w.core (model.pushes moment (length payload)) model.pushed first.pushed w.reached
-          first.push
+      first.push
 
   abbrev reserved_reached : IsReached n size start first.reserved
   reserved_reached =
       reached_on n size start first.pushed model.steps (model.reserved_as (next_number v.frames.stack)) first.reserved
-          pushed_reached first.reserve
+      pushed_reached first.reserve
 
   abbrev after_reached : IsReached n size start first.after
   after_reached =
       reached_on n size start first.reserved (model.ends (padded payload)) model.full first.after reserved_reached
-          first.end
+      first.end
 
   pages_stay : now.open_pages ≡ v.part.open_pages
   pages_stay = ap (λ (x : Writing). x.open_pages) (sym (now_part w.core w.reached w.part_is))
       ∙ (open_stay n size first.reserved (model.ends (padded payload)) model.full first.after first.end_private
-         first.end
+      first.end
       ∙ (open_stay n size first.pushed model.steps (model.reserved_as (next_number v.frames.stack)) first.reserved
-         first.reserve_private first.reserve
+      first.reserve_private first.reserve
       ∙ (open_stay n size w.core (model.pushes moment (length payload)) model.pushed first.pushed first.push_private
-         first.push
+      first.push
       ∙ ap (λ (x : Writing). x.open_pages) w.part_is)))
 
   abbrev pushed_as : Writing
@@ -210,12 +210,12 @@ module _ (v : WriterValue) (w : AreWriterFields v) (moment : ℕ) (payload : Lis
   pushed_here : writing_of (writer_made_of pushed_reached) first.pushed ≡ pushed_as
   pushed_here =
       part_then n size start w.core (model.pushes moment (length payload)) model.pushed first.pushed w.reached
-          first.push v.part pushed_as refl w.part_is refl
+      first.push v.part pushed_as refl w.part_is refl
 
   reserved_here : writing_of (writer_made_of reserved_reached) first.reserved ≡ reserved_then
   reserved_here =
       part_then n size start first.pushed model.steps (model.reserved_as (next_number v.frames.stack)) first.reserved
-          pushed_reached first.reserve pushed_as reserved_then refl pushed_here refl
+      pushed_reached first.reserve pushed_as reserved_then refl pushed_here refl
 
   -- the writer after them
   writer_mid : AreWriterFields mid
@@ -224,7 +224,7 @@ module _ (v : WriterValue) (w : AreWriterFields v) (moment : ℕ) (payload : Lis
     reached = after_reached;
     part_is =
         part_then n size start first.reserved (model.ends (padded payload)) model.full first.after reserved_reached
-            first.end reserved_then now refl reserved_here (now_part w.core w.reached w.part_is);
+        first.end reserved_then now refl reserved_here (now_part w.core w.reached w.part_is);
     frames_are = first.are;
     pages_are = pages_stay ∙ w.pages_are;
   }
@@ -258,39 +258,45 @@ module _ (v : WriterValue) (w : AreWriterFields v) (moment : ℕ) (payload : Lis
 
   push_call : IsCall v.shape v.part (model.pushes moment (length payload)) Pushed pushed_as
   push_call =
-      record { core = w.core;
-              next = first.pushed;
-              answer = model.pushed;
-              is_own = refl;
-              reached = w.reached;
-              before_is = w.part_is;
-              step = first.push;
-              after_is = refl;
-              reports = refl }
+      record {
+        core = w.core;
+        next = first.pushed;
+        answer = model.pushed;
+        is_own = refl;
+        reached = w.reached;
+        before_is = w.part_is;
+        step = first.push;
+        after_is = refl;
+        reports = refl;
+      }
 
   reserve_call : IsCall v.shape pushed_as model.steps (Reserved number) reserved_then
   reserve_call =
-      record { core = first.pushed;
-              next = first.reserved;
-              answer = model.reserved_as (next_number v.frames.stack);
-              is_own = refl;
-              reached = pushed_reached;
-              before_is = pushed_here;
-              step = first.reserve;
-              after_is = refl;
-              reports = refl }
+      record {
+        core = first.pushed;
+        next = first.reserved;
+        answer = model.reserved_as (next_number v.frames.stack);
+        is_own = refl;
+        reached = pushed_reached;
+        before_is = pushed_here;
+        step = first.reserve;
+        after_is = refl;
+        reports = refl;
+      }
 
   end_call : IsCall v.shape reserved_then (model.ends (padded payload)) (Ended Full) now
   end_call =
-      record { core = first.reserved;
-              next = first.after;
-              answer = model.full;
-              is_own = refl;
-              reached = reserved_reached;
-              before_is = reserved_here;
-              step = first.end;
-              after_is = now_part w.core w.reached w.part_is;
-              reports = refl }
+      record {
+        core = first.reserved;
+        next = first.after;
+        answer = model.full;
+        is_own = refl;
+        reached = reserved_reached;
+        before_is = reserved_here;
+        step = first.end;
+        after_is = now_part w.core w.reached w.part_is;
+        reports = refl;
+      }
 
   abbrev begun : HasBegun moment (length payload) v.part pushed_as
   begun = (has_begun v.shape v.part pushed_as moment (length payload) Pushed push_call (λ (fault, e). cc)).0
@@ -299,8 +305,8 @@ module _ (v : WriterValue) (w : AreWriterFields v) (moment : ℕ) (payload : Lis
       reserved_then
   reserves_it =
       subst
-          (λ (k : Rattle.trace_model.specs.Frames.Purpose).
-              Reserves v.shape k v.part.frames pushed_as (Reserved number) reserved_then) begun.kind_is
+      (λ (k : Rattle.trace_model.specs.Frames.Purpose).
+      Reserves v.shape k v.part.frames pushed_as (Reserved number) reserved_then) begun.kind_is
       (reserving_ends v.shape begun.frame.kind v.part.frames pushed_as pushed_as reserved_then (Reserved number)
       (reserving_first v.shape begun.frame v.part.frames pushed_as begun.top begun.reserves) reserve_call (λ e. cc))
 
@@ -327,7 +333,7 @@ module _ (v : WriterValue) (w : AreWriterFields v) (moment : ℕ) (payload : Lis
     outcome : Wished bottom [] call.answer call.next.frames
     outcome = wish_outcome n call.core bottom [] call.answer call.next
         (top_stepped n size call.core bottom [] wishing call.answer call.next
-         (ap (λ (x : Writing). x.frames) call.before_is ∙ bottom_is) refl call.step)
+        (ap (λ (x : Writing). x.frames) call.before_is ∙ bottom_is) refl call.step)
 
     goes_so : Wished bottom [] call.answer call.next.frames → result ≢ Going → after.frames ≡ []
     goes_so (wishes_on next a top kind state) ne = absurd (ne (is_going size result call.answer call.reports a))
@@ -339,16 +345,18 @@ module _ (v : WriterValue) (w : AreWriterFields v) (moment : ℕ) (payload : Lis
 
     stands_so : Wished bottom [] call.answer call.next.frames → result ≡ Going
         → (next : Frame) × (after.frames ≡ next ∷ []) × IsLeaving next.kind next.state
-    stands_so (wishes_on next a top kind state) e =
-        (next, ap (λ (x : Writing). x.frames) (sym call.after_is) ∙ top,
-         subst (λ (s : Rattle.trace_model.specs.Frames.Progress). IsLeaving next.kind s) (sym state)
-             (subst (λ (k : Rattle.trace_model.specs.Frames.Purpose). IsLeaving k left) (sym kind) tt))
+    stands_so (wishes_on next a top kind state) e = (
+      next,
+      ap (λ (x : Writing). x.frames) (sym call.after_is) ∙ top,
+      subst (λ (s : Rattle.trace_model.specs.Frames.Progress). IsLeaving next.kind s) (sym state)
+          (subst (λ (k : Rattle.trace_model.specs.Frames.Purpose). IsLeaving k left) (sym kind) tt),
+    )
     stands_so (wished_gone a top) e =
         absurd (let reports =
-                    subst (λ (x : Answer). Rattle.ring_frames.specs.Answers.IsAnswerOf size x call.answer) e
-                        call.reports in
-                let both : model.going ≡ model.gone = sym reports ∙ a in
-                cc)
+        subst (λ (x : Answer). Rattle.ring_frames.specs.Answers.IsAnswerOf size x call.answer) e
+        call.reports in
+        let both : model.going ≡ model.gone = sym reports ∙ a in
+        cc)
 
     -- it goes on
     stands_still : result ≡ Going
@@ -362,8 +370,8 @@ module _ (v : WriterValue) (w : AreWriterFields v) (moment : ℕ) (payload : Lis
     written_behind last end e rest =
         let (next, top, leaves) = stands_so outcome e in
         written_then last end
-            (leaves_behind v.shape [] now after end last
-             (subst (λ (x : Answer). IsCall v.shape now model.steps x after) e call) (rest next [] top))
+        (leaves_behind v.shape [] now after end last
+        (subst (λ (x : Answer). IsCall v.shape now model.steps x after) e call) (rest next [] top))
 
 -- ---- the call
 
@@ -380,19 +388,19 @@ with_seat v seat frames = record {
 
 -- A record was written at once, and the look for the wish after that answers so.
 pub record LooksAtOnce (v : WriterValue) (moment : ℕ) (payload : List ℕ) (result : Answer) (new : WriterValue) : Type 0
-    where
-  pub writer : AreWriterFields v
-  pub gone : FramesValue
-  pub wrote : WritesAtOnce v.frames moment payload (with_left_frame gone moment (length payload))
-  pub alone : IsWrittenAlone v.frames moment payload gone
-  pub makes : MakesSome (mid v writer moment payload gone wrote alone) model.steps result new
+  where
+    pub writer : AreWriterFields v
+    pub gone : FramesValue
+    pub wrote : WritesAtOnce v.frames moment payload (with_left_frame gone moment (length payload))
+    pub alone : IsWrittenAlone v.frames moment payload gone
+    pub makes : MakesSome (mid v writer moment payload gone wrote alone) model.steps result new
 
 -- a step from the part that was noted
 from_noted : {shape noted : Shape} {part now after : Writing} {sees : Core → Type 0} {answer : model.Answer}
     → noted ≡ shape → part ≡ now → IsWriterStep noted part sees answer after → IsWriterStep shape now sees answer after
 from_noted {shape} {noted} {part} {now} {after} {sees} {answer} same is s =
     subst (λ (x : Shape). IsWriterStep x now sees answer after) same
-        (subst (λ (x : Writing). IsWriterStep noted x sees answer after) is s)
+    (subst (λ (x : Writing). IsWriterStep noted x sees answer after) is s)
 
 -- so does a writer whose view is that one
 pub looked : {v x : WriterValue} {noted loaded : WriterSeat} → v ≡ x → AreWriterFields x
@@ -404,7 +412,7 @@ pub looked : {v x : WriterValue} {noted loaded : WriterSeat} → v ≡ x → Are
     → writing_in noted ≡ part_after_write v.shape v.part moment payload
     → SameSeat noted loaded
     → (answer : model.Answer)
-        × IsWriterStep noted.shape (writing_in noted) (λ core. core.wish ≡ wish) answer (writing_in loaded)
+    × IsWriterStep noted.shape (writing_in noted) (λ core. core.wish ≡ wish) answer (writing_in loaded)
     → LooksForWish (with_left_frame gone moment (length payload)) wish result after
     → LooksAtOnce x moment payload result (with_seat v loaded after)
 looked {v} {x} {noted} {loaded} view_is writer moment payload gone after wish result wrote alone shape_is table_is
@@ -417,9 +425,9 @@ looked {v} {x} {noted} {loaded} view_is writer moment payload gone after wish re
       alone = alone;
       makes =
           looks_for_wish (mid v w moment payload gone wrote alone) (with_seat v loaded after)
-              (writer_mid v w moment payload gone wrote alone) (some_mid v w moment payload gone wrote alone)
+          (writer_mid v w moment payload gone wrote alone) (some_mid v w moment payload gone wrote alone)
           (same.shape ∙ shape_is) (same.table ∙ table_is) _ wish result answer looks refl
-              (from_noted shape_is part_is loads) (λ is. is);
+          (from_noted shape_is part_is loads) (λ is. is);
     }
 
 module _ {v new : WriterValue} {moment : ℕ} {payload : List ℕ} {result : Answer}
@@ -436,8 +444,8 @@ module _ {v new : WriterValue} {moment : ℕ} {payload : List ℕ} {result : Ans
   -- and makes steps until it is gone
   pub looked_further : (last : Answer) (end : Writing) → result ≡ Going
       → ((frame : Frame) (below : List Frame) → new.part.frames ≡ frame ∷ below
-         → Leaves new.shape below new.part last end) → IsWritten v.shape v.part moment payload end
+      → Leaves new.shape below new.part last end) → IsWritten v.shape v.part moment payload end
   looked_further last end e leaves =
       written_behind v l.writer moment payload l.gone l.wrote l.alone result new.part l.makes.call last end e
       (λ frame below top.
-          subst (λ (s : Shape). Leaves s below new.part last end) l.makes.shape_is (leaves frame below top))
+      subst (λ (s : Shape). Leaves s below new.part last end) l.makes.shape_is (leaves frame below top))

@@ -49,7 +49,7 @@ module _ (v : WriterValue) (w : AreWriterFields v) where
     knows =
         let t = top_in v w w.core w.part_is some in
         subst (PhaseKept v.shape.pages w.core.links w.core.order w.core.head w.core.done w.core.opened)
-            (t.phase_is ∙ at)
+        (t.phase_is ∙ at)
         (top_kept v.shape.pages w.core t.frame t.below (kept_now v w).links t.is_top)
 
     pub advances : PhaseAdvances v.shape.pages w.core.links w.core.head phase
@@ -63,7 +63,7 @@ module _ (v : WriterValue) (w : AreWriterFields v) where
         let t = top_in v w w.core w.part_is some in
         subst (HasSeenLink v.shape.pages w.core.links w.core.head) (t.phase_is ∙ at)
         (subst (HaveSeenLinks v.shape.pages w.core.links w.core.head) t.is_top
-         (frames_have_seen_links v.shape.pages v.shape.size v.shape.start w.core few w.reached)).0
+        (frames_have_seen_links v.shape.pages v.shape.size v.shape.start w.core few w.reached)).0
 
     module _ (noted : ℕ) (is : noted_fill phase ≡ Some noted) where
       -- the fill that it noted has a number, after which there is a whole round of them
@@ -83,8 +83,8 @@ module _ {v x : WriterValue} (view_is : v ≡ x) (w : AreWriterFields x) where
   pub fits_called : x.frames.stack.frames ≢ [] → {phase : code.Phase} → x.frames.phase ≡ phase → (pages : ℕ)
       → pages ≡ v.frames.stack.pages → pages ≤ MAX_PAGES
       → (pages ≡ v.shape.pages)
-          × HasSeenLink v.shape.pages (writer_seen view_is w).core.links (writer_seen view_is w).core.head
-              (phase_of phase)
+      × HasSeenLink v.shape.pages (writer_seen view_is w).core.links (writer_seen view_is w).core.head
+      (phase_of phase)
   fits_called some {phase = phase} at pages pages_is few =
       let same : pages ≡ v.shape.pages = pages_is ∙ (writer_seen view_is w).frames_are.pages_is in (
         same,
@@ -99,11 +99,11 @@ module _ {v x : WriterValue} (view_is : v ≡ x) (w : AreWriterFields x) where
   round_at : x.frames.stack.frames ≢ [] → (phase : code.Phase) → x.frames.phase ≡ phase → (noted : ℕ)
       → noted_fill (phase_of phase) ≡ Some noted
       → (PhaseAdvances v.shape.pages (writer_seen view_is w).core.links (writer_seen view_is w).core.head
-             (phase_of phase) → v.shape.pages ≤ noted) → HasRound noted
+      (phase_of phase) → v.shape.pages ≤ noted) → HasRound noted
   round_at some phase at noted is wide =
       let own : AreWriterFields v = writer_seen view_is w in
       let (low, high, room, numbers) =
-          noted_bounds v own (phase_of phase) (top_seen view_is some) (phase_seen view_is at) noted is in
+      noted_bounds v own (phase_of phase) (top_seen view_is some) (phase_seen view_is at) noted is in
       (wide (advances v own (phase_of phase) (top_seen view_is some) (phase_seen view_is at)), numbers)
 
   -- so it is if the frame moves the head on

@@ -30,8 +30,8 @@ step_made before x next after is = subst (λ (w : Writing). w.made ≡ before.ma
 pub calls_append : CallsAppend
 calls_append shape before event result after call =
     let (history_events, is, by) =
-        steps_append shape.pages shape.size shape.start call.core event call.answer call.next
-            (reached_kept shape.pages shape.size shape.start call.core call.reached) call.step in
+    steps_append shape.pages shape.size shape.start call.core event call.answer call.next
+    (reached_kept shape.pages shape.size shape.start call.core call.reached) call.step in
     record {
       core = call.core;
       answer = call.answer;
@@ -41,7 +41,7 @@ calls_append shape before event result after call =
       appends = by;
       history_is =
           ap (λ (w : Writing). w.history) (sym call.after_is) ∙ is
-              ∙ ap (λ (w : Writing). w.history ++ history_events) call.before_is;
+          ∙ ap (λ (w : Writing). w.history ++ history_events) call.before_is;
       made_is = step_made before record { event = event; answer = call.answer } call.next after call.after_is;
     }
 
@@ -56,15 +56,15 @@ pub pushes_append : PushesAppend
 pushes_append shape before moment len after call =
     let r = calls_append shape before _ _ after call in
     r.history_is
-        ∙ ap (λ (history_events : List HistoryEvent). before.history ++ history_events)
-            (pushed_event (push moment len) r.answer r.history_events r.reports r.appends)
+    ∙ ap (λ (history_events : List HistoryEvent). before.history ++ history_events)
+    (pushed_event (push moment len) r.answer r.history_events r.reports r.appends)
 
 pub closes_append : ClosesAppend
 closes_append shape before after call =
     let r = calls_append shape before _ _ after call in
     r.history_is
-        ∙ ap (λ (history_events : List HistoryEvent). before.history ++ history_events)
-            (pushed_event push_close r.answer r.history_events r.reports r.appends)
+    ∙ ap (λ (history_events : List HistoryEvent). before.history ++ history_events)
+    (pushed_event push_close r.answer r.history_events r.reports r.appends)
 
 -- ---- an end
 
@@ -89,9 +89,9 @@ pub ends_append : EndsAppend
 ends_append shape before payload how after call =
     let r = calls_append shape before _ _ after call in
     r.history_is
-        ∙ ap (λ (history_events : List HistoryEvent). before.history ++ history_events)
-            (ended_event payload r.core.frames r.answer r.history_events
-             (λ why. ended_not_refused shape.size how r.answer why r.reports) r.appends)
+    ∙ ap (λ (history_events : List HistoryEvent). before.history ++ history_events)
+    (ended_event payload r.core.frames r.answer r.history_events
+    (λ why. ended_not_refused shape.size how r.answer why r.reports) r.appends)
 
 -- ---- a step that is answered a number
 
@@ -141,31 +141,33 @@ pub reservations_append : ReservationsAppend
 reservations_append shape before frame below number after top waits call =
     let r = calls_append shape before _ _ after call in
     let appends =
-        subst (λ (fs : List Frame). TopAppends shape.pages r.core fs r.answer r.history_events)
-            (frames_are r.core before (frame ∷ below) r.before_is top) r.appends in
+    subst (λ (fs : List Frame). TopAppends shape.pages r.core fs r.answer r.history_events)
+    (frames_are r.core before (frame ∷ below) r.before_is top) r.appends in
     let (number_at, is) =
-        reserved_event shape.pages r.core below r.answer r.history_events frame.kind frame.state frame.phase number.0
-            waits r.reports appends in
-    (number_at ∙ ap (λ (w : Writing). length (reserved_records w.history)) r.before_is,
-     r.history_is ∙ ap (λ (history_events : List HistoryEvent). before.history ++ history_events) is)
+    reserved_event shape.pages r.core below r.answer r.history_events frame.kind frame.state frame.phase number.0
+    waits r.reports appends in (
+      number_at ∙ ap (λ (w : Writing). length (reserved_records w.history)) r.before_is,
+      r.history_is ∙ ap (λ (history_events : List HistoryEvent). before.history ++ history_events) is,
+    )
 
 pub numbers_again : NumbersAreReportedAgain
 numbers_again shape before frame below number result after top has call =
     let r = calls_append shape before _ _ after call in
     let appends =
-        subst (λ (fs : List Frame). TopAppends shape.pages r.core fs r.answer r.history_events)
-            (frames_are r.core before (frame ∷ below) r.before_is top) r.appends in
+    subst (λ (fs : List Frame). TopAppends shape.pages r.core fs r.answer r.history_events)
+    (frames_are r.core before (frame ∷ below) r.before_is top) r.appends in
     let (reported, is) =
-        again_event shape.pages r.core below r.answer r.history_events frame.kind frame.state frame.phase number has
-            appends in
-    (subst (IsAnswerOf shape.size result) reported r.reports,
-     r.history_is ∙ ap (λ (history_events : List HistoryEvent). before.history ++ history_events) is
-         ∙ append-nil before.history)
+    again_event shape.pages r.core below r.answer r.history_events frame.kind frame.state frame.phase number has
+    appends in (
+      subst (IsAnswerOf shape.size result) reported r.reports,
+      r.history_is ∙ ap (λ (history_events : List HistoryEvent). before.history ++ history_events) is
+          ∙ append-nil before.history,
+    )
 
 -- ---- a refusal
 
 refused_push : (history_event : HistoryEvent) (answer : model.Answer) (why : WriteFault)
-        (history_events : List HistoryEvent) → answer ≡ model.refused why
+    (history_events : List HistoryEvent) → answer ≡ model.refused why
     → PushAppends history_event answer history_events → history_events ≡ []
 refused_push history_event answer why history_events reported (is_pushed a is) = absurd (cc)
 refused_push history_event answer why history_events reported (isnt_pushed other a is) = is
@@ -175,7 +177,7 @@ end_not_refused [] why e = cc
 end_not_refused (next ∷ below) why e = cc
 
 refused_end : (payload : List ℕ) (frames : List Frame) (answer : model.Answer) (why : WriteFault)
-        (history_events : List HistoryEvent) → answer ≡ model.refused why
+    (history_events : List HistoryEvent) → answer ≡ model.refused why
     → TopEndAppends payload frames answer history_events → history_events ≡ []
 refused_end payload [] answer why history_events reported (a, is) = is
 refused_end payload (frame ∷ below) answer why history_events reported appends = by frame.state appends
@@ -186,18 +188,18 @@ refused_end payload (frame ∷ below) answer why history_events reported appends
     by left (a, is) = is
 
 refused_frame : (n : ℕ) (c : Core) (kind : Purpose) (state : Progress) (phase : Phase) (below : List Frame)
-        (answer : model.Answer) (why : WriteFault) (history_events : List HistoryEvent) → answer ≡ model.refused why
+    (answer : model.Answer) (why : WriteFault) (history_events : List HistoryEvent) → answer ≡ model.refused why
     → FrameAppends n c kind state phase below answer history_events → history_events ≡ leave None ∷ []
 refused_frame n c (for_record moment len) waiting phase below answer why history_events reported
-        (record_reserved a is) =
+    (record_reserved a is) =
     absurd (cc)
 refused_frame n c (for_record moment len) waiting phase below answer why history_events reported (record_refused a is) =
     is
 refused_frame n c (for_record moment len) waiting phase below answer why history_events reported
-        (record_opens fill a is) =
+    (record_opens fill a is) =
     absurd (cc)
 refused_frame n c (for_record moment len) waiting phase below answer why history_events reported
-        (record_goes_on none a is) =
+    (record_goes_on none a is) =
     absurd (cc)
 refused_frame n c for_close waiting phase below answer why history_events reported (close_refused a is) = is
 refused_frame n c for_close waiting phase below answer why history_events reported (close_opens fill a is) =
@@ -215,14 +217,14 @@ refused_frame n c kind left phase below answer why history_events reported (left
     absurd (cc)
 
 refused_step : (n : ℕ) (c : Core) (frames : List Frame) (answer : model.Answer) (why : WriteFault)
-        (history_events : List HistoryEvent) → answer ≡ model.refused why → TopAppends n c frames answer history_events
+    (history_events : List HistoryEvent) → answer ≡ model.refused why → TopAppends n c frames answer history_events
     → history_events ≡ events_of_refusal model.steps frames
 refused_step n c [] answer why history_events reported (a, is) = is
 refused_step n c (frame ∷ below) answer why history_events reported appends =
     refused_frame n c frame.kind frame.state frame.phase below answer why history_events reported appends
 
 refused_events : (n : ℕ) (c : Core) (event : model.Event) (answer : model.Answer) (why : WriteFault)
-        (history_events : List HistoryEvent) → answer ≡ model.refused why → Appends n c event answer history_events
+    (history_events : List HistoryEvent) → answer ≡ model.refused why → Appends n c event answer history_events
     → history_events ≡ events_of_refusal event c.frames
 refused_events n c (model.pushes moment len) answer why history_events reported appends =
     refused_push (push moment len) answer why history_events reported appends
@@ -240,5 +242,5 @@ refusals_append shape before event fault after call =
     let r = calls_append shape before _ _ after call in
     let is = refused_events shape.pages r.core event r.answer (refusal_of fault) r.history_events r.reports r.appends in
     r.history_is
-        ∙ ap (λ (history_events : List HistoryEvent). before.history ++ history_events)
-            (is ∙ ap (λ (w : Writing). events_of_refusal event w.frames) r.before_is)
+    ∙ ap (λ (history_events : List HistoryEvent). before.history ++ history_events)
+    (is ∙ ap (λ (w : Writing). events_of_refusal event w.frames) r.before_is)

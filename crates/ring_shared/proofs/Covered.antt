@@ -29,11 +29,13 @@ reserved_covers shape x two moment len w k same r kept slot had =
     let (held, bytes) = kept slot had in
     let t = top_kind (for_record moment len) x.part.frames r.number two.part.frames r.reserve.ends in
     let above : k.core.frames ≡ t.next ∷ w.core.frames =
-        ap (λ (p : Writing). p.frames) k.part_is ∙ t.top
-            ∙ ap (λ (p : Writing). let fs : List ModelFrame = t.next ∷ p.frames in fs) (sym w.part_is) in
-    let are = subst (λ (s : Shape). AreFrames s.pages s.size s.start two.frames k.core) same k.frames_are in
-    (covered_slot x.shape.pages x.shape.size x.shape.start x.frames two.frames w.core k.core t.next slot w.frames_are
-         are above had held, bytes)
+    ap (λ (p : Writing). p.frames) k.part_is ∙ t.top
+    ∙ ap (λ (p : Writing). let fs : List ModelFrame = t.next ∷ p.frames in fs) (sym w.part_is) in
+    let are = subst (λ (s : Shape). AreFrames s.pages s.size s.start two.frames k.core) same k.frames_are in (
+      covered_slot x.shape.pages x.shape.size x.shape.start x.frames two.frames w.core k.core t.next slot w.frames_are
+          are above had held,
+      bytes,
+    )
 
 -- ---- it is written, and ends
 
@@ -52,9 +54,9 @@ pub kept_under : (old mid new : Stack) (slot : Slot) (part : List ℕ) → Cover
 kept_under old mid new slot part covers others keeps other had =
     let (there, same) = covers other had in
     let (still, more) =
-        keeps other
-            (subst (λ (fs : List Frame). HoldSlot (below_top fs) other) (sym (slot_keeps mid slot part).frames_is)
-             there) in
+    keeps other
+    (subst (λ (fs : List Frame). HoldSlot (below_top fs) other) (sym (slot_keeps mid slot part).frames_is)
+    there) in
     (still, same ∙ (sym (left_alone mid.frames refl there) ∙ more))
   where
     left_alone : (frames : List Frame) → mid.frames ≡ frames → HoldSlot (below_top frames) other

@@ -29,7 +29,7 @@ as_called : (v x new : WriterValue) (result : Answer) → v ≡ x → result ≡
 unfolding IsWriter
 as_called v x new result view_is is makes =
     subst (λ (r : Answer). MakesSome x model.steps r new) (sym is)
-        (subst (λ (y : WriterValue). MakesSome y model.steps Going new) view_is makes)
+    (subst (λ (y : WriterValue). MakesSome y model.steps Going new) view_is makes)
 
 -- a call of a writer whose view is that one, in this phase: the frame goes on in another, which was chosen by what the
 -- word stated
@@ -55,15 +55,15 @@ goes_on_called {v = v} {x = x} {new = new} {result = result} view_is w some {pha
     let t = top_in v own s.core s.before_is (top_seen view_is some) in
     let here : phase_of v.frames.phase ≡ phase_of phase = phase_seen view_is at in
     let part =
-        moves t.frame t.below
-            (top_stepped v.shape.pages v.shape.size s.core t.frame t.below (phase_of phase) model.going s.next t.is_top
-             (t.phase_is ∙ here) s.step) in
+    moves t.frame t.below
+    (top_stepped v.shape.pages v.shape.size s.core t.frame t.below (phase_of phase) model.going s.next t.is_top
+    (t.phase_is ∙ here) s.step) in
     let goes : GoesOnIn v.frames to new.frames = subst (λ (p : Phase). GoesOnIn v.frames p new.frames) same
     (on noted
-     record { before = ap noted_fill here ∙ was; behind = ap (λ (p : Phase). noted_fill (phase_of p)) same ∙ is }) in
+    record { before = ap noted_fill here ∙ was; behind = ap (λ (p : Phase). noted_fill (phase_of p)) same ∙ is }) in
     as_called v x new result view_is answer
     (made v own new sees model.going Going shape_is table_is s refl
     (frames_like v.shape new.frames (model.in_phase s.core t.frame t.below (phase_of to)) s.next
-     (goes v.shape.pages v.shape.size v.shape.start s.core t.frame t.below before t.is_top) part)
+    (goes v.shape.pages v.shape.size v.shape.start s.core t.frame t.below before t.is_top) part)
     (ap (λ (p : Writing). p.open_pages) part ∙ ap (λ (p : Writing). p.open_pages) s.before_is ∙ own.pages_are
-     ∙ sym pages_is))
+    ∙ sym pages_is))

@@ -19,7 +19,7 @@ use Rattle.ring_shared.proofs.Targets.{frames_of}
 pub refuses_step : (v : FramesValue) → v.stack.frames ≡ [] → MakesPrivate v model.steps (Refused NoFrame) v
 refuses_step v none n size start c reached are =
     let bare : c.frames ≡ [] =
-        are.frames_are ∙ ap (λ (fs : List Frame). frames_in_phases fs (v.phase ∷ v.below)) none in
+    are.frames_are ∙ ap (λ (fs : List Frame). frames_in_phases fs (v.phase ∷ v.below)) none in
     record {
       answer = model.refused no_frame;
       after = c;

@@ -49,10 +49,10 @@ module _ {M : Type 0} (is : model.Event → Bool) (made : model.Exchange → Cor
     others = made_in between exchanges last run
 
     stands_after : ((earlier : List M) → others ≡ earlier ++ one ∷ later
-                    → Stands ((done ++ x ∷ []) ++ exchanges) (made_in from (done ++ x ∷ []) between on ++ earlier) one)
+        → Stands ((done ++ x ∷ []) ++ exchanges) (made_in from (done ++ x ∷ []) between on ++ earlier) one)
         → (b : Bool) → is x.event ≡ b → (earlier : List M)
-            → kept_if (is x.event) (made x between) others ≡ earlier ++ one ∷ later
-            → Stands (done ++ x ∷ exchanges) (made_in from done c front ++ earlier) one
+        → kept_if (is x.event) (made x between) others ≡ earlier ++ one ∷ later
+        → Stands (done ++ x ∷ exchanges) (made_in from done c front ++ earlier) one
     stands_after again false other earlier at =
         let s = again earlier (sym (ap (λ (b : Bool). kept_if b (made x between) others) other) ∙ at) in record {
           before = s.before;
@@ -66,12 +66,12 @@ module _ {M : Type 0} (is : model.Event → Bool) (made : model.Exchange → Cor
           part_is = s.part_is;
           steps_are =
               s.steps_are
-                  ∙ ap (λ (xs : List M). (xs ++ earlier) ++ one ∷ [])
-                      (made_same is made shape.pages shape.size from c done x between front step other);
+              ∙ ap (λ (xs : List M). (xs ++ earlier) ++ one ∷ [])
+              (made_same is made shape.pages shape.size from c done x between front step other);
         }
     stands_after again true own [] at =
         let here : made x between ∷ others ≡ one ∷ later =
-            sym (ap (λ (b : Bool). kept_if b (made x between) others) own) ∙ at in
+        sym (ap (λ (b : Bool). kept_if b (made x between) others) own) ∙ at in
         let first : made x between ≡ one = cc in record {
           before = done;
           x = x;
@@ -84,11 +84,11 @@ module _ {M : Type 0} (is : model.Event → Bool) (made : model.Exchange → Cor
           part_is = first;
           steps_are = made_more is made shape.pages shape.size from c done x between front step own
               ∙ (ap (λ (y : M). made_in from done c front ++ y ∷ []) first
-                 ∙ ap (λ (xs : List M). xs ++ one ∷ []) (sym (append-nil (made_in from done c front))));
+              ∙ ap (λ (xs : List M). xs ++ one ∷ []) (sym (append-nil (made_in from done c front))));
         }
     stands_after again true own (y ∷ earlier) at =
         let here : made x between ∷ others ≡ y ∷ (earlier ++ one ∷ later) =
-            sym (ap (λ (b : Bool). kept_if b (made x between) others) own) ∙ at in
+        sym (ap (λ (b : Bool). kept_if b (made x between) others) own) ∙ at in
         let first : made x between ≡ y = cc in
         let rest_is : others ≡ earlier ++ one ∷ later = cc in
         let s = again earlier rest_is in record {
@@ -104,9 +104,9 @@ module _ {M : Type 0} (is : model.Event → Bool) (made : model.Exchange → Cor
           steps_are = s.steps_are
               ∙ ap (λ (xs : List M). xs ++ one ∷ [])
               (ap (λ (xs : List M). xs ++ earlier)
-                   (made_more is made shape.pages shape.size from c done x between front step own
-                    ∙ ap (λ (z : M). made_in from done c front ++ z ∷ []) first)
-               ∙ append_assoc (made_in from done c front) (y ∷ []) earlier);
+              (made_more is made shape.pages shape.size from c done x between front step own
+              ∙ ap (λ (z : M). made_in from done c front ++ z ∷ []) first)
+              ∙ append_assoc (made_in from done c front) (y ∷ []) earlier);
         }
 
   pub stands_from : (done : List model.Exchange) (c : Core) (front : RunTo from done c)
@@ -118,42 +118,46 @@ module _ {M : Type 0} (is : model.Event → Bool) (made : model.Exchange → Cor
   stands_from done c front (x ∷ exchanges) (between, step, run) earlier one later e =
       stands_after done c front x between step exchanges run one later
       (λ before at.
-          stands_from (done ++ x ∷ []) between (on done c front x between step exchanges run one later) exchanges run
-              before one later at) (is x.event) refl earlier e
+      stands_from (done ++ x ∷ []) between (on done c front x between step exchanges run one later) exchanges run
+      before one later at) (is x.event) refl earlier e
 
 -- ---- of the run of both ends
 
 pub writer_steps_stand : WriterStepsStand
 writer_steps_stand shape writing reading run earlier later one e =
     let s =
-        stands_from is_by_writer writer_made (λ (m : WriterMade). m.exchange) (λ x c. refl) shape run.from run.last []
-            run.from refl run.exchanges run.run earlier one later (run.made.by_writer_are ∙ e) in
-    record { before = s.before;
-            x = s.x;
-            later = s.later;
-            core = s.core;
-            exchanges_are = s.exchanges_are;
-            front = s.front;
-            rest = s.rest;
-            x_is = s.x_is;
-            part_is = s.part_is;
-            steps_are = s.steps_are }
+    stands_from is_by_writer writer_made (λ (m : WriterMade). m.exchange) (λ x c. refl) shape run.from run.last []
+    run.from refl run.exchanges run.run earlier one later (run.made.by_writer_are ∙ e) in
+    record {
+      before = s.before;
+      x = s.x;
+      later = s.later;
+      core = s.core;
+      exchanges_are = s.exchanges_are;
+      front = s.front;
+      rest = s.rest;
+      x_is = s.x_is;
+      part_is = s.part_is;
+      steps_are = s.steps_are;
+    }
 
 pub reader_steps_stand : ReaderStepsStand
 reader_steps_stand shape writing reading run earlier later one e =
     let s =
-        stands_from is_by_reader reader_made (λ (m : ReaderMade). m.exchange) (λ x c. refl) shape run.from run.last []
-            run.from refl run.exchanges run.run earlier one later (run.made.by_reader_are ∙ e) in
-    record { before = s.before;
-            x = s.x;
-            later = s.later;
-            core = s.core;
-            exchanges_are = s.exchanges_are;
-            front = s.front;
-            rest = s.rest;
-            x_is = s.x_is;
-            part_is = s.part_is;
-            steps_are = s.steps_are }
+    stands_from is_by_reader reader_made (λ (m : ReaderMade). m.exchange) (λ x c. refl) shape run.from run.last []
+    run.from refl run.exchanges run.run earlier one later (run.made.by_reader_are ∙ e) in
+    record {
+      before = s.before;
+      x = s.x;
+      later = s.later;
+      core = s.core;
+      exchanges_are = s.exchanges_are;
+      front = s.front;
+      rest = s.rest;
+      x_is = s.x_is;
+      part_is = s.part_is;
+      steps_are = s.steps_are;
+    }
 
 -- ---- of one end
 
@@ -163,7 +167,7 @@ writer_calls_end_runs shape before event result after call = record {
   reached = reached_on shape.pages shape.size shape.start call.core event call.answer call.next call.reached call.step;
   is =
       part_then shape.pages shape.size shape.start call.core event call.answer call.next call.reached call.step before
-          after call.is_own call.before_is call.after_is;
+      after call.is_own call.before_is call.after_is;
 }
 
 pub reader_steps_end_runs : ReaderStepsEndRuns

@@ -21,12 +21,14 @@ use Rattle.ring_shared.proofs.TakeSteps.{Stays, passed_below_hint}
 
 pub nothing_yet : (part : Reading) → TakesNothing part part
 nothing_yet part =
-    record { taken_is = refl;
-            observed_is = refl;
-            expected_is = refl;
-            wish_is = refl;
-            hint_le = omega arith;
-            seen_le = omega arith }
+    record {
+      taken_is = refl;
+      observed_is = refl;
+      expected_is = refl;
+      wish_is = refl;
+      hint_le = omega arith;
+      seen_le = omega arith;
+    }
 
 pub nothing_more : (before mid after : Reading) → TakesNothing before mid → TakesNothing mid after
     → TakesNothing before after
@@ -62,29 +64,35 @@ answered shape before mid after body had (Page page missed) a same t =
       partition = t.partition;
     }
 answered shape before mid after body had (Empty done back) a same (given, t) =
-    let seen = a.seen_le in let low = t.seen_le in
-    (given ∙ same,
-     record { nothing = nothing_more before mid after a t.nothing;
-             seen_le = omega arith;
-             hint_is = t.hint_is;
-             seen_is = t.seen_is;
-             known = t.known;
-             all = t.all;
-             passed = t.passed })
+    let seen = a.seen_le in let low = t.seen_le in (
+      given ∙ same,
+      record {
+        nothing = nothing_more before mid after a t.nothing;
+        seen_le = omega arith;
+        hint_is = t.hint_is;
+        seen_is = t.seen_is;
+        known = t.known;
+        all = t.all;
+        passed = t.passed;
+      },
+    )
 answered shape before mid after body had (Moving fill back) a same (given, t) =
-    let hint = a.hint_le in let low = t.hint_le in
-    (given ∙ same,
-     record { nothing = nothing_more before mid after a t.nothing;
-             hint_le = omega arith;
-             hint_is = t.hint_is;
-             passed = t.passed })
+    let hint = a.hint_le in let low = t.hint_le in (
+      given ∙ same,
+      record {
+        nothing = nothing_more before mid after a t.nothing;
+        hint_le = omega arith;
+        hint_is = t.hint_is;
+        passed = t.passed;
+      },
+    )
 
 -- a step that is answered by going on is one that the model answers so
 pub goes_on : (shape own : Shape) (before after : Reading) (back : List ℕ) → own ≡ shape
     → IsAnswered own before (Looking back) after → ReadsSo shape before model.reading after
 goes_on shape own before after back same a =
     subst (λ (s : Shape). ReadsSo s before model.reading after) same
-        (subst (λ (reported : model.Answer). ReadsSo own before reported after) a.reports a.step)
+    (subst (λ (reported : model.Answer). ReadsSo own before reported after) a.reports a.step)
 
 -- a take that took too many steps
 pub given_up : (shape : Shape) (before after : Reading) (fill : ℕ) → TakesNothing before after
@@ -102,8 +110,8 @@ pub wish_stays : (shape : Shape) (before after : Reading) (sees : ring.Core → 
     → Stays shape (record before { wish = after.wish }) after before.reader
 wish_stays shape before after sees answer r =
     let is =
-        (steps_are_determined shape.pages shape.size r.core model.wishes answer (model.wished_for r.core.reader.seen)
-         r.next (model.with_wish r.core) r.step (step_by (cases.store_wish_step refl refl refl))).1 in
+    (steps_are_determined shape.pages shape.size r.core model.wishes answer (model.wished_for r.core.reader.seen)
+    r.next (model.with_wish r.core) r.step (step_by (cases.store_wish_step refl refl refl))).1 in
     record {
       known = record {
         core = r.next;
@@ -116,8 +124,8 @@ wish_stays shape before after sees answer r =
       wish_is = refl;
       observed_is = r.after_is.observed_is
           ∙ (ap
-                 (λ (d : ring.Core). let observed : List Record =
-                      take d.reader.expected (map as_record (reserved_records d.history)) in
-                  observed) is ∙ sym r.before_is.observed_is);
+          (λ (d : ring.Core). let observed : List Record =
+          take d.reader.expected (map as_record (reserved_records d.history)) in
+          observed) is ∙ sym r.before_is.observed_is);
       reader_is = r.after_is.reader_is ∙ (ap (λ (d : ring.Core). d.reader) is ∙ sym r.before_is.reader_is);
     }

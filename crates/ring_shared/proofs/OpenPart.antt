@@ -21,7 +21,7 @@ use Rattle.ring_shared.proofs.Targets.{frames_of}
 abbrev pub UnclosedByFrames : WriterValue → ℕ → Type 0
 UnclosedByFrames v count =
     (start : ℕ) (history : List HistoryEvent) → IsStack start history v.frames.stack
-        → AreUnclosed start v.frames.stack.done history count
+    → AreUnclosed start v.frames.stack.done history count
 
 same_purpose : (purpose : Purpose) → is_close purpose ≡ is_for_close (kind_of purpose)
 same_purpose (Record moment len) = refl
@@ -43,6 +43,6 @@ module _ (v : WriterValue) (w : AreWriterFields v) where
       → AreUnclosed v.shape.start v.part.done v.part.history count
   unclosed_there count are =
       subst (λ (h : List HistoryEvent). AreUnclosed v.shape.start v.part.done h count)
-          (ap (λ (p : Writing). p.history) w.part_is)
+      (ap (λ (p : Writing). p.history) w.part_is)
       (subst (λ (done : ℕ). AreUnclosed v.shape.start done w.core.history count) (sym (done_there v w))
       (are v.shape.start w.core.history w.frames_are.stack_is))

@@ -49,21 +49,21 @@ module _ (v new : WriterValue) (w : AreWriterFields v) (some : v.frames.stack.fr
       let answer = begun_answer v.part.frames in
       let t = top_in v w s.core s.before_is some in
       let begun : begun_answer v.part.frames ≡ model.begin_answer t.frame.kind t.frame.state t.below =
-          ap begun_answer (ap (λ (p : Writing). p.frames) (sym s.before_is) ∙ t.is_top) in
+      ap begun_answer (ap (λ (p : Writing). p.frames) (sym s.before_is) ∙ t.is_top) in
       let here : noted ≡ s.core.opened = now ∙ ap (λ (p : Writing). p.opened) (sym s.before_is) in
       let step =
-          top_stepped v.shape.pages v.shape.size s.core t.frame t.below (opening noted page) answer s.next t.is_top
-              (t.phase_is ∙ at) s.step in
+      top_stepped v.shape.pages v.shape.size s.core t.frame t.below (opening noted page) answer s.next t.is_top
+      (t.phase_is ∙ at) s.step in
       let after_is : s.next
-              ≡ model.after_begin t.frame.kind t.frame.state (model.with_new_tail s.core page) t.frame t.below =
-          opened t.frame t.below here step in
+      ≡ model.after_begin t.frame.kind t.frame.state (model.with_new_tail s.core page) t.frame t.below =
+      opened t.frame t.below here step in
       let (reports, are) =
-          opens v.shape.pages v.shape.size v.shape.start page s.core t.frame t.below (frames_in v w s.core s.before_is)
-              t.is_top in
+      opens v.shape.pages v.shape.size v.shape.start page s.core t.frame t.below (frames_in v w s.core s.before_is)
+      t.is_top in
       made v w new sees answer result shape_is table_is s (subst (IsAnswerOf v.shape.size result) (sym begun) reports)
-          (subst (FramesIn v.shape new.frames) (sym after_is) are)
+      (subst (FramesIn v.shape new.frames) (sym after_is) are)
       (ap (λ (c : Core). c.open_pages) after_is
-       ∙ begun_pages t.frame.kind t.frame.state (model.with_new_tail s.core page) t.frame t.below
+      ∙ begun_pages t.frame.kind t.frame.state (model.with_new_tail s.core page) t.frame t.below
       ∙ ap (λ (pages : List ℕ). pages ++ page ∷ []) (pages_before answer s) ∙ sym pages_is)
     where
       opened : {c after : Core} {answer : model.Answer} (frame : Frame) (below : List Frame) → noted ≡ c.opened
@@ -83,10 +83,10 @@ module _ (v new : WriterValue) (w : AreWriterFields v) (some : v.frames.stack.fr
   closes_fill page releases pages_is s =
       let r = releases v.shape.pages v.shape.size v.shape.start s.core s.reached (frames_in v w s.core s.before_is) in
       let (same, after_is) =
-          steps_are_determined v.shape.pages v.shape.size s.core model.steps model.going model.going s.next
-              (released_in s.core r.frame) s.step r.step in
+      steps_are_determined v.shape.pages v.shape.size s.core model.steps model.going model.going s.next
+      (released_in s.core r.frame) s.step r.step in
       made v w new sees model.going Going shape_is table_is s refl
-          (subst (FramesIn v.shape new.frames) (sym after_is) r.are)
+      (subst (FramesIn v.shape new.frames) (sym after_is) r.are)
       (ap (λ (c : Core). c.open_pages) after_is ∙ ap (drop 1) (pages_before model.going s) ∙ sym pages_is)
 
   -- ---- the reader's wish
@@ -100,13 +100,13 @@ module _ (v new : WriterValue) (w : AreWriterFields v) (some : v.frames.stack.fr
   unfolding IsWriter
   looks_for_wish wish result answer looks pages_is s is_wish =
       let l =
-          looks v.shape.pages v.shape.size v.shape.start s.core s.reached (frames_in v w s.core s.before_is)
-              (is_wish s.seen) in
+      looks v.shape.pages v.shape.size v.shape.start s.core s.reached (frames_in v w s.core s.before_is)
+      (is_wish s.seen) in
       let (same, after_is) =
-          steps_are_determined v.shape.pages v.shape.size s.core model.steps answer l.answer s.next
-              (with_frames_and_history s.core l.frames l.history) s.step l.step in
+      steps_are_determined v.shape.pages v.shape.size s.core model.steps answer l.answer s.next
+      (with_frames_and_history s.core l.frames l.history) s.step l.step in
       made v w new sees answer result shape_is table_is s (subst (IsAnswerOf v.shape.size result) (sym same) l.reports)
-          (subst (FramesIn v.shape new.frames) (sym after_is) l.are)
+      (subst (FramesIn v.shape new.frames) (sym after_is) l.are)
       (ap (λ (c : Core). c.open_pages) after_is ∙ (pages_before answer s ∙ sym pages_is))
 
 -- the page that is let go holds what the fill holds
@@ -132,4 +132,4 @@ pub looks_called : {v x new : WriterValue} (view_is : v ≡ x) → AreWriterFiel
 looks_called {v = v} {new = new} view_is w some shape_is table_is sees wish result answer looks pages_is s is_wish =
     subst (λ (y : WriterValue). MakesSome y model.steps result new) view_is
     (looks_for_wish v new (writer_seen view_is w) (top_seen view_is some) shape_is table_is sees wish result answer
-     looks pages_is s is_wish)
+    looks pages_is s is_wish)

@@ -26,9 +26,9 @@ pub parted : (shape : Shape) (part : Reading) → IsReaderPart shape part
 parted shape part known = let kept = reached_kept shape.pages shape.size shape.start known.core known.reached in
     subst (λ (observed : List Record). IsPartition observed (pieces_of part.reader.taken) []) (sym known.is.observed_is)
     (subst
-     (λ (x : ring.Reader).
-         IsPartition (take known.core.reader.expected (map as_record (reserved_records known.core.history)))
-             (pieces_of x.taken) []) (sym known.is.reader_is) kept.partition.partition)
+    (λ (x : ring.Reader).
+    IsPartition (take known.core.reader.expected (map as_record (reserved_records known.core.history)))
+    (pieces_of x.taken) []) (sym known.is.reader_is) kept.partition.partition)
 
 module _ (shape : Shape) (before : Reading) (page fill : ℕ) (after : Reading)
     (at : before.reader.phase ≡ ring.swapping page fill) where
@@ -49,9 +49,11 @@ module _ (shape : Shape) (before : Reading) (page fill : ℕ) (after : Reading)
         record {
           taken = h.reported;
           is =
-              record { written =
-                          subst (λ (f : ℕ). IsWrittenPage shape.size f h.reported.held taken) (sym h.fill_is) h.written;
-                      missed_is = sym h.skipped_is };
+              record {
+                written =
+                    subst (λ (f : ℕ). IsWrittenPage shape.size f h.reported.held taken) (sym h.fill_is) h.written;
+                missed_is = sym h.skipped_is;
+              };
           one_more = ap (λ (x : ring.Reader). x.taken) h.reader_is;
           first_is = omega arith;
           expected_is =
@@ -71,7 +73,7 @@ module _ (shape : Shape) (before : Reading) (page fill : ℕ) (after : Reading)
 
   pub misses : HeadGone shape before page fill after
       → Stays shape before after (record before.reader { phase = ring.loading_head; hint = fill + 1 })
-          × (before.reader.hint ≤ fill + 1)
+      × (before.reader.hint ≤ fill + 1)
   misses h =
       let sees : ring.Core → Type 0 = λ core. ring.link_into shape.pages core.links fill ≢ header_link page fill in
       let seen = (facts shape before after sees model.reading h.step (ring.swapping page fill) at).0 in
@@ -91,15 +93,19 @@ swap_answers shape before page fill after taken h = record {
   reported = model.page_taken h.reported;
   step =
       so shape before after (λ core. ring.link_into shape.pages core.links fill ≡ header_link page fill)
-          (model.page_taken h.reported) h.step;
-  reports =
-      (h.reported, refl,
-       record { written = subst (λ (f : ℕ). IsWrittenPage shape.size f h.reported.held taken) (sym h.fill_is) h.written;
-               missed_is = sym h.skipped_is });
+      (model.page_taken h.reported) h.step;
+  reports = (
+    h.reported,
+    refl,
+    record {
+      written = subst (λ (f : ℕ). IsWrittenPage shape.size f h.reported.held taken) (sym h.fill_is) h.written;
+      missed_is = sym h.skipped_is;
+    },
+  );
 }
 
 pub miss_answers : (shape : Shape) (before : Reading) (page fill : ℕ) (after : Reading)
     → HeadGone shape before page fill after → ReadsSo shape before model.reading after
 miss_answers shape before page fill after h =
     so shape before after (λ core. ring.link_into shape.pages core.links fill ≢ header_link page fill) model.reading
-        h.step
+    h.step

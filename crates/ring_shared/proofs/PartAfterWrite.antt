@@ -10,4 +10,4 @@ use Rattle.ring_steps.specs.Notes.{part_after}
 abbrev pub part_after_write : Shape → Writing → ℕ → List ℕ → Writing
 part_after_write shape w moment payload =
     part_after shape (part_after shape (part_after shape w (pushes moment (length payload))) steps)
-        (ends (padded payload))
+    (ends (padded payload))

@@ -43,7 +43,7 @@ pub step_leads : (v : WriterValue) → AreWriterFields v
     → Leads v.shape v.part (part_after v.shape v.part model.steps)
 step_leads v w own = leads_after v.shape v.part model.steps
     (λ c reached is.
-        (steps_are_private v.shape.pages v.shape.size v.shape.start v.frames c (frames_there v w c is) own, tt))
+    (steps_are_private v.shape.pages v.shape.size v.shape.start v.frames c (frames_there v w c is) own, tt))
 
 -- ---- calls
 
@@ -56,13 +56,13 @@ private_call old event result new w shape table noted pages made =
     let n = old.shape.pages in let size = old.shape.size in let start = old.shape.start in
     let m = made n size start w.core w.reached w.frames_are in
     let after_is : writing_after old.part.made record { event = event; answer = m.answer } (writing_of [] m.after)
-            ≡ new.part =
-        part_after_is old.shape old.part (writer_made_of w.reached) w.core event m.answer m.after w.part_is m.private
-                m.step ∙ sym noted in
+    ≡ new.part =
+    part_after_is old.shape old.part (writer_made_of w.reached) w.core event m.answer m.after w.part_is m.private
+    m.step ∙ sym noted in
     let stays =
-        ap (λ (d : Core). d.open_pages)
-            (changes_privately w.core m.after
-             (private_result n size w.core event m.answer m.after m.private (cases_of m.step))) in
+    ap (λ (d : Core). d.open_pages)
+    (changes_privately w.core m.after
+    (private_result n size w.core event m.answer m.after m.private (cases_of m.step))) in
     record {
       shape_is = shape;
       table_is = table;
@@ -81,16 +81,16 @@ private_call old event result new w shape table noted pages made =
         core = m.after;
         reached =
             reached_as old.shape new.shape m.after (sym shape)
-                (reached_on n size start w.core event m.answer m.after w.reached m.step);
+            (reached_on n size start w.core event m.answer m.after w.reached m.step);
         part_is =
             part_as old.shape new.shape m.after (sym shape)
-                (reached_on n size start w.core event m.answer m.after w.reached m.step) new.part
+            (reached_on n size start w.core event m.answer m.after w.reached m.step) new.part
             (part_then n size start w.core event m.answer m.after w.reached m.step old.part new.part
-             (of_writer w.core event m.private).0 w.part_is after_is);
+            (of_writer w.core event m.private).0 w.part_is after_is);
         frames_are = subst (λ (s : Shape). AreFrames s.pages s.size s.start new.frames m.after) (sym shape) m.are;
         pages_are =
             ap (λ (x : Writing). x.open_pages) (sym after_is) ∙ stays ∙ ap (λ (x : Writing). x.open_pages) w.part_is
-                ∙ w.pages_are ∙ sym pages;
+            ∙ w.pages_are ∙ sym pages;
       };
     }
 

@@ -32,14 +32,16 @@ pub push_answers : (n size : ℕ) (c : Core) (moment len : ℕ) (answer : Answer
     → IsPushed moment len answer c.frames after.frames ⊎ ((why : WriteFault) × (answer ≡ refused why) × (after ≡ c))
 push_answers n size c moment len answer after (push_step m l e few short early a is) =
     inl
-        record { frame = _;
-                top = ap (λ (d : Core). d.frames) is;
-                kind_is =
-                    (let same : for_record m l ≡ for_record moment len =
-                         (let events : pushes moment len ≡ pushes m l = e in cc) in
-                     same);
-                state_is = refl;
-                answer_is = a }
+    record {
+      frame = _;
+      top = ap (λ (d : Core). d.frames) is;
+      kind_is =
+          (let same : for_record m l ≡ for_record moment len =
+          (let events : pushes moment len ≡ pushes m l = e in cc) in
+          same);
+      state_is = refl;
+      answer_is = a;
+    }
 push_answers n size c moment len answer after (push_refused m l why e why_not a is) = inr (why, a, is)
 push_answers n size c moment len answer after (close_step e few a is) = absurd (subst IsPush e tt)
 push_answers n size c moment len answer after (close_refused e many a is) = absurd (subst IsPush e tt)
@@ -65,9 +67,9 @@ IsEnd wishes = ⊥
 
 -- the frame leaves
 pub record HasEnded (c : Core) (frame : Frame) (below : List Frame) (answer : Answer) (after : List Frame) : Type 0
-    where
-  pub answer_is : answer ≡ end_answer below
-  pub frames_are : after ≡ frames_after_leave c frame below
+  where
+    pub answer_is : answer ≡ end_answer below
+    pub frames_are : after ≡ frames_after_leave c frame below
 
 abbrev first_of : Frame → List Frame → Frame
 first_of frame [] = frame

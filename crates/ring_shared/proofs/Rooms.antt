@@ -57,10 +57,10 @@ module _ (shape : Shape) (before : Writing) (event : model.Event) (result : Answ
       → rooms_of after.frames ≡ rooms_of before.frames
   refused_call may fault e =
       same_mapped room_of (kinds_of call.core.frames) (kinds_of call.next.frames) (rooms_of before.frames)
-          (rooms_of after.frames) old_is new_is
+      (rooms_of after.frames) old_is new_is
       (ap (λ (c : Core). kinds_of c.frames)
-       (same_refused shape.pages shape.size call.core event call.answer call.next may (refusal_of fault)
-        (reports_so (Refused fault) e) (cases_of call.step)))
+      (same_refused shape.pages shape.size call.core event call.answer call.next may (refusal_of fault)
+      (reports_so (Refused fault) e) (cases_of call.step)))
 
 module _ (shape : Shape) (before : Writing) (result : Answer) (after : Writing) where
   -- a frame that is pushed has the room of its record
@@ -69,10 +69,10 @@ module _ (shape : Shape) (before : Writing) (result : Answer) (after : Writing) 
   push_rooms moment len call e =
       let event = model.pushes moment len in
       more_mapped room_of (kinds_of call.core.frames) (kinds_of call.next.frames) (rooms_of before.frames)
-          (rooms_of after.frames) (old_is shape before event result after call)
-          (new_is shape before event result after call) (for_record moment len)
+      (rooms_of after.frames) (old_is shape before event result after call)
+      (new_is shape before event result after call) (for_record moment len)
       (pushed_kinds shape.pages shape.size call.core call.answer call.next moment len call.step
-       (reports_so shape before event result after call Pushed e))
+      (reports_so shape before event result after call Pushed e))
 
   -- and one that closes has none
   pub close_rooms : IsCall shape before model.pushes_close result after → result ≡ Pushed
@@ -80,10 +80,10 @@ module _ (shape : Shape) (before : Writing) (result : Answer) (after : Writing) 
   close_rooms call e =
       let event = model.pushes_close in
       more_mapped room_of (kinds_of call.core.frames) (kinds_of call.next.frames) (rooms_of before.frames)
-          (rooms_of after.frames) (old_is shape before event result after call)
-          (new_is shape before event result after call) for_close
+      (rooms_of after.frames) (old_is shape before event result after call)
+      (new_is shape before event result after call) for_close
       (closing_kinds shape.pages shape.size call.core call.answer call.next call.step
-       (reports_so shape before event result after call Pushed e))
+      (reports_so shape before event result after call Pushed e))
 
   -- one that ends above others leaves them
   pub end_rooms : (payload : List ℕ) → IsCall shape before (model.ends payload) result after → result ≡ Ended Pending
@@ -91,10 +91,10 @@ module _ (shape : Shape) (before : Writing) (result : Answer) (after : Writing) 
   end_rooms payload call e =
       let event = model.ends payload in
       fewer_mapped room_of (kinds_of call.core.frames) (kinds_of call.next.frames) (rooms_of before.frames)
-          (rooms_of after.frames) (old_is shape before event result after call)
-          (new_is shape before event result after call)
+      (rooms_of after.frames) (old_is shape before event result after call)
+      (new_is shape before event result after call)
       (ended_kinds shape.pages shape.size call.core call.answer call.next payload call.step
-       (reports_so shape before event result after call (Ended Pending) e))
+      (reports_so shape before event result after call (Ended Pending) e))
 
   -- what is refused keeps them
   pub push_refused_rooms : (moment len : ℕ) → IsCall shape before (model.pushes moment len) result after
@@ -116,7 +116,7 @@ module _ (shape : Shape) (before : Writing) (result : Answer) (after : Writing) 
         → KeepsKinds reported (kinds_of call.core.frames) (kinds_of call.next.frames)
     steps_kinds to reported e so =
         stepped_kinds shape.pages shape.size call.core call.answer call.next call.step reported
-            (so (reports_so shape before model.steps result after call to e))
+        (so (reports_so shape before model.steps result after call to e))
 
     before_is : rooms_of before.frames ≡ map_kinds room_of (kinds_of call.core.frames)
     before_is = old_is shape before model.steps result after call
@@ -128,27 +128,27 @@ module _ (shape : Shape) (before : Writing) (result : Answer) (after : Writing) 
     pub going_rooms : result ≡ Going → rooms_of after.frames ≡ rooms_of before.frames
     going_rooms e =
         same_mapped room_of (kinds_of call.core.frames) (kinds_of call.next.frames) (rooms_of before.frames)
-            (rooms_of after.frames) before_is after_is (steps_kinds Going model.going e (λ t. t))
+        (rooms_of after.frames) before_is after_is (steps_kinds Going model.going e (λ t. t))
 
     pub reserved_rooms : (number : RecordNo) → result ≡ Reserved number → rooms_of after.frames ≡ rooms_of before.frames
     reserved_rooms number e =
         same_mapped room_of (kinds_of call.core.frames) (kinds_of call.next.frames) (rooms_of before.frames)
-            (rooms_of after.frames) before_is after_is
-            (steps_kinds (Reserved number) (model.reserved_as number.0) e (λ t. t))
+        (rooms_of after.frames) before_is after_is
+        (steps_kinds (Reserved number) (model.reserved_as number.0) e (λ t. t))
 
     -- one that is gone leaves those below it
     pub gone_rooms : result ≡ Gone → IsOneMore (rooms_of before.frames) (rooms_of after.frames)
     gone_rooms e =
         fewer_mapped room_of (kinds_of call.core.frames) (kinds_of call.next.frames) (rooms_of before.frames)
-            (rooms_of after.frames) before_is after_is (steps_kinds Gone model.gone e (λ t. t))
+        (rooms_of after.frames) before_is after_is (steps_kinds Gone model.gone e (λ t. t))
 
     -- and so one that is refused, if there are others
     pub refused_rooms : (fault : WriteFault) → result ≡ Refused fault
         → AreOthersLeft (rooms_of before.frames) (rooms_of after.frames)
     refused_rooms fault e =
         others_mapped room_of (kinds_of call.core.frames) (kinds_of call.next.frames) (rooms_of before.frames)
-            (rooms_of after.frames) before_is after_is
-            (steps_kinds (Refused fault) (model.refused (refusal_of fault)) e (λ t. t))
+        (rooms_of after.frames) before_is after_is
+        (steps_kinds (Refused fault) (model.refused (refusal_of fault)) e (λ t. t))
 
 -- ---- of a frame that is stepped as far as it gets
 
@@ -169,9 +169,11 @@ module _ (shape : Shape) (result : Answer) (after : Writing) (goes_on : IsRefusa
   leaves_last : (below : List Frame) (before : Writing) (answer : Answer) → answer ≡ result
       → Leaves shape below before answer after → HasLast shape before result after
   leaves_last below _ _ e (is_gone before between last answer goes call top) =
-      record { between = between;
-              goes = goes;
-              last = subst (λ (x : Answer). IsCall shape between model.steps x after) e call }
+      record {
+        between = between;
+        goes = goes;
+        last = subst (λ (x : Answer). IsCall shape between model.steps x after) e call;
+      }
   leaves_last below _ _ e (was_refused before between next last frame fault answer goes call top is l) =
       absurd (goes_on (fault, sym e))
 
@@ -197,16 +199,16 @@ module _ (shape : Shape) (before : Writing) (result : Answer) (after : Writing)
   pub finished_rooms : (number : RecordNo) → result ≡ Reserved number → rooms_of after.frames ≡ rooms_of before.frames
   finished_rooms number e =
       let h =
-          top_last shape result after (λ (fault, f). let both : Reserved number ≡ Refused fault = sym e ∙ f in cc)
-              before.frames before finishes in
+      top_last shape result after (λ (fault, f). let both : Reserved number ≡ Refused fault = sym e ∙ f in cc)
+      before.frames before finishes in
       reserved_rooms shape h.between result after h.last number e ∙ goes_rooms shape before h.between h.goes
 
   -- and one that is gone leaves those below it
   pub finished_gone : result ≡ Gone → IsOneMore (rooms_of before.frames) (rooms_of after.frames)
   finished_gone e =
       let h =
-          top_last shape result after (λ (fault, f). let both : Gone ≡ Refused fault = sym e ∙ f in cc) before.frames
-              before finishes in
+      top_last shape result after (λ (fault, f). let both : Gone ≡ Refused fault = sym e ∙ f in cc) before.frames
+      before finishes in
       let (room, is) = gone_rooms shape h.between result after h.last e in
       (room, sym (goes_rooms shape before h.between h.goes) ∙ is)
 
@@ -228,17 +230,17 @@ module _ (shape : Shape) (fault : WriteFault) (after : Writing) where
       → IsCall shape between model.steps result after → AreOthersLeft (rooms_of before.frames) (rooms_of after.frames)
   refused_last before between result reported goes call top next others is =
       refused_rooms shape between result after call fault reported top next others
-          (goes_rooms shape before between goes ∙ is)
+      (goes_rooms shape before between goes ∙ is)
 
   refused_leaving : (frame : Frame) (below : List Frame) (before : Writing) (answer : Answer)
       → before.frames ≡ frame ∷ below → Leaves shape below before answer after
       → AreOthersLeft (rooms_of before.frames) (rooms_of after.frames)
   refused_leaving frame below before answer at l top next others is =
       ap rooms_of (left_frames shape below before answer after l)
-          ∙ same_others (room_of frame.kind) (rooms_of below) top next others (sym (ap rooms_of at) ∙ is)
+      ∙ same_others (room_of frame.kind) (rooms_of below) top next others (sym (ap rooms_of at) ∙ is)
 
   refused_frame : (kind : Purpose) (state : Progress) (frame : Frame) (below : List Frame) (before : Writing)
-          (result : Answer) → result ≡ Refused fault → before.frames ≡ frame ∷ below
+      (result : Answer) → result ≡ Refused fault → before.frames ≡ frame ∷ below
       → FinishesFrame shape kind state below before result after
       → AreOthersLeft (rooms_of before.frames) (rooms_of after.frames)
   refused_frame (for_record moment len) waiting frame below before result reported at r =
@@ -308,12 +310,13 @@ top_room v w slot on_top fits =
     let at : w.core.frames ≡ t.frame ∷ t.below = ap (λ (p : Writing). p.frames) w.part_is ∙ t.top in
     let agree = top_agrees w.core t.frame t.below at (kept_now v w).stack in
     let record_is : IsForRecord t.frame.kind =
-        (subst (λ (s : Progress). MayBeIn t.frame.kind s t.frame.phase) t.state_is agree.0).0 in
-    (rooms_of t.below,
-     ap rooms_of t.top
-         ∙ ap (λ (room : Option ℕ). room ∷ rooms_of t.below)
-             (room_of_record t.frame.kind slot.place.len record_is
-              (λ moment len is. fits t.frame t.below moment len t.top is)))
+    (subst (λ (s : Progress). MayBeIn t.frame.kind s t.frame.phase) t.state_is agree.0).0 in (
+      rooms_of t.below,
+      ap rooms_of t.top
+          ∙ ap (λ (room : Option ℕ). room ∷ rooms_of t.below)
+          (room_of_record t.frame.kind slot.place.len record_is
+          (λ moment len is. fits t.frame t.below moment len t.top is)),
+    )
 
 -- it is the first of the rooms
 pub same_room : (bytes : ℕ) (below : List (Option ℕ)) (v : WriterValue) → rooms v ≡ Some bytes ∷ below → (long : ℕ)

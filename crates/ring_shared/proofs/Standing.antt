@@ -28,7 +28,7 @@ pub frames_like : {made others : List WriterMade} (shape : Shape) (frames : Fram
 frames_like shape frames c other are same =
     same_frames shape.pages shape.size shape.start frames c other are
     (ap (λ (w : Writing). w.frames) same) (ap (λ (w : Writing). w.history) same) (ap (λ (w : Writing). w.done) same)
-        (ap (λ (w : Writing). w.opened) same)
+    (ap (λ (w : Writing). w.opened) same)
 
 module _ (v : WriterValue) (w : AreWriterFields v) where
   pub kept_now : IsRingKept v.shape.pages v.shape.size v.shape.start w.core
@@ -48,7 +48,7 @@ module _ (v : WriterValue) (w : AreWriterFields v) where
   phase_shown phase some at =
       let t = top_in w.core w.part_is some in
       subst (λ (fs : List Frame). IsTopIn fs phase) (sym t.is_top ∙ ap (λ (p : Writing). p.frames) w.part_is)
-          (t.phase_is ∙ at)
+      (t.phase_is ∙ at)
 
   -- the writer's fields after a step
   pub made : (new : WriterValue) (sees : Core → Type 0) (answer : model.Answer) (result : Answer)
@@ -64,26 +64,28 @@ module _ (v : WriterValue) (w : AreWriterFields v) where
     shape_is = shape_is;
     table_is = table_is;
     call =
-        record { core = s.core;
-                next = s.next;
-                answer = answer;
-                is_own = refl;
-                reached = s.reached;
-                before_is = s.before_is;
-                step = s.step;
-                after_is = s.after_is;
-                reports = reports };
+        record {
+          core = s.core;
+          next = s.next;
+          answer = answer;
+          is_own = refl;
+          reached = s.reached;
+          before_is = s.before_is;
+          step = s.step;
+          after_is = s.after_is;
+          reports = reports;
+        };
     writer = record {
       core = s.next;
       reached =
           reached_as v.shape new.shape s.next (sym shape_is)
-              (reached_on v.shape.pages v.shape.size v.shape.start s.core model.steps answer s.next s.reached s.step);
+          (reached_on v.shape.pages v.shape.size v.shape.start s.core model.steps answer s.next s.reached s.step);
       part_is =
           part_as v.shape new.shape s.next (sym shape_is)
-              (reached_on v.shape.pages v.shape.size v.shape.start s.core model.steps answer s.next s.reached s.step)
-              new.part
+          (reached_on v.shape.pages v.shape.size v.shape.start s.core model.steps answer s.next s.reached s.step)
+          new.part
           (part_then v.shape.pages v.shape.size v.shape.start s.core model.steps answer s.next s.reached s.step v.part
-           new.part refl s.before_is s.after_is);
+          new.part refl s.before_is s.after_is);
       frames_are = subst (λ (shape : Shape). FramesIn shape new.frames s.next) (sym shape_is) are;
       pages_are = sym (ap (λ (p : Writing). p.open_pages) s.after_is) ∙ pages;
     };

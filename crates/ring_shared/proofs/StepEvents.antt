@@ -180,7 +180,7 @@ module _ (shape : Shape) (before after : Writing) (result : Answer) (frame : Fra
       reported.history_events
   appends =
       subst (λ (fs : List Frame). TopAppends shape.pages reported.core fs reported.answer reported.history_events)
-          (ap (λ (w : Writing). w.frames) reported.before_is ∙ top) reported.appends
+      (ap (λ (w : Writing). w.frames) reported.before_is ∙ top) reported.appends
 
   stack_before : (writer_after before.history).stack ≡ pushed_onto frame.kind frame.state (pushed_frames below)
   stack_before =
@@ -193,16 +193,16 @@ module _ (shape : Shape) (before after : Writing) (result : Answer) (frame : Fra
   stack_after =
       ap (λ (w : Writing). (writer_after w.history).stack) (sym call.after_is)
       ∙ (reached_kept shape.pages shape.size shape.start call.next
-         (reached_further shape.pages shape.size shape.start call.core model.steps call.answer call.next call.reached
-          call.step)).history.stack
+      (reached_further shape.pages shape.size shape.start call.core model.steps call.answer call.next call.reached
+      call.step)).history.stack
       ∙ ap (λ (w : Writing). pushed_frames w.frames) call.after_is
 
   stack_moved : (writer_after after.history).stack
       ≡ (has_events (writer_after before.history) reported.history_events).stack
   stack_moved =
       ap (λ (h : List HistoryEvent). (writer_after h).stack) reported.history_is
-          ∙ ap (λ (w : WriterState). w.stack)
-              (writer-append record { stack = []; records = [] } before.history reported.history_events)
+      ∙ ap (λ (w : WriterState). w.stack)
+      (writer-append record { stack = []; records = [] } before.history reported.history_events)
 
   -- a record frame that goes on begins fills at most
   pub going_fills : IsReserving frame.kind frame.state → result ≡ Going
@@ -233,25 +233,29 @@ module _ (shape : Shape) (before after : Writing) (result : Answer) (frame : Fra
       still (inl s) = has_left next above s
       still (inr (k, s)) =
           absurd (not_longer close_frame (pushed_frames below)
-                  (sym same ∙ ap pushed_frames above ∙ close_pushed next.kind next.state (pushed_frames below) k s))
+          (sym same ∙ ap pushed_frames above ∙ close_pushed next.kind next.state (pushed_frames below) k s))
   popped same (is_gone a at) =
       has_gone (λ e. gone_not_going a (subst (λ (x : Answer). IsAnswerOf shape.size x call.answer) e call.reports))
-          (frames_after shape before after result call below at)
+      (frames_after shape before after result call below at)
 
   -- a frame that has left acts for the reader
   pub left_step : frame.state ≡ left
       → (events : List HistoryEvent) × AreForReader events × (after.history ≡ before.history ++ events)
-          × LeftOrGone below result after.frames
+      × LeftOrGone below result after.frames
   left_step s =
       let are : AreForReader reported.history_events =
-          left_acts shape.pages reported.core below reported.answer reported.history_events frame.kind frame.state
-              frame.phase s appends in
+      left_acts shape.pages reported.core below reported.answer reported.history_events frame.kind frame.state
+      frame.phase s appends in
       let same : pushed_frames after.frames ≡ pushed_frames below =
       sym stack_after ∙ stack_moved
-          ∙ ap (λ (w : WriterState). w.stack) (reader_keeps (writer_after before.history) reported.history_events are)
-      ∙ stack_before ∙ left_pushed frame.kind frame.state (pushed_frames below) s in
-      (reported.history_events, are, reported.history_is,
-       popped same (leaving_step shape before after result call frame below top (left_leaves frame.kind frame.state s)))
+      ∙ ap (λ (w : WriterState). w.stack) (reader_keeps (writer_after before.history) reported.history_events are)
+      ∙ stack_before ∙ left_pushed frame.kind frame.state (pushed_frames below) s in (
+        reported.history_events,
+        are,
+        reported.history_is,
+        popped same
+            (leaving_step shape before after result call frame below top (left_leaves frame.kind frame.state s)),
+      )
     where
       left_leaves : (kind : Purpose) (state : Progress) → state ≡ left → IsLeaving kind state
       left_leaves (for_record moment len) state e = subst (IsLeaving (for_record moment len)) (sym e) tt
@@ -261,7 +265,7 @@ module _ (shape : Shape) (before after : Writing) (result : Answer) (frame : Fra
   pub close_step : frame.kind ≡ for_close → frame.state ≡ waiting → CloseStep below before result after
   close_step k s =
       by (close_acts shape.pages reported.core below reported.answer reported.history_events frame.kind frame.state
-          frame.phase k s appends)
+      frame.phase k s appends)
     where
       stood : (writer_after before.history).stack ≡ close_frame ∷ pushed_frames below
       stood = stack_before ∙ close_pushed frame.kind frame.state (pushed_frames below) k s
@@ -281,12 +285,12 @@ module _ (shape : Shape) (before after : Writing) (result : Answer) (frame : Fra
               → CloseStep below before result after
           still (inl t) =
               absurd (not_longer close_frame (pushed_frames below)
-                      (sym (left_pushed next.kind next.state (pushed_frames below) t) ∙ sym (ap pushed_frames above)
-                       ∙ same))
+              (sym (left_pushed next.kind next.state (pushed_frames below) t) ∙ sym (ap pushed_frames above)
+              ∙ same))
           still (inr (nk, ns)) = waits_on next above nk ns h
       on h same (is_gone a at) =
           absurd (not_longer close_frame (pushed_frames below)
-                  (sym (ap pushed_frames (frames_after shape before after result call below at)) ∙ same))
+          (sym (ap pushed_frames (frames_after shape before after result call below at)) ∙ same))
 
       popping : (w : WriterState) (fills : List HistoryEvent) → AreFills fills
           → w.stack ≡ close_frame ∷ pushed_frames below
@@ -296,37 +300,37 @@ module _ (shape : Shape) (before after : Writing) (result : Answer) (frame : Fra
           ∙ ap (λ (stack : List PushedFrame). (after_event stack w.records (leave None)).stack) e
 
       by : (reported.history_events ≡ [])
-              ⊎ ((fills : List HistoryEvent) × AreFills fills × (reported.history_events ≡ fills ++ leave None ∷ []))
+          ⊎ ((fills : List HistoryEvent) × AreFills fills × (reported.history_events ≡ fills ++ leave None ∷ []))
           → CloseStep below before result after
       by (inl none) =
           on (reported.history_is ∙ ap (λ (events : List HistoryEvent). before.history ++ events) none
-              ∙ append-nil before.history)
+          ∙ append-nil before.history)
           (sym stack_after ∙ stack_moved
-           ∙ ap (λ (events : List HistoryEvent). (has_events (writer_after before.history) events).stack) none ∙ stood)
-              leaving
+          ∙ ap (λ (events : List HistoryEvent). (has_events (writer_after before.history) events).stack) none ∙ stood)
+          leaving
       by (inr (fills, are, is)) =
           closes fills are (reported.history_is ∙ ap (λ (events : List HistoryEvent). before.history ++ events) is)
           (popped
-           (sym stack_after ∙ stack_moved
-            ∙ ap (λ (events : List HistoryEvent). (has_events (writer_after before.history) events).stack) is
-            ∙ popping (writer_after before.history) fills are stood) leaving)
+          (sym stack_after ∙ stack_moved
+          ∙ ap (λ (events : List HistoryEvent). (has_events (writer_after before.history) events).stack) is
+          ∙ popping (writer_after before.history) fills are stood) leaving)
 
 module _ (shape : Shape) (before after : Writing) (fault : WriteFault) (frame : Frame) (below : List Frame)
     (top : before.frames ≡ frame ∷ below) (call : IsCall shape before model.steps (Refused fault) after) where
   refused_history : after.history ≡ before.history ++ leave None ∷ []
   refused_history =
       refusals_append shape before model.steps fault after call
-          ∙ ap (λ (fs : List Frame). before.history ++ events_of_refusal model.steps fs) top
+      ∙ ap (λ (fs : List Frame). before.history ++ events_of_refusal model.steps fs) top
 
   refused_pops : frame.state ≡ waiting → pushed_frames after.frames ≡ pushed_frames below
   refused_pops s =
       sym (stack_after shape before after (Refused fault) frame below top call)
       ∙ ap (λ (h : List HistoryEvent). (writer_after h).stack) refused_history
       ∙ ap (λ (w : WriterState). w.stack)
-          (writer-append record { stack = []; records = [] } before.history (leave None ∷ []))
+      (writer-append record { stack = []; records = [] } before.history (leave None ∷ []))
       ∙ ap (λ (stack : List PushedFrame). (after_event stack (writer_after before.history).records (leave None)).stack)
       (stack_before shape before after (Refused fault) frame below top call
-       ∙ ap (λ (x : Progress). pushed_onto frame.kind x (pushed_frames below)) s)
+      ∙ ap (λ (x : Progress). pushed_onto frame.kind x (pushed_frames below)) s)
 
   -- a record frame that is refused has left, or is gone
   pub refused_step : IsReserving frame.kind frame.state → LeftOrGone below (Refused fault) after.frames
@@ -339,4 +343,4 @@ module _ (shape : Shape) (before after : Writing) (fault : WriteFault) (frame : 
           absurd (let both : model.refused (refusal_of fault) ≡ model.reserved_as number = sym call.reports ∙ a in cc)
       by (is_refused why a leaving) =
           popped shape before after (Refused fault) frame below top call
-              (refused_pops (reserving_waits frame.kind frame.state is)) leaving
+          (refused_pops (reserving_waits frame.kind frame.state is)) leaving

@@ -39,7 +39,7 @@ pub record Stays (shape : Shape) (before after : Reading) (reader : Reader) : Ty
 -- a reader that knows no less, and took no more
 pub nothing : (shape : Shape) (before after : Reading) (reader : Reader) → Stays shape before after reader
     → reader.taken ≡ before.reader.taken → reader.expected ≡ before.reader.expected → before.reader.hint ≤ reader.hint
-        → before.reader.seen ≤ reader.seen → TakesNothing before after
+    → before.reader.seen ≤ reader.seen → TakesNothing before after
 nothing shape before after reader s taken expected hint seen =
     let at_hint = ap (λ (x : Reader). x.hint) s.reader_is in
     let at_seen = ap (λ (x : Reader). x.seen) s.reader_is in
@@ -80,19 +80,19 @@ module _ (shape : Shape) (before after : Reading) (sees : Core → Type 0) (answ
 
 -- after a load of a link
 pub loaded : (shape : Shape) (before : Reading) (link : Link) (reported : model.Answer) (phase : ReaderPhase) (hint : ℕ)
-        (after : Reading) → LinkLoaded shape before link reported phase hint after
+    (after : Reading) → LinkLoaded shape before link reported phase hint after
     → Stays shape before after (record before.reader { phase = phase; hint = hint })
 loaded shape before link reported phase hint after h =
     stays shape before after _ reported h.step (record before.reader { phase = phase; hint = hint }) before.spare_link
-        false _ h.after_is
+    false _ h.after_is
 
 -- after a load of the number of closed fills
 pub counted : (shape : Shape) (before : Reading) (done : ℕ) (reported : model.Answer) (phase : ReaderPhase)
-        (after : Reading) → DoneLoaded shape before done reported phase after
+    (after : Reading) → DoneLoaded shape before done reported phase after
     → Stays shape before after (record before.reader { phase = phase; seen = done })
 counted shape before done reported phase after h =
     stays shape before after _ reported h.step (record before.reader { phase = phase; seen = done }) before.spare_link
-        before.keeps_spare _ h.after_is
+    before.keeps_spare _ h.after_is
 
 -- no closed fill is unread
 pub none_found : (shape : Shape) (before : Reading) (done : ℕ) (reported : model.Answer) (after : Reading)
@@ -107,7 +107,7 @@ none_found shape before done reported after h hint =
     let hint_done = ap (λ (x : Reader). x.hint) s.reader_is ∙ hint in record {
       nothing =
           nothing shape before after (record before.reader { phase = loading_head; seen = done }) s refl refl
-              (omega arith) low;
+          (omega arith) low;
       seen_le = low;
       hint_is = hint_done;
       seen_is = ap (λ (x : Reader). x.seen) s.reader_is;

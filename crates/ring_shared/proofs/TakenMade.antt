@@ -36,15 +36,17 @@ takes_made shape before result after (has_answer steps between few reads answere
       read_on = are;
       ends_so =
           inr
-              record { few = subst (λ (n : ℕ). n < most_steps shape) (sym count) few;
-                      one = one;
-                      last_is = refl;
-                      reported = answered.reported;
-                      exchange_is = refl;
-                      reports = answered.reports };
+          record {
+            few = subst (λ (n : ℕ). n < most_steps shape) (sym count) few;
+            one = one;
+            last_is = refl;
+            reported = answered.reported;
+            exchange_is = refl;
+            reports = answered.reports;
+          };
       made_is =
           answered.step.one_more
-              ∙ (ap (λ (xs : List ReaderMade). xs ++ one ∷ []) made ∙ append_assoc before.made looks (one ∷ []));
+          ∙ (ap (λ (xs : List ReaderMade). xs ++ one ∷ []) made ∙ append_assoc before.made looks (one ∷ []));
     }
 takes_made shape before result after (has_none fill back reads hint is) =
     let (looks, are, count, made) = reads_made shape before _ after reads in record {

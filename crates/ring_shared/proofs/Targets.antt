@@ -32,10 +32,10 @@ pub frames_of : (v : WriterValue) → AreWriterFields v
 frames_of v w = ap (λ (p : Writing). p.frames) (sym w.part_is) ∙ w.frames_are.frames_are
 
 on_top : (frames : List stack.Frame) (phase : Phase) (below : List Phase) (shown : List Frame) (to : Target)
-        (state : Purpose → frames_model.Progress → Type 0) → shown ≡ frames_in_phases frames (phase ∷ below)
+    (state : Purpose → frames_model.Progress → Type 0) → shown ≡ frames_in_phases frames (phase ∷ below)
     → IsTarget (top_of frames) to → (to ≡ target.Step → ⊥)
     → ((f : stack.Frame) → IsTarget (Rattle.std.specs.Prelude.Some f) to
-       → state (kind_of f.purpose) (state_of f.progress)) → IsOnTop shown state
+    → state (kind_of f.purpose) (state_of f.progress)) → IsOnTop shown state
 on_top [] phase below shown to state same is other says = absurd (other is)
 on_top (f ∷ frames) phase below shown to state same is other says =
     record { frame = _; below = _; top = same; is = says f is }
@@ -44,12 +44,12 @@ module _ (v : WriterValue) (w : AreWriterFields v) where
   pub reserving_on_top : IsTarget (top_of v.frames.stack.frames) target.Record → IsOnTop v.part.frames IsReserving
   reserving_on_top is =
       on_top v.frames.stack.frames v.frames.phase v.frames.below v.part.frames target.Record IsReserving (frames_of v w)
-          is (λ e. cc) (λ f at. at)
+      is (λ e. cc) (λ f at. at)
 
   pub leaving_on_top : IsTarget (top_of v.frames.stack.frames) target.End → IsOnTop v.part.frames IsLeaving
   leaving_on_top is =
       on_top v.frames.stack.frames v.frames.phase v.frames.below v.part.frames target.End IsLeaving (frames_of v w) is
-          (λ e. cc) (λ f at. at)
+      (λ e. cc) (λ f at. at)
 
 module _ (shape : Shape) (before : Writing) (result : Answer) (after : Writing) where
   reserving_frame : (kind : Purpose) (state : frames_model.Progress) (below : List Frame) → IsReserving kind state
@@ -82,17 +82,17 @@ module _ (shape : Shape) (before : Writing) (result : Answer) (after : Writing) 
 
   pub finishes_reserving : IsOnTop before.frames IsReserving
       → ((frame : Frame) (below : List Frame) → before.frames ≡ frame ∷ below
-         → Reserves shape frame.kind below before result after) → Finishes shape before result after
+      → Reserves shape frame.kind below before result after) → Finishes shape before result after
   finishes_reserving t r =
       subst (λ (frames : List Frame). FinishesTop shape frames before result after) (sym t.top)
-          (reserving_frame t.frame.kind t.frame.state t.below t.is (r t.frame t.below t.top))
+      (reserving_frame t.frame.kind t.frame.state t.below t.is (r t.frame t.below t.top))
 
   pub finishes_leaving : IsOnTop before.frames IsLeaving
       → ((frame : Frame) (below : List Frame) → before.frames ≡ frame ∷ below → Leaves shape below before result after)
       → Finishes shape before result after
   finishes_leaving t l =
       subst (λ (frames : List Frame). FinishesTop shape frames before result after) (sym t.top)
-          (leaving_frame t.frame.kind t.frame.state t.below t.is (l t.frame t.below t.top))
+      (leaving_frame t.frame.kind t.frame.state t.below t.is (l t.frame t.below t.top))
 
   finishes_in : (frames : List stack.Frame) (phase : Phase) (below : List Phase)
       → before.frames ≡ frames_in_phases frames (phase ∷ below) → IsTarget (top_of frames) target.Step
@@ -101,7 +101,7 @@ module _ (shape : Shape) (before : Writing) (result : Answer) (after : Writing) 
       subst (λ (fs : List Frame). FinishesTop shape fs before result after) (sym same) call
   finishes_in (f ∷ frames) phase below same (number, is) call =
       subst (λ (fs : List Frame). FinishesTop shape fs before result after) (sym same)
-          (reserved_frame (kind_of f.purpose) (state_of f.progress) number _ is call)
+      (reserved_frame (kind_of f.purpose) (state_of f.progress) number _ is call)
 
 pub finishes_step : (v : WriterValue) (w : AreWriterFields v) (result : Answer) (after : Writing)
     → IsTarget (top_of v.frames.stack.frames) target.Step → IsCall v.shape v.part model.steps result after
@@ -130,7 +130,7 @@ state_lacks : (f : stack.Frame) (kind : Purpose) → IsReserving kind (state_of 
 state_lacks f kind is = progress_lacks f.progress kind is
 
 lacks_in : (frames : List stack.Frame) (phase : Phase) (phases : List Phase) (shown : List Frame) (frame : Frame)
-        (below : List Frame) → shown ≡ frames_in_phases frames (phase ∷ phases) → shown ≡ frame ∷ below
+    (below : List Frame) → shown ≡ frames_in_phases frames (phase ∷ phases) → shown ≡ frame ∷ below
     → IsReserving frame.kind frame.state → LacksSlot frames
 lacks_in [] phase phases shown frame below same top is = let both : [] ≡ frame ∷ below = sym same ∙ top in absurd (cc)
 lacks_in (f ∷ frames) phase phases shown frame below same top is =

@@ -62,8 +62,8 @@ module _ (v : WriterValue) (w : AreWriterFields v) where
         top = ap (λ (p : Writing). p.frames) (sym w.part_is) ∙ t.is_top;
         is =
             subst (IsLeaving t.frame.kind)
-                (sym (wishing_left t.frame.kind t.frame.state t.frame.phase (t.phase_is ∙ ap phase_of at) agree.0))
-                (has_left t.frame.kind);
+            (sym (wishing_left t.frame.kind t.frame.state t.frame.phase (t.phase_is ∙ ap phase_of at) agree.0))
+            (has_left t.frame.kind);
       }
 
   -- one that closes a fill goes on
@@ -74,7 +74,7 @@ module _ (v : WriterValue) (w : AreWriterFields v) where
       is_going v.shape.size result call.answer call.reports
       (release_answers call.core t.frame t.below call.answer call.next
       (top_stepped v.shape.pages v.shape.size call.core t.frame t.below releasing call.answer call.next t.is_top
-       (t.phase_is ∙ at) call.step))
+      (t.phase_is ∙ at) call.step))
 
 -- ---- by its state
 
@@ -94,10 +94,10 @@ module _ (shape : Shape) (before : Writing) (result : Answer) (after : Writing)
       let kept = reached_kept shape.pages shape.size shape.start call.core call.reached in
       let agree = top_agrees call.core frame below at kept.stack in
       let (answer_is, same) =
-          subst (λ (s : Progress). cases.IdleStep shape.pages shape.size call.core frame below s call.answer call.next)
-              is
+      subst (λ (s : Progress). cases.IdleStep shape.pages shape.size call.core frame below s call.answer call.next)
+      is
       (top_stepped shape.pages shape.size call.core frame below idle call.answer call.next at
-       (reserved_rests frame.kind frame.state frame.phase number is agree.0) call.step) in
+      (reserved_rests frame.kind frame.state frame.phase number is agree.0) call.step) in
       let (reported, reports, reported_is) = is_number shape.size result call.answer number call.reports answer_is in
       record {
         next = frame;
@@ -115,7 +115,7 @@ module _ (shape : Shape) (before : Writing) (result : Answer) (after : Writing)
 
 -- one that makes a single step answers its record's number, or is refused
 step_in : (shape : Shape) (before : Writing) (result : Answer) (after : Writing) (frames : List stack.Frame)
-        (phase : Phase) (below : List Phase) → before.frames ≡ frames_in_phases frames (phase ∷ below)
+    (phase : Phase) (below : List Phase) → before.frames ≡ frames_in_phases frames (phase ∷ below)
     → IsTarget (top_of frames) target.Step → IsCall shape before model.steps result after
     → ReportsTop result after.frames
 step_in shape before result after [] phase below same is call = inr (none_refused shape before result after call same)

@@ -28,7 +28,7 @@ lent_len s payload lent = lent.long ∙ ap (λ (p : Place). p.len) lent.place_is
 
 -- whatever is written, the writer's fields are its part of the ring
 pub stays_writer : (v : WriterValue) (w : AreWriterFields v) (payload : Lent) (lent : IsLent v.frames.stack payload)
-        (part : List ℕ) → length part ≡ length (lent_bytes payload) → StaysFrames v.frames lent.slot
+    (part : List ℕ) → length part ≡ length (lent_bytes payload) → StaysFrames v.frames lent.slot
     → AreWriterFields (with_lent v (with_bytes payload part))
 stays_writer v w payload lent part long stays = record {
   core = w.core;
@@ -36,9 +36,9 @@ stays_writer v w payload lent part long stays = record {
   part_is = w.part_is;
   frames_are =
       subst (λ (s : Stack). AreFrames v.shape.pages v.shape.size v.shape.start (record v.frames { stack = s }) w.core)
-          (sym (lent.in_slot part))
+      (sym (lent.in_slot part))
       (stays v.shape.pages v.shape.size v.shape.start w.core part w.frames_are
-       (long ∙ lent_len v.frames.stack payload lent));
+      (long ∙ lent_len v.frames.stack payload lent));
   pages_are = w.pages_are;
 }
 

@@ -34,8 +34,12 @@ module _ (shape : Shape) where
       → MakesSteps shape before between → Reserves shape kind below between result after
       → Reserves shape kind below before result after
   reserves_past kind below before between after result goes r =
-      record { between = r.between; goes = goes_both before between r.between goes r.goes;
-        last = r.last; ends = r.ends }
+      record {
+        between = r.between;
+        goes = goes_both before between r.between goes r.goes;
+        last = r.last;
+        ends = r.ends;
+      }
 
 -- ---- none, or one
 
@@ -64,8 +68,8 @@ module _ (old new : WriterValue) (top : IsReservingTop old.part.frames) where
       let (frame, below, at, is) = top in
       let first = reserving_first old.shape frame below old.part at is in
       let r =
-          reserving_ends old.shape frame.kind below old.part old.part new.part Gone first call
-              (λ e. let both : Gone ≡ Going = e in cc) in
+      reserving_ends old.shape frame.kind below old.part old.part new.part Gone first call
+      (λ e. let both : Gone ≡ Going = e in cc) in
       absurd (never_gone frame.kind below Gone new.part.frames r.ends refl)
 
   pub turned_once : (result : StepAnswer) → MakesSome old model.steps (as_answer result) new → IsNearer old new
@@ -75,22 +79,22 @@ module _ (old new : WriterValue) (top : IsReservingTop old.part.frames) where
       let going = goes_with result makes.call in
       let (frame, below, at, is) = top in
       let first : IsStillReserving old.shape frame.kind below old.part old.part =
-          reserving_first old.shape frame below old.part at is in
+      reserving_first old.shape frame below old.part at is in
       let less : rank_of new < rank_of old =
-          nearer frame below at (reserving_unnumbered frame.kind frame.state is)
-              (reserving_stands old.shape frame.kind below old.part old.part new.part (as_answer result) first
-               makes.call going) in
+      nearer frame below at (reserving_unnumbered frame.kind frame.state is)
+      (reserving_stands old.shape frame.kind below old.part old.part new.part (as_answer result) first
+      makes.call going) in
       record {
         ring = (makes.shape_is, makes.table_is);
         writer = makes.writer;
         goes =
             one_more old.part new.part at_once
-                (subst (λ (x : Answer). IsCall old.shape old.part model.steps x new.part) going makes.call);
+            (subst (λ (x : Answer). IsCall old.shape old.part model.steps x new.part) going makes.call);
         stands = λ other others there.
             let a : IsStillReserving old.shape other.kind others old.part new.part =
             reserving_on old.shape other.kind others old.part old.part new.part (as_answer result)
             (reserving_first old.shape other others old.part there
-             (reserving_top old.part.frames frame other below others at is there)) makes.call going in
+            (reserving_top old.part.frames frame other below others at is there)) makes.call going in
             (a.frame, a.top, a.kind_is, a.reserves);
         nearer = omega arith;
         payloads = kept;
@@ -105,7 +109,7 @@ turned_on old mid new one two = record {
   writer = two.writer;
   goes =
       goes_both old.shape old.part mid.part new.part one.goes
-          (subst (λ (s : Shape). MakesSteps s mid.part new.part) one.ring.0 two.goes);
+      (subst (λ (s : Shape). MakesSteps s mid.part new.part) one.ring.0 two.goes);
   stands = λ frame below top.
       let (between, at, kind_is, is) = one.stands frame below top in
       let (next, there, same, still) = two.stands between below at in (next, there, same ∙ kind_is, still);
@@ -129,7 +133,7 @@ part_way_turned shape kind below before old new same a t =
       reserves = is;
       ends =
           λ answer after r.
-                 a.ends answer after
-                     (reserves_past shape kind below old.part new.part after answer
-                      (subst (λ (s : Shape). MakesSteps s old.part new.part) same t.goes) r);
+          a.ends answer after
+          (reserves_past shape kind below old.part new.part after answer
+          (subst (λ (s : Shape). MakesSteps s old.part new.part) same t.goes) r);
     }

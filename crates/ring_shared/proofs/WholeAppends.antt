@@ -56,14 +56,16 @@ module _ (shape : Shape) (frame : Frame) (below : List Frame) where
   waits_so : (before between : Writing) → before.frames ≡ frame ∷ below → IsReserving frame.kind frame.state
       → MakesSteps shape before between → Waits before between
   waits_so before _ top is at_once =
-      record { going_on = reserving_first shape frame below before top is;
-              fills = [];
-              are = tt;
-              history_is = sym (append-nil before.history) }
+      record {
+        going_on = reserving_first shape frame below before top is;
+        fills = [];
+        are = tt;
+        history_is = sym (append-nil before.history);
+      }
   waits_so before _ top is (one_more between after goes call) =
       let w = waits_so before between top is goes in
       let (more, are, h) =
-          going_fills shape between after Going w.going_on.frame below w.going_on.top call w.going_on.reserves refl in
+      going_fills shape between after Going w.going_on.frame below w.going_on.top call w.going_on.reserves refl in
       record {
         going_on = reserving_on shape frame.kind below before between after Going w.going_on call refl;
         fills = w.fills ++ more;
@@ -72,37 +74,37 @@ module _ (shape : Shape) (frame : Frame) (below : List Frame) where
       }
 
   module _ (before after : Writing) (top : before.frames ≡ frame ∷ below) (is : IsReserving frame.kind frame.state)
-      where
-    pub record_reserves : (number : RecordNo) → Reserves shape frame.kind below before (Reserved number) after
-        → (fills : List HistoryEvent) × AreFills fills × (number.0 ≡ length (reserved_records before.history))
-            × (after.history ≡ before.history ++ (fills ++ reserve ∷ []))
-    record_reserves number r =
-        let w = waits_so before r.between top is r.goes in
-        let (at, h) =
-            reservations_append shape r.between w.going_on.frame below number after w.going_on.top
-                (reserving_waits w.going_on.frame.kind w.going_on.frame.state w.going_on.reserves) r.last in
-        (
-          w.fills,
-          w.are,
-          at ∙ ap (λ (h : List HistoryEvent). length (reserved_records h)) w.history_is
-              ∙ ap (λ (v : WriterState). length v.records)
-                  (writer-append record { stack = []; records = [] } before.history w.fills
-                   ∙ fills_keep (writer_after before.history) w.fills w.are),
-          history_then before.history r.between.history after.history w.fills (reserve ∷ []) w.history_is h,
-        )
+    where
+      pub record_reserves : (number : RecordNo) → Reserves shape frame.kind below before (Reserved number) after
+          → (fills : List HistoryEvent) × AreFills fills × (number.0 ≡ length (reserved_records before.history))
+          × (after.history ≡ before.history ++ (fills ++ reserve ∷ []))
+      record_reserves number r =
+          let w = waits_so before r.between top is r.goes in
+          let (at, h) =
+          reservations_append shape r.between w.going_on.frame below number after w.going_on.top
+          (reserving_waits w.going_on.frame.kind w.going_on.frame.state w.going_on.reserves) r.last in (
+            w.fills,
+            w.are,
+            at ∙ ap (λ (h : List HistoryEvent). length (reserved_records h)) w.history_is
+                ∙ ap (λ (v : WriterState). length v.records)
+                (writer-append record { stack = []; records = [] } before.history w.fills
+                ∙ fills_keep (writer_after before.history) w.fills w.are),
+            history_then before.history r.between.history after.history w.fills (reserve ∷ []) w.history_is h,
+          )
 
-    pub record_refused : (fault : WriteFault) → Reserves shape frame.kind below before (Refused fault) after
-        → (fills : List HistoryEvent) × AreFills fills × (after.history ≡ before.history ++ (fills ++ leave None ∷ []))
-            × LeftOrGone below (Refused fault) after.frames
-    record_refused fault r =
-        let w = waits_so before r.between top is r.goes in
-        let h = refusals_append shape r.between model.steps fault after r.last in (
-          w.fills,
-          w.are,
-          history_then before.history r.between.history after.history w.fills (leave None ∷ []) w.history_is
-              (h ∙ ap (λ (fs : List Frame). r.between.history ++ events_of_refusal model.steps fs) w.going_on.top),
-          refused_step shape r.between after fault w.going_on.frame below w.going_on.top r.last w.going_on.reserves,
-        )
+      pub record_refused : (fault : WriteFault) → Reserves shape frame.kind below before (Refused fault) after
+          → (fills : List HistoryEvent) × AreFills fills
+          × (after.history ≡ before.history ++ (fills ++ leave None ∷ []))
+          × LeftOrGone below (Refused fault) after.frames
+      record_refused fault r =
+          let w = waits_so before r.between top is r.goes in
+          let h = refusals_append shape r.between model.steps fault after r.last in (
+            w.fills,
+            w.are,
+            history_then before.history r.between.history after.history w.fills (leave None ∷ []) w.history_is
+                (h ∙ ap (λ (fs : List Frame). r.between.history ++ events_of_refusal model.steps fs) w.going_on.top),
+            refused_step shape r.between after fault w.going_on.frame below w.going_on.top r.last w.going_on.reserves,
+          )
 
 -- ---- a frame that has left
 
@@ -124,9 +126,11 @@ module _ (shape : Shape) (below : List Frame) where
 
   acts_then : (before between after : Writing) → ActsForReader before between → ActsForReader between after
       → ActsForReader before after
-  acts_then before between after (one, are, h) (two, and, more) =
-      (one ++ two, reader_joined one two are and,
-       history_then before.history between.history after.history one two h more)
+  acts_then before between after (one, are, h) (two, and, more) = (
+    one ++ two,
+    reader_joined one two are and,
+    history_then before.history between.history after.history one two h more,
+  )
 
   -- it is still there, and has acted for the reader
   record Lingers (before between : Writing) : Type 0 where
@@ -168,8 +172,8 @@ module _ (shape : Shape) (below : List Frame) where
   left_leaves before answer after frame top s
       (was_refused from mid next end other fault last goes call above leaves rest) =
       let l =
-          lingers_on before mid next (Refused fault) call (inr (not_gone other next.frames above))
-              (left_goes before mid frame top s goes) in
+      lingers_on before mid next (Refused fault) call (inr (not_gone other next.frames above))
+      (left_goes before mid frame top s goes) in
       acts_then before next after l.acts (left_leaves next last after l.frame l.top l.state_is rest)
 
   -- ---- a close frame
@@ -237,16 +241,20 @@ module _ (shape : Shape) (below : List Frame) where
           inr (left_so (closes_now before between after fills w.history_is are h) how remains)
   closing_on before between after result call remains (inr t) =
       let l =
-          lingers_on between between after result call remains
-              record { frame = t.frame;
-                      top = t.top;
-                      state_is = t.state_is;
-                      acts = ([], tt, sym (append-nil between.history)) } in
+      lingers_on between between after result call remains
+      record {
+        frame = t.frame;
+        top = t.top;
+        state_is = t.state_is;
+        acts = ([], tt, sym (append-nil between.history));
+      } in
       inr
-          record { frame = l.frame;
-                  top = l.top;
-                  state_is = l.state_is;
-                  acts = closes_then before between after t.acts l.acts }
+      record {
+        frame = l.frame;
+        top = l.top;
+        state_is = l.state_is;
+        acts = closes_then before between after t.acts l.acts;
+      }
 
   close_goes : (before between : Writing) (frame : Frame) → before.frames ≡ frame ∷ below → frame.kind ≡ for_close
       → frame.state ≡ waiting → MakesSteps shape before between → WaitsOn before between ⊎ HasClosed before between
@@ -286,32 +294,32 @@ module _ (shape : Shape) (below : List Frame) where
       (was_refused from mid next end other fault last goes call above leaves rest) =
       ⊎_elim
       (λ (w : WaitsOn before next).
-          same_front before next after w.history_is
-              (close_leaves next last after w.frame w.top w.kind_is w.state_is rest))
+      same_front before next after w.history_is
+      (close_leaves next last after w.frame w.top w.kind_is w.state_is rest))
       (λ (t : HasClosed before next).
-          closes_then before next after t.acts (left_leaves next last after t.frame t.top t.state_is rest))
+      closes_then before next after t.acts (left_leaves next last after t.frame t.top t.state_is rest))
       (closing_on before mid next (Refused fault) call (inr (not_gone other next.frames above))
-       (close_goes before mid frame top k s goes))
+      (close_goes before mid frame top k s goes))
 
 -- ---- `finish_top`
 
 pub finishes_reserve : FinishesReserve
 finishes_reserve shape before frame below number after top is f =
     record_reserves shape frame below before after top is number
-        (finished_reserving shape before (Reserved number) after frame below top f is)
+    (finished_reserving shape before (Reserved number) after frame below top f is)
 
 pub finishes_refused : FinishesRefused
 finishes_refused shape before frame below fault after top is f =
     let (fills, are, h, how) =
-        record_refused shape frame below before after top is fault
-            (finished_reserving shape before (Refused fault) after frame below top f is) in
+    record_refused shape frame below before after top is fault
+    (finished_reserving shape before (Refused fault) after frame below top f is) in
     (fills, are, h)
 
 pub finishes_close : FinishesClose
 finishes_close shape before frame below result after top k s f =
     close_leaves shape below before result after frame top k s
     (finished_leaving shape before result after frame below top f
-     (subst (IsLeaving frame.kind) (sym s) (subst (λ (x : Purpose). IsLeaving x waiting) (sym k) tt)))
+    (subst (IsLeaving frame.kind) (sym s) (subst (λ (x : Purpose). IsLeaving x waiting) (sym k) tt)))
 
 left_is_leaving : (kind : Purpose) (state : Progress) → state ≡ left → IsLeaving kind state
 left_is_leaving (for_record moment len) state e = subst (IsLeaving (for_record moment len)) (sym e) tt
@@ -320,7 +328,7 @@ left_is_leaving for_close state e = subst (IsLeaving for_close) (sym e) tt
 pub finishes_left : FinishesLeft
 finishes_left shape before frame below result after top s f =
     left_leaves shape below before result after frame top s
-        (finished_leaving shape before result after frame below top f (left_is_leaving frame.kind frame.state s))
+    (finished_leaving shape before result after frame below top f (left_is_leaving frame.kind frame.state s))
 
 -- ---- `write`
 
@@ -336,77 +344,80 @@ after_end shape reserved_as ended after payload Full t call (answer, leaves) =
 
 in_order : (history fills for_reader : List HistoryEvent) (first last : HistoryEvent)
     → history ++ (((first ∷ (fills ++ reserve ∷ [])) ++ last ∷ []) ++ for_reader)
-        ≡ history ++ first ∷ (fills ++ reserve ∷ last ∷ for_reader)
+    ≡ history ++ first ∷ (fills ++ reserve ∷ last ∷ for_reader)
 in_order history fills for_reader first last =
     ap (λ (l : List HistoryEvent). history ++ first ∷ l)
     (append_assoc (fills ++ reserve ∷ []) (last ∷ []) for_reader
-     ∙ append_assoc fills (reserve ∷ []) (last ∷ for_reader))
+    ∙ append_assoc fills (reserve ∷ []) (last ∷ for_reader))
 
 pub writes_append : WritesAppend
 writes_append shape before moment payload after w =
     let begun : HasBegun moment (length payload) before w.pushed =
-        (has_begun shape before w.pushed moment (length payload) Pushed w.push (λ (fault, e). cc)).0 in
+    (has_begun shape before w.pushed moment (length payload) Pushed w.push (λ (fault, e). cc)).0 in
     let (fills, are, at, reserves) =
-        record_reserves shape begun.frame before.frames w.pushed w.reserved begun.top begun.reserves w.number
+    record_reserves shape begun.frame before.frames w.pushed w.reserved begun.top begun.reserves w.number
     (subst (λ (k : Purpose). Reserves shape k before.frames w.pushed (Reserved w.number) w.reserved) (sym begun.kind_is)
-     w.reserve) in
+    w.reserve) in
     let t : HasTopRecord (for_record moment (length payload)) before.frames w.reserved.frames =
     (reserved_so (for_record moment (length payload)) before.frames (Reserved w.number) w.reserved.frames w.reserve.ends
-     (λ (fault, e). cc)).0 in
+    (λ (fault, e). cc)).0 in
     let (for_reader, reads, acts) = after_end shape w.reserved w.ended after (padded payload) w.how
     record { frame = t.next; below = before.frames; number = t.number; top = t.top; state_is = t.state_is } w.end
-        w.goes in
+    w.goes in
     let two =
-        history_then before.history w.pushed.history w.reserved.history (push moment (length payload) ∷ [])
-            (fills ++ reserve ∷ []) (pushes_append shape before moment (length payload) w.pushed w.push) reserves in
+    history_then before.history w.pushed.history w.reserved.history (push moment (length payload) ∷ [])
+    (fills ++ reserve ∷ []) (pushes_append shape before moment (length payload) w.pushed w.push) reserves in
     let three =
-        history_then before.history w.reserved.history w.ended.history
-            (push moment (length payload) ∷ (fills ++ reserve ∷ [])) (leave (Some (padded payload)) ∷ []) two
-            (ends_append shape w.reserved (padded payload) w.how w.ended w.end) in
+    history_then before.history w.reserved.history w.ended.history
+    (push moment (length payload) ∷ (fills ++ reserve ∷ [])) (leave (Some (padded payload)) ∷ []) two
+    (ends_append shape w.reserved (padded payload) w.how w.ended w.end) in
     let four =
-        history_then before.history w.ended.history after.history
-            ((push moment (length payload) ∷ (fills ++ reserve ∷ [])) ++ leave (Some (padded payload)) ∷ []) for_reader
-            three acts in
-    (fills, for_reader, are, reads,
-     four ∙ in_order before.history fills for_reader (push moment (length payload)) (leave (Some (padded payload))))
+    history_then before.history w.ended.history after.history
+    ((push moment (length payload) ∷ (fills ++ reserve ∷ [])) ++ leave (Some (padded payload)) ∷ []) for_reader
+    three acts in (
+      fills,
+      for_reader,
+      are,
+      reads,
+      four ∙ in_order before.history fills for_reader (push moment (length payload)) (leave (Some (padded payload))),
+    )
 
 pushed_and_refused : (shape : Shape) (before : Writing) (moment len : ℕ) (fault : WriteFault) (after : Writing)
     → IsRefusedPartWay shape before moment len fault after
     → (fills for_reader : List HistoryEvent) × AreFills fills × AreForReader for_reader
-        × (after.history ≡ before.history ++ push moment len ∷ (fills ++ leave None ∷ for_reader))
+    × (after.history ≡ before.history ++ push moment len ∷ (fills ++ leave None ∷ for_reader))
 pushed_and_refused shape before moment len fault after r =
     let begun : HasBegun moment len before r.pushed =
-        (has_begun shape before r.pushed moment len Pushed r.push (λ (f, e). cc)).0 in
+    (has_begun shape before r.pushed moment len Pushed r.push (λ (f, e). cc)).0 in
     let (fills, are, refuses, how) =
-        record_refused shape begun.frame before.frames r.pushed r.refused begun.top begun.reserves fault
+    record_refused shape begun.frame before.frames r.pushed r.refused begun.top begun.reserves fault
     (subst (λ (k : Purpose). Reserves shape k before.frames r.pushed (Refused fault) r.refused) (sym begun.kind_is)
-     r.reserve) in
+    r.reserve) in
     let (for_reader, reads, acts) = rest how r.goes in
     let two =
-        history_then before.history r.pushed.history r.refused.history (push moment len ∷ []) (fills ++ leave None ∷ [])
-            (pushes_append shape before moment len r.pushed r.push) refuses in
+    history_then before.history r.pushed.history r.refused.history (push moment len ∷ []) (fills ++ leave None ∷ [])
+    (pushes_append shape before moment len r.pushed r.push) refuses in
     let three =
-        history_then before.history r.refused.history after.history (push moment len ∷ (fills ++ leave None ∷ []))
-            for_reader two acts in
-    (
+    history_then before.history r.refused.history after.history (push moment len ∷ (fills ++ leave None ∷ []))
+    for_reader two acts in (
       fills,
       for_reader,
       are,
       reads,
       three
           ∙ ap (λ (l : List HistoryEvent). before.history ++ push moment len ∷ l)
-              (append_assoc fills (leave None ∷ []) for_reader),
+          (append_assoc fills (leave None ∷ []) for_reader),
     )
   where
     rest : LeftOrGone before.frames (Refused fault) r.refused.frames
         → (after ≡ r.refused)
-            ⊎ ((frame : Frame) × (answer : Answer) × (r.refused.frames ≡ frame ∷ before.frames)
-               × IsLeaving frame.kind frame.state × Leaves shape before.frames r.refused answer after)
+        ⊎ ((frame : Frame) × (answer : Answer) × (r.refused.frames ≡ frame ∷ before.frames)
+        × IsLeaving frame.kind frame.state × Leaves shape before.frames r.refused answer after)
         → (for_reader : List HistoryEvent) × AreForReader for_reader × (after.history ≡ r.refused.history ++ for_reader)
     rest how (inl same) = ([], tt, ap (λ (w : Writing). w.history) same ∙ sym (append-nil r.refused.history))
     rest how (inr (frame, answer, top, leaves, all)) =
         left_leaves shape before.frames r.refused answer after frame top
-            (still_left shape before.frames (Refused fault) r.refused.frames frame how top) all
+        (still_left shape before.frames (Refused fault) r.refused.frames frame how top) all
 
 pub refused_writes_append : RefusedWritesAppend
 refused_writes_append shape before moment len fault after (inl turned) =
@@ -421,13 +432,13 @@ refused_push shape before moment len fault after call =
     by (push_answers shape.pages shape.size call.core moment len call.answer call.next (cases_of call.step))
   where
     by : IsPushed moment len call.answer call.core.frames call.next.frames
-            ⊎ ((why : frames_model.WriteFault) × (call.answer ≡ model.refused why) × (call.next ≡ call.core))
+        ⊎ ((why : frames_model.WriteFault) × (call.answer ≡ model.refused why) × (call.next ≡ call.core))
         → after.frames ≡ before.frames
     by (inl p) =
         absurd (let both : model.refused (refusal_of fault) ≡ model.pushed = sym call.reports ∙ p.answer_is in cc)
     by (inr (why, denied, same)) =
         ap (λ (w : Writing). w.frames) (sym call.after_is) ∙ ap (λ (d : Core). d.frames) same
-            ∙ ap (λ (w : Writing). w.frames) call.before_is
+        ∙ ap (λ (w : Writing). w.frames) call.before_is
 
 pub refused_writes_keep_frames : RefusedWritesKeepFrames
 refused_writes_keep_frames shape before moment len fault after (inl turned) =
@@ -442,7 +453,7 @@ padded_twice payload = twice payload
 -- the last record gets its bytes
 last_written : (rs : List Reservation) (r : Reservation) (payload : List ℕ)
     → records_with_payload (Some (length rs)) (Some payload) (rs ++ r ∷ [])
-        ≡ rs ++ record r { bytes = Some (padded payload) } ∷ []
+    ≡ rs ++ record r { bytes = Some (padded payload) } ∷ []
 last_written [] r payload = refl
 last_written (s ∷ rs) r payload = ap (λ (l : List Reservation). s ∷ l) (last_written rs r payload)
 
@@ -450,39 +461,39 @@ last_written (s ∷ rs) r payload = ap (λ (l : List Reservation). s ∷ l) (las
 record_adds : (w : WriterState) (moment : ℕ) (payload : List ℕ) (fills for_reader : List HistoryEvent) → AreFills fills
     → AreForReader for_reader
     → (has_events w
-        (push moment (length payload) ∷ (fills ++ reserve ∷ leave (Some (padded payload)) ∷ for_reader))).records
-        ≡ w.records ++ written_record moment payload w.records ∷ []
+    (push moment (length payload) ∷ (fills ++ reserve ∷ leave (Some (padded payload)) ∷ for_reader))).records
+    ≡ w.records ++ written_record moment payload w.records ∷ []
 record_adds w moment payload fills for_reader are reads =
     ap (λ (v : WriterState). v.records)
-        (fills_then record { stack = record_frame moment (length payload) None ∷ w.stack; records = w.records } fills
-         (reserve ∷ leave (Some (padded payload)) ∷ for_reader) are)
+    (fills_then record { stack = record_frame moment (length payload) None ∷ w.stack; records = w.records } fills
+    (reserve ∷ leave (Some (padded payload)) ∷ for_reader) are)
     ∙ ap (λ (v : WriterState). v.records) (reader_keeps _ for_reader reads)
     ∙ last_written w.records (reservation_for moment (length payload) w.records) (padded payload)
     ∙ ap
-        (λ (bytes : List ℕ).
-            w.records ++ record (reservation_for moment (length payload) w.records) { bytes = Some bytes } ∷ [])
-        (twice payload)
+    (λ (bytes : List ℕ).
+    w.records ++ record (reservation_for moment (length payload) w.records) { bytes = Some bytes } ∷ [])
+    (twice payload)
 
 refused_adds : (w : WriterState) (moment len : ℕ) (fills for_reader : List HistoryEvent) → AreFills fills
     → AreForReader for_reader
     → (has_events w (push moment len ∷ (fills ++ leave None ∷ for_reader))).records ≡ w.records
 refused_adds w moment len fills for_reader are reads =
     ap (λ (v : WriterState). v.records)
-        (fills_then record { stack = record_frame moment len None ∷ w.stack; records = w.records } fills
-         (leave None ∷ for_reader) are)
+    (fills_then record { stack = record_frame moment len None ∷ w.stack; records = w.records } fills
+    (leave None ∷ for_reader) are)
     ∙ ap (λ (v : WriterState). v.records) (reader_keeps _ for_reader reads)
 
 records_after : (front after own : List HistoryEvent) → after ≡ front ++ own
     → reserved_records after ≡ (has_events (writer_after front) own).records
 records_after front after own is =
     ap reserved_records is
-        ∙ ap (λ (v : WriterState). v.records) (writer-append record { stack = []; records = [] } front own)
+    ∙ ap (λ (v : WriterState). v.records) (writer-append record { stack = []; records = [] } front own)
 
 pub writes_reserve : WritesReserve
 writes_reserve shape before moment payload after w =
     let (fills, for_reader, are, reads, h) = writes_append shape before moment payload after w in
     records_after before.history after.history
-        (push moment (length payload) ∷ (fills ++ reserve ∷ leave (Some (padded payload)) ∷ for_reader)) h
+    (push moment (length payload) ∷ (fills ++ reserve ∷ leave (Some (padded payload)) ∷ for_reader)) h
     ∙ record_adds (writer_after before.history) moment payload fills for_reader are reads
 
 pub refused_writes_reserve_none : RefusedWritesReserveNone
@@ -490,8 +501,8 @@ refused_writes_reserve_none shape before moment len fault after r =
     by (refused_writes_append shape before moment len fault after r)
   where
     by : (after.history ≡ before.history)
-            ⊎ ((fills for_reader : List HistoryEvent) × AreFills fills × AreForReader for_reader
-               × (after.history ≡ before.history ++ push moment len ∷ (fills ++ leave None ∷ for_reader)))
+        ⊎ ((fills for_reader : List HistoryEvent) × AreFills fills × AreForReader for_reader
+        × (after.history ≡ before.history ++ push moment len ∷ (fills ++ leave None ∷ for_reader)))
         → reserved_records after.history ≡ reserved_records before.history
     by (inl same) = ap reserved_records same
     by (inr (fills, for_reader, are, reads, h)) =
@@ -508,7 +519,7 @@ writers_have_histories v w =
       allowed = subst IsHistory same kept.history.allowed;
       packed =
           subst (λ (h : List HistoryEvent). IsPacked h v.shape.size) same
-              (runs_packed v.shape.pages v.shape.size v.shape.start w.core kept);
+          (runs_packed v.shape.pages v.shape.size v.shape.start w.core kept);
       done_is = sym (done_there v w);
       depth_is = depth_is v w;
       at_rest = λ none.

@@ -91,7 +91,7 @@ pub leaves_below : (shape : Shape) (below : List Frame) (before : Writing) (answ
     → Leaves shape below before answer after → after.frames ≡ below
 leaves_below shape below before answer after (is_gone from mid end last goes more at) = at
 leaves_below shape below before answer after
-        (was_refused from mid next end frame fault last goes more top leaves rest) =
+    (was_refused from mid next end frame fault last goes more top leaves rest) =
     leaves_below shape below next last after rest
 
 -- ---- the push
@@ -107,19 +107,19 @@ record_waits : (kind : Purpose) (state : frames_model.Progress) (moment len : �
     → state ≡ waiting → IsReserving kind state
 record_waits kind state moment len k s =
     subst (λ (x : frames_model.Progress). IsReserving kind x) (sym s)
-        (subst (λ (x : Purpose). IsReserving x waiting) (sym k) tt)
+    (subst (λ (x : Purpose). IsReserving x waiting) (sym k) tt)
 
 module _ (shape : Shape) (before after : Writing) (moment len : ℕ) (result : Answer)
     (call : IsCall shape before (model.pushes moment len) result after) (not_no : IsRefusal result → ⊥) where
   push_so : IsPushed moment len call.answer call.core.frames call.next.frames
-          ⊎ ((why : frames_model.WriteFault) × (call.answer ≡ model.refused why) × (call.next ≡ call.core))
+      ⊎ ((why : frames_model.WriteFault) × (call.answer ≡ model.refused why) × (call.next ≡ call.core))
       → HasBegun moment len before after × (result ≡ Pushed)
   push_so (inl p) = (
     record {
       frame = p.frame;
       top =
           ap (λ (w : Writing). w.frames) (sym call.after_is) ∙ p.top
-              ∙ ap (λ (fs : List Frame). p.frame ∷ fs) (ap (λ (w : Writing). w.frames) call.before_is);
+          ∙ ap (λ (fs : List Frame). p.frame ∷ fs) (ap (λ (w : Writing). w.frames) call.before_is);
       kind_is = p.kind_is;
       reserves = record_waits p.frame.kind p.frame.state moment len p.kind_is p.state_is;
     },
@@ -145,7 +145,7 @@ pub record HasTopRecord (kind : Purpose) (below frames : List Frame) : Type 0 wh
 pub reserved_so : (kind : Purpose) (below : List Frame) (result : Answer) (after : List Frame)
     → IsReservedOr kind below result after → (IsRefusal result → ⊥)
     → HasTopRecord kind below after
-        × ((number : Rattle.trace_model.specs.declared.numbers.RecordNo.RecordNo) × (result ≡ Reserved number))
+    × ((number : Rattle.trace_model.specs.declared.numbers.RecordNo.RecordNo) × (result ≡ Reserved number))
 reserved_so kind below _ after (is_reserved next number end top kind_is state_is) denied =
     (record { next = next; number = number.0; top = top; kind_is = kind_is; state_is = state_is }, (number, refl))
 reserved_so kind below _ after (stays_refused fault next end top leaves) denied = absurd (denied (fault, refl))
@@ -168,7 +168,7 @@ module _ (shape : Shape) (before pushed after : Writing) (moment len : ℕ) (beg
   pub reserving : Reserves shape (for_record moment len) before.frames pushed result after
   reserving =
       subst (λ (k : Purpose). Reserves shape k before.frames pushed result after) b.kind_is
-          (finished_reserving shape pushed result after b.frame before.frames b.top finished b.reserves)
+      (finished_reserving shape pushed result after b.frame before.frames b.top finished b.reserves)
 
   pub has_record : (IsRefusal result → ⊥) → HasTopRecord (for_record moment len) before.frames after.frames
   has_record denied = (reserved_so (for_record moment len) before.frames result after.frames reserving.ends denied).0
@@ -176,12 +176,12 @@ module _ (shape : Shape) (before pushed after : Writing) (moment len : ℕ) (beg
   push_reported : IsCall shape before (model.pushes moment len) Pushed pushed
   push_reported =
       subst (λ (x : Answer). IsCall shape before (model.pushes moment len) x pushed)
-          (has_begun shape before pushed moment len begun push went).1 push
+      (has_begun shape before pushed moment len begun push went).1 push
 
   pub is_reserved_by : (IsRefusal result → ⊥) → IsReserved shape before moment len after
   is_reserved_by denied =
       let (number, is) =
-          (reserved_so (for_record moment len) before.frames result after.frames reserving.ends denied).1 in
+      (reserved_so (for_record moment len) before.frames result after.frames reserving.ends denied).1 in
       record {
         pushed = pushed;
         number = number;
@@ -209,12 +209,12 @@ module _ (shape : Shape) (before pushed after : Writing) (moment len : ℕ) (beg
       }
     where
       gone_so : ((next : Frame) × (after.frames ≡ next ∷ before.frames) × IsLeaving next.kind next.state)
-              ⊎ (after.frames ≡ before.frames) → after.frames ≡ before.frames
+          ⊎ (after.frames ≡ before.frames) → after.frames ≡ before.frames
       gone_so (inl (next, top, leaves)) = let wide = ap (length {A = Frame}) top in absurd (omega arith)
       gone_so (inr same) = same
 
   stands_on : ((next : Frame) × (after.frames ≡ next ∷ before.frames) × IsLeaving next.kind next.state)
-          ⊎ (after.frames ≡ before.frames) → length before.frames < length after.frames
+      ⊎ (after.frames ≡ before.frames) → length before.frames < length after.frames
       → (next : Frame) × (after.frames ≡ next ∷ before.frames) × IsLeaving next.kind next.state
   stands_on (inl s) deep = s
   stands_on (inr top) deep = let same = ap (length {A = Frame}) top in absurd (omega arith)
@@ -225,10 +225,10 @@ module _ (shape : Shape) (before pushed after : Writing) (moment len : ℕ) (beg
       → IsRefusedWrite shape before moment len fault end
   refused_left fault last end e deep f =
       let (next, top, leaves) =
-          stands_on (refused_so (for_record moment len) before.frames result fault after.frames reserving.ends e)
-              deep in
+      stands_on (refused_so (for_record moment len) before.frames result fault after.frames reserving.ends e)
+      deep in
       let all : Leaves shape before.frames after last end =
-          finished_leaving shape after last end next before.frames top f leaves in
+      finished_leaving shape after last end next before.frames top f leaves in
       inr record {
         pushed = pushed;
         refused = after;
@@ -248,7 +248,7 @@ slot_of (HasReserved slot) number e = (slot, refl)
 slot_of (Left noted) number e = absurd (cc)
 
 slot_in : (frames : List stack.Frame) (phase : Phase) (phases : List Phase) (shown : List Frame) (next : Frame)
-        (below : List Frame) (number : ℕ) → shown ≡ frames_in_phases frames (phase ∷ phases) → shown ≡ next ∷ below
+    (below : List Frame) (number : ℕ) → shown ≡ frames_in_phases frames (phase ∷ phases) → shown ≡ next ∷ below
     → next.state ≡ reserved number → (slot : Slot) × IsTopSlot frames slot
 slot_in [] phase phases shown next below number same top at = let z = ap (length {A = Frame}) (sym same ∙ top) in
     absurd (omega arith)
@@ -264,7 +264,7 @@ pub top_slot_of : (v : WriterValue) (w : AreWriterFields v) (kind : Purpose) (be
     → HasTopRecord kind below v.part.frames → (slot : Slot) × IsTopSlot v.frames.stack.frames slot
 top_slot_of v w kind below t =
     slot_in v.frames.stack.frames v.frames.phase v.frames.below v.part.frames t.next below t.number (frames_of v w)
-        t.top t.state_is
+    t.top t.state_is
 
 -- so the frame on top has reserved
 pub record HasReservedTop (frames : List Frame) : Type 0 where
@@ -305,20 +305,22 @@ module _ (shape : Shape) (before after : Writing) (payload : List ℕ) (result :
   -- the frame below is on top
   pub ends_above : result ≢ Ended Full
       → (how : Rattle.nested_writer.specs.declared.stack.leave.Ended.Ended)
-          × IsCall shape before (model.ends payload) (Ended how) after × GoesAway shape after how after
-  ends_above ne =
-      (Pending,
-       subst (λ (x : Answer). IsCall shape before (model.ends payload) x after) (pending_so t.below refl ne) call, refl)
+      × IsCall shape before (model.ends payload) (Ended how) after × GoesAway shape after how after
+  ends_above ne = (
+    Pending,
+    subst (λ (x : Answer). IsCall shape before (model.ends payload) x after) (pending_so t.below refl ne) call,
+    refl,
+  )
 
   left_alone : (below : List Frame) → t.below ≡ below → result ≡ Ended Full
       → (frame : Frame) × (after.frames ≡ frame ∷ []) × (frame.state ≡ left)
   left_alone [] e full = (_, frames_then ∙ ap (model.frames_after_leave call.core t.frame) e, refl)
   left_alone (next ∷ others) e full =
       absurd (let both : Ended Full ≡ Ended Pending =
-                  sym full
-                      ∙ is_pending shape.size result call.answer call.reports
-                          (ended.answer_is ∙ ap model.end_answer e) in
-              cc)
+      sym full
+      ∙ is_pending shape.size result call.answer call.reports
+      (ended.answer_is ∙ ap model.end_answer e) in
+      cc)
 
   others_are : (end : Writing) → end.frames ≡ t.below → (frame : Frame) (below : List Frame)
       → before.frames ≡ frame ∷ below → end.frames ≡ below
@@ -338,10 +340,10 @@ module _ (shape : Shape) (before after : Writing) (payload : List ℕ) (result :
   none_below [] e full = refl
   none_below (next ∷ others) e full =
       absurd (let both : Ended Full ≡ Ended Pending =
-                  sym full
-                      ∙ is_pending shape.size result call.answer call.reports
-                          (ended.answer_is ∙ ap model.end_answer e) in
-              cc)
+      sym full
+      ∙ is_pending shape.size result call.answer call.reports
+      (ended.answer_is ∙ ap model.end_answer e) in
+      cc)
 
   pub left_full : result ≡ Ended Full → (frame : Frame) × (after.frames ≡ frame ∷ []) × (frame.state ≡ left)
   left_full full = left_alone t.below refl full
@@ -356,26 +358,28 @@ module _ (shape : Shape) (before after : Writing) (payload : List ℕ) (result :
   -- it is alone on the stack, and is finished
   pub ends_alone : (last : Answer) (end : Writing) → result ≡ Ended Full → Finishes shape after last end
       → (how : Rattle.nested_writer.specs.declared.stack.leave.Ended.Ended)
-          × IsCall shape before (model.ends payload) (Ended how) after × GoesAway shape after how end
+      × IsCall shape before (model.ends payload) (Ended how) after × GoesAway shape after how end
   ends_alone last end full f =
-      let (frame, top, gone) = left_alone t.below refl full in
-      (Full, subst (λ (x : Answer). IsCall shape before (model.ends payload) x after) full call,
-       (last, finished_leaving shape after last end frame [] top f (has_left frame.kind frame.state gone)))
+      let (frame, top, gone) = left_alone t.below refl full in (
+        Full,
+        subst (λ (x : Answer). IsCall shape before (model.ends payload) x after) full call,
+        (last, finished_leaving shape after last end frame [] top f (has_left frame.kind frame.state gone)),
+      )
 
   pub alone_left : (last : Answer) (end : Writing) → result ≡ Ended Full → Finishes shape after last end
       → (frame : Frame) (below : List Frame) → before.frames ≡ frame ∷ below → end.frames ≡ below
   alone_left last end full f =
       let (next, top, gone) = left_alone t.below refl full in
       others_are end
-          (leaves_below shape [] after last end
-               (finished_leaving shape after last end next [] top f (has_left next.kind next.state gone))
-           ∙ sym (none_below t.below refl full))
+      (leaves_below shape [] after last end
+      (finished_leaving shape after last end next [] top f (has_left next.kind next.state gone))
+      ∙ sym (none_below t.below refl full))
 
 -- ---- all of it
 
 -- the kind of a frame that has reserved
 pub top_kind : (kind : Purpose) (below : List Frame)
-        (number : Rattle.trace_model.specs.declared.numbers.RecordNo.RecordNo) (after : List Frame)
+    (number : Rattle.trace_model.specs.declared.numbers.RecordNo.RecordNo) (after : List Frame)
     → IsReservedOr kind below (Reserved number) after → HasTopRecord kind below after
 top_kind kind below number after is = (reserved_so kind below (Reserved number) after is (λ (fault, e). cc)).0
 
@@ -407,9 +411,9 @@ written_whole shape before moment payload v new r same bytes e = record {
   reserve = r.reserve;
   end =
       subst (λ (s : Shape). IsCall s v.part (model.ends (padded payload)) (Ended e.how) e.ended) same
-          (subst (λ (l : List ℕ). IsCall v.shape v.part (model.ends l) (Ended e.how) e.ended) bytes e.end);
+      (subst (λ (l : List ℕ). IsCall v.shape v.part (model.ends l) (Ended e.how) e.ended) bytes e.end);
   goes = subst (λ (s : Shape). GoesAway s e.ended e.how new.part) same e.goes;
   frames =
       (let top = top_kind (for_record moment (length payload)) before.frames r.number v.part.frames r.reserve.ends in
-       e.others top.next before.frames top.top);
+      e.others top.next before.frames top.top);
 }

@@ -48,29 +48,28 @@ module _ (shape : Shape) where
       → me.0 ≡ writes (writing me.0) (passed me.0)
       → Leads shape (writing me.0) now
       → ((c : Core) (r : Reading) (words : List ℕ) (homes : Homes) (s : IsShownBy c r words homes)
-         → writing_of (writer_made_of s.reached) c ≡ now → c.open_pages ≡ (writing me.0).open_pages
-         → passed me.0 ≤ c.head → WriterMoves r me words homes i f reports)
+      → writing_of (writer_made_of s.reached) c ≡ now → c.open_pages ≡ (writing me.0).open_pages
+      → passed me.0 ≤ c.head → WriterMoves r me words homes i f reports)
       → Allows (Shows shape.pages shape.size shape.start) slots id me i f reports
   writer_allows slots id me now i f reports is leads moves s h deep at range =
       let (views, first, same, known) =
-          writer_at (writing_of (writer_made_of h.shown.reached) h.core) h.reader h.core.head s.views id (writing me.0)
-              (passed me.0) h.seats (at ∙ ap some is) in
+      writer_at (writing_of (writer_made_of h.shown.reached) h.core) h.reader h.core.head s.views id (writing me.0)
+      (passed me.0) h.seats (at ∙ ap some is) in
       let (exchanges, aside, run, now_is) = leads h.core h.shown.reached (sym same) in
       let pages =
-          private_open_pages shape.pages shape.size h.core aside exchanges run
-              ∙ ap (λ (w : Writing). w.open_pages) (sym same) in
+      private_open_pages shape.pages shape.size h.core aside exchanges run
+      ∙ ap (λ (w : Writing). w.open_pages) (sym same) in
       let head = private_head shape.pages shape.size h.core aside exchanges run in
       let shown =
-          private_shown shape.pages shape.size shape.start h.core aside exchanges h.reader s.words s.homes h.shown
-              run in
+      private_shown shape.pages shape.size shape.start h.core aside exchanges h.reader s.words s.homes h.shown
+      run in
       let made =
-          made_shown shape.pages shape.size shape.start h.core aside exchanges h.reader s.words s.homes h.shown run
-              ∙ ap (λ (w : Writing). w.made ++ privately_made shape.pages shape.size h.core exchanges aside run)
-                  (sym same) in
+      made_shown shape.pages shape.size shape.start h.core aside exchanges h.reader s.words s.homes h.shown run
+      ∙ ap (λ (w : Writing). w.made ++ privately_made shape.pages shape.size h.core exchanges aside run)
+      (sym same) in
       let m =
-          moves aside h.reader s.words s.homes shown (ap (λ (xs : List WriterMade). writing_of xs aside) made ∙ now_is)
-              pages (subst (λ (k : ℕ). passed me.0 ≤ k) (sym head) known) in
-      (
+      moves aside h.reader s.words s.homes shown (ap (λ (xs : List WriterMade). writing_of xs aside) made ∙ now_is)
+      pages (subst (λ (k : ℕ). passed me.0 ≤ k) (sym head) known) in (
         writes (writing_of m.made m.next) m.knows,
         m.act,
         m.valid,
@@ -80,17 +79,17 @@ module _ (shape : Shape) where
           shown = m.shown;
           seats =
               seated_as m.made (writer_made_of {c = m.next} m.shown.reached) m.next h.reader m.next.head
-                  (slice_set s.views id (writes (writing_of m.made m.next) m.knows)) m.made_is
+              (slice_set s.views id (writes (writing_of m.made m.next) m.knows)) m.made_is
               (writer_placed (writing_of (writer_made_of h.shown.reached) h.core) (passed me.0) h.reader m.next.head
-               s.views id (writing_of m.made m.next) m.knows views first m.low);
+              s.views id (writing_of m.made m.next) m.knows views first m.low);
           tail =
               λ u v at_first.
-                     absurd
-                         {A =
-                          get_elem? (homes_after s.homes me.1 m.act) (slice_index_or u.open_pages 0 0)
-                              ≡ some (some None)}
-                         (not_laid_writer s.views (writing_of (writer_made_of h.shown.reached) h.core) (passed me.0)
-                          h.reader id (writing_of m.made m.next) m.knows u v views first at_first);
+              absurd
+              {A =
+              get_elem? (homes_after s.homes me.1 m.act) (slice_index_or u.open_pages 0 0)
+              ≡ some (some None)}
+              (not_laid_writer s.views (writing_of (writer_made_of h.shown.reached) h.core) (passed me.0)
+              h.reader id (writing_of m.made m.next) m.knows u v views first at_first);
         },
         m.reported,
       )
@@ -122,14 +121,14 @@ module _ (shape : Shape) where
   pub reader_allows : (slots id : ℕ) (me : SeatState) (i : ℕ) (f : ℕ → ℕ) (reports : ℕ → SeatState → Type 0)
       → me.0 ≡ reads (reading me.0)
       → ((c : Core) (words : List ℕ) (homes : Homes) (s : IsShownBy c (reading me.0) words homes)
-         → ReaderMoves c (writer_made_of s.reached) me words homes i f reports)
+      → ReaderMoves c (writer_made_of s.reached) me words homes i f reports)
       → Allows (Shows shape.pages shape.size shape.start) slots id me i f reports
   reader_allows slots id me i f reports is moves s h deep at range =
       let (known, views, second, same, low) =
-          reader_at (writing_of (writer_made_of h.shown.reached) h.core) h.reader h.core.head s.views id (reading me.0)
-              h.seats (at ∙ ap some is) in
+      reader_at (writing_of (writer_made_of h.shown.reached) h.core) h.reader h.core.head s.views id (reading me.0)
+      h.seats (at ∙ ap some is) in
       let m =
-          moves h.core s.words s.homes (shown_as h.core h.reader (reading me.0) s.words s.homes (sym same) h.shown) in
+      moves h.core s.words s.homes (shown_as h.core h.reader (reading me.0) s.words s.homes (sym same) h.shown) in
       let on = m.head_le in (
         reads m.after,
         m.act,
@@ -140,14 +139,14 @@ module _ (shape : Shape) where
           shown = m.shown;
           seats =
               subst (λ (w : Writing). AreSeated w m.after m.next.head (slice_set s.views id (reads m.after)))
-                  (sym m.writer_is)
-                  (reader_placed (writing_of (writer_made_of h.shown.reached) h.core) known h.reader m.next.head s.views
-                   id m.after views second (omega arith));
+              (sym m.writer_is)
+              (reader_placed (writing_of (writer_made_of h.shown.reached) h.core) known h.reader m.next.head s.views
+              id m.after views second (omega arith));
           tail =
               λ u v at_first.
-                     absurd
-                         (not_laid_reader s.views (writing_of (writer_made_of h.shown.reached) h.core) known h.reader id
-                          m.after u v views second at_first);
+              absurd
+              (not_laid_reader s.views (writing_of (writer_made_of h.shown.reached) h.core) known h.reader id
+              m.after u v views second at_first);
         },
         m.reported,
       )

@@ -21,7 +21,7 @@ link_word shape page i word low is link = record {
   wish = λ e. absurd (omega arith);
   link =
       λ other below e.
-             subst (λ (p : ℕ). IsFirstLinkWord shape p word) (let same : page ≡ other = omega arith in same) link;
+      subst (λ (p : ℕ). IsFirstLinkWord shape p word) (let same : page ≡ other = omega arith in same) link;
   spare = λ e. absurd (omega arith);
 }
 

@@ -35,22 +35,27 @@ oldest_taken n size start c r homes page k spare is a =
     let here : page ≡ page_at n c.order c.done = is ∙ oldest_open n size start c k in
     let differ : (f : ℕ) → c.head ≤ f → f < c.head + n → f ≢ c.done → page_at n c.order f ≢ page = λ f low high ne e.
     pages_differ n c.order c.spare c.head f c.done (omega arith) k.links.apart low high head (omega arith) ne
-            (e ∙ here) in
-        record {
+    (e ∙ here) in
+    record {
       count = length-set homes page none ∙ a.count;
-      closed = λ f low high. let (body, home, written) = a.closed f low high in
-          (body, set_else homes page (page_at n c.order f) none (differ f low (omega arith) (λ e. omega arith)) ∙ home,
-           written);
-      free = λ f low high. let (body, home, sized) = a.free f low high in
-          (body, set_else homes page (page_at n c.order f) none
-              (λ e. free_differs f low high (e ∙ here)) ∙ home, sized);
+      closed = λ f low high. let (body, home, written) = a.closed f low high in (
+        body,
+        set_else homes page (page_at n c.order f) none (differ f low (omega arith) (λ e. omega arith)) ∙ home,
+        written,
+      );
+      free = λ f low high. let (body, home, sized) = a.free f low high in (
+        body,
+        set_else homes page (page_at n c.order f) none
+            (λ e. free_differs f low high (e ∙ here)) ∙ home,
+        sized,
+      );
       spare =
           λ kept.
-                 set_else homes page c.spare none
-                         (λ e.
-                             k.links.apart.spare_differs (c.done % n)
-                                 (Rattle.std.proofs.Common.mod-lt c.done (omega arith)) (sym (e ∙ here)))
-                     ∙ a.spare kept;
+          set_else homes page c.spare none
+          (λ e.
+          k.links.apart.spare_differs (c.done % n)
+          (Rattle.std.proofs.Common.mod-lt c.done (omega arith)) (sym (e ∙ here)))
+          ∙ a.spare kept;
     }
   where
     free_differs : (f : ℕ) → c.opened ≤ f → f < c.done + n → page_at n c.order f ≢ page_at n c.order c.done
@@ -58,16 +63,16 @@ oldest_taken n size start c r homes page k spare is a =
         let head = k.links.head_le in
         let behind = k.links.done_lt in
         pages_differ n c.order c.spare c.done f c.done (omega arith) k.links.apart (omega arith) high (omega arith)
-            (omega arith) (λ same. omega arith) e
+        (omega arith) (λ same. omega arith) e
 
 module _ (shape : Shape) (first_w : Writing) (first_r : Reading) where
   pub tail_taken : (slots id : ℕ) (me : SeatState) → me ≡ (laid first_w first_r, [])
       → Allows (Shows shape.pages shape.size shape.start) slots id me 0 (λ n. n)
-          (λ _ after. (after.0 ≡ whole first_w first_r) × (after.1 ≡ (get_or first_w.open_pages 0 0, None) ∷ []))
+      (λ _ after. (after.0 ≡ whole first_w first_r) × (after.1 ≡ (get_or first_w.open_pages 0 0, None) ∷ []))
   tail_taken slots id me is s h deep at range =
       let (views, first, w_is, r_is) =
-          laid_at (writing_of (writer_made_of h.shown.reached) h.core) h.reader h.core.head s.views id first_w first_r
-              h.seats (at ∙ ap (λ (m : SeatState). some m.0) is) in
+      laid_at (writing_of (writer_made_of h.shown.reached) h.core) h.reader h.core.head s.views id first_w first_r
+      h.seats (at ∙ ap (λ (m : SeatState). some m.0) is) in
       let page : ℕ = get_or first_w.open_pages 0 0 in
       let k = reached_kept shape.pages shape.size shape.start h.core h.shown.reached in
       let home = h.tail first_w first_r (views ∙ (λ i. laid (sym w_is i) (sym r_is i) ∷ [])) in (
@@ -82,19 +87,19 @@ module _ (shape : Shape) (first_w : Writing) (first_r : Reading) where
             reached = h.shown.reached;
             are_words =
                 subst (Rattle.ring_steps.specs.Shown.AreWords shape.pages h.core) (sym (set-get_or s.words 0 0))
-                    h.shown.are_words;
+                h.shown.are_words;
             are_homes =
                 oldest_taken shape.pages shape.size shape.start h.core h.reader s.homes page k
-                    h.shown.is_reading.spare_is (ap (λ (w : Writing). get_or w.open_pages 0 0) w_is) h.shown.are_homes;
+                h.shown.is_reading.spare_is (ap (λ (w : Writing). get_or w.open_pages 0 0) w_is) h.shown.are_homes;
             is_reading = h.shown.is_reading;
             reader_made_is = h.shown.reader_made_is;
           };
           seats =
               subst (AreSeated (writing_of (writer_made_of h.shown.reached) h.core) h.reader h.core.head)
-                  (λ i. set (sym views i) (sym first i) (whole (sym w_is i) (sym r_is i))) made;
+              (λ i. set (sym views i) (sym first i) (whole (sym w_is i) (sym r_is i))) made;
           tail =
-                  λ u v e. let there : whole first_w first_r ∷ [] ≡ laid u v ∷ [] =
-                  sym (λ i. set (views i) (first i) (whole first_w first_r)) ∙ e in
+              λ u v e. let there : whole first_w first_r ∷ [] ≡ laid u v ∷ [] =
+              sym (λ i. set (views i) (first i) (whole first_w first_r)) ∙ e in
               absurd (cc);
         },
         (refl, ap (λ (m : SeatState). (page, None) ∷ m.1) is),
@@ -104,21 +109,21 @@ pub cut : (n size start id : ℕ) (view : SeatView) → view ≡ whole (writing 
     → Splits (Shows n size start) id view (writes (writing view) (passed view)) (reads (reading view))
 cut n size start id view is s h at =
     let (views, first, w_is, r_is) =
-        whole_at (writing_of (writer_made_of h.shown.reached) h.core) h.reader h.core.head s.views id (writing view)
-            (reading view) h.seats (at ∙ ap some is) in
+    whole_at (writing_of (writer_made_of h.shown.reached) h.core) h.reader h.core.head s.views id (writing view)
+    (reading view) h.seats (at ∙ ap some is) in
     record {
       core = h.core;
       reader = h.reader;
       shown = h.shown;
       seats =
           subst (AreSeated (writing_of (writer_made_of h.shown.reached) h.core) h.reader h.core.head)
-              (λ i.
-                  set (sym views i) (sym first i) (writes (sym w_is i) (passed (sym is i))) ++ reads (sym r_is i) ∷ [])
-              (running 0 (omega arith));
+          (λ i.
+          set (sym views i) (sym first i) (writes (sym w_is i) (passed (sym is i))) ++ reads (sym r_is i) ∷ [])
+          (running 0 (omega arith));
       tail =
-              λ u v e. let there : writes (writing view) (passed view) ∷ reads (reading view) ∷ [] ≡ laid u v ∷ [] =
-              sym (λ i. set (views i) (first i) (writes (writing view) (passed view)) ++ reads (reading view) ∷ [])
-                  ∙ e in
+          λ u v e. let there : writes (writing view) (passed view) ∷ reads (reading view) ∷ [] ≡ laid u v ∷ [] =
+          sym (λ i. set (views i) (first i) (writes (writing view) (passed view)) ++ reads (reading view) ∷ [])
+          ∙ e in
           absurd (cc);
     }
 

@@ -73,12 +73,12 @@ module _ (n : ℕ) (c : Core) (frame : Frame) (below : List Frame) (answer : Ans
       let after_lost_is : suc lost ≡ after_lost = omega arith in
       let same : normal_link next (suc lost) ≡ l = sym at ∙ ap (link_into n c.links) after_lost_is ∙ link in
       ap (writing_of []) is
-          ∙ ap (λ (k : Link). writing_of [] (in_phase c frame below (marking role noted page k.page))) same
+      ∙ ap (λ (k : Link). writing_of [] (in_phase c frame below (marking role noted page k.page))) same
   waits role noted page after_lost l on sum link is_next (sees_other lost x lost_sum none a is) =
       let after_lost_is : suc lost ≡ after_lost = omega arith in
       absurd (none l.page
-              (ap (link_into n c.links) after_lost_is
-               ∙ (link ∙ (is_next ∙ ap (normal_link l.page) (sym after_lost_is)))))
+      (ap (link_into n c.links) after_lost_is
+      ∙ (link ∙ (is_next ∙ ap (normal_link l.page) (sym after_lost_is)))))
 
   pub is_passed : (role : Role) (noted page after_lost : ℕ) (l : Link) → MayContinue role noted c.opened
       → after_lost + n ≡ noted + 1 → link_into n c.links after_lost ≡ l → ((page : ℕ) → l ≢ normal_link page after_lost)
@@ -88,7 +88,7 @@ module _ (n : ℕ) (c : Core) (frame : Frame) (below : List Frame) (answer : Ans
   is_passed role noted page after_lost l on sum link differ (sees_normal lost next x lost_sum at a is) =
       let after_lost_is : suc lost ≡ after_lost = omega arith in
       absurd (differ next
-              (sym link ∙ (ap (link_into n c.links) (sym after_lost_is) ∙ (at ∙ ap (normal_link next) after_lost_is))))
+      (sym link ∙ (ap (link_into n c.links) (sym after_lost_is) ∙ (at ∙ ap (normal_link next) after_lost_is))))
   is_passed role noted page after_lost l on sum link differ (sees_other lost x lost_sum none a is) =
       ap (writing_of []) is
 

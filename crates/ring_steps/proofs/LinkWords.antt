@@ -33,7 +33,7 @@ pub befores_differ : (n : ℕ) (order : List ℕ) (spare f g : ℕ) → 1 ≤ n 
     → page_before n order f ≢ page_before n order g
 befores_differ n order spare f g some a ne same =
     ne (one_behind n f g some
-        (a.differ ((f + n - 1) % n) ((g + n - 1) % n) (mod-lt (f + n - 1) some) (mod-lt (g + n - 1) some) same))
+    (a.differ ((f + n - 1) % n) ((g + n - 1) % n) (mod-lt (f + n - 1) some) (mod-lt (g + n - 1) some) same))
 
 pub before_below : (n : ℕ) (order : List ℕ) (spare f : ℕ) → 1 ≤ n → AreApart n order spare
     → page_before n order f < n + 1
@@ -47,7 +47,7 @@ pub with_link_word : (n : ℕ) (c : Core) (words : List ℕ) (f : ℕ) (l : Link
     → AreApart n c.order c.spare
     → AreWords n c words
     → AreWords n (record c { links = links_with n c.links f l })
-        (set words (page_word (page_before n c.order f)) (word_of l))
+    (set words (page_word (page_before n c.order f)) (word_of l))
 with_link_word n c words f l some wide apart a =
     let word : ℕ = page_word (page_before n c.order f) in
     let count = a.count in
@@ -58,19 +58,19 @@ with_link_word n c words f l some wide apart a =
       wish = get_or-set_other words word 2 (word_of l) 0 (λ e. omega arith) ∙ a.wish;
       links = λ g. dite (ℕ_discrete (g % n) (f % n))
           (λ e.
-              ap (λ (i : ℕ). get_or (set words word (word_of l)) (page_word (get_or c.order i 0)) 0)
-                  (one_before n g f some e)
+          ap (λ (i : ℕ). get_or (set words word (word_of l)) (page_word (get_or c.order i 0)) 0)
+          (one_before n g f some e)
           ∙ (get_or-set_same words word (word_of l) 0 (omega arith)
           ∙ ap word_of (sym (ap (λ (i : ℕ). get_or (links_with n c.links f l) i (normal_link 0 0)) e
           ∙ get_or-set_same c.links (f % n) l (normal_link 0 0) (let low : f % n < n = mod-lt f some in omega arith)))))
           (λ ne. get_or-set_other words word (page_word (page_before n c.order g)) (word_of l) 0
           (λ e.
-              befores_differ n c.order c.spare g f some apart ne
-                  (let s : page_before n c.order g ≡ page_before n c.order f = omega arith in s))
+          befores_differ n c.order c.spare g f some apart ne
+          (let s : page_before n c.order g ≡ page_before n c.order f = omega arith in s))
           ∙ (a.links g ∙ ap word_of (sym (get_or-set_other c.links (f % n) (g % n) l (normal_link 0 0) ne))));
       spare = get_or-set_other words word (page_word c.spare) (word_of l) 0
           (λ e.
-              apart.spare_differs ((f + n - 1) % n) (mod-lt (f + n - 1) some)
-                  (let s : page_before n c.order f ≡ c.spare = omega arith in s))
+          apart.spare_differs ((f + n - 1) % n) (mod-lt (f + n - 1) some)
+          (let s : page_before n c.order f ≡ c.spare = omega arith in s))
           ∙ a.spare;
     }

@@ -32,9 +32,11 @@ run_at n size from c d (x ∷ exchanges) same (between, step, run) =
 abbrev pub run_as : (shape other : Shape) (from c : Core) (exchanges : List Exchange) → shape ≡ other
     → Run shape.pages shape.size from exchanges c → Run other.pages other.size from exchanges c
 run_as shape other from c [] same run = run
-run_as shape other from c (x ∷ exchanges) same (between, step, run) =
-    (between, subst (λ (s : Shape). Step s.pages s.size from x.event x.answer between) same step,
-     run_as shape other between c exchanges same run)
+run_as shape other from c (x ∷ exchanges) same (between, step, run) = (
+  between,
+  subst (λ (s : Shape). Step s.pages s.size from x.event x.answer between) same step,
+  run_as shape other between c exchanges same run,
+)
 
 -- ---- what one end made
 
@@ -47,38 +49,38 @@ module _ {M : Type 0} (is : Event → Bool) (made : Exchange → Core → M) whe
   made_on_run : (n size : ℕ) (from c : Core) (exchanges : List Exchange) (x : Exchange) (after : Core)
       (run : Run n size from exchanges c) (step : Step n size c x.event x.answer after)
       → made_by is made
-              (trace_of n size from (exchanges ++ x ∷ []) after (run_on n size from c exchanges x after run step))
-          ≡ made_by is made (trace_of n size from exchanges c run) ++ kept_if (is x.event) (made x after) []
+      (trace_of n size from (exchanges ++ x ∷ []) after (run_on n size from c exchanges x after run step))
+      ≡ made_by is made (trace_of n size from exchanges c run) ++ kept_if (is x.event) (made x after) []
   made_on_run n size from c [] x after run step = refl
   made_on_run n size from c (y ∷ exchanges) x after (between, first, run) step =
       ap (kept_if (is y.event) (made y between)) (made_on_run n size between c exchanges x after run step)
       ∙ kept_append (is y.event) (made y between) (made_by is made (trace_of n size between exchanges c run))
-          (kept_if (is x.event) (made x after) [])
+      (kept_if (is x.event) (made x after) [])
 
   -- which is this end's, or the other's
   pub made_more : (n size : ℕ) (from c : Core) (exchanges : List Exchange) (x : Exchange) (after : Core)
-          (run : Run n size from exchanges c) (step : Step n size c x.event x.answer after) → is x.event ≡ true
+      (run : Run n size from exchanges c) (step : Step n size c x.event x.answer after) → is x.event ≡ true
       → made_by is made
-              (trace_of n size from (exchanges ++ x ∷ []) after (run_on n size from c exchanges x after run step))
-          ≡ made_by is made (trace_of n size from exchanges c run) ++ made x after ∷ []
+      (trace_of n size from (exchanges ++ x ∷ []) after (run_on n size from c exchanges x after run step))
+      ≡ made_by is made (trace_of n size from exchanges c run) ++ made x after ∷ []
   made_more n size from c exchanges x after run step own =
       made_on_run n size from c exchanges x after run step
-          ∙ ap (λ (b : Bool). made_by is made (trace_of n size from exchanges c run) ++ kept_if b (made x after) []) own
+      ∙ ap (λ (b : Bool). made_by is made (trace_of n size from exchanges c run) ++ kept_if b (made x after) []) own
 
   pub made_same : (n size : ℕ) (from c : Core) (exchanges : List Exchange) (x : Exchange) (after : Core)
-          (run : Run n size from exchanges c) (step : Step n size c x.event x.answer after) → is x.event ≡ false
+      (run : Run n size from exchanges c) (step : Step n size c x.event x.answer after) → is x.event ≡ false
       → made_by is made
-              (trace_of n size from (exchanges ++ x ∷ []) after (run_on n size from c exchanges x after run step))
-          ≡ made_by is made (trace_of n size from exchanges c run)
+      (trace_of n size from (exchanges ++ x ∷ []) after (run_on n size from c exchanges x after run step))
+      ≡ made_by is made (trace_of n size from exchanges c run)
   made_same n size from c exchanges x after run step other =
       made_on_run n size from c exchanges x after run step
       ∙ (ap (λ (b : Bool). made_by is made (trace_of n size from exchanges c run) ++ kept_if b (made x after) []) other
-         ∙ append-nil (made_by is made (trace_of n size from exchanges c run)))
+      ∙ append-nil (made_by is made (trace_of n size from exchanges c run)))
 
   pub made_at : (n size : ℕ) (from c d : Core) (exchanges : List Exchange) (same : c ≡ d)
       (run : Run n size from exchanges c)
       → made_by is made (trace_of n size from exchanges d (run_at n size from c d exchanges same run))
-          ≡ made_by is made (trace_of n size from exchanges c run)
+      ≡ made_by is made (trace_of n size from exchanges c run)
   made_at n size from c d [] same run = refl
   made_at n size from c d (x ∷ exchanges) same (between, step, run) =
       ap (kept_if (is x.event) (made x between)) (made_at n size between c d exchanges same run)
@@ -86,8 +88,8 @@ module _ {M : Type 0} (is : Event → Bool) (made : Exchange → Core → M) whe
   pub made_as : (shape other : Shape) (from c : Core) (exchanges : List Exchange) (same : shape ≡ other)
       (run : Run shape.pages shape.size from exchanges c)
       → made_by is made
-              (trace_of other.pages other.size from exchanges c (run_as shape other from c exchanges same run))
-          ≡ made_by is made (trace_of shape.pages shape.size from exchanges c run)
+      (trace_of other.pages other.size from exchanges c (run_as shape other from c exchanges same run))
+      ≡ made_by is made (trace_of shape.pages shape.size from exchanges c run)
   made_as shape other from c [] same run = refl
   made_as shape other from c (x ∷ exchanges) same (between, step, run) =
       ap (kept_if (is x.event) (made x between)) (made_as shape other between c exchanges same run)
@@ -151,37 +153,37 @@ module _ (n size start : ℕ) (c : Core) (event : Event) (answer : Answer) (afte
     (step : Step n size c event answer after) where
   pub writer_more : is_by_writer event ≡ true
       → writer_made_of (reached_on n size start c event answer after r step)
-          ≡ writer_made_of r ++ writer_made record { event = event; answer = answer } after ∷ []
+      ≡ writer_made_of r ++ writer_made record { event = event; answer = answer } after ∷ []
   writer_more own =
       made_more is_by_writer writer_made n size r.from c r.exchanges record { event = event; answer = answer } after
-          r.run step own
+      r.run step own
 
   pub writer_same : is_by_writer event ≡ false
       → writer_made_of (reached_on n size start c event answer after r step) ≡ writer_made_of r
   writer_same other =
       made_same is_by_writer writer_made n size r.from c r.exchanges record { event = event; answer = answer } after
-          r.run step other
+      r.run step other
 
   pub reader_more : is_by_reader event ≡ true
       → reader_made_of (reached_on n size start c event answer after r step)
-          ≡ reader_made_of r ++ reader_made record { event = event; answer = answer } after ∷ []
+      ≡ reader_made_of r ++ reader_made record { event = event; answer = answer } after ∷ []
   reader_more own =
       made_more is_by_reader reader_made n size r.from c r.exchanges record { event = event; answer = answer } after
-          r.run step own
+      r.run step own
 
   pub reader_same : is_by_reader event ≡ false
       → reader_made_of (reached_on n size start c event answer after r step) ≡ reader_made_of r
   reader_same other =
       made_same is_by_reader reader_made n size r.from c r.exchanges record { event = event; answer = answer } after
-          r.run step other
+      r.run step other
 
   -- the writer's part after its step, if this was its part before it
   pub writer_then : (now : Writing) → is_by_writer event ≡ true → writing_of (writer_made_of r) c ≡ now
       → writer_made_of (reached_on n size start c event answer after r step)
-          ≡ now.made ++ writer_made record { event = event; answer = answer } after ∷ []
+      ≡ now.made ++ writer_made record { event = event; answer = answer } after ∷ []
   writer_then now own now_is =
       writer_more own
-          ∙ ap (λ (w : Writing). w.made ++ writer_made record { event = event; answer = answer } after ∷ []) now_is
+      ∙ ap (λ (w : Writing). w.made ++ writer_made record { event = event; answer = answer } after ∷ []) now_is
 
   pub part_then : (now then : Writing) → is_by_writer event ≡ true → writing_of (writer_made_of r) c ≡ now
       → writing_after now.made record { event = event; answer = answer } (writing_of [] after) ≡ then
@@ -191,11 +193,11 @@ module _ (n size start : ℕ) (c : Core) (event : Event) (answer : Answer) (afte
 
 -- its part is that of the same ring
 pub part_as : (shape other : Shape) (c : Core) (same : shape ≡ other)
-        (r : IsReached shape.pages shape.size shape.start c) (w : Writing) → writing_of (writer_made_of r) c ≡ w
+    (r : IsReached shape.pages shape.size shape.start c) (w : Writing) → writing_of (writer_made_of r) c ≡ w
     → writing_of (writer_made_of (reached_as shape other c same r)) c ≡ w
 part_as shape other c same r w is =
     ap (λ (made : List WriterMade). writing_of made c)
-            (made_as is_by_writer writer_made shape other r.from c r.exchanges same r.run) ∙ is
+    (made_as is_by_writer writer_made shape other r.from c r.exchanges same r.run) ∙ is
 
 -- its part has what it made
 pub part_here : (made : List WriterMade) (c : Core) (w : Writing) → writing_of made c ≡ w → writing_of w.made c ≡ w
@@ -219,7 +221,7 @@ pub reader_then : (n size start : ℕ) (c : Core) (event : Event) (answer : Answ
     → before.made ≡ reader_made_of r
     → IsReading after part
     → before.made ++ reading_made record { event = event; answer = answer } part ∷ []
-        ≡ reader_made_of (reached_on n size start c event answer after r step)
+    ≡ reader_made_of (reached_on n size start c event answer after r step)
 reader_then n size start c event answer after r step before part own made_is reading_is =
     (λ i. made_is i ++ read_made after part record { event = event; answer = answer } reading_is i ∷ [])
     ∙ sym (reader_more n size start c event answer after r step own)

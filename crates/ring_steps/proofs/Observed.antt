@@ -22,7 +22,7 @@ observed_longer : (h more : List HistoryEvent) (e : ℕ) → e ≤ committed_len
 observed_longer h [] e low = ap (first_records e) (append-nil h)
 observed_longer h (a ∷ more) e low = let up = committed_len-more h a in
     sym (ap (first_records e) (append_assoc h (a ∷ []) more))
-        ∙ (observed_longer (h ++ a ∷ []) more e (omega arith) ∙ frozen h a e low)
+    ∙ (observed_longer (h ++ a ∷ []) more e (omega arith) ∙ frozen h a e low)
 
 pub observed_stays : (n size start : ℕ) (c : Core) (event : Event) (answer : Answer) (after : Core)
     → IsRingKept n size start c → Step n size c event answer after
@@ -30,5 +30,5 @@ pub observed_stays : (n size start : ℕ) (c : Core) (event : Event) (answer : A
 observed_stays n size start c event answer after k step =
     let l = leads_step n size start c event answer after k.links k.stack k.history (cases_of step) in
     ap (first_records c.reader.expected) l.history_events
-        ∙ observed_longer c.history (history_events_of l.events) c.reader.expected
-            (settled n start c k.links k.contents k.closed k.partition)
+    ∙ observed_longer c.history (history_events_of l.events) c.reader.expected
+    (settled n start c k.links k.contents k.closed k.partition)

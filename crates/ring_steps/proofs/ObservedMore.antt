@@ -21,7 +21,7 @@ pub observed_with : (start : ℕ) (h : List HistoryEvent) (f expected : ℕ) (he
     × (length lost ≡ held.first - expected)
     × (held.first + length held.records ≤ length (reserved_records h))
     × (first_records (held.first + length held.records) h
-       ≡ first_records expected h ++ (lost ++ map as_record held.records))
+    ≡ first_records expected h ++ (lost ++ map as_record held.records))
 observed_with start h f expected held low r le is =
     let xs : List Reservation = reserved_records h in
     let rs : List Record = map as_record xs in

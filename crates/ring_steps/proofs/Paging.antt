@@ -57,7 +57,7 @@ pub first_slot : (me : SeatState) (number : ℕ) → IsWriting me → 0 < length
     → number ≡ slice_index_or (writing me.0).open_pages 0 0 → me.1 ≡ (number, None) ∷ rest me.1
 first_slot me number is filled first =
     subst (λ (slots : List (ℕ × Option Contents)). slots ≡ (number, None) ∷ rest slots) (sym is.hand)
-        (first_emptied (writing me.0).open_pages number filled first)
+    (first_emptied (writing me.0).open_pages number filled first)
 
 emptied_more : (pages : List ℕ) (page : ℕ) → emptied pages ++ (page, None) ∷ [] ≡ emptied (pages ++ page ∷ [])
 emptied_more [] page = refl
@@ -116,9 +116,9 @@ module _ (shape : Shape) (c : Core) (r : Reading) (ws : List ℕ) (homes : Homes
         wish_is = s.is_reading.wish_is ∙ sym stays.wish;
         observed_is =
             s.is_reading.observed_is
-                ∙ (sym observed
-                   ∙ sym (ap (λ (x : Rattle.trace_model.specs.Ring.Reader). first_records x.expected after.history)
-                          stays.reader));
+            ∙ (sym observed
+            ∙ sym (ap (λ (x : Rattle.trace_model.specs.Ring.Reader). first_records x.expected after.history)
+            stays.reader));
       }
 
   some_pages : 1 ≤ shape.pages
@@ -135,7 +135,7 @@ module _ (shape : Shape) (c : Core) (r : Reading) (ws : List ℕ) (homes : Homes
         → f ≢ fill → page_at shape.pages c.order f ≢ number
     is_other least f low high low_fill high_fill ne e =
         pages_differ shape.pages c.order c.spare least f fill some_pages kept.links.apart low high low_fill high_fill ne
-            (e ∙ at)
+        (e ∙ at)
 
     not_spare : c.spare ≢ number
     not_spare e = kept.links.apart.spare_differs (fill % shape.pages) (mod-lt fill some_pages) (sym (e ∙ at))
@@ -147,7 +147,7 @@ module _ (shape : Shape) (c : Core) (r : Reading) (ws : List ℕ) (homes : Homes
       here : get_elem? (set homes number slot) (page_at shape.pages c.order fill) ≡ some slot
       here =
           subst (λ (page : ℕ). get_elem? (set homes number slot) page ≡ some slot) at
-              (set_here homes number slot inside)
+          (set_here homes number slot inside)
 
       home_stays : (page f : ℕ) (held : PageRecords) → page ≢ number → IsHome homes shape.size page f held
           → IsHome (set homes number slot) shape.size page f held
@@ -171,8 +171,8 @@ module _ (shape : Shape) (c : Core) (r : Reading) (ws : List ℕ) (homes : Homes
     at_done : number ≡ page_at shape.pages c.order c.done
     at_done = let count = kept.open_pages.count in let behind = kept.links.done_lt in
         oldest
-            ∙ (kept.open_pages.each 0 (omega arith)
-               ∙ ap (page_at shape.pages c.order) (let same : c.done + 0 ≡ c.done = omega arith in same))
+        ∙ (kept.open_pages.each 0 (omega arith)
+        ∙ ap (page_at shape.pages c.order) (let same : c.done + 0 ≡ c.done = omega arith in same))
 
     abbrev homes_with : Homes
     homes_with = set homes number (some (Some page))
@@ -180,58 +180,60 @@ module _ (shape : Shape) (c : Core) (r : Reading) (ws : List ℕ) (homes : Homes
     holds : IsWrittenPage shape.size c.done (contents_of c (page_at shape.pages c.order c.done)) page
     holds =
         subst (λ (h : PageRecords). IsWrittenPage shape.size c.done h page)
-            (sym (kept.contents.each c.done kept.links.head_le kept.links.done_lt)) written
+        (sym (kept.contents.each c.done kept.links.head_le kept.links.done_lt)) written
 
     closed_home : (f : ℕ) → c.head ≤ f → f < c.done + 1
         → IsHome homes_with shape.size (page_at shape.pages c.order f) f (contents_of c (page_at shape.pages c.order f))
     closed_home f low high = let behind = kept.links.done_lt in let within = kept.links.opened_le in
         dite (ℕ_discrete f c.done)
         (λ e.
-            subst
-                (λ (g : ℕ).
-                    IsHome homes_with shape.size (page_at shape.pages c.order g) g
-                        (contents_of c (page_at shape.pages c.order g))) (sym e)
-                (page, here number c.done at_done (some (Some page)), holds))
+        subst
+        (λ (g : ℕ).
+        IsHome homes_with shape.size (page_at shape.pages c.order g) g
+        (contents_of c (page_at shape.pages c.order g))) (sym e)
+        (page, here number c.done at_done (some (Some page)), holds))
         (λ ne.
-            home_stays number c.done at_done (some (Some page)) (page_at shape.pages c.order f) f _
-                (is_other number c.done at_done c.head f low (omega arith) (omega arith) (omega arith) ne)
-                (s.are_homes.closed f low (omega arith)))
+        home_stays number c.done at_done (some (Some page)) (page_at shape.pages c.order f) f _
+        (is_other number c.done at_done c.head f low (omega arith) (omega arith) (omega arith) ne)
+        (s.are_homes.closed f low (omega arith)))
 
     free_body : (f : ℕ) → c.opened ≤ f → f < c.done + 1 + shape.pages
         → HasBody homes_with shape.size (page_at shape.pages c.order f)
     free_body f low high = let behind = kept.links.done_lt in
         dite (ℕ_discrete f (c.done + shape.pages))
         (λ e. let same : page_at shape.pages c.order f ≡ page_at shape.pages c.order c.done =
-         ap (page_at shape.pages c.order) e ∙ page_turn shape.pages c.order c.done in
+        ap (page_at shape.pages c.order) e ∙ page_turn shape.pages c.order c.done in
         (page, ap (get_elem? homes_with) same ∙ here number c.done at_done (some (Some page)), holds.size_is))
         (λ ne.
-            body_stays number c.done at_done (some (Some page)) (page_at shape.pages c.order f)
-                (is_other number c.done at_done c.done f (omega arith) (omega arith) (omega arith)
-                 (let some = some_pages in omega arith) (λ e. omega arith)) (s.are_homes.free f low (omega arith)))
+        body_stays number c.done at_done (some (Some page)) (page_at shape.pages c.order f)
+        (is_other number c.done at_done c.done f (omega arith) (omega arith) (omega arith)
+        (let some = some_pages in omega arith) (λ e. omega arith)) (s.are_homes.free f low (omega arith)))
 
     released_shown : (fill : ℕ) (frames : List Frame) → fill ≡ c.done
         → Step shape.pages shape.size c steps going (released_in frames)
         → IsShownBy shape (released_in frames) r (slice_set ws 1 (fill + 1)) homes_with
     released_shown fill frames fill_is step = let w = words.with_done shape.pages c ws (fill + 1) s.are_words in
         record {
-      pages_fit = s.pages_fit;
-      reached = reached_on shape.pages shape.size shape.start c steps going (released_in frames) s.reached step;
-      are_words =
-          record { count = w.count;
-                  opened = w.opened;
-                  done = w.done ∙ ap (λ (k : ℕ). k + 1) fill_is;
-                  wish = w.wish;
-                  links = w.links;
-                  spare = w.spare };
-      are_homes = record {
-        count = length-set homes number (some (Some page)) ∙ s.are_homes.count;
-        closed = closed_home;
-        free = free_body;
-        spare = spare_stays number c.done at_done (some (Some page));
-      };
-      is_reading = reading_stays going (released_in frames) step;
-      reader_made_is = reads_stay going (released_in frames) step;
-    }
+          pages_fit = s.pages_fit;
+          reached = reached_on shape.pages shape.size shape.start c steps going (released_in frames) s.reached step;
+          are_words =
+              record {
+                count = w.count;
+                opened = w.opened;
+                done = w.done ∙ ap (λ (k : ℕ). k + 1) fill_is;
+                wish = w.wish;
+                links = w.links;
+                spare = w.spare;
+              };
+          are_homes = record {
+            count = length-set homes number (some (Some page)) ∙ s.are_homes.count;
+            closed = closed_home;
+            free = free_body;
+            spare = spare_stays number c.done at_done (some (Some page));
+          };
+          is_reading = reading_stays going (released_in frames) step;
+          reader_made_is = reads_stay going (released_in frames) step;
+        }
 
   -- the frame on top is alone, and goes on in one of two phases
   released_step : HasTop c.frames releasing
@@ -241,15 +243,15 @@ module _ (shape : Shape) (c : Core) (r : Reading) (ws : List ℕ) (homes : Homes
       let alone = agree.1 (releasing_left top.frame.kind top.frame.state top.frame.phase top.phase_is agree.0) in
       let more = (top_kept shape.pages c top.frame top.below kept.links top.is).releases top.phase_is in
       let of_top : (after : Core) → ReleaseFillStep c top.frame top.below going after
-          → Step shape.pages shape.size c steps going after =
+      → Step shape.pages shape.size c steps going after =
       λ after step.
-             step_by
-                 (frame_step top.frame top.below refl top.is
-                  (subst (λ (p : Phase). FrameStep shape.pages shape.size c top.frame top.below p going after)
-                   (sym top.phase_is) step)) in
+      step_by
+      (frame_step top.frame top.below refl top.is
+      (subst (λ (p : Phase). FrameStep shape.pages shape.size c top.frame top.below p going after)
+      (sym top.phase_is) step)) in
       dite (ℕ_discrete (c.done + 2) c.opened)
       (λ last. let frames : List Frame = record top.frame { phase = wishing } ∷ top.below in
-       (frames, of_top (released_in frames) (releases_last alone last refl refl)))
+      (frames, of_top (released_in frames) (releases_last alone last refl refl)))
       (λ ne. (c.frames, of_top (released_in c.frames) (releases alone (omega arith) refl refl)))
 
   -- ---- a fill is begun
@@ -272,11 +274,11 @@ module _ (shape : Shape) (c : Core) (r : Reading) (ws : List ℕ) (homes : Homes
     opened_step : Step shape.pages shape.size c steps (begin_answer top_frame.kind top_frame.state below) begun
     opened_step =
         step_by (frame_step top_frame below refl is_top
-                 (subst
-                  (λ (p : Phase).
-                      FrameStep shape.pages shape.size c top_frame below p
-                          (begin_answer top_frame.kind top_frame.state below) begun) (sym phase_is)
-                  (opens refl refl refl)))
+        (subst
+        (λ (p : Phase).
+        FrameStep shape.pages shape.size c top_frame below p
+        (begin_answer top_frame.kind top_frame.state below) begun) (sym phase_is)
+        (opens refl refl refl)))
 
     lies_there : HasBody homes shape.size number
     lies_there = let low = kept.links.head_le in let room = position.1 in
@@ -295,37 +297,39 @@ module _ (shape : Shape) (c : Core) (r : Reading) (ws : List ℕ) (homes : Homes
         let low_head = kept.links.head_le in
         let behind = kept.links.done_lt in
         record {
-      count = length-set homes number none ∙ s.are_homes.count;
-      closed = λ f low high.
-          let ne = is_other number c.opened at c.head f low (omega arith) (omega arith) room (λ e. omega arith) in
-          subst (IsHome homes_without shape.size (page_at shape.pages c.order f) f)
+          count = length-set homes number none ∙ s.are_homes.count;
+          closed = λ f low high.
+              let ne = is_other number c.opened at c.head f low (omega arith) (omega arith) room (λ e. omega arith) in
+              subst (IsHome homes_without shape.size (page_at shape.pages c.order f) f)
               (sym (same (page_at shape.pages c.order f) ne))
-          (home_stays number c.opened at none (page_at shape.pages c.order f) f
-           (contents_of c (page_at shape.pages c.order f)) ne (s.are_homes.closed f low high));
-      free = λ f low high. body_stays number c.opened at none (page_at shape.pages c.order f)
-          (is_other number c.opened at c.done f (omega arith) (omega arith) (omega arith) (omega arith)
-           (λ e. omega arith)) (s.are_homes.free f (omega arith) high);
-      spare = spare_stays number c.opened at none;
-    }
+              (home_stays number c.opened at none (page_at shape.pages c.order f) f
+              (contents_of c (page_at shape.pages c.order f)) ne (s.are_homes.closed f low high));
+          free = λ f low high. body_stays number c.opened at none (page_at shape.pages c.order f)
+              (is_other number c.opened at c.done f (omega arith) (omega arith) (omega arith) (omega arith)
+              (λ e. omega arith)) (s.are_homes.free f (omega arith) high);
+          spare = spare_stays number c.opened at none;
+        }
 
     begun_shown : (fill : ℕ) → fill ≡ c.opened → IsShownBy shape begun r (slice_set ws 0 (fill + 1)) homes_without
     begun_shown fill fill_is =
         let w = words.with_opened shape.pages c ws (fill + 1) s.are_words in
         let new_words : AreWords shape.pages
-            (private_state (with_new_tail c number) begun.frames begun.history begun.held) (slice_set ws 0 (fill + 1)) =
-        record { count = w.count;
-                opened = w.opened ∙ ap (λ (k : ℕ). k + 1) fill_is;
-                done = w.done;
-                wish = w.wish;
-                links = w.links;
-                spare = w.spare } in
-            record {
+        (private_state (with_new_tail c number) begun.frames begun.history begun.held) (slice_set ws 0 (fill + 1)) =
+        record {
+          count = w.count;
+          opened = w.opened ∙ ap (λ (k : ℕ). k + 1) fill_is;
+          done = w.done;
+          wish = w.wish;
+          links = w.links;
+          spare = w.spare;
+        } in
+        record {
           pages_fit = s.pages_fit;
           reached = reached_on shape.pages shape.size shape.start c steps _ begun s.reached opened_step;
           are_words = subst (λ (d : Core). AreWords shape.pages d (slice_set ws 0 (fill + 1))) (sym begun_is) new_words;
           are_homes =
               subst (λ (d : Core). AreHomes shape.pages shape.size d r homes_without) (sym begun_is)
-                  (begun_homes begun.frames begun.history begun.held others_hold);
+              (begun_homes begun.frames begun.history begun.held others_hold);
           is_reading = reading_stays _ begun opened_step;
           reader_made_is = reads_stay _ begun opened_step;
         }
@@ -337,7 +341,7 @@ module _ (shape : Shape) (me : SeatState) (now : Writing) (c : Core) (r : Readin
     (low : passed me.0 ≤ c.head) where
   made_is : (answer : Answer) (after : Core) (step : Step shape.pages shape.size c steps answer after)
       → writer_made_of (reached_on shape.pages shape.size shape.start c steps answer after s.reached step)
-          ≡ now.made ++ writer_made record { event = steps; answer = answer } after ∷ []
+      ≡ now.made ++ writer_made record { event = steps; answer = answer } after ∷ []
   made_is answer after step =
       writer_then shape.pages shape.size shape.start c steps answer after s.reached step now refl now_is
 
@@ -348,15 +352,15 @@ module _ (shape : Shape) (me : SeatState) (now : Writing) (c : Core) (r : Readin
       → IsTopIn now.frames releasing → number ≡ slice_index_or now.open_pages 0 0
       → IsWrittenPage shape.size now.done (fill_of now.history shape.start now.done) page → fill ≡ now.done
       → WriterMoves shape r (me.0, (number, Some page) ∷ rest me.1) ws homes 1 (λ _. fill + 1)
-          (λ _. WriterReported shape now (passed me.0) (λ _. ⊤) going)
+      (λ _. WriterReported shape now (passed me.0) (λ _. ⊤) going)
   unfolding released_shown
   release_moves number fill page hand phase oldest written fill_is =
       let (frames, step) = released_step shape c r ws homes s (top_now releasing phase) in
       let oldest_is : number ≡ slice_index_or c.open_pages 0 0 =
-          oldest ∙ ap (λ (w : Writing). slice_index_or w.open_pages 0 0) (sym now_is) in
+      oldest ∙ ap (λ (w : Writing). slice_index_or w.open_pages 0 0) (sym now_is) in
       let written_is : IsWrittenPage shape.size c.done (fill_of c.history shape.start c.done) page =
-          subst (λ (w : Writing). IsWrittenPage shape.size w.done (fill_of w.history shape.start w.done) page)
-              (sym now_is) written in
+      subst (λ (w : Writing). IsWrittenPage shape.size w.done (fill_of w.history shape.start w.done) page)
+      (sym now_is) written in
       let done_is : fill ≡ c.done = fill_is ∙ ap (λ (w : Writing). w.done) (sym now_is) in record {
         next = released_in shape c r ws homes s frames;
         knows = passed me.0;
@@ -366,19 +370,21 @@ module _ (shape : Shape) (me : SeatState) (now : Writing) (c : Core) (r : Readin
         shown = released_shown shape c r ws homes s number page oldest_is written_is fill frames done_is step;
         made =
             now.made ++ writer_made record { event = steps; answer = going } (released_in shape c r ws homes s frames)
-                ∷ [];
+            ∷ [];
         made_is = made_is going (released_in shape c r ws homes s frames) step;
         reported = record {
           seat = record { view = refl; hand = hand };
           knows = omega arith;
           step =
-              record { core = c;
-                      next = released_in shape c r ws homes s frames;
-                      reached = s.reached;
-                      before_is = now_is;
-                      seen = tt;
-                      step = step;
-                      after_is = refl };
+              record {
+                core = c;
+                next = released_in shape c r ws homes s frames;
+                reached = s.reached;
+                before_is = now_is;
+                seen = tt;
+                step = step;
+                after_is = refl;
+              };
         };
       }
 
@@ -390,15 +396,15 @@ module _ (shape : Shape) (me : SeatState) (now : Writing) (c : Core) (r : Readin
       let now_opened : fill ≡ c.opened = fill_is ∙ ap (λ (w : Writing). w.opened) (sym now_is) in
       let top = top_now (opening fill number) phase in
       let phase_is : top.frame.phase ≡ opening c.opened number =
-          top.phase_is ∙ ap (λ (f : ℕ). opening f number) now_opened in
+      top.phase_is ∙ ap (λ (f : ℕ). opening f number) now_opened in
       let (body, lies, size_is) = lies_there shape c r ws homes s top.frame top.below top.is number phase_is in
       let next : Core = begun shape c r ws homes s top.frame top.below top.is number phase_is in
       let next_is = begun_is shape c r ws homes s top.frame top.below top.is number phase_is in
       let answers : begin_answer top.frame.kind top.frame.state top.below ≡ begun_answer now.frames =
-          ap begun_answer (sym top.is ∙ ap (λ (w : Writing). w.frames) now_is) in
+      ap begun_answer (sym top.is ∙ ap (λ (w : Writing). w.frames) now_is) in
       let step : Step shape.pages shape.size c steps (begun_answer now.frames) next =
-          subst (λ (a : Answer). Step shape.pages shape.size c steps a next) answers
-              (opened_step shape c r ws homes s top.frame top.below top.is number phase_is) in
+      subst (λ (a : Answer). Step shape.pages shape.size c steps a next) answers
+      (opened_step shape c r ws homes s top.frame top.below top.is number phase_is) in
       let head = ap (λ (d : Core). d.head) next_is in record {
         next = next;
         knows = passed me.0;
@@ -409,7 +415,7 @@ module _ (shape : Shape) (me : SeatState) (now : Writing) (c : Core) (r : Readin
         made = now.made ++ writer_made record { event = steps; answer = begun_answer now.frames } next ∷ [];
         made_is =
             made_is (begin_answer top.frame.kind top.frame.state top.below) next
-                (opened_step shape c r ws homes s top.frame top.below top.is number phase_is)
+            (opened_step shape c r ws homes s top.frame top.below top.is number phase_is)
             ∙ ap (λ (a : Answer). now.made ++ writer_made record { event = steps; answer = a } next ∷ []) answers;
         reported = record {
           view = refl;
@@ -420,17 +426,19 @@ module _ (shape : Shape) (me : SeatState) (now : Writing) (c : Core) (r : Readin
           size_is = size_is;
           hand =
               ap (λ (slots : List (ℕ × Option Contents)). (number, Some body) ∷ slots)
-                  (hand ∙ ap (λ (w : Writing). emptied w.open_pages) now_is);
+              (hand ∙ ap (λ (w : Writing). emptied w.open_pages) now_is);
           open_pages_are =
               ap (λ (d : Core). d.open_pages) next_is ∙ ap (λ (w : Writing). w.open_pages ++ number ∷ []) now_is;
           step =
-              record { core = c;
-                      next = next;
-                      reached = s.reached;
-                      before_is = now_is;
-                      seen = tt;
-                      step = step;
-                      after_is = refl };
+              record {
+                core = c;
+                next = next;
+                reached = s.reached;
+                before_is = now_is;
+                seen = tt;
+                step = step;
+                after_is = refl;
+              };
         };
       }
 
@@ -439,29 +447,29 @@ module _ (shape : Shape) (me : SeatState) (now : Writing) (c : Core) (r : Readin
 pub release_allowed : (shape : Shape) (slots id : ℕ) (me mid : SeatState) (now : Writing) (number fill : ℕ)
     (page : Contents)
     → IsWriting me → mid ≡ (me.0, (number, Some page) ∷ rest me.1) → Leads shape (writing me.0) now
-        → IsTopIn now.frames releasing → number ≡ slice_index_or now.open_pages 0 0
+    → IsTopIn now.frames releasing → number ≡ slice_index_or now.open_pages 0 0
     → IsWrittenPage shape.size now.done (fill_of now.history shape.start now.done) page → fill ≡ now.done
     → Allows (Shows shape.pages shape.size shape.start) slots id mid 1 (λ _. fill + 1)
-        (λ _. WriterReported shape now (passed mid.0) (λ _. ⊤) going)
+    (λ _. WriterReported shape now (passed mid.0) (λ _. ⊤) going)
 release_allowed shape slots id me mid now number fill page is mid_is leads phase oldest written fill_is =
     subst
-        (λ (m : SeatState).
-            Allows (Shows shape.pages shape.size shape.start) slots id m 1 (λ _. fill + 1)
-                (λ _. WriterReported shape now (passed m.0) (λ _. ⊤) going)) (sym mid_is)
+    (λ (m : SeatState).
+    Allows (Shows shape.pages shape.size shape.start) slots id m 1 (λ _. fill + 1)
+    (λ _. WriterReported shape now (passed m.0) (λ _. ⊤) going)) (sym mid_is)
     (writer_allows shape slots id (me.0, (number, Some page) ∷ rest me.1) now 1 (λ _. fill + 1)
-     (λ _. WriterReported shape now (passed me.0) (λ _. ⊤) going) is.view leads
+    (λ _. WriterReported shape now (passed me.0) (λ _. ⊤) going) is.view leads
     (λ c r ws homes s now_is pages low. release_moves shape me now c r ws homes s now_is low number fill page
     (ap rest is.hand ∙ (rest_emptied (writing me.0).open_pages ∙ ap (λ (ps : List ℕ). emptied (drop 1 ps)) (sym pages)))
-        phase oldest written fill_is))
+    phase oldest written fill_is))
 
 pub open_allowed : (shape : Shape) (slots id : ℕ) (me : SeatState) (now : Writing) (number fill : ℕ)
     → IsWriting me → Leads shape (writing me.0) now → IsTopIn now.frames (opening fill number) → fill ≡ now.opened
     → Allows (Shows shape.pages shape.size shape.start) slots id me 0 (λ _. fill + 1)
-        (λ _. OpenReported shape now (passed me.0))
+    (λ _. OpenReported shape now (passed me.0))
 open_allowed shape slots id me now number fill is leads phase fill_is =
     writer_allows shape slots id me now 0 (λ _. fill + 1) (λ _. OpenReported shape now (passed me.0)) is.view leads
     (λ c r ws homes s now_is pages low.
-        open_moves shape me now c r ws homes s now_is low number fill (is.hand ∙ ap emptied (sym pages)) phase fill_is)
+    open_moves shape me now c r ws homes s now_is low number fill (is.hand ∙ ap emptied (sym pages)) phase fill_is)
 
 -- ---- the page that the writer got
 
@@ -496,20 +504,20 @@ module _ (shape : Shape) (now : Writing) (known : ℕ) (mid : SeatState) (report
       → found ≡ Some page → page.size ≡ shape.size
   opened_size found page at is =
       ap (λ (body : Contents). body.size) (same_body page reported.body (sym is ∙ opened_body found at))
-          ∙ reported.size_is
+      ∙ reported.size_is
 
   -- the slot that is emptied goes after the others
   pub opened_seat : (after end : SeatState) → after ≡ (mid.0, (number, None) ∷ rest mid.1)
       → end ≡ (after.0, turned after.1) → WriterReported shape now known (λ _. ⊤) (begun_answer now.frames) end
   opened_seat after end after_is end_is =
       subst (WriterReported shape now known (λ _. ⊤) (begun_answer now.frames))
-          (sym (end_is ∙ ap (λ (m : SeatState). let seat : SeatState = (m.0, turned m.1) in seat) after_is)) record {
-    seat = record {
-      view = reported.view;
-      hand = ap (λ (slots : List (ℕ × Option Contents)). rest slots ++ (number, None) ∷ []) reported.hand
-          ∙ (emptied_more now.open_pages number
-             ∙ ap emptied (ap (λ (p : ℕ). now.open_pages ++ p ∷ []) (sym page_is) ∙ sym reported.open_pages_are));
-    };
-    knows = reported.knows;
-    step = reported.step;
-  }
+      (sym (end_is ∙ ap (λ (m : SeatState). let seat : SeatState = (m.0, turned m.1) in seat) after_is)) record {
+        seat = record {
+          view = reported.view;
+          hand = ap (λ (slots : List (ℕ × Option Contents)). rest slots ++ (number, None) ∷ []) reported.hand
+              ∙ (emptied_more now.open_pages number
+              ∙ ap emptied (ap (λ (p : ℕ). now.open_pages ++ p ∷ []) (sym page_is) ∙ sym reported.open_pages_are));
+        };
+        knows = reported.knows;
+        step = reported.step;
+      }

@@ -41,16 +41,15 @@ states_lost n noted lost l k same other fill sum = (
 )
 
 states_fill : (n : ℕ) (c : Core) (frame : Frame) (below : List Frame) (noted : ℕ) (answer : Answer) (after : Core)
-        (l : Link) → noted ≡ c.opened → link_into n c.links noted ≡ l → LoadLinkStep n c frame below noted answer after
+    (l : Link) → noted ≡ c.opened → link_into n c.links noted ≡ l → LoadLinkStep n c frame below noted answer after
     → StatesFill n noted l
 states_fill n c frame below noted answer after l now link (load_link_late late) = absurd (late.passed now)
 states_fill n c frame below noted answer after l now link (sees_free page x at a is) =
-        let same : normal_link page noted ≡ l =
-        sym at ∙ link in
-    (
-  (λ _. sym (ap (λ (k : Link). k.fill) same)),
-  (λ other. absurd (other (sym (ap (λ (k : Link). k.mark) same)))),
-)
+    let same : normal_link page noted ≡ l =
+    sym at ∙ link in (
+      (λ _. sym (ap (λ (k : Link). k.fill) same)),
+      (λ other. absurd (other (sym (ap (λ (k : Link). k.mark) same)))),
+    )
 states_fill n c frame below noted answer after l now link (sees_header page lost x sum at a is) =
     states_lost n noted lost l (header_link page lost) (sym at ∙ link) (λ e. cc) refl sum
 states_fill n c frame below noted answer after l now link (sees_update page lost x sum at a is) =
@@ -64,11 +63,11 @@ computed : (n size : ℕ) (d : Core) (frame : Frame) (below : List Frame) (phase
     → step_of n size d steps ≡ Some (answer, after)
 computed n size d frame below phase answer after top at step =
     (step_by (frame_step frame below refl top
-              (subst (λ (p : Phase). FrameStep n size d frame below p answer after) (sym at) step))).is
+    (subst (λ (p : Phase). FrameStep n size d frame below p answer after) (sym at) step))).is
 
 begun_alone : (kind : Purpose) (state : Progress) (c : Core) (page : ℕ) (frame : Frame) (below : List Frame)
     → writing_of [] (after_begin kind state (with_new_tail c page) frame below)
-        ≡ writing_of [] (after_begin kind state (with_new_tail (alone (writing_of [] c)) page) frame below)
+    ≡ writing_of [] (after_begin kind state (with_new_tail (alone (writing_of [] c)) page) frame below)
 begun_alone (for_record moment len) waiting c page frame below = refl
 begun_alone for_close waiting c page frame below = refl
 begun_alone kind (reserved number) c page frame below = refl
@@ -92,15 +91,15 @@ module _ (shape : Shape) (made : List WriterMade) (c : Core) (frame : Frame) (be
       → IsPartAfter
   is_part_after phase next at step same =
       ap after_step same
-          ∙ sym (ap (part_of (writing_of made c) steps)
-                 (computed shape.pages shape.size there frame below phase answer next top at step))
+      ∙ sym (ap (part_of (writing_of made c) steps)
+      (computed shape.pages shape.size there frame below phase answer next top at step))
 
   begun : (page : ℕ) → frame.phase ≡ opening c.opened page
       → OpenFillStep shape.pages c frame below c.opened page answer after → IsPartAfter
   begun page at (open_late late) = absurd (late.passed refl)
   begun page at (opens now a is) =
       is_part_after (opening c.opened page) (after_begin frame.kind frame.state (with_new_tail there page) frame below)
-          at (opens refl a refl)
+      at (opens refl a refl)
       (ap (writing_of []) is ∙ begun_alone frame.kind frame.state c page frame below)
 
   closed : frame.phase ≡ releasing → ReleaseFillStep c frame below answer after → IsPartAfter
@@ -124,8 +123,8 @@ module _ (shape : Shape) (made : List WriterMade) (c : Core) (frame : Frame) (be
       → after_step (writing_of [] after) ≡ part_after_wish shape (writing_of made c) c.wish
   is_part_after_wish next at step same =
       ap after_step same
-          ∙ sym (ap (part_of (writing_of made c) steps)
-                 (computed shape.pages shape.size wished_there frame below wishing answer next top at step))
+      ∙ sym (ap (part_of (writing_of made c) steps)
+      (computed shape.pages shape.size wished_there frame below wishing answer next top at step))
 
   asked : frame.phase ≡ wishing → LoadWishStep shape.pages c frame below answer after
       → after_step (writing_of [] after) ≡ part_after_wish shape (writing_of made c) c.wish
@@ -159,24 +158,24 @@ module _ {shape : Shape} {w : Writing} {sees : Core → Type 0} {answer : Answer
       → after ≡ part_after shape w steps
   part_begun page fill at fill_is =
       let top =
-          top_there (opening s.core.opened page)
-              (subst (λ (f : ℕ). IsTopIn w.frames (opening f page)) (fill_is ∙ opened_there) at) in
+      top_there (opening s.core.opened page)
+      (subst (λ (f : ℕ). IsTopIn w.frames (opening f page)) (fill_is ∙ opened_there) at) in
       sym s.after_is
-          ∙ (begun shape w.made s.core top.frame top.below top.is answer s.next page top.phase_is
-                 (stepped (opening s.core.opened page) top)
-             ∙ ap (λ (x : Writing). part_after shape x steps) before_here)
+      ∙ (begun shape w.made s.core top.frame top.below top.is answer s.next page top.phase_is
+      (stepped (opening s.core.opened page) top)
+      ∙ ap (λ (x : Writing). part_after shape x steps) before_here)
 
   pub part_closed : IsTopIn w.frames releasing → after ≡ part_after shape w steps
   part_closed at = let top = top_there releasing at in
       sym s.after_is
-          ∙ (closed shape w.made s.core top.frame top.below top.is answer s.next top.phase_is (stepped releasing top)
-             ∙ ap (λ (x : Writing). part_after shape x steps) before_here)
+      ∙ (closed shape w.made s.core top.frame top.below top.is answer s.next top.phase_is (stepped releasing top)
+      ∙ ap (λ (x : Writing). part_after shape x steps) before_here)
 
   pub part_asked : (wish : ℕ) → IsTopIn w.frames wishing → s.core.wish ≡ wish → after ≡ part_after_wish shape w wish
   part_asked wish at is = let top = top_there wishing at in
       sym s.after_is
-          ∙ (asked shape w.made s.core top.frame top.below top.is answer s.next top.phase_is (stepped wishing top)
-             ∙ (λ i. part_after_wish shape (before_here i) (is i)))
+      ∙ (asked shape w.made s.core top.frame top.below top.is answer s.next top.phase_is (stepped wishing top)
+      ∙ (λ i. part_after_wish shape (before_here i) (is i)))
 
 -- ---- the steps on links
 
@@ -188,25 +187,25 @@ module _ {shape : Shape} {w : Writing} {sees : Core → Type 0} {after : Writing
   goes_on_in frame below phase top moved =
       sym s.after_is ∙ ap (writing_after w.made record { event = steps; answer = going })
       (moved
-       ∙ (ap
-          (λ (frames : List Frame). let part : Writing =
-               record (writing_of [] s.core) { frames = frames_in frames phase } in
-           part) (sym top)
+      ∙ (ap
+      (λ (frames : List Frame). let part : Writing =
+      record (writing_of [] s.core) { frames = frames_in frames phase } in
+      part) (sym top)
       ∙ ap (λ (x : Writing). let part : Writing = record x { frames = frames_in x.frames phase; made = [] } in part)
-          s.before_is))
+      s.before_is))
 
   module _ (l : Link) (at : IsTopIn w.frames (looking w.opened))
       (link : link_into shape.pages s.core.links w.opened ≡ l) where
     pub part_found : after ≡ part_in w (found_at l.mark w.opened l.page)
     part_found = let top = top_there s (looking w.opened) at in
         goes_on_in top.frame top.below (found_at l.mark w.opened l.page) top.is
-            (looked shape.pages s.core top.frame top.below going s.next w.opened l (opened_there s) link
-             (stepped s (looking w.opened) top))
+        (looked shape.pages s.core top.frame top.below going s.next w.opened l (opened_there s) link
+        (stepped s (looking w.opened) top))
 
     pub fill_found : StatesFill shape.pages w.opened l
     fill_found = let top = top_there s (looking w.opened) at in
         states_fill shape.pages s.core top.frame top.below w.opened going s.next l (opened_there s) link
-            (stepped s (looking w.opened) top)
+        (stepped s (looking w.opened) top)
 
   pub part_claimed : (done : Bool) (page lost : ℕ) → IsTopIn w.frames (claiming w.opened page)
       → lost + shape.pages ≡ w.opened
@@ -215,35 +214,35 @@ module _ {shape : Shape} {w : Writing} {sees : Core → Type 0} {after : Writing
   part_claimed true page lost at sum is = let top = top_there s (claiming w.opened page) at in
       goes_on_in top.frame top.below (looking_next Rattle.trace_model.specs.Frames.owner w.opened page) top.is
       (claimed shape.pages s.core top.frame top.below going s.next w.opened page lost (opened_there s) sum (is.0 refl)
-       (stepped s (claiming w.opened page) top))
+      (stepped s (claiming w.opened page) top))
   part_claimed false page lost at sum is = let top = top_there s (claiming w.opened page) at in
       goes_on_in top.frame top.below (looking w.opened) top.is
       (not_claimed shape.pages s.core top.frame top.below going s.next w.opened page lost (opened_there s) sum
-       (λ there. let e : false ≡ true = is.1 there in cc) (stepped s (claiming w.opened page) top))
+      (λ there. let e : false ≡ true = is.1 there in cc) (stepped s (claiming w.opened page) top))
 
   module _ (page after_lost : ℕ) (l : Link) (due : LooksNext shape.pages w page after_lost)
       (link : link_into shape.pages s.core.links after_lost ≡ l) where
     next_on : (phase : Phase)
         → ((frame : Frame) (below : List Frame)
-           → MayContinue (role_on_top w.frames) (noted_on_top w.frames) s.core.opened
+        → MayContinue (role_on_top w.frames) (noted_on_top w.frames) s.core.opened
         → FrameStep shape.pages shape.size s.core frame below
-                (looking_next (role_on_top w.frames) (noted_on_top w.frames) page) going s.next
-            → writing_of [] s.next ≡ writing_of [] (in_phase s.core frame below phase))
+        (looking_next (role_on_top w.frames) (noted_on_top w.frames) page) going s.next
+        → writing_of [] s.next ≡ writing_of [] (in_phase s.core frame below phase))
         → after ≡ part_in w phase
     next_on phase moves =
         let top =
         top_there s (looking_next (role_on_top w.frames) (noted_on_top w.frames) page) due.phase in
         goes_on_in top.frame top.below phase top.is
         (moves top.frame top.below
-         (subst (MayContinue (role_on_top w.frames) (noted_on_top w.frames)) (opened_there s) due.goes_on)
-         (stepped s (looking_next (role_on_top w.frames) (noted_on_top w.frames) page) top))
+        (subst (MayContinue (role_on_top w.frames) (noted_on_top w.frames)) (opened_there s) due.goes_on)
+        (stepped s (looking_next (role_on_top w.frames) (noted_on_top w.frames) page) top))
 
     passes : ((page : ℕ) → l ≢ normal_link page after_lost)
         → after ≡ part_in w (after_next (role_on_top w.frames) (noted_on_top w.frames) page)
     passes differ = next_on (after_next (role_on_top w.frames) (noted_on_top w.frames) page)
         (λ frame below on step.
-            is_passed shape.pages s.core frame below going s.next (role_on_top w.frames) (noted_on_top w.frames) page
-                after_lost l on due.after_lost_is link differ step)
+        is_passed shape.pages s.core frame below going s.next (role_on_top w.frames) (noted_on_top w.frames) page
+        after_lost l on due.after_lost_is link differ step)
 
     other_mark : (mark : Mark) → l.mark ≡ mark → (mark ≡ normal → ⊥) → (page : ℕ) → l ≢ normal_link page after_lost
     other_mark mark is other page e = other (sym is ∙ ap (λ (k : Link). k.mark) e)
@@ -252,10 +251,10 @@ module _ {shape : Shape} {w : Writing} {sees : Core → Type 0} {after : Writing
         → after ≡ part_in w (next_at mark same (role_on_top w.frames) (noted_on_top w.frames) page l.page)
     part_next normal true is same = next_on (marking (role_on_top w.frames) (noted_on_top w.frames) page l.page)
         (λ frame below on step.
-            waits shape.pages s.core frame below going s.next (role_on_top w.frames) (noted_on_top w.frames) page
-                after_lost l on due.after_lost_is link
+        waits shape.pages s.core frame below going s.next (role_on_top w.frames) (noted_on_top w.frames) page
+        after_lost l on due.after_lost_is link
         (let fill : l.fill ≡ after_lost = eqb-true l.fill after_lost same in
-         λ i. record { mark = is i; page = l.page; fill = fill i }) step)
+        λ i. record { mark = is i; page = l.page; fill = fill i }) step)
     part_next normal false is same = passes (λ page e. eqb-false l.fill after_lost same (ap (λ (k : Link). k.fill) e))
     part_next header same is x = passes (other_mark header is (λ e. cc))
     part_next update same is x = passes (other_mark update is (λ e. cc))
@@ -267,10 +266,10 @@ module _ {shape : Shape} {w : Writing} {sees : Core → Type 0} {after : Writing
       top_there s (marking (role_on_top w.frames) (noted_on_top w.frames) page next) due.phase in
       goes_on_in top.frame top.below (after_next (role_on_top w.frames) (noted_on_top w.frames) page) top.is
       (marked shape.pages s.core top.frame top.below going s.next (role_on_top w.frames) (noted_on_top w.frames) page
-       next (subst (MayContinue (role_on_top w.frames) (noted_on_top w.frames)) (opened_there s) due.goes_on)
+      next (subst (MayContinue (role_on_top w.frames) (noted_on_top w.frames)) (opened_there s) due.goes_on)
       (stepped s (marking (role_on_top w.frames) (noted_on_top w.frames) page next) top))
 
   pub part_cleared : (page noted : ℕ) → IsTopIn w.frames (clearing noted page) → after ≡ part_in w (opening noted page)
   part_cleared page noted at = let top = top_there s (clearing noted page) at in
       goes_on_in top.frame top.below (opening noted page) top.is
-          (cleared shape.pages s.core top.frame top.below going s.next noted page (stepped s (clearing noted page) top))
+      (cleared shape.pages s.core top.frame top.below going s.next noted page (stepped s (clearing noted page) top))

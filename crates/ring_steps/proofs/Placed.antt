@@ -37,7 +37,7 @@ reader_at w r head _ (suc zero) u settled at = absurd (cc)
 reader_at w r head _ (suc (suc i)) u settled at = absurd (cc)
 
 pub writer_placed : (w : Writing) (known : ℕ) (r : Reading) (head : ℕ) (vs : List SeatView) (id : ℕ) (next : Writing)
-        (knows : ℕ) → vs ≡ writes w known ∷ reads r ∷ [] → id ≡ 0 → knows ≤ head
+    (knows : ℕ) → vs ≡ writes w known ∷ reads r ∷ [] → id ≡ 0 → knows ≤ head
     → AreSeated next r head (set vs id (writes next knows))
 writer_placed w known r head vs id next knows e i low =
     subst (AreSeated next r head) (λ k. set (sym e k) (sym i k) (writes next knows)) (running knows low)
@@ -49,19 +49,19 @@ reader_placed w known r head vs id next e i low =
 
 -- after a step of either end no seat is the first one
 pub not_laid_writer : (vs : List SeatView) (w : Writing) (known : ℕ) (r : Reading) (id : ℕ) (next : Writing) (knows : ℕ)
-        (u : Writing) (v : Reading) → vs ≡ writes w known ∷ reads r ∷ [] → id ≡ 0
+    (u : Writing) (v : Reading) → vs ≡ writes w known ∷ reads r ∷ [] → id ≡ 0
     → set vs id (writes next knows) ≡ laid u v ∷ [] → ⊥
 not_laid_writer vs w known r id next knows u v e i is =
-        let there : writes next knows ∷ reads r ∷ [] ≡ laid u v ∷ [] =
-        sym (λ k. set (e k) (i k) (writes next knows)) ∙ is in
+    let there : writes next knows ∷ reads r ∷ [] ≡ laid u v ∷ [] =
+    sym (λ k. set (e k) (i k) (writes next knows)) ∙ is in
     cc
 
 pub not_laid_reader : (vs : List SeatView) (w : Writing) (known : ℕ) (r : Reading) (id : ℕ) (next : Reading)
-        (u : Writing) (v : Reading) → vs ≡ writes w known ∷ reads r ∷ [] → id ≡ 1
+    (u : Writing) (v : Reading) → vs ≡ writes w known ∷ reads r ∷ [] → id ≡ 1
     → set vs id (reads next) ≡ laid u v ∷ [] → ⊥
 not_laid_reader vs w known r id next u v e i is =
-        let there : writes w known ∷ reads next ∷ [] ≡ laid u v ∷ [] =
-        sym (λ k. set (e k) (i k) (reads next)) ∙ is in
+    let there : writes w known ∷ reads next ∷ [] ≡ laid u v ∷ [] =
+    sym (λ k. set (e k) (i k) (reads next)) ∙ is in
     cc
 
 -- the first seat is the only one

@@ -78,7 +78,7 @@ module _ (shape : Shape) (is : IsShape shape) (ws : List ℕ) (first_ws : AreFir
     behind : (f : ℕ) → ((f + n - 1) % n + 1) % n ≡ f % n
     behind f = let many = some_pages in
         mod-add-mod (f + n - 1) n 1
-            ∙ (ap (λ (k : ℕ). k % n) (let e : f + n - 1 + 1 ≡ f + n = omega arith in e) ∙ add-mod_right f n)
+        ∙ (ap (λ (k : ℕ). k % n) (let e : f + n - 1 + 1 ≡ f + n = omega arith in e) ∙ add-mod_right f n)
 
     link_is : (f : ℕ) (link : Link) → IsFirstLink n start (f % n) link → link_into n c.links f ≡ link
     link_is f link first =
@@ -86,15 +86,15 @@ module _ (shape : Shape) (is : IsShape shape) (ws : List ℕ) (first_ws : AreFir
         ap (λ (k : ℕ). get_or c.links k (normal_link 0 0)) (sym position)
         ∙ dite (ℕ_discrete g start)
         (λ e.
-            ap (link_into n c.links) e
-                ∙ (s.first_link
-                   ∙ (ap (λ (k : ℕ). Rattle.trace_model.specs.Links.header_link k start)
-                          (sym (ap (λ (k : ℕ). k % n) e) ∙ position)
-                      ∙ sym (first.first (sym position ∙ ap (λ (k : ℕ). k % n) e)
+        ap (link_into n c.links) e
+        ∙ (s.first_link
+        ∙ (ap (λ (k : ℕ). Rattle.trace_model.specs.Links.header_link k start)
+        (sym (ap (λ (k : ℕ). k % n) e) ∙ position)
+        ∙ sym (first.first (sym position ∙ ap (λ (k : ℕ). k % n) e)
         ∙ refl))))
         (λ ne.
-            s.links g (omega arith) high
-                ∙ (ap (λ (k : ℕ). normal_link k g) position ∙ sym (first.others g (omega arith) high position)))
+        s.links g (omega arith) high
+        ∙ (ap (λ (k : ℕ). normal_link k g) position ∙ sym (first.others g (omega arith) high position)))
 
     first_are_words : AreWords n c ws
     first_are_words = let many = some_pages in record {
@@ -108,7 +108,7 @@ module _ (shape : Shape) (is : IsShape shape) (ws : List ℕ) (first_ws : AreFir
           ∙ (word ∙ ap word_of (sym (link_is f link (subst (λ (k : ℕ). IsFirstLink n start k link) (behind f) first))));
       spare =
           ap (λ (k : ℕ). get_or ws (page_word k) 0) s.spare
-              ∙ ((word_at (n + 3) (omega arith)).spare refl ∙ ap word_of (sym s.spare_link));
+          ∙ ((word_at (n + 3) (omega arith)).spare refl ∙ ap word_of (sym s.spare_link));
     }
 
     first_are_homes : AreHomes n shape.size c (first_reading shape) (map some slots)
@@ -117,25 +117,25 @@ module _ (shape : Shape) (is : IsShape shape) (ws : List ℕ) (first_ws : AreFir
         let done = s.done in
         let opened = s.opened in
         record {
-      count = length-map slots some ∙ first_slots.0;
-      closed = λ f low high. absurd (omega arith);
-      free = λ f low high. let below : f % n < n = mod-lt f some_pages in
-          let ne : f % n ≢ start % n =
+          count = length-map slots some ∙ first_slots.0;
+          closed = λ f low high. absurd (omega arith);
+          free = λ f low high. let below : f % n < n = mod-lt f some_pages in
+              let ne : f % n ≢ start % n =
               apart start n f start (omega arith) (omega arith) (omega arith) (omega arith) (λ e. omega arith) in
-          let (body, slot, sized) = (slot_at (f % n) (omega arith)).others below ne in
-          subst (HasBody (map some slots) shape.size) (sym (page_is f))
+              let (body, slot, sized) = (slot_at (f % n) (omega arith)).others below ne in
+              subst (HasBody (map some slots) shape.size) (sym (page_is f))
               (body, home_at (f % n) (Some body) (omega arith) slot, sized);
-      spare =
-          λ kept.
-                 ap (get_elem? (map some slots)) s.spare
-                     ∙ home_at n None (omega arith) ((slot_at n (omega arith)).spare refl);
-    }
+          spare =
+              λ kept.
+              ap (get_elem? (map some slots)) s.spare
+              ∙ home_at n None (omega arith) ((slot_at n (omega arith)).spare refl);
+        }
 
     first_is_reading : IsReading c (first_reading shape)
     first_is_reading = record {
       order_is = ext_get_or 0 (counted 0 n) c.order (counted_length 0 n ∙ sym s.pages)
           (λ i low. let count = counted_length 0 n in
-           counted_at 0 n i (omega arith) ∙ ((let e : 0 + i ≡ i = omega arith in e) ∙ sym (s.order i (omega arith))));
+          counted_at 0 n i (omega arith) ∙ ((let e : 0 + i ≡ i = omega arith in e) ∙ sym (s.order i (omega arith))));
       spare_is = sym s.spare;
       spare_link_is = sym s.spare_link;
       reader_is = sym s.reader;
@@ -146,12 +146,14 @@ module _ (shape : Shape) (is : IsShape shape) (ws : List ℕ) (first_ws : AreFir
     first_writing_is : writing_of [] c ≡ first_writing shape
     first_writing_is =
         λ i.
-               record { made = [];
-                       frames = s.frames i;
-                       open_pages = s.open_pages i;
-                       history = s.history i;
-                       done = s.done i;
-                       opened = s.opened i }
+        record {
+          made = [];
+          frames = s.frames i;
+          open_pages = s.open_pages i;
+          history = s.history i;
+          done = s.done i;
+          opened = s.opened i;
+        }
 
   pub starts : Shows n shape.size start (opening ws slots (laid (first_writing shape) (first_reading shape)))
   starts = let (c, s, one) = new_ring_is_one n start some_pages in let numbers = is.numbers_left in record {
@@ -173,37 +175,40 @@ module _ (shape : Shape) (is : IsShape shape) (ws : List ℕ) (first_ws : AreFir
     };
     seats =
         subst
-            (λ (w : Writing).
-                AreSeated w (first_reading shape) c.head (laid (first_writing shape) (first_reading shape) ∷ []))
-            (sym (first_writing_is c s)) begun;
+        (λ (w : Writing).
+        AreSeated w (first_reading shape) c.head (laid (first_writing shape) (first_reading shape) ∷ []))
+        (sym (first_writing_is c s)) begun;
     tail = λ w r e. let same : first_writing shape ≡ w = cc in let low = mod-lt start some_pages in
         ap (λ (v : Writing). get_elem? (map some slots) (get_or v.open_pages 0 0)) (sym same)
-            ∙ home_at (start % n) None (omega arith) ((slot_at (start % n) (omega arith)).tail refl);
+        ∙ home_at (start % n) None (omega arith) ((slot_at (start % n) (omega arith)).tail refl);
   }
 
 -- The model's new ring is one that no step is needed to reach, and the writer's first part is its.
 pub first_state : (shape : Shape) → IsShape shape
     → (c : Core) × IsStart shape.pages shape.start c × (reached : IsReached shape.pages shape.size shape.start c)
-        × (writing_of (writer_made_of reached) c ≡ first_writing shape)
+    × (writing_of (writer_made_of reached) c ≡ first_writing shape)
 first_state shape is = let some_pages = is.limits.some_pages in
     let (c, s, one) = new_ring_is_one shape.pages shape.start (omega arith) in
-    let numbers = is.numbers_left in
-    (
-  c,
-  s,
-  record { from = c;
-          exchanges = [];
-          may_start = record { some_pages = is.limits.some_pages; numbers_left = omega arith };
-          is_new = s;
-          run = refl },
-  λ i.
-         record { made = [];
-                 frames = s.frames i;
-                 open_pages = s.open_pages i;
-                 history = s.history i;
-                 done = s.done i;
-                 opened = s.opened i },
-)
+    let numbers = is.numbers_left in (
+      c,
+      s,
+      record {
+        from = c;
+        exchanges = [];
+        may_start = record { some_pages = is.limits.some_pages; numbers_left = omega arith };
+        is_new = s;
+        run = refl;
+      },
+      λ i.
+          record {
+            made = [];
+            frames = s.frames i;
+            open_pages = s.open_pages i;
+            history = s.history i;
+            done = s.done i;
+            opened = s.opened i;
+          },
+    )
 
 pub first_reached : (shape : Shape) → IsShape shape → IsWriterReached shape (first_writing shape)
 first_reached shape is = let (c, s, reached, part_is) = first_state shape is in

@@ -45,15 +45,15 @@ use Rattle.ring_steps.proofs.Taking.{step_in, word_into, reads_on}
 module _ (shape : Shape) (me : SeatState) (c : Core) (ws : List ℕ) (homes : Homes)
     (s : IsShownBy shape c (reading me.0) ws homes) (page fill front from to : ℕ) (blank : Contents)
     (at : (reading me.0).reader.phase ≡ swapping page fill) (keeps_slot : (reading me.0).keeps_spare ≡ true)
-        (hand : me.1 ≡ ((reading me.0).spare, Some blank) ∷ [])
+    (hand : me.1 ≡ ((reading me.0).spare, Some blank) ∷ [])
     (sized : blank.size ≡ shape.size) (front_is : front ≡ page_before shape.pages (reading me.0).order fill)
-        (fits : FitsWord (header_link page fill))
+    (fits : FitsWord (header_link page fill))
     (from_is : from ≡ word_of (header_link page fill))
-        (to_is : to ≡ word_of (normal_link (reading me.0).spare (fill + shape.pages))) where
+    (to_is : to ≡ word_of (normal_link (reading me.0).spare (fill + shape.pages))) where
   abbrev Moves : Type 0
   Moves =
       ReaderMoves shape c (writer_made_of s.reached) me ws homes (front + 3) (λ k. either (k == from) to k)
-          (λ found after. SwapReported shape me (spot fill page) found after)
+      (λ found after. SwapReported shape me (spot fill page) found after)
 
   abbrev found : ℕ
   found = slice_index ws (front + 3)
@@ -64,7 +64,7 @@ module _ (shape : Shape) (me : SeatState) (c : Core) (ws : List ℕ) (homes : Ho
   facts : ReaderKept shape.pages c.links c.order c.spare_link c.head c.done c.reader.hint (swapping page fill)
   facts =
       subst (λ (p : ReaderPhase). ReaderKept shape.pages c.links c.order c.spare_link c.head c.done c.reader.hint p)
-          (sym (phase_in shape me c ws homes s (swapping page fill) at)) ring.links.reader
+      (sym (phase_in shape me c ws homes s (swapping page fill) at)) ring.links.reader
 
   found_is : found ≡ word_of (link_into shape.pages c.links fill)
   found_is = word_into shape me c ws homes s front fill front_is
@@ -87,12 +87,14 @@ module _ (shape : Shape) (me : SeatState) (c : Core) (ws : List ℕ) (homes : Ho
     of_reader = tt;
     step = step;
     after_is =
-        record { order_is = refl;
-                spare_is = refl;
-                spare_link_is = refl;
-                reader_is = refl;
-                wish_is = refl;
-                observed_is = refl };
+        record {
+          order_is = refl;
+          spare_is = refl;
+          spare_link_is = refl;
+          reader_is = refl;
+          wish_is = refl;
+          observed_is = refl;
+        };
     made_is = s.reader_made_is;
     one_more = refl;
   }
@@ -110,20 +112,20 @@ module _ (shape : Shape) (me : SeatState) (c : Core) (ws : List ℕ) (homes : Ho
     fails =
         let next : Core = gone_on c reader_on c.spare_link in
         let step : model.Step shape.pages shape.size c model.reads model.reading next =
-            step_in shape me c ws homes s (swapping page fill) model.reading next at
-                (cases.swap_fails differs refl refl) in
+        step_in shape me c ws homes s (swapping page fill) model.reading next at
+        (cases.swap_fails differs refl refl) in
         let on : suc fill ≡ fill + 1 = omega arith in
         reads_on shape me c ws homes s (front + 3) (λ k. either (k == from) to k)
-            (λ found after. SwapReported shape me (spot fill page) found after) (λ _. ⊤) true model.reading next keeps
-            step (omega arith) tt
+        (λ found after. SwapReported shape me (spot fill page) found after) (λ _. ⊤) true model.reading next keeps
+        step (omega arith) tt
         tt
         (exchanged found from to (λ (word : ℕ). AreWords shape.pages next (slice_set ws (front + 3) word))
-         (λ e. absurd (other e))
+        (λ e. absurd (other e))
         (λ _.
-            subst (AreWords shape.pages next) (sym (set-get_or ws (front + 3) 0))
-                (words_on shape.pages c ws reader_on s.are_words)))
+        subst (AreWords shape.pages next) (sym (set-get_or ws (front + 3) 0))
+        (words_on shape.pages c ws reader_on s.are_words)))
         (homes_on shape.pages shape.size c (reading me.0) homes reader_on c.spare_link true s.are_homes
-         (λ e. absurd (cc)))
+        (λ e. absurd (cc)))
         (λ reported. record {
           read = reported;
           took = λ e. absurd (other (e ∙ sym from_is));
@@ -133,16 +135,16 @@ module _ (shape : Shape) (me : SeatState) (c : Core) (ws : List ℕ) (homes : Ho
               step = seen_by _ model.reading next differs step;
               after_is =
                   ap (reading_after (reading me.0).made record { event = model.reads; answer = model.reading })
-                      (λ i. record {
-                order = sym s.is_reading.order_is i;
-                spare = sym s.is_reading.spare_is i;
-                spare_link = sym s.is_reading.spare_link_is i;
-                reader = record (sym s.is_reading.reader_is i) { phase = loading_head; hint = on i };
-                wish = sym s.is_reading.wish_is i;
-                observed = sym s.is_reading.observed_is i;
-                keeps_spare = sym keeps_slot i;
-                made = [];
-              });
+                  (λ i. record {
+                    order = sym s.is_reading.order_is i;
+                    spare = sym s.is_reading.spare_is i;
+                    spare_link = sym s.is_reading.spare_link_is i;
+                    reader = record (sym s.is_reading.reader_is i) { phase = loading_head; hint = on i };
+                    wish = sym s.is_reading.wish_is i;
+                    observed = sym s.is_reading.observed_is i;
+                    keeps_spare = sym keeps_slot i;
+                    made = [];
+                  });
             },
           );
         })
@@ -153,15 +155,15 @@ module _ (shape : Shape) (me : SeatState) (c : Core) (ws : List ℕ) (homes : Ho
     reported : link_into shape.pages c.links fill ≡ header_link page fill
     reported =
         word_reports (link_into shape.pages c.links fill) (header_link page fill)
-            (link_fits shape.pages shape.size shape.start c fill s.pages_fit ring) fits
-            (sym found_is ∙ (same ∙ from_is))
+        (link_fits shape.pages shape.size shape.start c fill s.pages_fit ring) fits
+        (sym found_is ∙ (same ∙ from_is))
 
     -- what is in the head's slot
     home : (body : Contents) × (get_elem? homes page ≡ some (some (Some body)))
         × IsWrittenPage shape.size fill (contents_of c page) body
     home =
         behind.head_home shape.pages shape.size shape.start c ring page fill facts reported (reading me.0) homes blank
-            sized s.are_homes
+        sized s.are_homes
 
     written : IsWrittenPage shape.size fill (contents_of c page) home.0
     written = home.2
@@ -169,7 +171,7 @@ module _ (shape : Shape) (me : SeatState) (c : Core) (ws : List ℕ) (homes : Ho
     count_is : home.0.count ≡ length (contents_of c page).records
     count_is =
         written.page_reads.counted
-            ∙ (ap (length {A = Record}) written.records_are ∙ length-map (contents_of c page).records as_record)
+        ∙ (ap (length {A = Record}) written.records_are ∙ length-map (contents_of c page).records as_record)
 
     expected_is : (reading me.0).reader.expected ≡ c.reader.expected
     expected_is = ap (λ (x : Reader). x.expected) s.is_reading.reader_is
@@ -178,7 +180,7 @@ module _ (shape : Shape) (me : SeatState) (c : Core) (ws : List ℕ) (homes : Ho
     holds = let is = behind.head shape.pages shape.size shape.start c ring page fill facts reported in
         let fill_is = is.fill_is in let below = facts.1 in let open_yet = ring.links.done_lt in
         ap (contents_of c) (behind.page_is shape.pages shape.size shape.start c ring page fill facts reported)
-            ∙ ring.contents.each fill (omega arith) (omega arith)
+        ∙ ring.contents.each fill (omega arith) (omega arith)
 
     expected_low : c.reader.expected ≤ first_of_fill c.history shape.start fill
     expected_low = let is = behind.head shape.pages shape.size shape.start c ring page fill facts reported in
@@ -195,12 +197,12 @@ module _ (shape : Shape) (me : SeatState) (c : Core) (ws : List ℕ) (homes : Ho
         let fill_is = is.fill_is in let below = facts.1 in let open_yet = ring.links.done_lt in
         let begun = ring.contents.begun in let from_start = ring.contents.from_start in
         observed_with shape.start c.history fill c.reader.expected (contents_of c page) (omega arith)
-            ring.contents.rising expected_low holds
+        ring.contents.rising expected_low holds
 
     numbers_fit : 8 * (home.0.first + home.0.count) ≤ shape.size * LINK_FILLS
     numbers_fit = let few = records_few shape.pages shape.size shape.start c ring in let fits = ring.links.fits in
         let most : shape.size * (c.opened - shape.start) ≤ shape.size * LINK_FILLS =
-            mul-le-mul_left shape.size (omega arith) in
+        mul-le-mul_left shape.size (omega arith) in
         let first = written.first_is in let count = count_is in let within = hears.2 in omega arith
 
     next : Core
@@ -210,7 +212,7 @@ module _ (shape : Shape) (me : SeatState) (c : Core) (ws : List ℕ) (homes : Ho
     unfolding next
     step =
         step_in shape me c ws homes s (swapping page fill) (model.page_taken (model.taken_fill c page fill)) next at
-            (cases.swaps reported refl refl)
+        (cases.swaps reported refl refl)
 
     taken : HeadTaken shape (reading me.0) page fill home.0
         (reading_on (reading me.0) next true (model.page_taken (model.taken_fill c page fill)))
@@ -221,30 +223,30 @@ module _ (shape : Shape) (me : SeatState) (c : Core) (ws : List ℕ) (homes : Ho
         let low = expected_low in
         let same_number = expected_is in
         record {
-      reported = model.taken_fill c page fill;
-      fill_is = refl;
-      written = written;
-      step = seen_by _ (model.page_taken (model.taken_fill c page fill)) next reported step;
-      behind = omega arith;
-      skipped_is = λ i. sym written.first_is i - sym expected_is i;
-      lost = hears.0;
-      lost_are = hears.1;
-      numbers_fit = numbers_fit;
-      observed_is =
-          hears.3
+          reported = model.taken_fill c page fill;
+          fill_is = refl;
+          written = written;
+          step = seen_by _ (model.page_taken (model.taken_fill c page fill)) next reported step;
+          behind = omega arith;
+          skipped_is = λ i. sym written.first_is i - sym expected_is i;
+          lost = hears.0;
+          lost_are = hears.1;
+          numbers_fit = numbers_fit;
+          observed_is =
+              hears.3
               ∙ ((λ i. sym s.is_reading.observed_is i ++ (hears.0 ++ sym written.records_are i))
-                 ∙ sym (append_assoc (reading me.0).observed hears.0 (records_of_page home.0)));
-      reader_is = λ i. record {
-        phase = loading_head;
-        hint = on i;
-        seen = (sym s.is_reading.reader_is i).seen;
-        expected = sym written.first_is i + sym count_is i;
-        taken = (sym s.is_reading.reader_is i).taken ++ model.taken_fill c page fill ∷ [];
-      };
-      order_is = λ i. set (sym s.is_reading.order_is i) (fill % shape.pages) (sym spare_here i);
-      spare_is = refl;
-      wish_is = sym s.is_reading.wish_is;
-    }
+              ∙ sym (append_assoc (reading me.0).observed hears.0 (records_of_page home.0)));
+          reader_is = λ i. record {
+            phase = loading_head;
+            hint = on i;
+            seen = (sym s.is_reading.reader_is i).seen;
+            expected = sym written.first_is i + sym count_is i;
+            taken = (sym s.is_reading.reader_is i).taken ++ model.taken_fill c page fill ∷ [];
+          };
+          order_is = λ i. set (sym s.is_reading.order_is i) (fill % shape.pages) (sym spare_here i);
+          spare_is = refl;
+          wish_is = sym s.is_reading.wish_is;
+        }
 
     abbrev act : Act (Option Contents)
     act = chain gives (takes page (Some home.0))
@@ -254,27 +256,29 @@ module _ (shape : Shape) (me : SeatState) (c : Core) (ws : List ℕ) (homes : Ho
     done =
         let hand_here : me.1 ≡ (c.spare, Some blank) ∷ [] = hand ∙ (λ i. (spare_here i, Some blank) ∷ []) in
         reads_on shape me c ws homes s (front + 3) (λ k. either (k == from) to k)
-            (λ found after. SwapReported shape me (spot fill page) found after) (λ _. ⊤) true
-            (model.page_taken (model.taken_fill c page fill)) next act step (omega arith) tt
-        (tt,
-         ap (λ (l : List (ℕ × Option Contents)). get_elem? (put_back homes l) page) hand_here
-             ∙ behind.head_stays shape.pages shape.size shape.start c ring page fill facts reported (reading me.0) homes
-                 blank sized s.are_homes)
+        (λ found after. SwapReported shape me (spot fill page) found after) (λ _. ⊤) true
+        (model.page_taken (model.taken_fill c page fill)) next act step (omega arith) tt (
+          tt,
+          ap (λ (l : List (ℕ × Option Contents)). get_elem? (put_back homes l) page) hand_here
+              ∙ behind.head_stays shape.pages shape.size shape.start c ring page fill facts reported (reading me.0)
+              homes
+              blank sized s.are_homes,
+        )
         (exchanged found from to (λ (word : ℕ). AreWords shape.pages next (slice_set ws (front + 3) word))
         (λ _.
-            subst (λ (word : ℕ). AreWords shape.pages next (slice_set ws (front + 3) word))
-                (sym (to_is ∙ ap (λ (spare : ℕ). word_of (normal_link spare (fill + shape.pages))) spare_here))
+        subst (λ (word : ℕ). AreWords shape.pages next (slice_set ws (front + 3) word))
+        (sym (to_is ∙ ap (λ (spare : ℕ). word_of (normal_link spare (fill + shape.pages))) spare_here))
         (subst
-         (λ (f : ℕ).
-             AreWords shape.pages next (slice_set ws (f + 3) (word_of (normal_link c.spare (fill + shape.pages)))))
-         (sym front_here)
+        (λ (f : ℕ).
+        AreWords shape.pages next (slice_set ws (f + 3) (word_of (normal_link c.spare (fill + shape.pages)))))
+        (sym front_here)
         (behind.swapped_words shape.pages shape.size shape.start c ring page fill facts reported ws s.are_words)))
         (λ other. absurd (other same)))
         (subst
-         (λ (l : List (ℕ × Option Contents)).
-             AreHomes shape.pages shape.size next (reading_of next true) (homes_after homes l act)) (sym hand_here)
+        (λ (l : List (ℕ × Option Contents)).
+        AreHomes shape.pages shape.size next (reading_of next true) (homes_after homes l act)) (sym hand_here)
         (behind.swapped_homes shape.pages shape.size shape.start c ring page fill facts reported (reading me.0) homes
-         blank sized s.are_homes))
+        blank sized s.are_homes))
         (λ read. record {
           read = read;
           took = λ _. (home.0, ap (λ (l : List (ℕ × Option Contents)). (page, Some home.0) ∷ rest l) hand, taken);
@@ -303,21 +307,21 @@ module _ (shape : Shape) (me mid : SeatState) (page fill spare : ℕ) (blank : C
       → front ≡ page_before shape.pages (reading me.0).order fill → FitsWord (header_link page fill)
       → from ≡ word_of (header_link page fill) → to ≡ word_of (normal_link spare (fill + shape.pages))
       → Allows (Shows shape.pages shape.size shape.start) slots id mid (front + 3) (λ k. either (k == from) to k)
-          (SwapReported shape mid (head_to_take (reading mid.0).reader.phase))
+      (SwapReported shape mid (head_to_take (reading mid.0).reader.phase))
   swap_allowed slots id front from to sized front_is fits from_is to_is =
       subst
-          (λ (m : SeatState).
-              Allows (Shows shape.pages shape.size shape.start) slots id m (front + 3) (λ k. either (k == from) to k)
-                  (SwapReported shape m (head_to_take (reading m.0).reader.phase))) (sym laid_is)
+      (λ (m : SeatState).
+      Allows (Shows shape.pages shape.size shape.start) slots id m (front + 3) (λ k. either (k == from) to k)
+      (SwapReported shape m (head_to_take (reading m.0).reader.phase))) (sym laid_is)
       (subst
-       (λ (head : Spot).
-           Allows (Shows shape.pages shape.size shape.start) slots id (laid_into me blank) (front + 3)
-               (λ k. either (k == from) to k) (SwapReported shape (laid_into me blank) head)) (sym (ap head_to_take at))
+      (λ (head : Spot).
+      Allows (Shows shape.pages shape.size shape.start) slots id (laid_into me blank) (front + 3)
+      (λ k. either (k == from) to k) (SwapReported shape (laid_into me blank) head)) (sym (ap head_to_take at))
       (reader_allows shape slots id (laid_into me blank) (front + 3) (λ k. either (k == from) to k)
-       (SwapReported shape (laid_into me blank) (spot fill page)) is.view
+      (SwapReported shape (laid_into me blank) (spot fill page)) is.view
       (λ core ws homes s.
-          swap_moves shape (laid_into me blank) core ws homes s page fill front from to blank at keeps_slot refl sized
-              front_is fits from_is
+      swap_moves shape (laid_into me blank) core ws homes s page fill front from to blank at keeps_slot refl sized
+      front_is fits from_is
       (to_is ∙ ap (λ (p : ℕ). word_of (normal_link p (fill + shape.pages))) spare_is))))
 
   -- what is known of the swap, said of the seat before
@@ -355,7 +359,7 @@ module _ (shape : Shape) (me after end : SeatState) (page fill found : ℕ) (bla
       taken_reported result at = let (body, hand, taken) = t.took met in
           subst (λ (m : SeatState). HeadTaken shape (reading me.0) page fill result (reading m.0)) (sym end_is)
           (subst (λ (b : Contents). HeadTaken shape (reading me.0) page fill b (reading after.0))
-           (same_body body result (ap body_of (sym hand ∙ at))) taken)
+          (same_body body result (ap body_of (sym hand ∙ at))) taken)
 
   module _ (unmet : found ≢ word_of (header_link page fill)) (spare : ℕ) (spare_is : spare ≡ (reading me.0).spare) where
     still_there : after.1 ≡ (spare, Some blank) ∷ []
@@ -372,9 +376,9 @@ module _ (shape : Shape) (me after end : SeatState) (page fill found : ℕ) (bla
       pub missed_seat : IsSeatOfReader end
       missed_seat =
           emptied_seat spare (spare_is ∙ sym (ap (λ (r : Reading). r.spare) (t.missed unmet).1.after_is))
-              (ap rest still_there) end_is
+          (ap rest still_there) end_is
 
       pub missed_reported : HeadGone shape (reading me.0) page fill (reading end.0)
       missed_reported =
           subst (λ (m : SeatState). HeadGone shape (reading me.0) page fill (reading m.0)) (sym end_is)
-              (t.missed unmet).1
+          (t.missed unmet).1

@@ -54,7 +54,7 @@ seen_as shape before sees other event answer reported after r seen e = record {
   made_is = r.made_is;
   one_more =
       r.one_more
-          ∙ ap (λ (a : model.Answer). before.made ++ reading_made record { event = event; answer = a } after ∷ []) e;
+      ∙ ap (λ (a : model.Answer). before.made ++ reading_made record { event = event; answer = a } after ∷ []) e;
 }
 
 module _ (shape : Shape) (before after : Reading) (sees : Core → Type 0) (answer : model.Answer)
@@ -78,12 +78,12 @@ module _ (shape : Shape) (before after : Reading) (sees : Core → Type 0) (answ
 
   pub facts : (phase : ReaderPhase) → before.reader.phase ≡ phase
       → ReaderKept shape.pages r.core.links r.core.order r.core.spare_link r.core.head r.core.done r.core.reader.hint
-          phase
+      phase
   facts phase at =
       subst
-          (λ (p : ReaderPhase).
-              ReaderKept shape.pages r.core.links r.core.order r.core.spare_link r.core.head r.core.done
-                  r.core.reader.hint p) (sym (phase_in phase at)) kept.links.reader
+      (λ (p : ReaderPhase).
+      ReaderKept shape.pages r.core.links r.core.order r.core.spare_link r.core.head r.core.done
+      r.core.reader.hint p) (sym (phase_in phase at)) kept.links.reader
 
   -- ---- the state after it
 
@@ -93,8 +93,8 @@ module _ (shape : Shape) (before after : Reading) (sees : Core → Type 0) (answ
   is_step phase reported next at step =
       steps_are_determined shape.pages shape.size r.core model.reads answer reported r.next next r.step
       (step_by (cases.read_step refl
-                (subst (λ (p : ReaderPhase). cases.ReadStep shape.pages r.core p reported next) (phase_in phase at)
-                 step)))
+      (subst (λ (p : ReaderPhase). cases.ReadStep shape.pages r.core p reported next) (phase_in phase at)
+      step)))
 
   -- the model answers it so
   so : (reported : model.Answer) → answer ≡ reported → IsReaderStep shape before sees model.reads reported after
@@ -112,12 +112,12 @@ module _ (shape : Shape) (before after : Reading) (sees : Core → Type 0) (answ
       let wish = r.after_is.wish_is ∙ (ap (λ (d : Core). d.wish) is ∙ sym r.before_is.wish_is) in
       let observed = r.after_is.observed_is
       ∙ (ap
-         (λ (d : Core). let observed : List Record =
-              take d.reader.expected (map as_record (reserved_records d.history)) in
-          observed) is
+      (λ (d : Core). let observed : List Record =
+      take d.reader.expected (map as_record (reserved_records d.history)) in
+      observed) is
       ∙ (ap
-             (λ (e : ℕ). let observed : List Record = take e (map as_record (reserved_records r.core.history)) in
-              observed) expected ∙ sym r.before_is.observed_is)) in
+      (λ (e : ℕ). let observed : List Record = take e (map as_record (reserved_records r.core.history)) in
+      observed) expected ∙ sym r.before_is.observed_is)) in
       (λ i. record after { made = r.one_more i })
       ∙ (ap (after_read before answer) (λ i. record {
         order = order i;
@@ -130,8 +130,8 @@ module _ (shape : Shape) (before after : Reading) (sees : Core → Type 0) (answ
         made = [];
       })
       ∙ ap
-          (λ (a : model.Answer).
-              after_read before a (record before { spare_link = link; reader = reader; keeps_spare = keeps })) answered)
+      (λ (a : model.Answer).
+      after_read before a (record before { spare_link = link; reader = reader; keeps_spare = keeps })) answered)
 
   -- which keeps the spare's link
   part_like : (reader : Reader) (keeps : Bool) (reported : model.Answer) → answer ≡ reported
@@ -140,11 +140,11 @@ module _ (shape : Shape) (before after : Reading) (sees : Core → Type 0) (answ
       → after ≡ after_read before reported (record before { reader = reader; keeps_spare = keeps })
   part_like reader keeps reported answered is expected slot =
       subst
-          (λ (link : Link).
-              after
-                  ≡ after_read before reported
-                      (record before { spare_link = link; reader = reader; keeps_spare = keeps }))
-          (sym r.before_is.spare_link_is)
+      (λ (link : Link).
+      after
+      ≡ after_read before reported
+      (record before { spare_link = link; reader = reader; keeps_spare = keeps }))
+      (sym r.before_is.spare_link_is)
       (part_is reader r.core.spare_link keeps reported answered is expected slot)
 
   -- ---- a store of the spare's link
@@ -159,30 +159,34 @@ module _ (shape : Shape) (before after : Reading) (sees : Core → Type 0) (answ
       let behind : Link = model.next_header shape.pages r.core fill in
       let on : suc fill ≡ fill + 1 = omega arith in
       let same : link ≡ behind =
-          is ∙ (λ i. header_link (page_at shape.pages (r.before_is.order_is i) (sym on i)) (sym on i)) in
+      is ∙ (λ i. header_link (page_at shape.pages (r.before_is.order_is i) (sym on i)) (sym on i)) in
       let next : Core =
-          gone_on r.core (record r.core.reader { phase = swapping page fill; hint = r.core.reader.hint }) behind in
+      gone_on r.core (record r.core.reader { phase = swapping page fill; hint = r.core.reader.hint }) behind in
       let (reported, next_is) =
-          is_step (storing_spare_link page fill) model.reading next at record { answer_is = refl; after_is = refl } in
+      is_step (storing_spare_link page fill) model.reading next at record { answer_is = refl; after_is = refl } in
       record {
         step = seen_as shape before sees (λ _. ⊤) model.reads answer model.reading after r tt reported;
         after_is =
             subst
-                (λ (l : Link).
-                    after
-                        ≡ after_read before model.reading
-                            (record before { spare_link = l;
-                                            reader = record before.reader { phase = swapping page fill };
-                                            keeps_spare = true })) (sym same)
+            (λ (l : Link).
+            after
+            ≡ after_read before model.reading
+            (record before {
+              spare_link = l;
+              reader = record before.reader { phase = swapping page fill };
+              keeps_spare = true;
+            })) (sym same)
             (subst
-             (λ (x : Reader).
-                 after
-                     ≡ after_read before model.reading
-                         (record before { spare_link = behind;
-                                         reader = record x { phase = swapping page fill };
-                                         keeps_spare = true })) (sym reader_is)
+            (λ (x : Reader).
+            after
+            ≡ after_read before model.reading
+            (record before {
+              spare_link = behind;
+              reader = record x { phase = swapping page fill };
+              keeps_spare = true;
+            })) (sym reader_is)
             (part_is (record r.core.reader { phase = swapping page fill }) behind true model.reading reported next_is
-             refl slot));
+            refl slot));
       }
 
 -- ---- a load of a link
@@ -200,20 +204,20 @@ module _ (shape : Shape) (before after : Reading) (link : Link) (answer : model.
       → LinkLoaded shape before link reported phase hint after
   loads reported phase hint step low =
       let (reported_is, next_is) =
-          is_step shape before after (SeesLinkAtHint shape before link) answer r loading_head reported
-              (model.reader_at r.core phase hint) at step in
+      is_step shape before after (SeesLinkAtHint shape before link) answer r loading_head reported
+      (model.reader_at r.core phase hint) at step in
       record {
         step = so shape before after (SeesLinkAtHint shape before link) answer r reported reported_is;
         hint_le = low;
         after_is =
             subst
-                (λ (x : Reader).
-                    after
-                        ≡ after_read before reported
-                            (record before { reader = record x { phase = phase; hint = hint }; keeps_spare = false }))
-                (sym (reader_is shape before after (SeesLinkAtHint shape before link) answer r))
+            (λ (x : Reader).
+            after
+            ≡ after_read before reported
+            (record before { reader = record x { phase = phase; hint = hint }; keeps_spare = false }))
+            (sym (reader_is shape before after (SeesLinkAtHint shape before link) answer r))
             (part_like shape before after (SeesLinkAtHint shape before link) answer r
-             (record r.core.reader { phase = phase; hint = hint }) false reported reported_is next_is refl slot);
+            (record r.core.reader { phase = phase; hint = hint }) false reported reported_is next_is refl slot);
       }
 
   k : IsRingKept shape.pages shape.size shape.start r.core
@@ -230,29 +234,29 @@ module _ (shape : Shape) (before after : Reading) (link : Link) (answer : model.
   sees_header page fill is =
       let (g, low, high, same, into) = fill_at shape.pages r.core k.links before.reader.hint in
       let reported =
-          header_reports shape.pages r.core.links r.core.order r.core.head r.core.frames g page fill into
-              (same ∙ (r.seen ∙ is)) in
+      header_reports shape.pages r.core.links r.core.order r.core.head r.core.frames g page fill into
+      (same ∙ (r.seen ∙ is)) in
       let fill_is = reported.0 in let head_is = reported.1 in let behind = k.links.hint_le in let hint = same_hint in
       loads model.reading (loading_done page fill) fill
-          (cases.loads_header page fill (here (header_link page fill) is) refl refl) (omega arith)
+      (cases.loads_header page fill (here (header_link page fill) is) refl refl) (omega arith)
 
   pub sees_update : (page lost : ℕ) → link ≡ update_link page lost
       → LinkLoaded shape before link (model.moving (lost + 1)) loading_head (lost + 1) after
   sees_update page lost is =
       let step : cases.LoadHeadStep shape.pages r.core (model.moving (suc lost))
-              (model.reader_at r.core loading_head (suc lost)) =
-          cases.loads_update page lost (here (update_link page lost) is) refl refl in
+      (model.reader_at r.core loading_head (suc lost)) =
+      cases.loads_update page lost (here (update_link page lost) is) refl refl in
       let next : suc lost ≡ lost + 1 = omega arith in
       let reported =
-          is_step shape before after (SeesLinkAtHint shape before link) answer r loading_head (model.moving (suc lost))
-              (model.reader_at r.core loading_head (suc lost)) at step in
+      is_step shape before after (SeesLinkAtHint shape before link) answer r loading_head (model.moving (suc lost))
+      (model.reader_at r.core loading_head (suc lost)) at step in
       let way =
-          (moving_right shape.pages shape.size shape.start r.core model.reads (suc lost) r.next k
-           (subst (λ (a : model.Answer). model.Step shape.pages shape.size r.core model.reads a r.next) reported.0
-            r.step)).0 in
+      (moving_right shape.pages shape.size shape.start r.core model.reads (suc lost) r.next k
+      (subst (λ (a : model.Answer). model.Step shape.pages shape.size r.core model.reads a r.next) reported.0
+      r.step)).0 in
       let low = way.hint_le in let same = same_hint in
       subst (λ (hint : ℕ). LinkLoaded shape before link (model.moving hint) loading_head hint after) next
-          (loads (model.moving (suc lost)) loading_head (suc lost) step (omega arith))
+      (loads (model.moving (suc lost)) loading_head (suc lost) step (omega arith))
 
   pub sees_owed : (page : ℕ) → link ≡ normal_link page before.reader.hint
       → LinkLoaded shape before link (model.moving before.reader.hint) loading_head before.reader.hint after
@@ -260,8 +264,8 @@ module _ (shape : Shape) (before after : Reading) (link : Link) (answer : model.
       let same = same_hint in
       subst (λ (hint : ℕ). LinkLoaded shape before link (model.moving hint) loading_head hint after) (sym same)
       (loads (model.moving r.core.reader.hint) loading_head r.core.reader.hint
-       (cases.loads_owed page (here (normal_link page before.reader.hint) is ∙ ap (normal_link page) same) refl refl)
-       (omega arith))
+      (cases.loads_owed page (here (normal_link page before.reader.hint) is ∙ ap (normal_link page) same) refl refl)
+      (omega arith))
 
   -- the position has a fill from the head on, at least a whole round after the hint
   far : (page fill : ℕ) → link ≡ normal_link page fill → fill ≢ before.reader.hint
@@ -270,28 +274,27 @@ module _ (shape : Shape) (before after : Reading) (link : Link) (answer : model.
       let some_pages = k.links.some_pages in let behind = k.links.hint_le in let same = same_hint in
       let hint : ℕ = before.reader.hint in
       let (g, low, high, position) =
-          at_position r.core.head shape.pages (hint % shape.pages) (mod-lt hint (omega arith)) in
+      at_position r.core.head shape.pages (hint % shape.pages) (mod-lt hint (omega arith)) in
       let reported : fill ≡ g =
-          (normal_reports shape.pages r.core.links r.core.order r.core.head r.core.frames g page fill
-           (k.links.each g low high)
-               (ap (λ (i : ℕ). get_or r.core.links i (normal_link 0 0)) position ∙ (r.seen ∙ is))).0 in
-      (
+      (normal_reports shape.pages r.core.links r.core.order r.core.head r.core.frames g page fill
+      (k.links.each g low high)
+      (ap (λ (i : ℕ). get_or r.core.links i (normal_link 0 0)) position ∙ (r.seen ∙ is))).0 in (
         dite (dec_le (hint + shape.pages) fill) (λ yes. yes)
             (λ no. let one =
-                 one_position hint shape.pages g hint (omega arith) (omega arith) (omega arith) (omega arith)
-                     position in
-             absurd (other (reported ∙ one))),
+            one_position hint shape.pages g hint (omega arith) (omega arith) (omega arith) (omega arith)
+            position in
+            absurd (other (reported ∙ one))),
         omega arith,
       )
 
   pub sees_passed : (page fill : ℕ) → link ≡ normal_link page fill → fill ≢ before.reader.hint
       → LinkLoaded shape before link model.reading loading_head (fill + 1 - shape.pages) after
-          × (before.reader.hint + shape.pages ≤ fill)
+      × (before.reader.hint + shape.pages ≤ fill)
   sees_passed page fill is other =
       let (behind, some_pages) = far page fill is other in let same = same_hint in (
         loads model.reading loading_head (fill + 1 - shape.pages)
             (cases.loads_passed page fill (fill + 1 - shape.pages) (here (normal_link page fill) is) (omega arith)
-             (omega arith) refl refl) (omega arith),
+            (omega arith) refl refl) (omega arith),
         behind,
       )
 
@@ -299,13 +302,13 @@ module _ (shape : Shape) (before after : Reading) (link : Link) (answer : model.
 module _ (shape : Shape) (before after : Reading) (found : ℕ)
     (read : IsReadStep shape before (IsWordInto shape before.reader.hint found) after)
     (at : before.reader.phase ≡ loading_head) (slot : after.keeps_spare ≡ false) (l : code.Link)
-        (fits : FitsWord (link_of l)) (word : word_of (link_of l) ≡ found) where
+    (fits : FitsWord (link_of l)) (word : word_of (link_of l) ≡ found) where
   seen : IsReaderStep shape before (SeesLinkAtHint shape before (link_of l)) model.reads read.0 after
   seen = let r = read.1 in
       seen_as shape before (IsWordInto shape before.reader.hint found) (SeesLinkAtHint shape before (link_of l))
-          model.reads read.0 read.0 after r
+      model.reads read.0 read.0 after r
       (word_reports (link_into shape.pages r.core.links before.reader.hint) (link_of l) r.seen.fits fits
-       (r.seen.word_is ∙ sym word)) refl
+      (r.seen.word_is ∙ sym word)) refl
 
   is_marked : (mark : Mark) → l.mark ≡ mark → link_of l ≡ link_of record { mark = mark; page = l.page; fill = l.fill }
   is_marked mark is = ap (λ (m : Mark). link_of record { mark = m; page = l.page; fill = l.fill }) is
@@ -323,11 +326,11 @@ module _ (shape : Shape) (before after : Reading) (found : ℕ)
   at_owed is same =
       subst (λ (hint : ℕ). LinkLoaded shape before (link_of l) (model.moving hint) loading_head hint after) (sym same)
       (sees_owed shape before after (link_of l) read.0 seen at slot l.page
-       (is_marked Normal is ∙ ap (normal_link l.page) same))
+      (is_marked Normal is ∙ ap (normal_link l.page) same))
 
   pub at_passed : l.mark ≡ Normal → l.fill ≢ before.reader.hint
       → LinkLoaded shape before (link_of l) model.reading loading_head (l.fill + 1 - shape.pages) after
-          × (before.reader.hint + shape.pages ≤ l.fill)
+      × (before.reader.hint + shape.pages ≤ l.fill)
   at_passed is other =
       sees_passed shape before after (link_of l) read.0 seen at slot l.page l.fill (is_marked Normal is) other
 
@@ -336,48 +339,48 @@ module _ (shape : Shape) (before after : Reading) (found : ℕ)
 module _ (shape : Shape) (before after : Reading) (done : ℕ) (answer : model.Answer)
     (r : IsReaderStep shape before (λ core. core.done ≡ done) model.reads answer after)
     (page fill : ℕ) (at : before.reader.phase ≡ loading_done page fill) (slot : after.keeps_spare ≡ before.keeps_spare)
-        where
-  saw : (reported : model.Answer) (phase : ReaderPhase)
-      → cases.LoadDoneStep r.core page fill reported (model.reader_saw r.core phase)
-      → DoneLoaded shape before done reported phase after
-  saw reported phase step =
-      let sees : Core → Type 0 = λ core. core.done ≡ done in
-      let (reported_is, next_is) =
-          is_step shape before after sees answer r (loading_done page fill) reported (model.reader_saw r.core phase) at
-              step in
-      let low = seen_low shape before after sees answer r in let same : r.core.done ≡ done = r.seen in record {
-        step = so shape before after sees answer r reported reported_is;
-        seen_le = omega arith;
-        after_is =
-            subst
-                (λ (d : ℕ).
-                    after
-                        ≡ after_read before reported
-                            (record before { reader = record before.reader { phase = phase; seen = d } })) same
-            (subst
-             (λ (x : Reader).
-                 after
-                     ≡ after_read before reported
-                         (record before { reader = record x { phase = phase; seen = r.core.done } }))
-             (sym (reader_is shape before after sees answer r))
-            (part_like shape before after sees answer r (record r.core.reader { phase = phase; seen = r.core.done })
-             before.keeps_spare reported reported_is next_is refl slot));
-      }
+  where
+    saw : (reported : model.Answer) (phase : ReaderPhase)
+        → cases.LoadDoneStep r.core page fill reported (model.reader_saw r.core phase)
+        → DoneLoaded shape before done reported phase after
+    saw reported phase step =
+        let sees : Core → Type 0 = λ core. core.done ≡ done in
+        let (reported_is, next_is) =
+        is_step shape before after sees answer r (loading_done page fill) reported (model.reader_saw r.core phase) at
+        step in
+        let low = seen_low shape before after sees answer r in let same : r.core.done ≡ done = r.seen in record {
+          step = so shape before after sees answer r reported reported_is;
+          seen_le = omega arith;
+          after_is =
+              subst
+              (λ (d : ℕ).
+              after
+              ≡ after_read before reported
+              (record before { reader = record before.reader { phase = phase; seen = d } })) same
+              (subst
+              (λ (x : Reader).
+              after
+              ≡ after_read before reported
+              (record before { reader = record x { phase = phase; seen = r.core.done } }))
+              (sym (reader_is shape before after sees answer r))
+              (part_like shape before after sees answer r (record r.core.reader { phase = phase; seen = r.core.done })
+              before.keeps_spare reported reported_is next_is refl slot));
+        }
 
-  pub finds_closed : fill < done → DoneLoaded shape before done model.reading (storing_spare_link page fill) after
-  finds_closed below = let same : r.core.done ≡ done = r.seen in
-      saw model.reading (storing_spare_link page fill) (cases.finds_closed (omega arith) refl refl)
+    pub finds_closed : fill < done → DoneLoaded shape before done model.reading (storing_spare_link page fill) after
+    finds_closed below = let same : r.core.done ≡ done = r.seen in
+        saw model.reading (storing_spare_link page fill) (cases.finds_closed (omega arith) refl refl)
 
-  pub finds_none : done ≤ fill
-      → DoneLoaded shape before done (model.empty done) loading_head after × (before.reader.hint ≡ done)
-  finds_none le =
-      let sees : Core → Type 0 = λ core. core.done ≡ done in
-      let k = kept shape before after sees answer r in let same : r.core.done ≡ done = r.seen in
-      let fill_is = (facts shape before after sees answer r (loading_done page fill) at).fill_is in
-      let behind = k.links.hint_le in
-      let unread = k.links.head_le in
-      let hint = hint_is shape before after sees answer r in (
-        subst (λ (d : ℕ). DoneLoaded shape before done (model.empty d) loading_head after) same
-            (saw (model.empty r.core.done) loading_head (cases.finds_none (omega arith) refl refl)),
-        omega arith,
-      )
+    pub finds_none : done ≤ fill
+        → DoneLoaded shape before done (model.empty done) loading_head after × (before.reader.hint ≡ done)
+    finds_none le =
+        let sees : Core → Type 0 = λ core. core.done ≡ done in
+        let k = kept shape before after sees answer r in let same : r.core.done ≡ done = r.seen in
+        let fill_is = (facts shape before after sees answer r (loading_done page fill) at).fill_is in
+        let behind = k.links.hint_le in
+        let unread = k.links.head_le in
+        let hint = hint_is shape before after sees answer r in (
+          subst (λ (d : ℕ). DoneLoaded shape before done (model.empty d) loading_head after) same
+              (saw (model.empty r.core.done) loading_head (cases.finds_none (omega arith) refl refl)),
+          omega arith,
+        )

@@ -85,18 +85,22 @@ homes_on n size c r homes reader link b h spare =
 
 -- the spare's slot is put home, or taken from there
 pub homes_set : (n size : ℕ) (c : Core) (r : Reading) (homes : Homes) (reader : Reader) (link : Link) (b : Bool)
-        (x : maybe.Option (Option Contents)) → 1 ≤ n → AreApart n c.order c.spare → AreHomes n size c r homes
+    (x : maybe.Option (Option Contents)) → 1 ≤ n → AreApart n c.order c.spare → AreHomes n size c r homes
     → (b ≡ false → x ≡ some None)
     → AreHomes n size (gone_on c reader link) (reading_of (gone_on c reader link) b) (slice_set homes c.spare x)
 homes_set n size c r homes reader link b x some_pages a h is =
     let below = a.spare_below in let count = h.count in record {
       count = length-set homes c.spare x ∙ h.count;
-      closed = λ f low high. let (body, at, written) = h.closed f low high in
-          (body, set_else homes c.spare (page_at n c.order f) x (a.spare_differs (f % n) (mod-lt f some_pages)) ∙ at,
-           written);
-      free = λ f low high. let (body, at, sized) = h.free f low high in
-          (body, set_else homes c.spare (page_at n c.order f) x (a.spare_differs (f % n) (mod-lt f some_pages)) ∙ at,
-           sized);
+      closed = λ f low high. let (body, at, written) = h.closed f low high in (
+        body,
+        set_else homes c.spare (page_at n c.order f) x (a.spare_differs (f % n) (mod-lt f some_pages)) ∙ at,
+        written,
+      );
+      free = λ f low high. let (body, at, sized) = h.free f low high in (
+        body,
+        set_else homes c.spare (page_at n c.order f) x (a.spare_differs (f % n) (mod-lt f some_pages)) ∙ at,
+        sized,
+      );
       spare = λ e. set_here homes c.spare x (omega arith) ∙ ap some (is e);
     }
 
@@ -105,7 +109,7 @@ homes_given : (n size : ℕ) (c : Core) (r : Reading) (homes : Homes) (reader : 
     → AreApart n c.order c.spare → AreHomes n size c r homes
     → (b ≡ false → get_elem? homes c.spare ≡ some (some None))
     → AreHomes n size (gone_on c reader link) (reading_of (gone_on c reader link) false)
-        (put_back homes (kept_slots b c.spare))
+    (put_back homes (kept_slots b c.spare))
 homes_given n size c r homes reader link true some_pages a h empty =
     homes_set n size c r homes reader link false (some None) some_pages a h (λ e. refl)
 homes_given n size c r homes reader link false some_pages a h empty =
@@ -126,8 +130,8 @@ words_set n c words reader link some_pages a w =
       wish = get_or-set_other words word 2 (word_of link) 0 (λ e. omega arith) ∙ w.wish;
       links = λ f. get_or-set_other words word (page_word (page_before n c.order f)) (word_of link) 0
           (λ e.
-              a.spare_differs ((f + n - 1) % n) (mod-lt (f + n - 1) some_pages)
-                  (let same : page_before n c.order f ≡ c.spare = omega arith in same))
+          a.spare_differs ((f + n - 1) % n) (mod-lt (f + n - 1) some_pages)
+          (let same : page_before n c.order f ≡ c.spare = omega arith in same))
           ∙ w.links f;
       spare = get_or-set_same words word (word_of link) 0 (omega arith);
     }
@@ -164,7 +168,7 @@ pub link_fits : (n size start : ℕ) (c : Core) (f : ℕ) → n ≤ MAX_PAGES �
 link_fits n size start c f few k =
     let some_pages = k.links.some_pages in let wide = k.links.positions in
     All-get_or FitsWord c.links (f % n) (normal_link 0 0) (let low : f % n < n = mod-lt f (omega arith) in omega arith)
-        (links_fit_words n size start c k (omega arith)).0
+    (links_fit_words n size start c k (omega arith)).0
 
 -- ---- one step
 
@@ -184,14 +188,14 @@ module _ (shape : Shape) (me : SeatState) (c : Core) (ws : List ℕ) (homes : Ho
       → cases.ReadStep shape.pages c phase answer next → model.Step shape.pages shape.size c model.reads answer next
   step_in phase answer next at step =
       step_by (cases.read_step refl
-               (subst (λ (p : ReaderPhase). cases.ReadStep shape.pages c p answer next) (phase_in phase at) step))
+      (subst (λ (p : ReaderPhase). cases.ReadStep shape.pages c p answer next) (phase_in phase at) step))
 
   pub word_into : (page fill : ℕ) → page ≡ page_before shape.pages (reading me.0).order fill
       → slice_index ws (page + 3) ≡ word_of (link_into shape.pages c.links fill)
   word_into page fill is =
       ap (λ (p : ℕ). get_or ws (p + 3) 0)
-              (is ∙ ap (λ (order : List ℕ). page_before shape.pages order fill) s.is_reading.order_is)
-          ∙ s.are_words.links fill
+      (is ∙ ap (λ (order : List ℕ). page_before shape.pages order fill) s.is_reading.order_is)
+      ∙ s.are_words.links fill
 
 module _ (shape : Shape) (me : SeatState) (c : Core) (ws : List ℕ) (homes : Homes)
     (s : IsShownBy shape c (reading me.0) ws homes) where
@@ -204,18 +208,20 @@ module _ (shape : Shape) (me : SeatState) (c : Core) (ws : List ℕ) (homes : Ho
       → AreWords shape.pages next (slice_set ws i (f (slice_index ws i)))
       → AreHomes shape.pages shape.size next (reading_of next b) (homes_after homes me.1 act)
       → (ReadReported shape sees b me (reads (reading_on (reading me.0) next b answer), carried_after me.1 act)
-         → reports (slice_index ws i) (reads (reading_on (reading me.0) next b answer), carried_after me.1 act))
+      → reports (slice_index ws i) (reads (reading_on (reading me.0) next b answer), carried_after me.1 act))
       → ReaderMoves shape c (writer_made_of s.reached) me ws homes i f reports
   reads_on i f reports sees b answer next act step head_le seen valid words at_home report =
       let reached = reached_on shape.pages shape.size shape.start c model.reads answer next s.reached step in
       let stays = reader_leaves_writer shape.pages shape.size c model.reads answer next tt (cases_of step) in
       let is_reading : IsReading next (reading_on (reading me.0) next b answer) =
-          record { order_is = refl;
-                  spare_is = refl;
-                  spare_link_is = refl;
-                  reader_is = refl;
-                  wish_is = refl;
-                  observed_is = refl } in
+      record {
+        order_is = refl;
+        spare_is = refl;
+        spare_link_is = refl;
+        reader_is = refl;
+        wish_is = refl;
+        observed_is = refl;
+      } in
       record {
         next = next;
         after = reading_on (reading me.0) next b answer;
@@ -230,37 +236,42 @@ module _ (shape : Shape) (me : SeatState) (c : Core) (ws : List ℕ) (homes : Ho
           is_reading = is_reading;
           reader_made_is =
               reader_then shape.pages shape.size shape.start c model.reads answer next s.reached step (reading me.0)
-                  (reading_on (reading me.0) next b answer) refl s.reader_made_is is_reading;
+              (reading_on (reading me.0) next b answer) refl s.reader_made_is is_reading;
         };
         writer_is =
             λ k.
-                   record { made =
-                               writer_same shape.pages shape.size shape.start c model.reads answer next s.reached step
-                                   refl k;
-                           frames = stays.frames k;
-                           open_pages = stays.open_pages k;
-                           history = stays.history k;
-                           done = stays.done k;
-                           opened = stays.opened k };
+            record {
+              made =
+                  writer_same shape.pages shape.size shape.start c model.reads answer next s.reached step
+                  refl k;
+              frames = stays.frames k;
+              open_pages = stays.open_pages k;
+              history = stays.history k;
+              done = stays.done k;
+              opened = stays.opened k;
+            };
         head_le = head_le;
         reported = report record {
           view = refl;
           within =
               reader_within shape next (reading_on (reading me.0) next b answer)
-                  (reached_kept shape.pages shape.size shape.start next reached) is_reading;
+              (reached_kept shape.pages shape.size shape.start next reached) is_reading;
           keeps_is = refl;
-          step =
-              (answer,
-               record { core = c;
-                       next = next;
-                       reached = s.reached;
-                       before_is = s.is_reading;
-                       seen = seen;
-                       of_reader = tt;
-                       step = step;
-                       after_is = is_reading;
-                       made_is = s.reader_made_is;
-                       one_more = refl });
+          step = (
+            answer,
+            record {
+              core = c;
+              next = next;
+              reached = s.reached;
+              before_is = s.is_reading;
+              seen = seen;
+              of_reader = tt;
+              step = step;
+              after_is = is_reading;
+              made_is = s.reader_made_is;
+              one_more = refl;
+            },
+          );
         };
       }
 
@@ -271,39 +282,39 @@ module _ (shape : Shape) (me : SeatState) (is : IsSeatOfReader me) (c : Core) (w
       → model.Step shape.pages shape.size c model.reads answer (gone_on c reader c.spare_link)
       → sees (slice_index ws i) c
       → ReaderMoves shape c (writer_made_of s.reached) me ws homes i (λ k. k)
-          (λ found after. SeatReported shape (sees found) (reading me.0).keeps_spare me after)
+      (λ found after. SeatReported shape (sees found) (reading me.0).keeps_spare me after)
   loads_on i sees answer reader step seen =
       let same = set-get_or ws i 0 in
       let b : Bool = (reading me.0).keeps_spare in
       reads_on shape me c ws homes s i (λ k. k) (λ found after. SeatReported shape (sees found) b me after)
-          (sees (slice_index ws i)) b answer (gone_on c reader c.spare_link) keeps step (omega arith) seen tt
+      (sees (slice_index ws i)) b answer (gone_on c reader c.spare_link) keeps step (omega arith) seen tt
       (subst (AreWords shape.pages (gone_on c reader c.spare_link)) (sym same)
-       (words_on shape.pages c ws reader s.are_words))
+      (words_on shape.pages c ws reader s.are_words))
       (homes_on shape.pages shape.size c (reading me.0) homes reader c.spare_link b s.are_homes s.are_homes.spare)
       (λ reported. (record { view = refl; hand = is.hand ∙ ap (kept_slots b) s.is_reading.spare_is }, reported))
 
   -- the number of closed fills is loaded
   pub load_done_moves : (page fill : ℕ) → (reading me.0).reader.phase ≡ loading_done page fill
       → ReaderMoves shape c (writer_made_of s.reached) me ws homes 1 (λ k. k)
-          (λ found after. SeatReported shape (λ core. core.done ≡ found) (reading me.0).keeps_spare me after)
+      (λ found after. SeatReported shape (λ core. core.done ≡ found) (reading me.0).keeps_spare me after)
   load_done_moves page fill at = let seen = sym s.are_words.done in
       dite (dec_le c.done fill)
       (λ le.
-          loads_on 1 (λ found core. core.done ≡ found) (model.empty c.done)
-              (record c.reader { phase = loading_head; seen = c.done })
+      loads_on 1 (λ found core. core.done ≡ found) (model.empty c.done)
+      (record c.reader { phase = loading_head; seen = c.done })
       (step_in shape me c ws homes s (loading_done page fill) (model.empty c.done) (model.reader_saw c loading_head) at
-       (cases.finds_none le refl refl)) seen)
+      (cases.finds_none le refl refl)) seen)
       (λ not.
-          loads_on 1 (λ found core. core.done ≡ found) model.reading
-              (record c.reader { phase = storing_spare_link page fill; seen = c.done })
+      loads_on 1 (λ found core. core.done ≡ found) model.reading
+      (record c.reader { phase = storing_spare_link page fill; seen = c.done })
       (step_in shape me c ws homes s (loading_done page fill) model.reading
-       (model.reader_saw c (storing_spare_link page fill)) at (cases.finds_closed (lt_of_not-le not) refl refl)) seen)
+      (model.reader_saw c (storing_spare_link page fill)) at (cases.finds_closed (lt_of_not-le not) refl refl)) seen)
 
   -- the link into the position of the hint is loaded, and the spare's slot is put home
   pub load_link_moves : (page : ℕ) → (reading me.0).reader.phase ≡ loading_head
       → page ≡ page_before shape.pages (reading me.0).order (reading me.0).reader.hint
       → ReaderMoves shape c (writer_made_of s.reached) me ws homes (page + 3) (λ k. k)
-          (λ found after. SeatReported shape (IsWordInto shape (reading me.0).reader.hint found) false me after)
+      (λ found after. SeatReported shape (IsWordInto shape (reading me.0).reader.hint found) false me after)
   load_link_moves page at page_is =
       let k = kept shape me c ws homes s in let some_pages = some_position shape me c ws homes s in
       let hint : ℕ = (reading me.0).reader.hint in
@@ -311,26 +322,28 @@ module _ (shape : Shape) (me : SeatState) (is : IsSeatOfReader me) (c : Core) (w
       let hand : me.1 ≡ kept_slots b c.spare = is.hand ∙ ap (kept_slots b) s.is_reading.spare_is in
       let (answer, behind, made) = each_event_is_a_step shape.pages shape.size shape.start c model.reads k tt in
       let load =
-          subst (λ (p : ReaderPhase). cases.ReadStep shape.pages c p answer behind)
-              (sym (phase_in shape me c ws homes s loading_head at))
-              (reads_of shape.pages shape.size c answer behind (cases_of made)) in
+      subst (λ (p : ReaderPhase). cases.ReadStep shape.pages c p answer behind)
+      (sym (phase_in shape me c ws homes s loading_head at))
+      (reads_of shape.pages shape.size c answer behind (cases_of made)) in
       let (reader, on) = load_on shape.pages c answer behind load in
       let next : Core = gone_on c reader c.spare_link in
       let step : model.Step shape.pages shape.size c model.reads answer next =
-          subst (λ (d : Core). model.Step shape.pages shape.size c model.reads answer d) on made in
+      subst (λ (d : Core). model.Step shape.pages shape.size c model.reads answer d) on made in
       reads_on shape me c ws homes s (page + 3) (λ k. k)
-          (λ found after. SeatReported shape (IsWordInto shape hint found) false me after)
-          (IsWordInto shape hint (slice_index ws (page + 3))) false answer next gives step (omega arith)
-      record { word_is = sym (word_into shape me c ws homes s page hint page_is);
-              fits = link_fits shape.pages shape.size shape.start c hint s.pages_fit k }
+      (λ found after. SeatReported shape (IsWordInto shape hint found) false me after)
+      (IsWordInto shape hint (slice_index ws (page + 3))) false answer next gives step (omega arith)
+      record {
+        word_is = sym (word_into shape me c ws homes s page hint page_is);
+        fits = link_fits shape.pages shape.size shape.start c hint s.pages_fit k;
+      }
       tt
       (subst (AreWords shape.pages next) (sym (set-get_or ws (page + 3) 0))
-       (words_on shape.pages c ws reader s.are_words))
+      (words_on shape.pages c ws reader s.are_words))
       (subst
-       (λ (l : List (ℕ × Option Contents)).
-           AreHomes shape.pages shape.size next (reading_of next false) (put_back homes l)) (sym hand)
+      (λ (l : List (ℕ × Option Contents)).
+      AreHomes shape.pages shape.size next (reading_of next false) (put_back homes l)) (sym hand)
       (homes_given shape.pages shape.size c (reading me.0) homes reader c.spare_link b some_pages k.links.apart
-       s.are_homes s.are_homes.spare))
+      s.are_homes s.are_homes.spare))
       (λ reported. (record { view = refl; hand = ap rest hand ∙ nothing_left b c.spare }, reported))
 
   -- the spare's link is stored, and its slot taken
@@ -339,27 +352,27 @@ module _ (shape : Shape) (me : SeatState) (is : IsSeatOfReader me) (c : Core) (w
       → new ≡ word_of link
       → link ≡ header_link (page_at shape.pages (reading me.0).order (fill + 1)) (fill + 1)
       → ReaderMoves shape c (writer_made_of s.reached) me ws homes (spare + 3) (λ _. new)
-          (λ _ after. SeatReported shape (λ _. ⊤) true me after)
+      (λ _ after. SeatReported shape (λ _. ⊤) true me after)
   store_moves page fill spare new link at spare_is empty new_is link_is =
       let k = kept shape me c ws homes s in let some_pages = some_position shape me c ws homes s in
       let behind : Link = model.next_header shape.pages c fill in
       let on : suc fill ≡ fill + 1 = omega arith in
       let header : link ≡ behind =
-          link_is ∙ (λ i. header_link (page_at shape.pages (s.is_reading.order_is i) (sym on i)) (sym on i)) in
+      link_is ∙ (λ i. header_link (page_at shape.pages (s.is_reading.order_is i) (sym on i)) (sym on i)) in
       let reader : Reader = record c.reader { phase = swapping page fill; hint = c.reader.hint } in
       let next : Core = gone_on c reader behind in
       let here : c.spare ≡ spare = sym (spare_is ∙ s.is_reading.spare_is) in
       let none : me.1 ≡ [] = is.hand ∙ ap (λ (b : Bool). kept_slots b (reading me.0).spare) empty in
       reads_on shape me c ws homes s (spare + 3) (λ _. new) (λ _ after. SeatReported shape (λ _. ⊤) true me after)
-          (λ _. ⊤) true model.reading next (takes c.spare None)
+      (λ _. ⊤) true model.reading next (takes c.spare None)
       (step_in shape me c ws homes s (storing_spare_link page fill) model.reading next at
-       record { answer_is = refl; after_is = refl })
+      record { answer_is = refl; after_is = refl })
       (omega arith) tt
       (s.are_homes.spare empty)
       (subst (λ (w : ℕ). AreWords shape.pages next (slice_set ws (spare + 3) w)) (ap word_of (sym header) ∙ sym new_is)
       (subst (λ (p : ℕ). AreWords shape.pages next (slice_set ws (p + 3) (word_of behind))) here
-       (words_set shape.pages c ws reader behind some_pages k.links.apart s.are_words)))
+      (words_set shape.pages c ws reader behind some_pages k.links.apart s.are_words)))
       (homes_set shape.pages shape.size c (reading me.0) homes reader behind true maybe.none some_pages k.links.apart
-       s.are_homes (λ e. absurd (cc)))
+      s.are_homes (λ e. absurd (cc)))
       (λ reported.
-          (record { view = refl; hand = ap (λ (l : List (ℕ × Option Contents)). (c.spare, None) ∷ l) none }, reported))
+      (record { view = refl; hand = ap (λ (l : List (ℕ × Option Contents)). (c.spare, None) ∷ l) none }, reported))

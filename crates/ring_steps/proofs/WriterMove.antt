@@ -16,7 +16,7 @@ use Rattle.ring_steps.proofs.WriterParts.{step_reached}
 -- ---- what each kind of step shows
 
 pub reported_stays : {shape : Shape} {now : Writing} {known : ℕ} {sees : Core → Type 0} {answer : Answer}
-        (after : SeatState) → WriterReported shape now known sees answer after → StaysWriting shape after
+    (after : SeatState) → WriterReported shape now known sees answer after → StaysWriting shape after
 reported_stays after r = record { seat = r.seat; reached = step_reached _ _ _ _ _ r.step }
 
 pub claim_stays : {shape : Shape} {now : Writing} {known found : ℕ} (after : SeatState)
@@ -35,8 +35,8 @@ pub writer_move : (shape : Shape) (me : SeatState) (now : Writing) (word : ℕ) 
     → Leads shape (writing me.0) now
     → ((found : ℕ) (after : SeatState) → reports found after → StaysWriting shape after)
     → ((c : Core) (r : Reading) (words : List ℕ) (homes : Homes) (s : IsShownBy shape c r words homes)
-       → writing_of (writer_made_of s.reached) c ≡ now → c.open_pages ≡ (writing me.0).open_pages → passed me.0 ≤ c.head
-       → WriterMoves shape r me words homes word f reports)
+    → writing_of (writer_made_of s.reached) c ≡ now → c.open_pages ≡ (writing me.0).open_pages → passed me.0 ≤ c.head
+    → WriterMoves shape r me words homes word f reports)
     → IsWriterMove shape me word f reports
 writer_move shape me now word f reports is leads stays moves = record {
   allowed = λ slots id. writer_allows shape slots id me now word f reports is.view leads moves;

@@ -22,7 +22,7 @@ step_reached shape before sees answer after s = record {
   reached = reached_on shape.pages shape.size shape.start s.core steps answer s.next s.reached s.step;
   is =
       part_then shape.pages shape.size shape.start s.core steps answer s.next s.reached s.step before after refl
-          s.before_is s.after_is;
+      s.before_is s.after_is;
 }
 
 -- what is known of the writer's part before its private steps, and after them
@@ -38,8 +38,8 @@ reached_within : (shape : Shape) (before now : Writing) → IsWriterReached shap
 reached_within shape before now known leads =
     let (exchanges, aside, run, now_is) = leads known.core known.reached known.is in
     let k =
-        reached_kept shape.pages shape.size shape.start aside
-            (private_reached shape.pages shape.size shape.start known.core aside exchanges known.reached run) in
+    reached_kept shape.pages shape.size shape.start aside
+    (private_reached shape.pages shape.size shape.start known.core aside exchanges known.reached run) in
     let same = private_open_pages shape.pages shape.size known.core aside exchanges run in
     let pages_are : aside.open_pages ≡ before.open_pages = same ∙ ap (λ (w : Writing). w.open_pages) known.is in
     let wide : length aside.open_pages ≡ length before.open_pages = ap (length {A = ℕ}) pages_are in

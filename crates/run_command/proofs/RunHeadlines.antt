@@ -76,7 +76,7 @@ module _ (script : Script) (ran : Ran) (run : IsRunOfScript script ran) where
   known_at : (cpu : ℕ) → Known cpu
   known_at cpu =
       elim (slice_get_cases ledgers cpu).1
-          [ inl found ↦ known found.0 found.2 | inr past ↦ unknown (omega (arith, past.0, run.cpus, ran.ledgers.ok.0)) ]
+      [ inl found ↦ known found.0 found.2 | inr past ↦ unknown (omega (arith, past.0, run.cpus, ran.ledgers.ok.0)) ]
 
   below : (cpu : ℕ) (ledger : Ledger) → slice_get ledgers cpu ≡ Some ledger → cpu < script.cpus
   below cpu ledger at = let within = slice_get_within ledgers cpu ledger at in
@@ -135,7 +135,7 @@ module _ (script : Script) (ran : Ran) (run : IsRunOfScript script ran) where
         (subst (λ (g : ℕ). Contains (map (λ (p : Parcel). p.fill) (map (parcel_of cpu) taken)) g) is
         (contains_at (map (λ (p : Parcel). p.fill) (map (parcel_of cpu) taken)) k t.fill
         (get_map (λ (p : Parcel). p.fill) (map (parcel_of cpu) taken) k (parcel_of cpu t)
-         (get_map (parcel_of cpu) taken k t there)))))
+        (get_map (parcel_of cpu) taken k t there)))))
 
     -- no closed fill is left
     none_left : (f : ℕ) → script.start ≤ f → f < last.done
@@ -158,11 +158,13 @@ module _ (script : Script) (ran : Ran) (run : IsRunOfScript script ran) where
   ring_run : (cpu : ℕ) (k : Known cpu) → cpu < script.cpus → IsRingRun script cpu (events_of cpu k)
   ring_run cpu (known ledger at) low =
       let (history, one, each) = run_of_ring cpu ledger at in
-      record { last = last cpu ledger at;
-              history = history;
-              one_run = one;
-              each_step = each;
-              none_unread = none_left cpu ledger at }
+      record {
+        last = last cpu ledger at;
+        history = history;
+        one_run = one;
+        each_step = each;
+        none_unread = none_left cpu ledger at;
+      }
   ring_run cpu (unknown past) low = absurd (let no : ⊥ = omega (arith, past, low) in no)
 
   -- ---- what was taken
@@ -177,9 +179,12 @@ module _ (script : Script) (ran : Ran) (run : IsRunOfScript script ran) where
       → (parcel : Parcel) × Contains (taken_in ledgers) parcel × (parcel.cpu ≡ cpu) × (parcel.fill ≡ fill)
   of_key cpu fill has =
       let (k, at) = element_at fills (cpu, fill) has in
-      let (parcel, there, same) = get_from_map key_of (taken_in ledgers) k (cpu, fill) at in
-      (parcel, contains_at (taken_in ledgers) k parcel there, ap (λ (p : ℕ × ℕ). p.0) same,
-       ap (λ (p : ℕ × ℕ). p.1) same)
+      let (parcel, there, same) = get_from_map key_of (taken_in ledgers) k (cpu, fill) at in (
+        parcel,
+        contains_at (taken_in ledgers) k parcel there,
+        ap (λ (p : ℕ × ℕ). p.0) same,
+        ap (λ (p : ℕ × ℕ). p.1) same,
+      )
 
   -- a parcel's CPU has a ledger
   of_a_cpu : (parcel : Parcel) → Contains (taken_in ledgers) parcel → parcel.cpu < script.cpus
@@ -187,7 +192,7 @@ module _ (script : Script) (ran : Ran) (run : IsRunOfScript script ran) where
       let o = of_one ledgers parcel has in
       let (k, there) = element_at (taken_of o.ledger) parcel o.has in
       subst (λ (j : ℕ). j < script.cpus) (sym (own_all o.index o.ledger o.at k parcel there))
-          (below o.index o.ledger o.at)
+      (below o.index o.ledger o.at)
 
   fill_taken : (cpu : ℕ) (k : Known cpu) (parcel : Parcel) → Contains (taken_in ledgers) parcel → parcel.cpu ≡ cpu
       → Contains (fills_taken script.start (events_of cpu k)) parcel.fill
@@ -195,7 +200,7 @@ module _ (script : Script) (ran : Ran) (run : IsRunOfScript script ran) where
       let (k, there) = element_at (taken_of ledger) parcel (in_own ledgers own_all cpu ledger parcel at is has) in
       subst (λ (l : List ℕ). Contains l parcel.fill) (sym (cut_of cpu ledger at).took)
       (contains_at (map (λ p. p.fill) (taken_of ledger)) k parcel.fill
-       (get_map (λ (p : Parcel). p.fill) (taken_of ledger) k parcel there))
+      (get_map (λ (p : Parcel). p.fill) (taken_of ledger) k parcel there))
   fill_taken cpu (unknown past) parcel has is =
       absurd (let low = of_a_cpu parcel has in let no : ⊥ = omega (arith, past, low, is) in no)
 
@@ -203,12 +208,12 @@ module _ (script : Script) (ran : Ran) (run : IsRunOfScript script ran) where
       → Contains (fills_taken script.start (events_of cpu k)) fill → Contains fills (cpu, fill)
   taken_fill cpu (known ledger at) fill low has =
       let (k, there) =
-          element_at (map (λ p. p.fill) (taken_of ledger)) fill
-              (subst (λ (l : List ℕ). Contains l fill) (cut_of cpu ledger at).took has) in
+      element_at (map (λ p. p.fill) (taken_of ledger)) fill
+      (subst (λ (l : List ℕ). Contains l fill) (cut_of cpu ledger at).took has) in
       let (parcel, here, is) = get_from_map (λ (p : Parcel). p.fill) (taken_of ledger) k fill there in
       subst (λ (f : ℕ). Contains fills (cpu, f)) is
       (key_in cpu parcel (of_all ledgers cpu ledger parcel at (contains_at (taken_of ledger) k parcel here))
-       (own_all cpu ledger at k parcel here))
+      (own_all cpu ledger at k parcel here))
   taken_fill cpu (unknown past) fill low has = absurd (let no : ⊥ = omega (arith, past, low) in no)
 
   is_taken : (cpu fill : ℕ) → Contains fills (cpu, fill)
@@ -226,7 +231,7 @@ module _ (script : Script) (ran : Ran) (run : IsRunOfScript script ran) where
     all : IsAuditHeadline script.pages script.size script.start run.rings kept ledgers
     all =
         headline script.pages script.size script.start run.rings ledgers run.are_of_rings kept
-            (is_sum kept (taken_in ledgers) audited)
+        (is_sum kept (taken_in ledgers) audited)
 
     -- what it has and misses of a CPU, by that CPU's events
     record IsOf (cpu : ℕ) (of_cpu : List RingEvent) : Type 0 where
@@ -261,58 +266,60 @@ module _ (script : Script) (ran : Ran) (run : IsRunOfScript script ran) where
         let h : List HistoryEvent = history_events_of here in
         let is : IsKept script.pages script.size script.start cpu c kept (taken_of ledger) =
         subst (λ (d : Core). IsKept script.pages script.size script.start cpu d kept (taken_of ledger))
-            (last_is cpu ledger at) (all.each cpu ledger at) in
+        (last_is cpu ledger at) (all.each cpu ledger at) in
         let e : IsExact h script.start is.cut.events cpu kept (taken_of ledger) =
         subst (λ (l : List HistoryEvent). IsExact l script.start is.cut.events cpu kept (taken_of ledger))
-            (sym cut.reported.history_events) is.exact in
+        (sym cut.reported.history_events) is.exact in
         record {
           has = λ number r. (
             λ there. let (committed, parcel, one, stands) = (e.has number r).0 there in
                 (committed, parcel.fill, key_of_one cpu ledger parcel at one, stands),
             λ (committed, fill, key, stands). let (parcel, one, same) = one_of cpu ledger fill at key in
                 (e.has number r).1
-                    (committed, parcel, one, subst (λ (f : ℕ). StandsIn h script.start f number) (sym same) stands),
+                (committed, parcel, one, subst (λ (f : ℕ). StandsIn h script.start f number) (sym same) stands),
           );
           misses = λ number. (
-            λ there. let (parcel, one, over) = (e.misses number).0 there in
-                (parcel.fill, key_of_one cpu ledger parcel at one,
-                 overwritten_same script.pages script.start c is.cut.events here is.cut.reported cut.reported
-                     parcel.fill number over),
+            λ there. let (parcel, one, over) = (e.misses number).0 there in (
+              parcel.fill,
+              key_of_one cpu ledger parcel at one,
+              overwritten_same script.pages script.start c is.cut.events here is.cut.reported cut.reported
+                  parcel.fill number over,
+            ),
             λ (fill, key, over). let (parcel, one, same) = one_of cpu ledger fill at key in
                 (e.misses number).1 (
                   parcel,
                   one,
                   subst (λ (f : ℕ). IsOverwrittenBefore script.start is.cut.events f number) (sym same)
                       (overwritten_same script.pages script.start c here is.cut.events cut.reported is.cut.reported fill
-                       number over),
+                      number over),
                 ),
           );
         }
     is_of cpu (unknown past) =
         let none : IsUnknown cpu kept = all.no_others cpu (omega (arith, past, run.cpus, ran.ledgers.ok.0)) in
         let no_key : (fill : ℕ) → Contains fills (cpu, fill) → ⊥ =
-            λ fill key. (let low = (is_taken cpu fill key).0 in let no : ⊥ = omega (arith, past, low) in no) in
+        λ fill key. (let low = (is_taken cpu fill key).0 in let no : ⊥ = omega (arith, past, low) in no) in
         record {
           has =
-              λ number r.
-                     (λ there. absurd (none.no_record number r there),
-                      λ (committed, fill, key, stands). absurd (no_key fill key));
+              λ number r. (
+                λ there. absurd (none.no_record number r there),
+                λ (committed, fill, key, stands). absurd (no_key fill key),
+              );
           misses =
               λ number.
-                     (λ there. absurd (none.not_missing number there), λ (fill, key, over). absurd (no_key fill key));
+              (λ there. absurd (none.not_missing number there), λ (fill, key, over). absurd (no_key fill key));
         }
 
     is_shown : (shown : Shown) → IsPrintOf kept shown → IsShownOf script.start events fills shown
     is_shown shown print = record {
       ordered = print.lines.ordered;
       lines = λ line. let here = is_of line.cpu (known_at line.cpu) in
-          let r : Record = record { moment = line.moment; bytes = line.bytes } in
-          (
-        λ has. let (k, at) = element_at shown.lines line has in
-            (here.has line.number r).0 (print.lines.of_them k line at),
-        λ there. let (k, at) = print.lines.whole line.cpu line.number r ((here.has line.number r).1 there) in
-            contains_at shown.lines k line at,
-      );
+          let r : Record = record { moment = line.moment; bytes = line.bytes } in (
+            λ has. let (k, at) = element_at shown.lines line has in
+                (here.has line.number r).0 (print.lines.of_them k line at),
+            λ there. let (k, at) = print.lines.whole line.cpu line.number r ((here.has line.number r).1 there) in
+                contains_at shown.lines k line at,
+          );
       missing =
           λ cpu. same_runs _ _ (slice_index_or shown.runs cpu []) (is_of cpu (known_at cpu)).misses (print.runs cpu);
     }
@@ -354,7 +361,7 @@ headline_of script bytes p = record {
       let (kept, printed) = one_at _ _ p.shown collector own p.reported at in
       is_shown script p.ran p.of_script kept
       (subst (λ (v : Verdict). IsVerdict kept (taken_in p.ran.ledgers.items) v) is printed.verdict) own.collector
-          printed.reports;
+      printed.reports;
   printed = p.printed;
 }
 

@@ -32,13 +32,15 @@ module _ (script : Script) (collectors : List (List Parcel)) (log : List LogLine
       let e = g.exact collector cpu delivered lane there lane_at in
       record {
         has =
-            λ number one.
-                   (λ here. (e.has number one).0 (same.below.has cpu number one here),
-                    λ stands. same.above.has cpu number one ((e.has number one).1 stands));
+            λ number one. (
+              λ here. (e.has number one).0 (same.below.has cpu number one here),
+              λ stands. same.above.has cpu number one ((e.has number one).1 stands),
+            );
         misses =
-            λ number.
-                   (λ here. (e.misses number).0 (same.below.misses cpu number here),
-                    λ lost. same.above.misses cpu number ((e.misses number).1 lost));
+            λ number. (
+              λ here. (e.misses number).0 (same.below.misses cpu number here),
+              λ lost. same.above.misses cpu number ((e.misses number).1 lost),
+            );
       }
 
   alike : AreAlike collectors w
@@ -54,16 +56,16 @@ module _ (script : Script) (collectors : List (List Parcel)) (log : List LogLine
       let low = slice_get_within collectors collector kept at in
       let count = r.collectors_are.count in
       let there : slice_get w.delivered collector ≡ Some (get_or w.delivered collector []) =
-          slice_get-get_or w.delivered collector [] (omega arith) in
+      slice_get-get_or w.delivered collector [] (omega arith) in
       genuine.delivered collector (get_or w.delivered collector []) parcel there
-          ((r.collectors_are.each collector kept (get_or w.delivered collector []) at there).among parcel has)
+      ((r.collectors_are.each collector kept (get_or w.delivered collector []) at there).among parcel has)
 
   join : Join collectors
   join = λ one other kept others at at'. joined_least kept others
       (taken_agree script w (kept ++ others) genuine
       (λ parcel has.
-          ⊎_elim (λ here. was_taken one kept parcel at here) (λ there. was_taken other others parcel at' there)
-              (Contains-append_cases kept others parcel has)))
+      ⊎_elim (λ here. was_taken one kept parcel at here) (λ there. was_taken other others parcel at' there)
+      (Contains-append_cases kept others parcel has)))
 
   pub headline : IsHeadline script collectors log
   headline = record { world = w; replay = r; genuine = genuine; exact = exact genuine; alike = alike; join = join }

@@ -188,7 +188,7 @@ asked_end old slot payload part answer new top fits stays long written front par
     (stays n size start lane.core part is.is_core (fills ∙ sym long)) in
     let bytes : top_bytes (with_slot old.core.stack slot part) (with_slot old.core.stack slot part).frames
     ≡ padded h.payload =
-        ap (top_bytes (with_slot old.core.stack slot part)) (slot_keeps old.core.stack slot part).frames_is
+    ap (top_bytes (with_slot old.core.stack slot part)) (slot_keeps old.core.stack slot part).frames_is
     ∙ written part fills ∙ whole ∙ ap padded (sym same) in
     subst (λ (e : model.Event). IsStep n size start lane.core e answer new) (ap ends bytes ∙ sym h.event_is)
     (makes n size start lane.core core)

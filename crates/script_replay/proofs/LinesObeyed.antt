@@ -51,7 +51,7 @@ pub log_more : (log new : List LogLine) (line : LogLine) (reported : model.LogLi
     → shown_log_line line ≡ reported → shown_log new ≡ shown_log log ++ reported ∷ []
 log_more log new line reported more same =
     ap shown_log more ∙ map-append shown_log_line log (line ∷ [])
-        ∙ ap (λ (l : model.LogLine). shown_log log ++ l ∷ []) same
+    ∙ ap (λ (l : model.LogLine). shown_log log ++ l ∷ []) same
 
 -- ---- before the first line
 
@@ -75,9 +75,9 @@ first_part_way script state limits no_lanes count no_pages no_log text =
         count = count ∙ sym new.collectors;
         each =
             λ k kept parcels at at'.
-                   none_collected kept parcels
-                       (element (λ (l : List Parcel). l ≡ []) state.collectors.items k kept no_pages at)
-                       (element (λ (l : List Parcel). l ≡ []) w.delivered k parcels new.none_delivered at');
+            none_collected kept parcels
+            (element (λ (l : List Parcel). l ≡ []) state.collectors.items k kept no_pages at)
+            (element (λ (l : List Parcel). l ≡ []) w.delivered k parcels new.none_delivered at');
       };
       log_is = ap shown_log no_log ∙ sym new.no_log;
       steps_are = told_first script w state.reports.steps new text;
@@ -110,7 +110,7 @@ module _ (script : Script) (lines : List (ℕ × Command)) (state : ReplayState)
   rises cpu low =
       let (lane, at) = lane_of script part_way.world kept cpu low in
       place_rises script part_way.world kept cpu lane at (lane_at state.lanes.items cpu)
-          (part_way.lanes_are cpu lane at)
+      (part_way.lanes_are cpu lane at)
 
   pub collectors_count : length state.collectors.items ≡ script.collectors
   collectors_count = part_way.collectors_are.count ∙ kept.collectors
@@ -121,7 +121,7 @@ module _ (script : Script) (lines : List (ℕ × Command)) (state : ReplayState)
   found_page cpu fill parcel low found =
       let (lane, at) = lane_of script part_way.world kept cpu low in
       found_taken script part_way.world kept cpu lane at (lane_at state.lanes.items cpu) fill parcel
-          (part_way.lanes_are cpu lane at) found
+      (part_way.lanes_are cpu lane at) found
 
   pub none_taken : (cpu fill : ℕ) → cpu < script.cpus
       → IfSome (lane_at state.lanes.items cpu) (λ v. All (λ parcel. parcel.fill ≢ fill) (as_parcels v.taken))
@@ -129,19 +129,21 @@ module _ (script : Script) (lines : List (ℕ × Command)) (state : ReplayState)
   none_taken cpu fill low none =
       let (lane, at) = lane_of script part_way.world kept cpu low in
       not_taken script part_way.world kept cpu lane at (lane_at state.lanes.items cpu) fill
-          (part_way.lanes_are cpu lane at) none
+      (part_way.lanes_are cpu lane at) none
 
   -- what was delivered to a collector of these
   pub delivered_to : (collector : ℕ) (pages : List Parcel) → slice_get state.collectors.items collector ≡ Some pages
       → (delivered : List Parcel) × (slice_get part_way.world.delivered collector ≡ Some delivered)
-          × IsCollected pages delivered
+      × IsCollected pages delivered
   delivered_to collector pages at =
       let low = slice_get_within state.collectors.items collector pages at in
       let count = part_way.collectors_are.count in
       let there : slice_get part_way.world.delivered collector ≡ Some (get_or part_way.world.delivered collector []) =
-          slice_get-get_or part_way.world.delivered collector [] (omega arith) in
-      (get_or part_way.world.delivered collector [], there,
-       part_way.collectors_are.each collector pages (get_or part_way.world.delivered collector []) at there)
+      slice_get-get_or part_way.world.delivered collector [] (omega arith) in (
+        get_or part_way.world.delivered collector [],
+        there,
+        part_way.collectors_are.each collector pages (get_or part_way.world.delivered collector []) at there,
+      )
 
   pub may_add : (cpu fill collector : ℕ) (pages : List Parcel) (parcel : Parcel) → cpu < script.cpus
       → HasParcel (lane_at state.lanes.items cpu) fill parcel → slice_get state.collectors.items collector ≡ Some pages
@@ -171,8 +173,8 @@ module _ (script : Script) (line cpu : ℕ) (command : Command) (old new : Repla
       let kept : IsWorldKept script part_way.world = world_kept script lines part_way.world limits part_way.behind in
       let (lane, at) = lane_of script part_way.world kept cpu low in
       let is_lane =
-          from_is_lane script cpu (lane_at old.lanes.items cpu) v lane limits low from
-              (part_way.lanes_are cpu lane at) in
+      from_is_lane script cpu (lane_at old.lanes.items cpu) v lane limits low from
+      (part_way.lanes_are cpu lane at) in
       let h = has script.pages script.size script.start lane is_lane
       (known_lane script lines part_way.world old.reports.steps cpu lane part_way.steps_are at) in
       let w : World = record {
@@ -182,15 +184,16 @@ module _ (script : Script) (line cpu : ℕ) (command : Command) (old new : Repla
         log = part_way.world.log ++ log_of line cpu h.exchanges;
       } in
       let runs : RunsLine script line command cpu part_way.world w =
-          record { lane = lane;
-                  lane_is = at;
-                  exchanges = h.exchanges;
-                  next = h.after;
-                  run = h.happened;
-                  after_is = refl } in
+      record {
+        lane = lane;
+        lane_is = at;
+        exchanges = h.exchanges;
+        next = h.after;
+        run = h.happened;
+        after_is = refl;
+      } in
       let here : IsLaneAt script cpu (lane_at new.lanes.items cpu) h.after =
-          subst (λ (p : Option LaneValue). IsLaneAt script cpu p h.after) (sym placed) h.is_lane in
-      (
+      subst (λ (p : Option LaneValue). IsLaneAt script cpu p h.after) (sym placed) h.is_lane in (
         record {
           world = w;
           behind = behind_next script lines line command part_way.world w part_way.behind
@@ -199,15 +202,15 @@ module _ (script : Script) (line cpu : ℕ) (command : Command) (old new : Repla
               (λ e. subst (λ (j : ℕ). IsLaneAt script j (lane_at new.lanes.items j) next) (sym e)
               (subst (IsLaneAt script cpu (lane_at new.lanes.items cpu))
               (some_is h.after next
-               (sym (get_set_here part_way.world.lanes cpu h.after (slice_get_within part_way.world.lanes cpu lane at))
-                ∙ subst (λ (j : ℕ). slice_get w.lanes j ≡ Some next) e next_at))
+              (sym (get_set_here part_way.world.lanes cpu h.after (slice_get_within part_way.world.lanes cpu lane at))
+              ∙ subst (λ (j : ℕ). slice_get w.lanes j ≡ Some next) e next_at))
               here))
               (λ apart. subst (λ (p : Option LaneValue). IsLaneAt script other p next) (sym (others other apart))
               (part_way.lanes_are other next
-               (sym (get_set_other part_way.world.lanes cpu other h.after apart) ∙ next_at)));
+              (sym (get_set_other part_way.world.lanes cpu other h.after apart) ∙ next_at)));
           collectors_are =
               subst (λ (l : List (List Parcel)). AreCollected l part_way.world.delivered) (sym collectors)
-                  part_way.collectors_are;
+              part_way.collectors_are;
           log_is = h.reported.log ∙ ap (λ (l : List model.LogLine). l ++ log_of line cpu h.exchanges) part_way.log_is;
           steps_are =
               told_ring script lines line cpu command part_way.world w ring is runs old.reports.steps new.reports.steps
@@ -229,21 +232,21 @@ collected_more : (added : Added) (kept delivered new : List Parcel) (parcel : Pa
     → Adds added kept parcel new → IsCollected new (delivered ++ parcel ∷ [])
 collected_more New kept delivered new parcel collected (adds, is) =
     subst (λ (l : List Parcel). IsCollected l (delivered ++ parcel ∷ [])) (sym is) (record {
-  same = same_joined kept (parcel ∷ []) delivered (parcel ∷ []) collected.same (same_itself (parcel ∷ []));
-  among =
-      λ p has.
-             ⊎_elim (λ old. Contains-append_left delivered (parcel ∷ []) p (collected.among p old))
-                 (λ e. subst (Contains (delivered ++ parcel ∷ [])) e (Contains-push delivered parcel))
-                 (Contains-push_cases kept parcel p has);
-})
+      same = same_joined kept (parcel ∷ []) delivered (parcel ∷ []) collected.same (same_itself (parcel ∷ []));
+      among =
+          λ p has.
+          ⊎_elim (λ old. Contains-append_left delivered (parcel ∷ []) p (collected.among p old))
+          (λ e. subst (Contains (delivered ++ parcel ∷ [])) e (Contains-push delivered parcel))
+          (Contains-push_cases kept parcel p has);
+    })
 collected_more Known kept delivered new parcel collected (below, is) =
     subst (λ (l : List Parcel). IsCollected l (delivered ++ parcel ∷ [])) (sym is) (record {
-  same = same_same kept (kept ++ parcel ∷ []) (delivered ++ parcel ∷ [])
-      (below_both kept (kept ++ parcel ∷ []) (joined_left kept (parcel ∷ []))
-       (joined_below kept (parcel ∷ []) kept (below_itself kept) below))
-      (same_joined kept (parcel ∷ []) delivered (parcel ∷ []) collected.same (same_itself (parcel ∷ [])));
-  among = λ p has. Contains-append_left delivered (parcel ∷ []) p (collected.among p has);
-})
+      same = same_same kept (kept ++ parcel ∷ []) (delivered ++ parcel ∷ [])
+          (below_both kept (kept ++ parcel ∷ []) (joined_left kept (parcel ∷ []))
+          (joined_below kept (parcel ∷ []) kept (below_itself kept) below))
+          (same_joined kept (parcel ∷ []) delivered (parcel ∷ []) collected.same (same_itself (parcel ∷ [])));
+      among = λ p has. Contains-append_left delivered (parcel ∷ []) p (collected.among p has);
+    })
 
 module _ (script : Script) (line collector cpu fill : ℕ) (lines : List (ℕ × Command)) (old new : ReplayState)
     (limits : IsWithinLimits script)
@@ -253,15 +256,15 @@ module _ (script : Script) (line collector cpu fill : ℕ) (lines : List (ℕ ×
   pub untaken_line : IfSome (lane_at old.lanes.items cpu) (λ v. All (λ parcel. parcel.fill ≢ fill) (as_parcels v.taken))
       → new.collectors.items ≡ old.collectors.items
       → shown_log new.reports.log.items
-          ≡ shown_log old.reports.log.items ++ delivery_line line collector cpu fill no_page ∷ []
+      ≡ shown_log old.reports.log.items ++ delivery_line line collector cpu fill no_page ∷ []
       → IsTextTold (printed_log_line (delivery_line line collector cpu fill no_page)) old.reports.steps
-          new.reports.steps
+      new.reports.steps
       → IsStateAfter script (lines ++ (line, deliver collector cpu fill) ∷ []) new
   untaken_line none collectors log told =
       let after : World =
-          record part_way.world { log = part_way.world.log ++ delivery_line line collector cpu fill no_page ∷ [] } in
+      record part_way.world { log = part_way.world.log ++ delivery_line line collector cpu fill no_page ∷ [] } in
       let d : DeliversNothing line collector cpu fill part_way.world after =
-          record { not_taken = none_taken script lines old limits part_way cpu fill low none; after_is = refl } in
+      record { not_taken = none_taken script lines old limits part_way cpu fill low none; after_is = refl } in
       record {
         world = after;
         behind =
@@ -269,11 +272,11 @@ module _ (script : Script) (line collector cpu fill : ℕ) (lines : List (ℕ ×
         lanes_are = λ other lane at. rw lanes (part_way.lanes_are other lane at);
         collectors_are =
             subst (λ (l : List (List Parcel)). AreCollected l part_way.world.delivered) (sym collectors)
-                part_way.collectors_are;
+            part_way.collectors_are;
         log_is =
             log
-                ∙ ap (λ (l : List model.LogLine). l ++ delivery_line line collector cpu fill no_page ∷ [])
-                    part_way.log_is;
+            ∙ ap (λ (l : List model.LogLine). l ++ delivery_line line collector cpu fill no_page ∷ [])
+            part_way.log_is;
         steps_are = told_none script lines line collector cpu fill part_way.world after old.reports.steps
             new.reports.steps d told part_way.steps_are;
       }
@@ -284,7 +287,7 @@ module _ (script : Script) (line collector cpu fill : ℕ) (lines : List (ℕ ×
       → Adds added kept parcel more
       → new.collectors.items ≡ slice_set old.collectors.items collector more
       → shown_log new.reports.log.items
-          ≡ shown_log old.reports.log.items ++ delivery_line line collector cpu fill (delivery_of added) ∷ []
+      ≡ shown_log old.reports.log.items ++ delivery_line line collector cpu fill (delivery_of added) ∷ []
       → IsTextTold (delivery_step_text line collector cpu fill (delivery_of added) parcel) old.reports.steps
       new.reports.steps
       → IsStateAfter script (lines ++ (line, deliver collector cpu fill) ∷ []) new
@@ -308,46 +311,46 @@ module _ (script : Script) (line collector cpu fill : ℕ) (lines : List (ℕ ×
       } in
       let more_collected : IsCollected more pages = collected_more added kept delivered more parcel collected adds in
       let each_collected : (k : ℕ) (one parcels : List Parcel)
-          → slice_get (slice_set old.collectors.items collector more) k ≡ Some one
-          → slice_get (slice_set part_way.world.delivered collector pages) k ≡ Some parcels → IsCollected one parcels =
+      → slice_get (slice_set old.collectors.items collector more) k ≡ Some one
+      → slice_get (slice_set part_way.world.delivered collector pages) k ≡ Some parcels → IsCollected one parcels =
       (λ k one parcels one_at parcels_at. dite (ℕ_discrete k collector)
       (λ e. let one_is : more ≡ one =
-       some_is more one
-           (sym (get_set_here old.collectors.items collector more
-                 (slice_get_within old.collectors.items collector kept kept_at))
-            ∙ subst (λ (j : ℕ). slice_get (slice_set old.collectors.items collector more) j ≡ Some one) e one_at) in
+      some_is more one
+      (sym (get_set_here old.collectors.items collector more
+      (slice_get_within old.collectors.items collector kept kept_at))
+      ∙ subst (λ (j : ℕ). slice_get (slice_set old.collectors.items collector more) j ≡ Some one) e one_at) in
       let parcels_are : pages ≡ parcels =
-          some_is pages parcels
-              (sym (get_set_here part_way.world.delivered collector pages
-                    (slice_get_within part_way.world.delivered collector delivered at))
-               ∙ subst (λ (j : ℕ). slice_get (slice_set part_way.world.delivered collector pages) j ≡ Some parcels) e
-                   parcels_at) in
+      some_is pages parcels
+      (sym (get_set_here part_way.world.delivered collector pages
+      (slice_get_within part_way.world.delivered collector delivered at))
+      ∙ subst (λ (j : ℕ). slice_get (slice_set part_way.world.delivered collector pages) j ≡ Some parcels) e
+      parcels_at) in
       subst (λ (l : List Parcel). IsCollected l parcels) one_is (subst (IsCollected more) parcels_are more_collected))
       (λ apart.
-          part_way.collectors_are.each k one parcels
-              (sym (get_set_other old.collectors.items collector k more apart) ∙ one_at)
-              (sym (get_set_other part_way.world.delivered collector k pages apart) ∙ parcels_at))) in
+      part_way.collectors_are.each k one parcels
+      (sym (get_set_other old.collectors.items collector k more apart) ∙ one_at)
+      (sym (get_set_other part_way.world.delivered collector k pages apart) ∙ parcels_at))) in
       let all_collected : AreCollected (slice_set old.collectors.items collector more)
-              (slice_set part_way.world.delivered collector pages) =
-          record {
+      (slice_set part_way.world.delivered collector pages) =
+      record {
         count =
             length-set old.collectors.items collector more ∙ part_way.collectors_are.count
-                ∙ sym (length-set part_way.world.delivered collector pages);
+            ∙ sym (length-set part_way.world.delivered collector pages);
         each = each_collected;
       } in
       record {
         world = after;
         behind =
             behind_next script lines line (deliver collector cpu fill) part_way.world after part_way.behind
-                (delivers d);
+            (delivers d);
         lanes_are = λ other lane lane_is. rw lanes (part_way.lanes_are other lane lane_is);
         collectors_are =
             subst (λ (l : List (List Parcel)). AreCollected l (slice_set part_way.world.delivered collector pages))
-                (sym collectors) all_collected;
+            (sym collectors) all_collected;
         log_is =
             log
-                ∙ ap (λ (l : List model.LogLine). l ++ delivery_line line collector cpu fill (delivery_of added) ∷ [])
-                    part_way.log_is;
+            ∙ ap (λ (l : List model.LogLine). l ++ delivery_line line collector cpu fill (delivery_of added) ∷ [])
+            part_way.log_is;
         steps_are = told_page script lines line collector cpu fill part_way.world after old.reports.steps
             new.reports.steps d told part_way.steps_are;
       }
@@ -363,13 +366,13 @@ pub one_more : (script : Script) (commands : List (ℕ × Command)) (index : ℕ
     → IsStateAfter script (take (index + 1) script.commands) new
 one_more script commands index line old new at same part_way leads =
     let there : slice_get script.commands index ≡ Some line =
-        ap (λ (l : List (ℕ × Command)). slice_get l index) (sym same) ∙ at in
+    ap (λ (l : List (ℕ × Command)). slice_get l index) (sym same) ∙ at in
     let behind : take (index + 1) script.commands ≡ take index script.commands ++ line ∷ [] =
     take_more script.commands index line (slice_get_within script.commands index line there)
     ∙ ap (λ (l : ℕ × Command). take index script.commands ++ l ∷ [])
-        (get_or_from_slice_get script.commands index line line there) in
+    (get_or_from_slice_get script.commands index line line there) in
     subst (λ (l : List (ℕ × Command)). IsStateAfter script l new) (sym behind)
-        (leads (take index script.commands) part_way).0
+    (leads (take index script.commands) part_way).0
 
 pub may_obey : (script : Script) (commands : List (ℕ × Command)) (index : ℕ) (line : ℕ × Command) (state : ReplayState)
     → IsWithinLimits script
@@ -381,7 +384,7 @@ may_obey script commands index line state limits at same part_way = record {
   limits = limits;
   within =
       element (λ (l : ℕ × Command). IsCommandWithin script.cpus script.collectors l.1) script.commands index line
-          limits.each_command (ap (λ (l : List (ℕ × Command)). slice_get l index) (sym same) ∙ at);
+      limits.each_command (ap (λ (l : List (ℕ × Command)). slice_get l index) (sym same) ∙ at);
   lines = take index script.commands;
   part_way = part_way;
 }

@@ -44,7 +44,7 @@ pub from_is_lane : (script : Script) (cpu : ℕ) (place : Option LaneValue) (v :
 from_is_lane script cpu None v lane limits low (new, is_new, each) at =
     let pages = limits.min_pages in let cpus = limits.max_cpus in
     subst (IsLane script.pages script.size script.start cpu v)
-        (one_new_lane script.pages script.start new lane (omega arith) is_new at) (each cpu (omega arith))
+    (one_new_lane script.pages script.start new lane (omega arith) is_new at) (each cpu (omega arith))
 from_is_lane script cpu (Some before) v lane limits low same at =
     subst (λ (x : LaneValue). IsLane script.pages script.size script.start cpu x lane) (sym same) at
 
@@ -53,7 +53,7 @@ from_is_lane script cpu (Some before) v lane limits low same at =
 pub first_world : (script : Script) → IsWithinLimits script → (w : World) × IsNewWorld script w
 first_world script limits =
     let (ring, is_new, only) =
-        new_ring_is_one script.pages script.start (let pages = limits.min_pages in omega arith) in
+    new_ring_is_one script.pages script.start (let pages = limits.min_pages in omega arith) in
     let lane : Lane = record { core = ring; payloads = [] } in (
       record { lanes = replicate script.cpus lane; taken = []; delivered = replicate script.collectors []; log = [] },
       record {
@@ -70,7 +70,7 @@ pub new_at : (script : Script) (w : World) → IsNewWorld script w → (cpu : �
     → slice_get w.lanes cpu ≡ Some lane → IsNewLane script.pages script.start lane
 new_at script w new cpu lane at =
     subst (IsNewLane script.pages script.start) (get_or_from_slice_get w.lanes cpu lane lane at)
-        (new.new cpu lane (slice_get_within w.lanes cpu lane at))
+    (new.new cpu lane (slice_get_within w.lanes cpu lane at))
 
 -- ---- a line of a ring
 
@@ -126,15 +126,15 @@ module _ (script : Script) (w : World) (kept : IsWorldKept script w) (cpu : ℕ)
   rising j k earlier later low at_j at_k =
       let same = kept.taken cpu lane lane_at in
       let (p, p_at, p_is) =
-          get_from_map (parcel_of cpu) lane.core.reader.taken j earlier
-              (subst (λ (l : List Parcel). slice_get l j ≡ Some earlier) same at_j) in
+      get_from_map (parcel_of cpu) lane.core.reader.taken j earlier
+      (subst (λ (l : List Parcel). slice_get l j ≡ Some earlier) same at_j) in
       let (q, q_at, q_is) =
-          get_from_map (parcel_of cpu) lane.core.reader.taken k later
-              (subst (λ (l : List Parcel). slice_get l k ≡ Some later) same at_k) in
+      get_from_map (parcel_of cpu) lane.core.reader.taken k later
+      (subst (λ (l : List Parcel). slice_get l k ≡ Some later) same at_k) in
       let less : p.fill < q.fill =
-          (reached_kept script.pages script.size script.start lane.core
-              (kept.reached cpu lane lane_at)).partition.fills.rising
-              j k p q low p_at q_at in
+      (reached_kept script.pages script.size script.start lane.core
+      (kept.reached cpu lane lane_at)).partition.fills.rising
+      j k p q low p_at q_at in
       let one : p.fill ≡ earlier.fill = ap (λ (x : Parcel). x.fill) p_is in
       let other : q.fill ≡ later.fill = ap (λ (x : Parcel). x.fill) q_is in
       omega arith
@@ -147,12 +147,12 @@ module _ (script : Script) (w : World) (kept : IsWorldKept script w) (cpu : ℕ)
   among : (parcel : Parcel) → Contains (parcels_from cpu w.taken) parcel → Contains w.taken parcel
   among parcel has =
       All-contains (Contains w.taken) (parcels_from cpu w.taken) parcel
-          (All-filter (λ p. p.cpu == cpu) (Contains w.taken) w.taken (All-contains_itself w.taken)) has
+      (All-filter (λ p. p.cpu == cpu) (Contains w.taken) w.taken (All-contains_itself w.taken)) has
 
   of_cpu : (parcel : Parcel) → Contains (parcels_from cpu w.taken) parcel → parcel.cpu ≡ cpu
   of_cpu parcel has =
       All-contains (λ p. p.cpu ≡ cpu) (map (parcel_of cpu) lane.core.reader.taken) parcel
-          (All-map (λ p. p.cpu ≡ cpu) (parcel_of cpu) lane.core.reader.taken (λ k d low. refl))
+      (All-map (λ p. p.cpu ≡ cpu) (parcel_of cpu) lane.core.reader.taken (λ k d low. refl))
       (subst (λ (l : List Parcel). Contains l parcel) (kept.taken cpu lane lane_at) has)
 
   pub found_taken : (place : Option LaneValue) (fill : ℕ) (parcel : Parcel) → IsLaneAt script cpu place lane
@@ -160,7 +160,7 @@ module _ (script : Script) (w : World) (kept : IsWorldKept script w) (cpu : ℕ)
   found_taken None fill parcel at found = absurd found
   found_taken (Some v) fill parcel at (has, is) =
       let has' : Contains (parcels_from cpu w.taken) parcel =
-          subst (λ (l : List Parcel). Contains l parcel) (taken_at (Some v) at) has in
+      subst (λ (l : List Parcel). Contains l parcel) (taken_at (Some v) at) has in
       (among parcel has', (of_cpu parcel has', is))
 
   none_in : (place : Option LaneValue) (fill : ℕ)
@@ -177,6 +177,6 @@ module _ (script : Script) (w : World) (kept : IsWorldKept script w) (cpu : ℕ)
       let (i, there) = element_at w.taken parcel (Contains-get_or w.taken k d low) in
       let (j, place_j) = kept_by (λ p. p.cpu == cpu) w.taken i parcel there (eq-eqb parcel.cpu cpu is.0) in
       let others : All (λ p. p.fill ≢ fill) (parcels_from cpu w.taken) =
-          subst (All (λ p. p.fill ≢ fill)) (taken_at place at) (none_in place fill none) in
+      subst (All (λ p. p.fill ≢ fill)) (taken_at place at) (none_in place fill none) in
       All-contains (λ p. p.fill ≢ fill) (parcels_from cpu w.taken) parcel others
-          (contains_at (parcels_from cpu w.taken) j parcel place_j) is.1
+      (contains_at (parcels_from cpu w.taken) j parcel place_j) is.1

@@ -170,8 +170,9 @@ pub step_reported : (line cpu : ℕ) (asked : Asked) (answer : Answer) (ring : C
     → IsReported line cpu asked answer ring old new
 step_reported line cpu asked answer ring old new told says n size start before after event reported knows step =
     record {
-  log = says size reported step.reports
-      ∙ ap (λ (l : List LogLine). shown_log old.log.items ++ l) (sym (append-nil (logged line cpu reported)));
-  steps = told_one line cpu asked answer ring n size start before after event reported step old.steps new.steps knows
-      told;
-}
+      log = says size reported step.reports
+          ∙ ap (λ (l : List LogLine). shown_log old.log.items ++ l) (sym (append-nil (logged line cpu reported)));
+      steps =
+          told_one line cpu asked answer ring n size start before after event reported step old.steps new.steps knows
+          told;
+    }

@@ -201,15 +201,15 @@ module _ (line cpu n size start : ℕ) (v : LaneValue) (lane : Lane) (is : IsLan
   keeps_reads (Looking back) reports gives (goes, is_new) =
       reads_to reading reports (λ e. refl) (λ e. absurd (false≢true (sym e ∙ goes)))
       (record v { core = core; body = Some back }) is_new refl refl (ap length gives ∙ fits)
-          (sym (append-nil (as_parcels v.taken)))
+      (sym (append-nil (as_parcels v.taken)))
   keeps_reads (Empty done back) reports gives (goes, is_new) =
       reads_to (empty done) reports (no_more (empty done) goes) (λ e same. let z : ⊥ = cc in z)
       (record v { core = core; body = Some back }) is_new refl refl (ap length gives ∙ fits)
-          (sym (append-nil (as_parcels v.taken)))
+      (sym (append-nil (as_parcels v.taken)))
   keeps_reads (Moving fill back) reports gives (goes, is_new) =
       reads_to (moving fill.0) reports (no_more (moving fill.0) goes) (λ e same. let z : ⊥ = cc in z)
       (record v { core = core; body = Some back }) is_new refl refl (ap length gives ∙ fits)
-          (sym (append-nil (as_parcels v.taken)))
+      (sym (append-nil (as_parcels v.taken)))
   keeps_reads (Taken contents missed) (t, reported_is, whole) gives (goes, (body, body_is, is_new)) =
       let kept = fitted_parcel cpu contents missed in
       let parcel_is : page.as_parcel kept ≡ parcel_of cpu t = (λ i. record {
@@ -222,7 +222,7 @@ module _ (line cpu n size start : ℕ) (v : LaneValue) (lane : Lane) (is : IsLan
       reads_to (page_taken t) reported_is (no_more (page_taken t) goes) (λ e same. let z : ⊥ = cc in z)
       (record v { core = core; body = Some body; taken = v.taken ++ kept ∷ [] })
       is_new refl refl (body_is ∙ whole.written.size_is)
-          (map-append page.as_parcel v.taken (kept ∷ []) ∙ ap (λ (p : Parcel). as_parcels v.taken ++ p ∷ []) parcel_is)
+      (map-append page.as_parcel v.taken (kept ∷ []) ∙ ap (λ (p : Parcel). as_parcels v.taken ++ p ∷ []) parcel_is)
   keeps_reads (Wished fill) reports gives keeps = absurd gives
 
 pub reads_once : (line cpu : ℕ) (v between new : LaneValue) (body : List ℕ) (asked : Asked) (result : Answer)

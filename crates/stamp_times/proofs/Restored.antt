@@ -37,7 +37,7 @@ restored-word time bytes w rest found stands =
     ap (data_of time bytes) (words_in-found bytes w rest found)
     ∙ ap (λ (xs : List ℕ). joined (restored_words time (w ∷ words_in rest)) ++ xs) behind
     ∙ append_assoc (bytes_of_word (restored_word time w))
-        (joined (restored_words (restored_time time w) (words_in rest))) (drop (length more) rest)
+    (joined (restored_words (restored_time time w) (words_in rest))) (drop (length more) rest)
 
 -- a restored word is as long as it was
 pub length-restored : (before : ℕ) (w : Word)
@@ -66,7 +66,7 @@ pub restored-late : (before stamp : ℕ) → word_time_limit ≤ before
     → restored_word before (time_stamp stamp) ≡ time_extend (time_until before stamp)
 restored-late before stamp late =
     ap (λ (early : Bool). cond early (time_stamp stamp) (time_extend (time_until before stamp)))
-        (le-ltb before word_time_limit late)
+    (le-ltb before word_time_limit late)
 
 -- where a fault is, no word is
 pub none-of_fault : (bytes : List ℕ) (at : ℕ) (fault : WordFault) → IsFaultAt bytes at fault
@@ -88,10 +88,10 @@ restored-on all was is before at next w stands front behind done =
     ∙ ap (λ (xs : List ℕ). take at was ++ xs) behind ∙ sym (append_assoc (take at was) own rest) in
     let long : length (take at was ++ own) ≡ next =
     length-append (take at was) own
-        ∙ omega (arith, length-take at was, length-restored before w, stands.next_is, stands.behind, stands.within) in
+    ∙ omega (arith, length-take at was, length-restored before w, stands.next_is, stands.behind, stands.within) in
     let whole : all ≡ (take at was ++ own) ++ restored_data (restored_time before w) rest =
     done
-        ∙ ap (λ (xs : List ℕ). take at was ++ xs) (restored-word before (drop at was) w rest stands.found stands.stands)
+    ∙ ap (λ (xs : List ℕ). take at was ++ xs) (restored-word before (drop at was) w rest stands.found stands.stands)
     ∙ sym (append_assoc (take at was) own (restored_data (restored_time before w) rest)) in
     let first : take next is ≡ take at was ++ own = ap (take next) cut ∙ take_at (take at was ++ own) rest next long in
     let last : drop next is ≡ rest = ap (drop next) cut ∙ drop_at (take at was ++ own) rest next long in
@@ -106,4 +106,4 @@ pub restored-end : (all was : List ℕ) (before at : ℕ) → word_at_front (dro
     → all ≡ take at was ++ restored_data before (drop at was) → was ≡ all
 restored-end all was before at none done =
     sym (done ∙ ap (λ (xs : List ℕ). take at was ++ xs) (restored-none before (drop at was) none)
-         ∙ take-append-drop at was)
+    ∙ take-append-drop at was)

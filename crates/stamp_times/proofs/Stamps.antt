@@ -32,13 +32,13 @@ pub words-stay : (time : ℕ) (words : List Word) → list_any is_stamp words �
 words-stay time [] none = refl
 words-stay time (short_data delta payload ∷ words) none =
     ap (λ (ws : List Word). short_data delta payload ∷ ws)
-        (words-stay (restored_time time (short_data delta payload)) words none)
+    (words-stay (restored_time time (short_data delta payload)) words none)
 words-stay time (long_data delta payload ∷ words) none =
     ap (λ (ws : List Word). long_data delta payload ∷ ws)
-        (words-stay (restored_time time (long_data delta payload)) words none)
+    (words-stay (restored_time time (long_data delta payload)) words none)
 words-stay time (padding delta skipped ∷ words) none =
     ap (λ (ws : List Word). padding delta skipped ∷ ws)
-        (words-stay (restored_time time (padding delta skipped)) words none)
+    (words-stay (restored_time time (padding delta skipped)) words none)
 words-stay time (time_extend delta ∷ words) none =
     ap (λ (ws : List Word). time_extend delta ∷ ws) (words-stay (restored_time time (time_extend delta)) words none)
 words-stay time (time_stamp stamp ∷ words) none = cc
@@ -48,10 +48,10 @@ pub restored-joined : (contents : List ℕ) (time : ℕ) (words : List Word) (re
     → restored_data time contents ≡ joined (restored_words time words) ++ rest
 restored-joined contents time words rest cut =
     ap (λ (ws : List Word). joined (restored_words time ws) ++ drop (length (joined ws)) contents)
-        (words_in-IsJoined contents words rest cut)
+    (words_in-IsJoined contents words rest cut)
     ∙ ap (λ (xs : List ℕ). joined (restored_words time words) ++ drop (length (joined words)) xs) cut.whole
     ∙ ap (λ (xs : List ℕ). joined (restored_words time words) ++ xs)
-        (drop_at (joined words) rest (length (joined words)) refl)
+    (drop_at (joined words) rest (length (joined words)) refl)
 
 -- what is read of the front of an image
 record Front (bytes : List ℕ) (time : ℕ) (commit : Commit) (contents behind : List ℕ) : Type 0 where
@@ -72,19 +72,19 @@ front limit bytes time commit contents behind parts =
     let second : drop 8 bytes ≡ le64 word ++ rest = ap (drop 8) header.whole ∙ drop-le64 time (le64 word ++ rest) in
     let spelled : from_le64 (drop 8 bytes) ≡ word = ap from_le64 second ∙ from_le64-le64 word rest low in
     let split : bytes ≡ (le64 time ++ le64 word) ++ rest =
-        header.whole ∙ sym (append_assoc (le64 time) (le64 word) rest) in
+    header.whole ∙ sym (append_assoc (le64 time) (le64 word) rest) in
     let sixteen : length (le64 time ++ le64 word) ≡ 16 =
-        length-append (le64 time) (le64 word) ∙ omega (arith, length-le64 time, length-le64 word) in
+    length-append (le64 time) (le64 word) ∙ omega (arith, length-le64 time, length-le64 word) in
     record {
       time_is = ap from_le64 header.whole ∙ from_le64-le64 time (le64 word ++ rest) header.time_fits;
       size_is =
           ap (λ (n : ℕ). n % 2 ^ 30) spelled
-              ∙ ap (λ (c : Commit). c.size) (commit_from-commit_word commit header.size_fits);
+          ∙ ap (λ (c : Commit). c.size) (commit_from-commit_word commit header.size_fits);
       front_is = ap (take 16) split ∙ take_at (le64 time ++ le64 word) rest 16 sixteen;
       rest_is = ap (drop 16) split ∙ drop_at (le64 time ++ le64 word) rest 16 sixteen;
       long =
           ap (length {A = ℕ}) split ∙ length-append (le64 time ++ le64 word) rest
-              ∙ omega (arith, sixteen, length-append contents behind);
+          ∙ omega (arith, sixteen, length-append contents behind);
     }
 
 pub restored-parts : (limit : ℕ) (bytes : List ℕ) (time : ℕ) (commit : Commit) (contents behind : List ℕ)
@@ -95,27 +95,27 @@ restored-parts limit bytes time commit contents behind parts =
     let inside : 16 + stated_size bytes ≤ length bytes = omega (arith, f.size_is, f.long, parts.size_is) in
     let own : data_in bytes (stated_size bytes) ≡ contents =
     ap (λ (n : ℕ). take n (drop 16 bytes)) f.size_is ∙ ap (take commit.size) f.rest_is
-        ∙ take_at contents behind commit.size parts.size_is in
+    ∙ take_at contents behind commit.size parts.size_is in
     let left : behind_data bytes (stated_size bytes) ≡ behind =
     ap (λ (n : ℕ). drop n (drop 16 bytes)) f.size_is ∙ ap (drop commit.size) f.rest_is
-        ∙ drop_at contents behind commit.size parts.size_is in
+    ∙ drop_at contents behind commit.size parts.size_is in
     ap (λ (short : Bool).
-           cond short bytes
-               (take 16 bytes
-                ++ (restored_data (from_le64 bytes) (data_in bytes (stated_size bytes))
-                    ++ behind_data bytes (stated_size bytes))))
+    cond short bytes
+    (take 16 bytes
+    ++ (restored_data (from_le64 bytes) (data_in bytes (stated_size bytes))
+    ++ behind_data bytes (stated_size bytes))))
     (le-ltb (length bytes) (16 + stated_size bytes) inside)
     ∙ ap
-        (λ (xs : List ℕ).
-            xs
-                ++ (restored_data (from_le64 bytes) (data_in bytes (stated_size bytes))
-                    ++ behind_data bytes (stated_size bytes))) f.front_is
+    (λ (xs : List ℕ).
+    xs
+    ++ (restored_data (from_le64 bytes) (data_in bytes (stated_size bytes))
+    ++ behind_data bytes (stated_size bytes))) f.front_is
     ∙ append_assoc (le64 time) (le64 (commit_word commit)) _
     ∙ ap
-        (λ (xs : List ℕ).
-            le64 time
-                ++ (le64 (commit_word commit)
-                    ++ (restored_data (from_le64 bytes) (data_in bytes (stated_size bytes)) ++ xs))) left
+    (λ (xs : List ℕ).
+    le64 time
+    ++ (le64 (commit_word commit)
+    ++ (restored_data (from_le64 bytes) (data_in bytes (stated_size bytes)) ++ xs))) left
     ∙ ap (λ (xs : List ℕ). le64 time ++ (le64 (commit_word commit) ++ (restored_data (from_le64 bytes) xs ++ behind)))
-        own
+    own
     ∙ ap (λ (t : ℕ). le64 time ++ (le64 (commit_word commit) ++ (restored_data t contents ++ behind))) f.time_is

@@ -44,5 +44,5 @@ pub step-on : (all was is : List ℕ) (reached behind : Reached) → RestoresWor
     → (behind.at ≤ length is) × (all ≡ take behind.at is ++ restored_data behind.before (drop behind.at is))
 step-on all was is reached behind step done =
     let on =
-        restored-on all was is reached.before reached.at behind.at step.word step.stands step.front step.put done in
+    restored-on all was is reached.before reached.at behind.at step.word step.stands step.front step.put done in
     (on.0, on.1 ∙ ap (λ (t : ℕ). take behind.at is ++ restored_data t (drop behind.at is)) (sym step.time))

@@ -21,7 +21,7 @@ pub and_then : (some more : List Change) (v w x : RingSeen) → all_assigned som
     → all_assigned (some ++ more) v ≡ x
 and_then some more v w x first second =
     fold-append (λ (w : RingSeen) (change : Change). assigned change w) v some more ∙ ap (all_assigned more) first
-        ∙ second
+    ∙ second
 
 -- a key, unless its value is the same
 pub unless : (same : Bool) (change : Change) (v w : RingSeen) → (same ≡ true → v ≡ w) → assigned change v ≡ w
@@ -42,15 +42,15 @@ module _ (v : RingSeen) where
   links_lead position front (old ∷ olds) [] at same = absurd (omega arith)
   links_lead position front (old ∷ olds) (new ∷ news) at same =
       and_then (unless_same (same_link old new) (link_is position new)) (link_changes (suc position) olds news)
-          (with_links (front ++ old ∷ olds)) (with_links (front ++ new ∷ olds)) (with_links (front ++ new ∷ news))
+      (with_links (front ++ old ∷ olds)) (with_links (front ++ new ∷ olds)) (with_links (front ++ new ∷ news))
       (unless (same_link old new) (link_is position new) (with_links (front ++ old ∷ olds))
-       (with_links (front ++ new ∷ olds))
+      (with_links (front ++ new ∷ olds))
       (λ e. ap (λ (l : Link). with_links (front ++ l ∷ olds)) (same_link_true old new e))
       (ap with_links (ap (λ (k : ℕ). slice_set (front ++ old ∷ olds) k new) at ∙ set-append_seam front old olds new)))
       (ap (λ (l : List Link). all_assigned (link_changes (suc position) olds news) (with_links l))
-       (sym (append_assoc front (new ∷ []) olds))
+      (sym (append_assoc front (new ∷ []) olds))
       ∙ links_lead (suc position) (front ++ new ∷ []) olds news (omega (arith, length-append front (new ∷ [])))
-          (omega arith)
+      (omega arith)
       ∙ ap with_links (append_assoc front (new ∷ []) news))
 
   pub links_all : (position : ℕ) (front olds news : List Link) → position ≡ length front → length olds ≡ length news
@@ -61,9 +61,9 @@ module _ (v : RingSeen) where
   links_all position front (old ∷ olds) (new ∷ news) at same =
       ap (λ (l : List Link). all_assigned (all_links (suc position) news) (with_links l))
       (ap (λ (k : ℕ). slice_set (front ++ old ∷ olds) k new) at ∙ set-append_seam front old olds new
-       ∙ sym (append_assoc front (new ∷ []) olds))
+      ∙ sym (append_assoc front (new ∷ []) olds))
       ∙ links_all (suc position) (front ++ new ∷ []) olds news (omega (arith, length-append front (new ∷ [])))
-          (omega arith)
+      (omega arith)
       ∙ ap with_links (append_assoc front (new ∷ []) news)
 
   -- ---- pages
@@ -78,14 +78,14 @@ module _ (v : RingSeen) where
   pages_lead position front (old ∷ olds) [] at same = absurd (omega arith)
   pages_lead position front (old ∷ olds) (new ∷ news) at same =
       and_then (unless_same (old == new) (page_is position new)) (page_changes (suc position) olds news)
-          (with_order (front ++ old ∷ olds)) (with_order (front ++ new ∷ olds)) (with_order (front ++ new ∷ news))
+      (with_order (front ++ old ∷ olds)) (with_order (front ++ new ∷ olds)) (with_order (front ++ new ∷ news))
       (unless (old == new) (page_is position new) (with_order (front ++ old ∷ olds)) (with_order (front ++ new ∷ olds))
       (λ e. ap (λ (p : ℕ). with_order (front ++ p ∷ olds)) (eqb-true old new e))
       (ap with_order (ap (λ (k : ℕ). slice_set (front ++ old ∷ olds) k new) at ∙ set-append_seam front old olds new)))
       (ap (λ (l : List ℕ). all_assigned (page_changes (suc position) olds news) (with_order l))
-       (sym (append_assoc front (new ∷ []) olds))
+      (sym (append_assoc front (new ∷ []) olds))
       ∙ pages_lead (suc position) (front ++ new ∷ []) olds news (omega (arith, length-append front (new ∷ [])))
-          (omega arith)
+      (omega arith)
       ∙ ap with_order (append_assoc front (new ∷ []) news))
 
   pub pages_all : (position : ℕ) (front olds news : List ℕ) → position ≡ length front → length olds ≡ length news
@@ -96,9 +96,9 @@ module _ (v : RingSeen) where
   pages_all position front (old ∷ olds) (new ∷ news) at same =
       ap (λ (l : List ℕ). all_assigned (all_pages (suc position) news) (with_order l))
       (ap (λ (k : ℕ). slice_set (front ++ old ∷ olds) k new) at ∙ set-append_seam front old olds new
-       ∙ sym (append_assoc front (new ∷ []) olds))
+      ∙ sym (append_assoc front (new ∷ []) olds))
       ∙ pages_all (suc position) (front ++ new ∷ []) olds news (omega (arith, length-append front (new ∷ [])))
-          (omega arith)
+      (omega arith)
       ∙ ap with_order (append_assoc front (new ∷ []) news)
 
   -- ---- counts
@@ -129,27 +129,27 @@ module _ (v : RingSeen) where
       let e : RingSeen = with_counts new.spare new.done new.opened new.wish old.head old.committed in
       let f : RingSeen = with_counts new.spare new.done new.opened new.wish new.head old.committed in
       let to_b : all_assigned spares a ≡ b =
-          count_leads spare_key old.spare new.spare
-              (λ k. with_counts k old.done old.opened old.wish old.head old.committed) (λ k l. refl) in
+      count_leads spare_key old.spare new.spare
+      (λ k. with_counts k old.done old.opened old.wish old.head old.committed) (λ k l. refl) in
       let to_c : all_assigned closings a ≡ c =
-          and_then spares _ a b c to_b
-              (count_leads done_key old.done new.done
-               (λ k. with_counts new.spare k old.opened old.wish old.head old.committed) (λ k l. refl)) in
+      and_then spares _ a b c to_b
+      (count_leads done_key old.done new.done
+      (λ k. with_counts new.spare k old.opened old.wish old.head old.committed) (λ k l. refl)) in
       let to_d : all_assigned openings a ≡ d =
-          and_then closings _ a c d to_c
-              (count_leads opened_key old.opened new.opened
-               (λ k. with_counts new.spare new.done k old.wish old.head old.committed) (λ k l. refl)) in
+      and_then closings _ a c d to_c
+      (count_leads opened_key old.opened new.opened
+      (λ k. with_counts new.spare new.done k old.wish old.head old.committed) (λ k l. refl)) in
       let to_e : all_assigned wishes a ≡ e =
-          and_then openings _ a d e to_d
-              (count_leads wish_key old.wish new.wish
-               (λ k. with_counts new.spare new.done new.opened k old.head old.committed) (λ k l. refl)) in
+      and_then openings _ a d e to_d
+      (count_leads wish_key old.wish new.wish
+      (λ k. with_counts new.spare new.done new.opened k old.head old.committed) (λ k l. refl)) in
       let to_f : all_assigned heads a ≡ f =
-          and_then wishes _ a e f to_e
-              (count_leads head_key old.head new.head
-               (λ k. with_counts new.spare new.done new.opened new.wish k old.committed) (λ k l. refl)) in
+      and_then wishes _ a e f to_e
+      (count_leads head_key old.head new.head
+      (λ k. with_counts new.spare new.done new.opened new.wish k old.committed) (λ k l. refl)) in
       and_then heads (count_change committed_key old.committed new.committed) a f (record v { counts = new }) to_f
       (count_leads committed_key old.committed new.committed
-       (λ k. with_counts new.spare new.done new.opened new.wish new.head k) (λ k l. refl))
+      (λ k. with_counts new.spare new.done new.opened new.wish new.head k) (λ k l. refl))
 
   -- ---- frames
 
@@ -162,43 +162,43 @@ module _ (v : RingSeen) where
 
   pub pushed_leads : (kind : Purpose) (frames : List Frame)
       → all_assigned (frame_changes frames (frame_in kind waiting idle ∷ frames)) (with_frames frames)
-          ≡ with_frames (frame_in kind waiting idle ∷ frames)
+      ≡ with_frames (frame_in kind waiting idle ∷ frames)
   pushed_leads kind frames = let new : Frame = frame_in kind waiting idle in
       ap (λ (cs : List Change). all_assigned cs (with_frames frames))
-          (cond-true _ _ _ (lt-ltb (length frames) (suc (length frames)) (omega arith)))
+      (cond-true _ _ _ (lt-ltb (length frames) (suc (length frames)) (omega arith)))
       ∙ ap (λ (l : List Frame). assigned (phase_is (suc (length frames)) waiting idle) (with_frames (new ∷ l)))
-          (all_below (suc (length frames)) frames (omega arith))
+      (all_below (suc (length frames)) frames (omega arith))
       ∙ ap (λ (l : List Frame). with_frames (with_top_at waiting idle l))
-          (all_below (suc (length frames) + 1) (new ∷ frames) (omega arith))
+      (all_below (suc (length frames) + 1) (new ∷ frames) (omega arith))
 
   pub popped_leads : (old : Frame) (frames : List Frame)
       → all_assigned (frame_changes (old ∷ frames) frames) (with_frames (old ∷ frames)) ≡ with_frames frames
   popped_leads old frames =
       ap (λ (cs : List Change). all_assigned cs (with_frames (old ∷ frames)))
       (cond-false _ _ _ (le-ltb (suc (length frames)) (length frames) (omega arith))
-       ∙ cond-true _ _ _ (lt-ltb (length frames) (suc (length frames)) (omega arith)))
+      ∙ cond-true _ _ _ (lt-ltb (length frames) (suc (length frames)) (omega arith)))
       ∙ ap (λ (k : ℕ). with_frames (drop k (old ∷ frames)))
-          (let one : (suc (length frames) + 1) - suc (length frames) ≡ 1 = omega arith in one)
+      (let one : (suc (length frames) + 1) - suc (length frames) ≡ 1 = omega arith in one)
 
   pub top_leads : (kind : Purpose) (state other : Progress) (phase next : Phase) (below : List Frame)
       → all_assigned (frame_changes (frame_in kind state phase ∷ below) (frame_in kind other next ∷ below))
-              (with_frames (frame_in kind state phase ∷ below)) ≡ with_frames (frame_in kind other next ∷ below)
+      (with_frames (frame_in kind state phase ∷ below)) ≡ with_frames (frame_in kind other next ∷ below)
   top_leads kind state other phase next below =
       let old : Frame = frame_in kind state phase in
       let length_le : suc (length below) ≤ suc (length below) = omega arith in
       let short = le-ltb (suc (length below)) (suc (length below)) length_le in
       ap (λ (cs : List Change). all_assigned cs (with_frames (old ∷ below)))
-          (cond-false _ _ _ short ∙ cond-false _ _ _ short)
+      (cond-false _ _ _ short ∙ cond-false _ _ _ short)
       ∙ unless (same_state state other && same_phase phase next) (phase_is (suc (length below)) other next)
-          (with_frames (old ∷ below)) (with_frames (frame_in kind other next ∷ below))
+      (with_frames (old ∷ below)) (with_frames (frame_in kind other next ∷ below))
       (λ e. let (s, p) = and_parts (same_state state other) (same_phase phase next) e in
-       (λ i. with_frames (frame_in kind (state_is state other s i) (phase_is_one phase next p i) ∷ below)))
+      (λ i. with_frames (frame_in kind (state_is state other s i) (phase_is_one phase next p i) ∷ below)))
       (ap (λ (l : List Frame). with_frames (with_top_at other next l))
-       (all_below (suc (length below) + 1) (old ∷ below) (omega arith)))
+      (all_below (suc (length below) + 1) (old ∷ below) (omega arith)))
 
   same_top : (frame : Frame) (below : List Frame)
       → all_assigned (frame_changes (frame ∷ below) (frame ∷ below)) (with_frames (frame ∷ below))
-          ≡ with_frames (frame ∷ below)
+      ≡ with_frames (frame ∷ below)
   same_top frame below = top_leads frame.kind frame.state frame.state frame.phase frame.phase below
 
   pub same_leads : (frames : List Frame)
@@ -210,14 +210,14 @@ module _ (v : RingSeen) where
 
   pub reader_leads : (old new : ReaderSeen)
       → all_assigned (unless_same (same_reader old new) (reader_is new)) (record v { reader = old })
-          ≡ record v { reader = new }
+      ≡ record v { reader = new }
   reader_leads old new =
       unless (same_reader old new) (reader_is new) (record v { reader = old }) (record v { reader = new })
-          (λ e. ap (λ (r : ReaderSeen). record v { reader = r }) (reader_is_one old new e)) refl
+      (λ e. ap (λ (r : ReaderSeen). record v { reader = r }) (reader_is_one old new e)) refl
 
   pub spare_link_leads : (old new : Link)
       → all_assigned (unless_same (same_link old new) (spare_link_is new)) (record v { spare_link = old })
-          ≡ record v { spare_link = new }
+      ≡ record v { spare_link = new }
   spare_link_leads old new =
       unless (same_link old new) (spare_link_is new) (record v { spare_link = old }) (record v { spare_link = new })
-          (λ e. ap (λ (l : Link). record v { spare_link = l }) (same_link_true old new e)) refl
+      (λ e. ap (λ (l : Link). record v { spare_link = l }) (same_link_true old new e)) refl

@@ -65,21 +65,21 @@ head_follows : (c : Core) (answer : Answer) (after : Core) → Moves c answer af
 head_follows c answer after (takes t a frames head) = head ∙ sym (ap (λ (x : Answer). head_after c x after) a)
 head_follows c answer after (stays plain frames head) =
     head
-        ∙ sym (plain_head c answer after plain
-               ∙ cond-false _ _ _ (ap (top_claims c.frames) frames ∙ claims_none_same c.frames))
+    ∙ sym (plain_head c answer after plain
+    ∙ cond-false _ _ _ (ap (top_claims c.frames) frames ∙ claims_none_same c.frames))
 head_follows c answer after (pushes_one kind plain frames head) =
     head
-        ∙ sym (plain_head c answer after plain
-               ∙ cond-false _ _ _ (ap (top_claims c.frames) frames ∙ claims_none_pushed _ c.frames))
+    ∙ sym (plain_head c answer after plain
+    ∙ cond-false _ _ _ (ap (top_claims c.frames) frames ∙ claims_none_pushed _ c.frames))
 head_follows c answer after (pops old plain frames head) =
     head
-        ∙ sym (plain_head c answer after plain
-               ∙ cond-false _ _ _
-                   (ap (λ (l : List Frame). top_claims l after.frames) frames ∙ claims_none_popped old after.frames))
+    ∙ sym (plain_head c answer after plain
+    ∙ cond-false _ _ _
+    (ap (λ (l : List Frame). top_claims l after.frames) frames ∙ claims_none_popped old after.frames))
 head_follows c answer after (goes kind state other phase next below plain top frames head) =
     head ∙ sym (plain_head c answer after plain ∙ ap (λ (b : Bool). if b then c.head + 1 else c.head)
     (ap (λ (l : List Frame). top_claims l after.frames) top ∙ ap (top_claims (frame_in kind state phase ∷ below)) frames
-     ∙ claims_as below (owns_from phase next)))
+    ∙ claims_as below (owns_from phase next)))
 
 -- ---- who has left
 
@@ -144,10 +144,10 @@ module _ (n size start : ℕ) (c : Core) (answer : Answer) (kept : IsRingKept n 
       → c.frames ≡ frame_in (for_record moment len) (reserved number) phase ∷ below → number < count
   number_within moment len number phase below top =
       let has : HasNumber number (writer_after c.history).stack =
-          subst (HasNumber number) (sym (stack_is _ top)) (inl refl) in
+      subst (HasNumber number) (sym (stack_is _ top)) (inl refl) in
       let open_yet =
-          open_at (reserved_records c.history) (writer_after c.history).stack number
-              (numbers_open c.history kept.history.allowed) has in
+      open_at (reserved_records c.history) (writer_after c.history).stack number
+      (numbers_open c.history kept.history.allowed) has in
       slice_get_within (reserved_records c.history) number open_yet.record_is open_yet.at
 
   by_frame : (kind : Purpose) (state : Progress) (phase : Phase) (below : List Frame) (appended : List HistoryEvent)
@@ -155,7 +155,7 @@ module _ (n size start : ℕ) (c : Core) (answer : Answer) (kept : IsRingKept n 
       → FrameAppends n c kind state phase below answer appended → Writes c answer appended
   by_frame (for_record moment len) waiting phase below appended top agree (record_reserved a e) =
       writes_record moment len (pushed_frames below) (ap (gives_next count) a ∙ eq-eqb count count refl)
-          (ap top_moment top) (stack_is _ top) e
+      (ap top_moment top) (stack_is _ top) e
   by_frame (for_record moment len) waiting phase below appended top agree (record_refused (inl a) e) =
       writes_quiet (leave None) tt (plain _ refl a) e
   by_frame (for_record moment len) waiting phase below appended top agree (record_refused (inr a) e) =
@@ -288,7 +288,7 @@ module _ (c : Core) (answer : Answer) where
       (alike_follow (c.history ++ open_fill ∷ a ∷ []) none
       (let first = quiet_more c.history open_fill tt in let second = quiet_more (c.history ++ open_fill ∷ []) a quiet in
       subst (λ (h : List HistoryEvent). Alike (reserved_records c.history) (reserved_records h))
-          (append_assoc c.history (open_fill ∷ []) (a ∷ []))
+      (append_assoc c.history (open_fill ∷ []) (a ∷ []))
       record { count = second.count ∙ first.count; moment = second.moment ∙ first.moment })
       (two_commit c.history a))
   follow appended (writes_record moment len below some top stack e) =
@@ -297,7 +297,7 @@ module _ (c : Core) (answer : Answer) where
         records = more.count ∙ sym (cond-true _ _ _ some);
         moment =
             more.last
-                ∙ sym (cond-true _ _ _ some ∙ ap (λ (m : ℕ). max m (last_moment (reserved_records c.history))) top);
+            ∙ sym (cond-true _ _ _ some ∙ ap (λ (m : ℕ). max m (last_moment (reserved_records c.history))) top);
         commits = one_commits c.history reserve;
       })
 
@@ -310,14 +310,14 @@ counts_follow_steps n size start c after event answer reached step =
     let cases = cases_of step in
     let (appended, history, adds) = steps_append n size start c event answer after kept step in
     let f : RecordsFollow c answer after.history =
-        subst (RecordsFollow c answer) (sym history)
-            (follow c answer appended (writes n size start c answer kept event after appended cases adds)) in
+    subst (RecordsFollow c answer) (sym history)
+    (follow c answer appended (writes n size start c answer kept event after appended cases adds)) in
     record {
       head = head_follows c answer after (moves n size c event answer after cases);
       records = f.records;
       moment = f.moment;
       committed =
           f.commits
-              ∙ ap (λ (b : Bool). if b then records_in after else committed_count c.history)
-                  (settled_is after.history after.frames later.history.stack later.stack.agree);
+          ∙ ap (λ (b : Bool). if b then records_in after else committed_count c.history)
+          (settled_is after.history after.frames later.history.stack later.stack.agree);
     }

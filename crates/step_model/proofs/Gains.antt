@@ -27,7 +27,7 @@ module _ (cpu number : ℕ) where
   has_run_adds of first zero gains (is, low, high) = absurd (let no : ⊥ = omega arith in no)
   has_run_adds of first (suc n) gains is =
       subst (λ (l : List Gain). GainsHas (l ++ gains) cpu number) (sym (some_gain n (has_run of first (suc n))))
-          (inl is)
+      (inl is)
 
   has_run_alone : (of first count : ℕ) (gains : List Gain)
       → GainsHas (unless_none count (has_run of first count) ++ gains) cpu number
@@ -47,7 +47,7 @@ module _ (cpu number : ℕ) where
   has_run_misses of first zero gains misses = misses
   has_run_misses of first (suc n) gains misses =
       subst (λ (l : List Gain). GainsMissing (l ++ gains) cpu number) (sym (some_gain n (has_run of first (suc n))))
-          misses
+      misses
 
   has_run_missing : (of first count : ℕ) (gains : List Gain)
       → GainsMissing (unless_none count (has_run of first count) ++ gains) cpu number → GainsMissing gains cpu number
@@ -66,7 +66,7 @@ module _ (cpu number : ℕ) where
   misses_run_alone of first zero misses = absurd misses
   misses_run_alone of first (suc n) misses =
       ⊎_elim (λ is. is) (λ none. absurd none)
-          (subst (λ (l : List Gain). GainsMissing l cpu number) (some_gain n (misses_run of first (suc n))) misses)
+      (subst (λ (l : List Gain). GainsMissing l cpu number) (some_gain n (misses_run of first (suc n))) misses)
 
 -- ---- a page
 
@@ -82,12 +82,15 @@ module _ (parcel : Parcel) (cpu number : ℕ) where
   brought_pair : GainsHas (gains_of parcel) cpu number → (r : Record) × IsPairOf parcel cpu number r
   brought_pair has = ⊎_elim
       (λ (is, low, high). ⊎_elim
-      (λ (r, within, at, there).
-          (r,
-           record { index = number - parcel.first;
-                   cpu_is = is;
-                   number_is = (let e : number ≡ parcel.first + (number - parcel.first) = omega arith in e);
-                   record_is = at }))
+      (λ (r, within, at, there). (
+        r,
+        record {
+          index = number - parcel.first;
+          cpu_is = is;
+          number_is = (let e : number ≡ parcel.first + (number - parcel.first) = omega arith in e);
+          record_is = at;
+        },
+      ))
       (λ (past, none). absurd (let no : ⊥ = omega arith in no))
       (slice_get_cases parcel.records (number - parcel.first)).1)
       (λ none. absurd (misses_run_has cpu number parcel.cpu (parcel.first - parcel.missed) parcel.missed none))
@@ -99,7 +102,7 @@ module _ (parcel : Parcel) (cpu number : ℕ) where
   missing_brought fits m = let low = m.low in let high = m.high in
       has_run_misses cpu number parcel.cpu parcel.first (length parcel.records) lost
       (misses_run_adds cpu number parcel.cpu (parcel.first - parcel.missed) parcel.missed
-       (m.cpu_is, omega arith, omega arith))
+      (m.cpu_is, omega arith, omega arith))
 
   brought_missing : parcel.missed ≤ parcel.first → GainsMissing (gains_of parcel) cpu number
       → IsMissingOf parcel cpu number
@@ -127,7 +130,7 @@ has_either : (earlier : List Parcel) (parcel : Parcel) (cpu number : ℕ) (r : R
 has_either earlier parcel cpu number r h = ⊎_elim
     (λ (j, there). inl record { index = j; parcel = h.parcel; at = there; pair = h.pair })
     (λ (j, there).
-        inr (subst (λ (p : Parcel). IsPairOf p cpu number r) (sym (only_one parcel h.parcel j there)) h.pair))
+    inr (subst (λ (p : Parcel). IsPairOf p cpu number r) (sym (only_one parcel h.parcel j there)) h.pair))
     (get_in_either earlier (parcel ∷ []) h.index h.parcel h.at)
 
 misses_either : (earlier : List Parcel) (parcel : Parcel) (cpu number : ℕ) → Misses (earlier ++ parcel ∷ []) cpu number
@@ -135,7 +138,7 @@ misses_either : (earlier : List Parcel) (parcel : Parcel) (cpu number : ℕ) →
 misses_either earlier parcel cpu number h = ⊎_elim
     (λ (j, there). inl record { index = j; parcel = h.parcel; at = there; missing = h.missing })
     (λ (j, there).
-        inr (subst (λ (p : Parcel). IsMissingOf p cpu number) (sym (only_one parcel h.parcel j there)) h.missing))
+    inr (subst (λ (p : Parcel). IsMissingOf p cpu number) (sym (only_one parcel h.parcel j there)) h.missing))
     (get_in_either earlier (parcel ∷ []) h.index h.parcel h.at)
 
 -- ---- a delivery
@@ -145,10 +148,10 @@ module _ (earlier : List Parcel) (parcel : Parcel) (cpu number : ℕ) (fits : pa
       → HasNumber earlier cpu number ⊎ GainsHas (brought delivery parcel) cpu number
   had new_page b (r, h) =
       ⊎_elim (λ old. inl (r, old)) (λ pair. inr (pair_brought parcel cpu number r pair))
-          (has_either earlier parcel cpu number r h)
+      (has_either earlier parcel cpu number r h)
   had known_page b (r, h) =
       ⊎_elim (λ old. inl (r, old)) (λ pair. inl (r, b.has cpu number r (one_has parcel cpu number r pair)))
-          (has_either earlier parcel cpu number r h)
+      (has_either earlier parcel cpu number r h)
   had no_page b h = absurd b
 
   has_then : (delivery : Delivery) → HasNumber earlier cpu number ⊎ GainsHas (brought delivery parcel) cpu number
@@ -163,10 +166,10 @@ module _ (earlier : List Parcel) (parcel : Parcel) (cpu number : ℕ) (fits : pa
       → Misses earlier cpu number ⊎ GainsMissing (brought delivery parcel) cpu number
   missed new_page b h =
       ⊎_elim (λ old. inl old) (λ missing. inr (missing_brought parcel cpu number fits missing))
-          (misses_either earlier parcel cpu number h)
+      (misses_either earlier parcel cpu number h)
   missed known_page b h =
       ⊎_elim (λ old. inl old) (λ missing. inl (b.misses cpu number (one_misses parcel cpu number missing)))
-          (misses_either earlier parcel cpu number h)
+      (misses_either earlier parcel cpu number h)
   missed no_page b h = absurd b
 
   misses_then : (delivery : Delivery) → Misses earlier cpu number ⊎ GainsMissing (brought delivery parcel) cpu number
@@ -174,7 +177,7 @@ module _ (earlier : List Parcel) (parcel : Parcel) (cpu number : ℕ) (fits : pa
   misses_then delivery (inl h) = (joined_left earlier (parcel ∷ [])).misses cpu number h
   misses_then new_page (inr gain) =
       (joined_right earlier (parcel ∷ [])).misses cpu number
-          (one_misses parcel cpu number (brought_missing parcel cpu number fits gain))
+      (one_misses parcel cpu number (brought_missing parcel cpu number fits gain))
   misses_then known_page (inr gain) = absurd gain
   misses_then no_page (inr gain) = absurd gain
 

@@ -32,10 +32,10 @@ tells_one n size line cpu before after other [] text others (same, none) (same',
 tells_one n size line cpu before after other (x ∷ xs) text others (between, rest, step, is, tells)
     (between', rest', step', is', tells') =
     let state : between ≡ between' =
-        (steps_are_determined n size before x.event x.answer x.answer between between' step step').1 in
+    (steps_are_determined n size before x.event x.answer x.answer between between' step step').1 in
     let rests : rest ≡ rest' =
-        tells_one n size line cpu between after other xs rest rest' tells
-            (subst (λ (c : Core). Tells n size line cpu c xs other rest') (sym state) tells') in
+    tells_one n size line cpu between after other xs rest rest' tells
+    (subst (λ (c : Core). Tells n size line cpu c xs other rest') (sym state) tells') in
     is ∙ (λ i. step_text line cpu before x.event x.answer (state i) ++ rests i) ∙ sym is'
 
 ring_told : (script : Script) (line : ℕ) (command : Command) (cpu : ℕ) (before one other : World) (text others : List ℕ)
@@ -45,9 +45,9 @@ ring_told script line command cpu before one other text others t u =
     let r = t.runs in let s = u.runs in
     let lane : s.lane ≡ r.lane = some_is s.lane r.lane (sym s.lane_is ∙ r.lane_is) in
     let exchanges : s.exchanges ≡ r.exchanges =
-        sym
-            (line_one script.pages script.size command r.lane r.next s.next r.exchanges s.exchanges r.run
-             (subst (λ (l : Lane). LineRun script.pages script.size command l s.exchanges s.next) lane s.run)).0 in
+    sym
+    (line_one script.pages script.size command r.lane r.next s.next r.exchanges s.exchanges r.run
+    (subst (λ (l : Lane). LineRun script.pages script.size command l s.exchanges s.next) lane s.run)).0 in
     tells_one script.pages script.size line cpu r.lane.core r.next.core s.next.core r.exchanges text others t.tells
     (subst (λ (xs : List Exchange). Tells script.pages script.size line cpu r.lane.core xs s.next.core others) exchanges
     (subst (λ (l : Lane). Tells script.pages script.size line cpu l.core s.exchanges s.next.core others) lane u.tells))
@@ -74,23 +74,23 @@ module _ (line collector cpu fill : ℕ) (before : World) where
       → slice_get after.delivered collector ≡ Some (d.earlier ++ d.parcel ∷ [])
   has_then after d = ap (λ (w : World). slice_get w.delivered collector) d.after_is
       ∙ get_set_here before.delivered collector (d.earlier ++ d.parcel ∷ [])
-          (slice_get_within before.delivered collector d.earlier d.earlier_are)
+      (slice_get_within before.delivered collector d.earlier d.earlier_are)
 
   -- to one world a page is delivered in one way
   pages_same : (one other : World) → one ≡ other
       → (d : DeliversTaken line collector cpu fill before one) (e : DeliversTaken line collector cpu fill before other)
       → delivery_step_text line collector cpu fill d.delivery d.parcel
-          ≡ delivery_step_text line collector cpu fill e.delivery e.parcel
+      ≡ delivery_step_text line collector cpu fill e.delivery e.parcel
   pages_same one other same d e =
       let earlier : e.earlier ≡ d.earlier = some_is e.earlier d.earlier (sym e.earlier_are ∙ d.earlier_are) in
       let lists : d.earlier ++ d.parcel ∷ [] ≡ e.earlier ++ e.parcel ∷ [] =
-          some_is (d.earlier ++ d.parcel ∷ []) (e.earlier ++ e.parcel ∷ [])
+      some_is (d.earlier ++ d.parcel ∷ []) (e.earlier ++ e.parcel ∷ [])
       (sym (has_then one d) ∙ ap (λ (w : World). slice_get w.delivered collector) same ∙ has_then other e) in
       let parcel : d.parcel ≡ e.parcel =
-          same_last d.earlier d.parcel e.parcel (lists ∙ ap (λ (l : List Parcel). l ++ e.parcel ∷ []) earlier) in
+      same_last d.earlier d.parcel e.parcel (lists ∙ ap (λ (l : List Parcel). l ++ e.parcel ∷ []) earlier) in
       let brings : Brings d.earlier d.parcel e.delivery =
-          subst (λ (p : Parcel). Brings d.earlier p e.delivery) (sym parcel)
-              (subst (λ (l : List Parcel). Brings l e.parcel e.delivery) earlier e.brings) in
+      subst (λ (p : Parcel). Brings d.earlier p e.delivery) (sym parcel)
+      (subst (λ (l : List Parcel). Brings l e.parcel e.delivery) earlier e.brings) in
       let delivery : d.delivery ≡ e.delivery = one_delivery d.earlier d.parcel d.delivery e.delivery d.brings brings in
       λ i. delivery_step_text line collector cpu fill (delivery i) (parcel i)
 
@@ -141,16 +141,16 @@ module _ (script : Script) (limits : IsWithinLimits script) where
   all_told (line ∷ lines) behind before after other text others is (between, first, rest, one, cut, all)
       (between', first', rest', one', cut', all') =
       let then : WorldBehind script (behind ++ line ∷ []) between =
-          behind_next script behind line.0 line.1 before between is
-              (told_line script line.0 line.1 before between first one) in
+      behind_next script behind line.0 line.1 before between is
+      (told_line script line.0 line.1 before between first one) in
       let then' : WorldBehind script (behind ++ line ∷ []) between' =
-          behind_next script behind line.0 line.1 before between' is
-              (told_line script line.0 line.1 before between' first' one') in
+      behind_next script behind line.0 line.1 before between' is
+      (told_line script line.0 line.1 before between' first' one') in
       let same : between ≡ between' = one_world script (behind ++ line ∷ []) between between' limits then then' in
       let firsts : first ≡ first' = line_told script line.0 line.1 before between between' first first' same one one' in
       let rests : rest ≡ rest' =
-          all_told lines (behind ++ line ∷ []) between after other rest rest' then all
-              (subst (λ (w : World). TellsAll script lines w other rest') (sym same) all') in
+      all_told lines (behind ++ line ∷ []) between after other rest rest' then all
+      (subst (λ (w : World). TellsAll script lines w other rest') (sym same) all') in
       cut ∙ (λ i. firsts i ++ rests i) ∙ sym cut'
 
   none_behind : (new : World) → IsNewWorld script new → WorldBehind script [] new
@@ -159,10 +159,10 @@ module _ (script : Script) (limits : IsWithinLimits script) where
 pub texts_are_one : TextsAreOne
 texts_are_one script after other text others limits t u =
     let new : u.new ≡ t.new =
-        one_world script [] u.new t.new limits (none_behind script limits u.new u.is_new)
-            (none_behind script limits t.new t.is_new) in
+    one_world script [] u.new t.new limits (none_behind script limits u.new u.is_new)
+    (none_behind script limits t.new t.is_new) in
     let rests : t.rest ≡ u.rest =
-        all_told script limits script.commands [] t.new after other t.rest u.rest
-            (none_behind script limits t.new t.is_new) t.tells
+    all_told script limits script.commands [] t.new after other t.rest u.rest
+    (none_behind script limits t.new t.is_new) t.tells
     (subst (λ (w : World). TellsAll script script.commands w other u.rest) new u.tells) in
     t.text_is ∙ (λ i. trace_line script ++ new_rings_text (sym new i).lanes ++ rests i) ∙ sym u.text_is

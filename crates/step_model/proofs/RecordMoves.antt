@@ -54,8 +54,10 @@ quiet_after stack records open_fill quiet = same_records records
 quiet_after stack records reserve quiet = absurd quiet
 quiet_after [] records (leave payload) quiet = same_records records
 quiet_after (record_frame moment len number ∷ stack) records (leave payload) quiet =
-    record { count = length-records_with_payload number payload records;
-            moment = last_with_payload number payload records }
+    record {
+      count = length-records_with_payload number payload records;
+      moment = last_with_payload number payload records;
+    }
 quiet_after (close_frame ∷ stack) records (leave payload) quiet = same_records records
 quiet_after stack records wished quiet = same_records records
 
@@ -63,7 +65,7 @@ pub quiet_more : (h : List HistoryEvent) (a : HistoryEvent) → IsQuiet a
     → Alike (reserved_records h) (reserved_records (h ++ a ∷ []))
 quiet_more h a quiet =
     subst (Alike (reserved_records h)) (sym (records_snoc h a))
-        (quiet_after (writer_after h).stack (writer_after h).records a quiet)
+    (quiet_after (writer_after h).stack (writer_after h).records a quiet)
 
 -- one more record, whose moment is at least this one
 pub record OneMore (moment : ℕ) (records others : List Reservation) : Type 0 where
@@ -76,7 +78,7 @@ pub reserve_more : (h : List HistoryEvent) (moment len : ℕ) (stack : List Push
 reserve_more h moment len stack e = let records = reserved_records h in
     let r : Reservation = reservation_for moment len records in
     subst (OneMore moment records) (sym (records_reserved h moment len stack e))
-        record { count = length-append records (r ∷ []); last = last_of_push records r }
+    record { count = length-append records (r ∷ []); last = last_of_push records r }
 
 -- ---- the committed records after an event
 
@@ -85,19 +87,19 @@ within_append : (m : ℕ) (h rest : List HistoryEvent) → m ≤ length h
 within_append zero h rest low = refl
 within_append (suc m) h rest low =
     (λ i.
-        cond (is_settled (take-append-le (suc m) h rest low i)) (take-append-le (suc m) h rest low i)
-            (within_append m h rest (let l : m ≤ length h = omega arith in l) i))
+    cond (is_settled (take-append-le (suc m) h rest low i)) (take-append-le (suc m) h rest low i)
+    (within_append m h rest (let l : m ≤ length h = omega arith in l) i))
 
 settled_more : (h : List HistoryEvent) (a : HistoryEvent)
     → settled_prefix (h ++ a ∷ []) ≡ cond (is_settled (h ++ a ∷ [])) (h ++ a ∷ []) (settled_prefix h)
 settled_more h a =
     let len : length (h ++ a ∷ []) ≡ suc (length h) = omega (arith, length-append h (a ∷ [])) in
     let whole : take (suc (length h)) (h ++ a ∷ []) ≡ h ++ a ∷ [] =
-        take_all (suc (length h)) (h ++ a ∷ []) (omega arith) in
+    take_all (suc (length h)) (h ++ a ∷ []) (omega arith) in
     ap (λ (m : ℕ). settled_prefix_within m (h ++ a ∷ [])) len
     ∙ (λ i.
-          cond (is_settled (whole i)) (whole i)
-              (within_append (length h) h (a ∷ []) (let l : length h ≤ length h = omega arith in l) i))
+    cond (is_settled (whole i)) (whole i)
+    (within_append (length h) h (a ∷ []) (let l : length h ≤ length h = omega arith in l) i))
 
 abbrev count_of : List HistoryEvent → ℕ
 count_of h = length (reserved_records h)
@@ -131,15 +133,15 @@ open_commits_none h = let more : List HistoryEvent = h ++ open_fill ∷ [] in
     let same : is_settled more ≡ is_settled h = ap (λ (w : WriterState). rests_on w.stack) (writer_snoc h open_fill) in
     ⊎_elim
     (λ t.
-        one_commits h open_fill ∙ cond-true _ _ _ t ∙ (quiet_more h open_fill tt).count
-            ∙ sym (settled_commits h (sym same ∙ t)))
+    one_commits h open_fill ∙ cond-true _ _ _ t ∙ (quiet_more h open_fill tt).count
+    ∙ sym (settled_commits h (sym same ∙ t)))
     (λ f. one_commits h open_fill ∙ cond-false _ _ _ f)
     (cases_Bool (is_settled more))
 
 pub two_commit : (h : List HistoryEvent) (a : HistoryEvent) → Commits h (h ++ open_fill ∷ a ∷ [])
 two_commit h a = subst (Commits h) (append_assoc h (open_fill ∷ []) (a ∷ []))
     (one_commits (h ++ open_fill ∷ []) a
-     ∙ ap
-         (λ (k : ℕ).
-             if is_settled ((h ++ open_fill ∷ []) ++ a ∷ []) then count_of ((h ++ open_fill ∷ []) ++ a ∷ []) else k)
-         (open_commits_none h))
+    ∙ ap
+    (λ (k : ℕ).
+    if is_settled ((h ++ open_fill ∷ []) ++ a ∷ []) then count_of ((h ++ open_fill ∷ []) ++ a ∷ []) else k)
+    (open_commits_none h))

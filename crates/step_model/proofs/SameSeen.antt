@@ -52,8 +52,8 @@ reader_phase_is _ _ e = absurd (false≢true e)
 pub reader_is_one : (a b : ReaderSeen) → same_reader a b ≡ true → a ≡ b
 reader_is_one a b e =
     let (phs, x) =
-        and_parts (same_reader_phase a.phase b.phase && a.hint == b.hint && a.seen == b.seen) (a.expected == b.expected)
-            e in
+    and_parts (same_reader_phase a.phase b.phase && a.hint == b.hint && a.seen == b.seen) (a.expected == b.expected)
+    e in
     let (ph, s) = and_parts (same_reader_phase a.phase b.phase && a.hint == b.hint) (a.seen == b.seen) phs in
     let (p, h) = and_parts (same_reader_phase a.phase b.phase) (a.hint == b.hint) ph in
     (λ i. record {

@@ -94,7 +94,7 @@ owns_none_idle _ = refl
 owns_none_closing : (c : Core) (phase : Phase) → owns_from phase (closing_phase c) ≡ false
 owns_none_closing c phase =
     cond_both ((c.done + 1) == c.opened) wishing releasing (λ p. owns_from phase p ≡ false)
-        (λ _. owns_none_wishing phase) (λ _. owns_none_releasing phase)
+    (λ _. owns_none_wishing phase) (λ _. owns_none_releasing phase)
 
 -- a frame in the same phase claims nothing
 pub owns_none_same : (phase : Phase) → owns_from phase phase ≡ false
@@ -111,34 +111,34 @@ module _ (n size : ℕ) (c : Core) (answer : Answer) (after : Core) where
         → d.frames ≡ frame_in kind other next ∷ below → d.head ≡ c.head → after ≡ d → Moves c answer after
     on other next d none plain frames head is =
         goes kind state other phase next below plain top (ap (λ (s : Core). s.frames) is ∙ frames)
-            (ap (λ (s : Core). s.head) is ∙ head ∙ sym (cond-false _ _ _ none))
+        (ap (λ (s : Core). s.head) is ∙ head ∙ sym (cond-false _ _ _ none))
 
   -- it leaves; or its fill is begun; this state has the same head
   leaves : (kind : Purpose) (state : Progress) (phase : Phase) (below : List Frame) (d : Core)
-          (payload : Option (List ℕ)) → c.frames ≡ frame_in kind state phase ∷ below → takes_page answer ≡ false
+      (payload : Option (List ℕ)) → c.frames ≡ frame_in kind state phase ∷ below → takes_page answer ≡ false
       → d.head ≡ c.head
       → after ≡ after_leave d (frame_in kind state phase) below payload → Moves c answer after
   leaves kind state phase [] d payload top plain head is =
       on kind state phase [] top left (closing_phase d) _ (owns_none_closing d phase) plain refl head is
   leaves kind state phase (next ∷ below) d payload top plain head is =
       pops (frame_in kind state phase) plain
-          (top ∙ ap (λ (l : List Frame). frame_in kind state phase ∷ l) (sym (ap (λ (s : Core). s.frames) is)))
-          (ap (λ (s : Core). s.head) is ∙ head)
+      (top ∙ ap (λ (l : List Frame). frame_in kind state phase ∷ l) (sym (ap (λ (s : Core). s.frames) is)))
+      (ap (λ (s : Core). s.head) is ∙ head)
 
   begins : (kind : Purpose) (state : Progress) (phase : Phase) (below : List Frame) (d : Core)
       → c.frames ≡ frame_in kind state phase ∷ below → d.head ≡ c.head → answer ≡ begin_answer kind state below
       → after ≡ after_begin kind state d (frame_in kind state phase) below → Moves c answer after
   begins (for_record moment len) waiting phase below d top head a is =
       on (for_record moment len) waiting phase below top waiting idle _ (owns_none_idle phase) (ap takes_page a) refl
-          head is
+      head is
   begins for_close waiting phase below d top head a is =
       leaves for_close waiting phase below d None top (ap takes_page a ∙ leave_takes_none below) head is
   begins kind (reserved number) phase below d top head a is =
       on kind (reserved number) phase below top (reserved number) idle _ (owns_none_idle phase)
-          (ap takes_page a ∙ begin_takes_none kind (reserved number) below) refl head is
+      (ap takes_page a ∙ begin_takes_none kind (reserved number) below) refl head is
   begins kind left phase below d top head a is =
       on kind left phase below top left (closing_phase d) _ (owns_none_closing d phase)
-          (ap takes_page a ∙ begin_takes_none kind left below) refl head is
+      (ap takes_page a ∙ begin_takes_none kind left below) refl head is
 
   module _ (kind : Purpose) (state : Progress) (below : List Frame) where
     again : (phase : Phase) (noted : ℕ) → c.frames ≡ frame_in kind state phase ∷ below
@@ -171,29 +171,29 @@ module _ (n size : ℕ) (c : Core) (answer : Answer) (after : Core) where
         on kind state (looking noted) below top state (claiming noted page) _ refl (ap takes_page a) refl refl is
     frame_moves (looking noted) top (sees_update page lost now sum at a is) =
         on kind state (looking noted) below top state (looking_next helper noted page) _ refl (ap takes_page a) refl
-            refl is
+        refl is
     frame_moves (claiming noted page) top (claim_late step) = again (claiming noted page) noted top step
     frame_moves (claiming noted page) top (claims lost now sum at a is) =
         goes kind state state (claiming noted page) (looking_next owner noted page) below (ap takes_page a) top
-            (ap (λ (s : Core). s.frames) is) (ap (λ (s : Core). s.head) is)
+        (ap (λ (s : Core). s.frames) is) (ap (λ (s : Core). s.head) is)
     frame_moves (claiming noted page) top (claim_fails now other a is) =
         on kind state (claiming noted page) below top state (looking noted) _ refl (ap takes_page a) refl refl is
     frame_moves (looking_next role noted page) top (load_next_late helps step) =
         again (looking_next role noted page) noted top step
     frame_moves (looking_next role noted page) top (sees_normal lost next now sum at a is) =
         on kind state (looking_next role noted page) below top state (marking role noted page next) _ refl
-            (ap takes_page a) refl refl is
+        (ap takes_page a) refl refl is
     frame_moves (looking_next role noted page) top (sees_other lost now sum other a is) =
         on kind state (looking_next role noted page) below top state (after_next role noted page) _ refl
-            (ap takes_page a) refl refl is
+        (ap takes_page a) refl refl is
     frame_moves (marking role noted page next) top (mark_late helps step) =
         again (marking role noted page next) noted top step
     frame_moves (marking role noted page next) top (marks lost now sum at a is) =
         on kind state (marking role noted page next) below top state (after_next role noted page) _ refl
-            (ap takes_page a) refl refl is
+        (ap takes_page a) refl refl is
     frame_moves (marking role noted page next) top (mark_fails lost now sum other a is) =
         on kind state (marking role noted page next) below top state (after_next role noted page) _ refl
-            (ap takes_page a) refl refl is
+        (ap takes_page a) refl refl is
     frame_moves (clearing noted page) top (clears lost sum at a is) =
         on kind state (clearing noted page) below top state (opening noted page) _ refl (ap takes_page a) refl refl is
     frame_moves (opening noted page) top (open_late step) = again (opening noted page) noted top step
@@ -210,7 +210,7 @@ module _ (n size : ℕ) (c : Core) (answer : Answer) (after : Core) where
     frame_moves wishing top (goes_away alone denied last a is) =
         pops (frame_in kind state wishing) (ap takes_page a)
         (top ∙ ap (λ (l : List Frame). frame_in kind state wishing ∷ l) (alone ∙ sym (ap (λ (s : Core). s.frames) is)))
-            (ap (λ (s : Core). s.head) is)
+        (ap (λ (s : Core). s.head) is)
 
   -- ---- every step
 
@@ -247,7 +247,7 @@ moves n size c event answer after (frame_lacks e none a is) =
     rests n size c answer after _ refl refl (ap takes_page a) is
 moves n size c event answer after (end_step payload frame below number moment len e top at kind size_is a is) =
     leaves n size c answer after frame.kind frame.state frame.phase below c (Some payload) top
-        (ap takes_page a ∙ end_takes_none below) refl is
+    (ap takes_page a ∙ end_takes_none below) refl is
 moves n size c event answer after (end_lacks payload e none a is) =
     rests n size c answer after _ refl refl (ap takes_page a) is
 moves n size c event answer after (end_early payload frame below e top none a is) =

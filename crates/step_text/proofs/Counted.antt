@@ -101,12 +101,14 @@ pub counts_are : (k : Counts) (c : Core) → k.spare ≡ c.spare → k.done ≡ 
     → k.head ≡ c.head → k.committed ≡ committed_count c.history → counts_in k ≡ counts_seen c
 counts_are k c spare done opened wish head committed =
     λ i.
-           record { spare = spare i;
-                   done = done i;
-                   opened = opened i;
-                   wish = wish i;
-                   head = head i;
-                   committed = committed i }
+    record {
+      spare = spare i;
+      done = done i;
+      opened = opened i;
+      wish = wish i;
+      head = head i;
+      committed = committed i;
+    }
 
 pub reader_is : (r : TakeState) (c : Core) → reader_phase_of r.phase ≡ c.reader.phase → r.hint ≡ c.reader.hint
     → r.seen ≡ c.reader.seen → r.expected ≡ c.reader.expected → reader_in r ≡ reader_seen c

@@ -23,9 +23,9 @@ phase_exchanges opened releasing done = refl
 phase_exchanges opened wishing done = refl
 
 state_exchanges : (c : Core) (opened : ℕ) (frame : Frame) (below : List Frame) (payload : List ℕ) (state : Progress)
-        (done : Bool) → opened ≡ c.opened → c.frames ≡ frame ∷ below
+    (done : Bool) → opened ≡ c.opened → c.frames ≡ frame ∷ below
     → exchange_text c (event_in state (payload ∷ [])) done
-        ≡ (if steps_so state (is_exchange_in opened frame.phase) then outcome_text done else [])
+    ≡ (if steps_so state (is_exchange_in opened frame.phase) then outcome_text done else [])
 state_exchanges c opened frame below payload waiting done o top =
     rw (o, top) (phase_exchanges c.opened frame.phase done)
 state_exchanges c opened frame below payload (reserved number) done o top = refl
@@ -34,7 +34,7 @@ state_exchanges c opened frame below payload left done o top = rw (o, top) (phas
 frame_exchanges : (c : Core) (opened : ℕ) (frames : List Frame) (frame : Frame) (payload : List ℕ) (done : Bool)
     → opened ≡ c.opened → c.frames ≡ frames → Some frame ≡ top_frame frames
     → exchange_text c (event_on_top frames (payload ∷ [])) done
-        ≡ (if frame_exchanges_in opened frame then outcome_text done else [])
+    ≡ (if frame_exchanges_in opened frame then outcome_text done else [])
 frame_exchanges c opened [] frame payload done o top some = absurd (cc)
 frame_exchanges c opened (other ∷ below) frame payload done o top some =
     let same : frame ≡ other = cc in

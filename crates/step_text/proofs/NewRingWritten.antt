@@ -32,10 +32,10 @@ pub ring_written : (cpu : ℕ) (known : KnownValue) (c : Core) (out named keyed 
     → filled ≡ out ++ new_ring_text cpu c
 ring_written cpu known c out named keyed filled k names keys fills =
     fills
-        ∙ ap (λ text. text ++ first_fill_in known)
-            (keys ∙ ap (λ text. text ++ flat_map change_text (keys_in known)) names)
+    ∙ ap (λ text. text ++ first_fill_in known)
+    (keys ∙ ap (λ text. text ++ flat_map change_text (keys_in known)) names)
     ∙ regroup out (codes "- c" ++ decimal cpu ++ codes " new") (flat_map change_text (keys_in known))
-        (first_fill_in known)
+    (first_fill_in known)
     ∙ (λ i.
     out ++ (codes "- c" ++ decimal cpu ++ codes " new" ++ line_feed ∷ flat_map change_text (
     all_links 0 (k.links i) ++ spare_link_is (k.parts.spare_link i) ∷ all_pages 0 (k.order i)

@@ -55,7 +55,7 @@ written_same out more false change old is = absurd (false≢true old)
 
 pub next_link : (links : List Link) (i : ℕ) (d : Link) → i < length links
     → all_links i (map link_of (drop i links))
-        ≡ (link_is i (link_of (get_or links i d)) ∷ []) ++ all_links (i + 1) (map link_of (drop (i + 1) links))
+    ≡ (link_is i (link_of (get_or links i d)) ∷ []) ++ all_links (i + 1) (map link_of (drop (i + 1) links))
 next_link links i d h = rw add-one (ap (λ ls. all_links i (map link_of ls)) (drop-cons links i d h))
 
 pub next_page : (pages : List ℕ) (i d : ℕ) → i < length pages
@@ -66,18 +66,18 @@ next_page pages i d h = rw add-one (ap (all_pages i) (drop-cons pages i d h))
 
 pub next_link_change : (olds news : List Link) (i : ℕ) (d : Link) → i < min (length olds) (length news)
     → link_changes i (map link_of (drop i olds)) (map link_of (drop i news))
-        ≡ unless_same (same_link (link_of (get_or olds i d)) (link_of (get_or news i d)))
-                (link_is i (link_of (get_or news i d)))
-            ++ link_changes (i + 1) (map link_of (drop (i + 1) olds)) (map link_of (drop (i + 1) news))
+    ≡ unless_same (same_link (link_of (get_or olds i d)) (link_of (get_or news i d)))
+    (link_is i (link_of (get_or news i d)))
+    ++ link_changes (i + 1) (map link_of (drop (i + 1) olds)) (map link_of (drop (i + 1) news))
 next_link_change olds news i d h =
     rw add-one
-        (ap₂ (λ xs ys. link_changes i (map link_of xs) (map link_of ys)) (drop-cons olds i d (omega arith))
-         (drop-cons news i d (omega arith)))
+    (ap₂ (λ xs ys. link_changes i (map link_of xs) (map link_of ys)) (drop-cons olds i d (omega arith))
+    (drop-cons news i d (omega arith)))
 
 pub next_page_change : (olds news : List ℕ) (i d : ℕ) → i < min (length olds) (length news)
     → page_changes i (drop i olds) (drop i news)
-        ≡ unless_same (get_or olds i d == get_or news i d) (page_is i (get_or news i d))
-            ++ page_changes (i + 1) (drop (i + 1) olds) (drop (i + 1) news)
+    ≡ unless_same (get_or olds i d == get_or news i d) (page_is i (get_or news i d))
+    ++ page_changes (i + 1) (drop (i + 1) olds) (drop (i + 1) news)
 next_page_change olds news i d h =
     rw add-one (ap₂ (page_changes i) (drop-cons olds i d (omega arith)) (drop-cons news i d (omega arith)))
 

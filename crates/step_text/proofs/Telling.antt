@@ -27,17 +27,17 @@ depth_fits n size start p c reached parts =
     omega arith
 
 module _ (asked : Asked) (answer : Answer) (ring : CoreValue) (k : KnownValue) (may : MayTellOf asked answer ring k)
-    where
-  pub links_alike : length k.links ≡ length ring.links
-  links_alike =
-      let old = (reached_kept may.n may.size may.start may.before may.step.reached).links.positions in
-      ap length may.known.links ∙ old ∙ sym may.step.is_core.shows.positions
+  where
+    pub links_alike : length k.links ≡ length ring.links
+    links_alike =
+        let old = (reached_kept may.n may.size may.start may.before may.step.reached).links.positions in
+        ap length may.known.links ∙ old ∙ sym may.step.is_core.shows.positions
 
-  pub order_alike : length k.order ≡ length ring.order
-  order_alike =
-      let old = (reached_kept may.n may.size may.start may.before may.step.reached).links.apart.pages in
-      let new = (reached_kept may.n may.size may.start may.after may.step.is_core.reached).links.apart.pages in
-      ap length may.known.order ∙ old ∙ sym new ∙ ap length may.step.is_core.shows.order_is
+    pub order_alike : length k.order ≡ length ring.order
+    order_alike =
+        let old = (reached_kept may.n may.size may.start may.before may.step.reached).links.apart.pages in
+        let new = (reached_kept may.n may.size may.start may.after may.step.is_core.reached).links.apart.pages in
+        ap length may.known.order ∙ old ∙ sym new ∙ ap length may.step.is_core.shows.order_is
 
 -- after a step this is known
 pub knows_after : (n size start : ℕ) (ring : CoreValue) (parts : Parts) (k : KnownValue) (c : Core)
@@ -74,7 +74,7 @@ pub is_told : (w : Inside) (cpu line : ℕ) (more : List ℕ) (item : Known) (k 
     → IsTold line cpu before after event reported (step_text_of w) (with_ring w cpu more item)
 is_told w cpu line more item k before after event reported at told =
     subst (λ (rings : List KnownValue).
-              IsTold line cpu before after event reported (step_text_of w) record { text = more; rings = rings })
+    IsTold line cpu before after event reported (step_text_of w) record { text = more; rings = rings })
     (sym (map-set known_in w.rings.items cpu item))
     record {
       text = told.text;

@@ -81,7 +81,7 @@ piece_more so_far piece more rest all n front back is =
     append_assoc so_far piece more
     ∙ ap (λ (text : List ℕ). so_far ++ text)
     (ap (λ (text : List ℕ). text ++ more) front ∙ ap (λ (text : List ℕ). take n rest ++ text) back
-     ∙ take-append-drop n rest)
+    ∙ take-append-drop n rest)
     ∙ is
 
 -- one piece more, as digits
@@ -92,8 +92,8 @@ digits_more so_far piece more rest all n front back is =
     ∙ ap (λ (text : List ℕ). so_far ++ text)
     (sym (flat_map-append pair_of piece more)
     ∙ ap pairs_of
-        (ap (λ (text : List ℕ). text ++ more) front ∙ ap (λ (text : List ℕ). take n rest ++ text) back
-         ∙ take-append-drop n rest))
+    (ap (λ (text : List ℕ). text ++ more) front ∙ ap (λ (text : List ℕ). take n rest ++ text) back
+    ∙ take-append-drop n rest))
     ∙ is
 
 pub ok_fact : {A E P : Type 0} (result : Result A E) → IsOk result → OnOk result P → P

@@ -38,13 +38,13 @@ pub decimal_in-within : (field : List ℕ) → IfOk (decimal_in field) Is64Bit
 unfolding decimal_in is_decimal
 decimal_in-within field =
     tested-within Is64Bit (is_decimal field) (Ok (digits_value 10 field)) bad_number
-        (λ h. ltb-true (digits_value 10 field) (2 ^ 64) (and_parts _ _ h).1)
+    (λ h. ltb-true (digits_value 10 field) (2 ^ 64) (and_parts _ _ h).1)
 
 pub number_below-within : (limit : ℕ) (field : List ℕ) → IfOk (number_below limit field) (λ n. n < limit)
 unfolding number_below
 number_below-within limit field =
     then-within Is64Bit (λ n. n < limit) (decimal_in field) _ (decimal_in-within field)
-        (λ n small. tested-within (λ n. n < limit) (ltb n limit) (Ok n) out_of_range (λ h. ltb-true n limit h))
+    (λ n small. tested-within (λ n. n < limit) (ltb n limit) (Ok n) out_of_range (λ h. ltb-true n limit h))
 
 pub cpu_in-within : (cpus : ℕ) (field : List ℕ) → IfOk (cpu_in cpus field) (λ cpu. cpu < cpus)
 unfolding cpu_in
@@ -78,11 +78,11 @@ pub payload_in-within : (field : List ℕ) → IfOk (payload_in field) AreBytes
 unfolding payload_in is_hex
 payload_in-within field =
     tested-within AreBytes (is_hex field) (Ok (bytes_of_pairs field)) bad_hex
-        (λ h.
-            All-from_recursion (λ b. b < 256) (bytes_of_pairs field) (elim (or_cases (bytes_eq field (codes "-")) _ h) [
-  | inl none ↦ no_bytes-within field (is_same field (codes "-") none)
-  | inr pairs ↦ pairs-within field (and_parts _ _ pairs).1
-]))
+    (λ h.
+    All-from_recursion (λ b. b < 256) (bytes_of_pairs field) (elim (or_cases (bytes_eq field (codes "-")) _ h) [
+      | inl none ↦ no_bytes-within field (is_same field (codes "-") none)
+      | inr pairs ↦ pairs-within field (and_parts _ _ pairs).1
+    ]))
 
 -- ---- the header
 
@@ -104,7 +104,7 @@ value_of-within s [] = tt
 value_of-within s (word ∷ []) = tt
 value_of-within s (word ∷ number ∷ []) = tested-within (IsAllowed s) (bytes_eq word s.word) _ bad_line (λ h.
     then-within Is64Bit (IsAllowed s) (decimal_in number) (allowed_for s) (decimal_in-within number)
-        (λ n small. allowed_for-within s n))
+    (λ n small. allowed_for-within s n))
 value_of-within s (word ∷ number ∷ more ∷ fields) = tt
 
 pub value_in-within : (s : Setting) (line : List ℕ) → IfOk (value_in s line) (IsAllowed s)

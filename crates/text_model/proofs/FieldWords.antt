@@ -29,4 +29,4 @@ pub cpu_is_no_delivery : (cpus cpu : ℕ) (field : Field) → cpu_in cpus field 
 unfolding cpu_in
 cpu_is_no_delivery cpus cpu field h =
     false_from_ne_true (bytes_eq field (codes "d"))
-        (λ yes. cpu_is_no_delivery_at cpus cpu field (names_cpu field) (same_word field (codes "d") yes) refl h)
+    (λ yes. cpu_is_no_delivery_at cpus cpu field (names_cpu field) (same_word field (codes "d") yes) refl h)

@@ -29,7 +29,7 @@ split_free c [] rest h = slice_split-cons_yes (λ b. b == c) c rest (same_byte c
 split_free c (b ∷ text) rest h =
     let parts = and_parts (not (b == c)) _ h in
     slice_split-cons_no (λ b. b == c) b (text ++ c ∷ rest) (not-true (b == c) parts.0)
-        ∙ ap (onto_first b) (split_free c text rest parts.1)
+    ∙ ap (onto_first b) (split_free c text rest parts.1)
 
 split_last : (c : ℕ) (text : List ℕ) → is_free c text ≡ true → slice_split (λ b. b == c) text ≡ text ∷ []
 split_last c [] h = refl
@@ -45,7 +45,7 @@ fields_of-line_of (f ∷ []) some h = split_last 32 f (and_parts (is_free 32 f) 
 fields_of-line_of (f ∷ g ∷ fields) some h =
     let parts = and_parts (is_free 32 f) _ h in
     split_free 32 f (line_of (g ∷ fields)) parts.0
-        ∙ ap (λ (fs : List (List ℕ)). f ∷ fs) (fields_of-line_of (g ∷ fields) (omega arith) parts.1)
+    ∙ ap (λ (fs : List (List ℕ)). f ∷ fs) (fields_of-line_of (g ∷ fields) (omega arith) parts.1)
 
 is_free-append : (c : ℕ) (xs ys : List ℕ) → is_free c xs ≡ true → is_free c ys ≡ true → is_free c (xs ++ ys) ≡ true
 is_free-append c [] ys h k = k
@@ -84,13 +84,13 @@ all_significant n [] h = refl
 all_significant n (l ∷ lines) h =
     let parts = and_parts (is_significant l) _ h in
     cond-true (is_significant l) _ _ parts.0
-        ∙ ap (λ (ls : List NumberedLine). (n, l) ∷ ls) (all_significant (n + 1) lines parts.1)
+    ∙ ap (λ (ls : List NumberedLine). (n, l) ∷ ls) (all_significant (n + 1) lines parts.1)
 
 -- ---- what fields are made of
 digit_is_no : (c b : ℕ) → c < 48 → is_ascii_digit b ≡ true → not (b == c) ≡ true
 digit_is_no c b small h =
     not_from_false (b == c)
-        (ne_eqb b c (λ same. let low : 48 ≤ b = leb-true 48 b (and_parts (leb 48 b) (leb b 57) h).0 in omega arith))
+    (ne_eqb b c (λ same. let low : 48 ≤ b = leb-true 48 b (and_parts (leb 48 b) (leb b 57) h).0 in omega arith))
 
 digits_free : (c : ℕ) (text : List ℕ) → c < 48 → all_ascii_digits text ≡ true → is_free c text ≡ true
 digits_free c [] small h = refl
@@ -116,18 +116,18 @@ unfolding cpu_in number_below
 cpu_in-cpu_text cpus cpu below fits =
     cond-true (names_cpu (cpu_text cpu)) _ _ (and_from _ _ (some_decimal cpu fits) (digits_decimal numerals cpu fits))
     ∙ ap
-        (λ (r : Result ℕ LineFault). r >>= λ n.
-            cond (ltb n cpus) (let good : Result ℕ LineFault = Ok n in good) (Err out_of_range))
-        (decimal_in-decimal cpu fits)
+    (λ (r : Result ℕ LineFault). r >>= λ n.
+    cond (ltb n cpus) (let good : Result ℕ LineFault = Ok n in good) (Err out_of_range))
+    (decimal_in-decimal cpu fits)
     ∙ cond-true (ltb cpu cpus) _ _ (lt-ltb cpu cpus below)
 
 pub number_below-decimal : (limit n : ℕ) → n < limit → n < 2 ^ 64 → number_below limit (decimal n) ≡ Ok n
 unfolding number_below
 number_below-decimal limit n below fits =
     ap
-        (λ (r : Result ℕ LineFault). r >>= λ n.
-            cond (ltb n limit) (let good : Result ℕ LineFault = Ok n in good) (Err out_of_range))
-        (decimal_in-decimal n fits)
+    (λ (r : Result ℕ LineFault). r >>= λ n.
+    cond (ltb n limit) (let good : Result ℕ LineFault = Ok n in good) (Err out_of_range))
+    (decimal_in-decimal n fits)
     ∙ cond-true (ltb n limit) _ _ (lt-ltb n limit below)
 
 -- ---- the header
@@ -148,7 +148,7 @@ value_in-setting_text s value some free fits allowed =
 pub setting_allowed : (s : Setting) (n : ℕ) → s.min ≤ n → n ≤ s.max → n % s.step ≡ 0 → allowed_for s n ≡ Ok n
 setting_allowed s n low high step =
     cond-true _ _ _
-        (and_from _ _ (and_from _ _ (le-leb s.min n low) (le-leb n s.max high)) (eq-eqb (n % s.step) 0 step))
+    (and_from _ _ (and_from _ _ (le-leb s.min n low) (le-leb n s.max high)) (eq-eqb (n % s.step) 0 step))
 
 -- what a line of the header is made of
 pub record IsSetting (s : Setting) (value : ℕ) : Type 0 where
@@ -164,5 +164,5 @@ setting_spelled s value some free_space free_feed small low high step =
       read = value_in-setting_text s value some free_space fits (setting_allowed s value low high step);
       no_feed =
           is_free-line_of (s.word ∷ decimal value ∷ [])
-              (and_from _ _ free_feed (and_from _ _ (decimal_free 10 value (omega arith) fits) refl));
+          (and_from _ _ free_feed (and_from _ _ (decimal_free 10 value (omega arith) fits) refl));
     }

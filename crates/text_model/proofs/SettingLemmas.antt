@@ -138,7 +138,7 @@ settings_err_at : (end : ℕ) (s : Setting) (settings : List Setting) (line : Nu
     (e : ℕ × LineFault) (r : Result ℕ LineFault)
     → ((e : ℕ × LineFault) → settings_from end settings lines ≡ Err e → SettingFault end settings lines e)
     → value_in s line.1 ≡ r → setting_then end s settings line lines r ≡ Err e
-        → SettingFault end (s ∷ settings) (line ∷ lines) e
+    → SettingFault end (s ∷ settings) (line ∷ lines) e
 settings_err_at end s settings line lines e (Ok v) again is h =
     elim (bind_err (settings_from end settings lines) (value_onto v) e h) [
       | inl f ↦ later_setting end s settings line lines v e is (again e f)

@@ -24,14 +24,14 @@ is_decimal-decimal n small =
     let few : length (decimal n) ≤ 20 = length-decimal-le 20 n (omega arith) (omega arith) small in
     let value : digits_value 10 (decimal n) < 2 ^ 64 = omega (arith, digits_value-decimal numerals n small) in
     and_from _ _
-        (and_from _ _ (and_from _ _ (lt-ltb 0 (length (decimal n)) some) (le-leb (length (decimal n)) 20 few))
-         (digits_decimal numerals n small)) (lt-ltb (digits_value 10 (decimal n)) (2 ^ 64) value)
+    (and_from _ _ (and_from _ _ (lt-ltb 0 (length (decimal n)) some) (le-leb (length (decimal n)) 20 few))
+    (digits_decimal numerals n small)) (lt-ltb (digits_value 10 (decimal n)) (2 ^ 64) value)
 
 pub decimal_in-decimal : (n : ℕ) → n < 2 ^ 64 → decimal_in (decimal n) ≡ Ok n
 unfolding decimal_in
 decimal_in-decimal n small =
     cond-true (is_decimal (decimal n)) _ _ (is_decimal-decimal n small)
-        ∙ ap (λ (n : ℕ). let r : Result ℕ LineFault = Ok n in r) (digits_value-decimal numerals n small)
+    ∙ ap (λ (n : ℕ). let r : Result ℕ LineFault = Ok n in r) (digits_value-decimal numerals n small)
 
 -- the two digits of a byte
 abbrev pair_of : ℕ → List ℕ
@@ -55,7 +55,7 @@ list_all-pairs_of [] h = refl
 list_all-pairs_of (b ∷ bytes) h =
     let small : b < 256 = h.0 in
     and_from _ _ (is_digit-digit_char (b / 16) (omega arith))
-        (and_from _ _ (is_digit-digit_char (b % 16) (omega arith)) (list_all-pairs_of bytes h.1))
+    (and_from _ _ (is_digit-digit_char (b % 16) (omega arith)) (list_all-pairs_of bytes h.1))
 
 bytes_of_pairs-pairs_of : (bytes : List ℕ) → AllByRecursion (λ byte. byte < 256) bytes
     → bytes_of_pairs (pairs_of bytes) ≡ bytes
@@ -65,9 +65,9 @@ bytes_of_pairs-pairs_of (b ∷ bytes) h =
     let high = digit_value-digit_char (b / 16) (omega arith) in
     let low = digit_value-digit_char (b % 16) (omega arith) in
     let byte : 16 * digit_value (digit_char (b / 16)) + digit_value (digit_char (b % 16)) ≡ b =
-        omega (arith, high, low) in
+    omega (arith, high, low) in
     ap (λ (c : ℕ). c ∷ bytes_of_pairs (pairs_of bytes)) byte
-        ∙ ap (λ (bs : List ℕ). b ∷ bs) (bytes_of_pairs-pairs_of bytes h.1)
+    ∙ ap (λ (bs : List ℕ). b ∷ bs) (bytes_of_pairs-pairs_of bytes h.1)
 
 is_hex-pairs_of : (bytes : List ℕ) → AllByRecursion (λ byte. byte < 256) bytes → 0 < length bytes
     → is_hex (pairs_of bytes) ≡ true
@@ -75,9 +75,9 @@ unfolding is_hex
 is_hex-pairs_of bytes h some =
     let len = length-pairs_of bytes in
     or_right _ _
-        (and_from _ _
-         (and_from _ _ (lt-ltb 0 (length (pairs_of bytes)) (omega arith))
-          (eq-eqb (length (pairs_of bytes) % 2) 0 (omega arith))) (list_all-pairs_of bytes h))
+    (and_from _ _
+    (and_from _ _ (lt-ltb 0 (length (pairs_of bytes)) (omega arith))
+    (eq-eqb (length (pairs_of bytes) % 2) 0 (omega arith))) (list_all-pairs_of bytes h))
 
 pub payload_in-hex_text : (bytes : List ℕ) → AllByRecursion (λ byte. byte < 256) bytes
     → payload_in (hex_text bytes) ≡ Ok bytes

@@ -37,9 +37,9 @@ pub eight_digits : (bytes front back : List ℕ) → length bytes ≡ 8
     → front ≡ pairs_of (get_or bytes 0 0 ∷ get_or bytes 1 0 ∷ get_or bytes 2 0 ∷ get_or bytes 3 0 ∷ [])
     → back ≡ pairs_of (get_or bytes 4 0 ∷ get_or bytes 5 0 ∷ get_or bytes 6 0 ∷ get_or bytes 7 0 ∷ [])
     → get_or front 0 0 ∷ get_or front 1 0 ∷ get_or front 2 0 ∷ get_or front 3 0 ∷ get_or front 4 0 ∷ get_or front 5 0
-        ∷ get_or front 6 0 ∷ get_or front 7 0
+    ∷ get_or front 6 0 ∷ get_or front 7 0
     ∷ get_or back 0 0 ∷ get_or back 1 0 ∷ get_or back 2 0 ∷ get_or back 3 0 ∷ get_or back 4 0 ∷ get_or back 5 0
-        ∷ get_or back 6 0 ∷ get_or back 7 0 ∷ []
+    ∷ get_or back 6 0 ∷ get_or back 7 0 ∷ []
     ≡ pairs_of bytes
 eight_digits [] front back eight is1 is2 = absurd (omega arith)
 eight_digits (a ∷ []) front back eight is1 is2 = absurd (omega arith)
@@ -68,8 +68,8 @@ part_more left part behind text so_far out cut before put =
 -- eight bytes, and the rest after them, in the code's words
 pub eight_and_rest : (left : List ℕ) → 8 ≤ length left
     → left
-        ≡ (get_or left 0 0 ∷ get_or left 1 0 ∷ get_or left 2 0 ∷ get_or left 3 0 ∷ get_or left 4 0 ∷ get_or left 5 0
-           ∷ get_or left 6 0 ∷ get_or left 7 0 ∷ []) ++ take (length left - 8) (drop 8 left)
+    ≡ (get_or left 0 0 ∷ get_or left 1 0 ∷ get_or left 2 0 ∷ get_or left 3 0 ∷ get_or left 4 0 ∷ get_or left 5 0
+    ∷ get_or left 6 0 ∷ get_or left 7 0 ∷ []) ++ take (length left - 8) (drop 8 left)
 eight_and_rest [] some = absurd (omega arith)
 eight_and_rest (a ∷ []) some = absurd (omega arith)
 eight_and_rest (a ∷ b ∷ []) some = absurd (omega arith)

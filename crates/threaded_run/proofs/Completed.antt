@@ -38,8 +38,7 @@ module _ {Gate : Type 0} (answers : Gate → Who → (cpu fill : ℕ) → Bool �
       let here : ArePassedEnds answers gate v.script v.cpu ends =
       subst (λ (g : Gate). ArePassedEnds answers g v.script v.cpu ends) gate_is passed in
       let done =
-          ap (λ (w : Writing). w.done) is_ledger.settled.one_run.writing_is ∙ ap (λ (w : Writing). w.done) same in
-      (
+      ap (λ (w : Writing). w.done) is_ledger.settled.one_run.writing_is ∙ ap (λ (w : Writing). w.done) same in (
         record {
           history = log.0;
           is_ledger = is_ledger;

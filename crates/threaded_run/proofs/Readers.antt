@@ -56,7 +56,7 @@ module _ {Gate : Type 0} (answers : Gate → Who → (cpu fill : ℕ) → Bool �
       → HaveReadersPassed answers gate cpu (as_parcels next.taken)
   passed_more Page now next is last were =
       one_passed (as_parcels now.taken) (as_parcels next.taken) (parcel_of now.cpu is.is.taken) is.one_more (last refl)
-          were
+      were
   passed_more Empty now next is last were =
       subst (λ (l : List ParcelValue). HaveReadersPassed answers gate cpu (as_parcels l)) (sym is.taken_are) were
   passed_more Moving now next is last were =

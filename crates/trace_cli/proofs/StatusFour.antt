@@ -61,7 +61,7 @@ module _ (source : SourceRun) (sink : SinkRun) (sound : AreSound source sink) wh
   line_written short (inr (inr (inl h))) = absurd (let long = h.0.3 in omega arith)
   line_written short (inr (inr (inr (bytes, output, written)))) =
       subst (λ (bytes : List ℕ). Appends sink.contents sink.contents_after bytes) (thread_line output.0 bytes output.4)
-          written
+      written
 
   pub run_reported : IsCommandRun RunGives source sink END_FAILED → source.count_after ≤ MAX_INPUT
       → Appends sink.contents sink.contents_after THREAD_LINE.now

@@ -91,9 +91,11 @@ chain_goes_on file before more place next total read onward within so_far =
     let one : with_list before (options_of_chain file so_far.0 place)
     ≡ with_list more (chain_from next (λ later. options_of_chain file (so_far.0 - 1) later)) =
     rw (first_known file so_far.0 (so_far.0 - 1) place e)
-        (link_moves file (so_far.0 - 1) before more next (link_at file place) read) in
-    (so_far.0 - 1, enough_behind (length file) so_far.0 (so_far.0 - 1) place next e so_far.1 onward within,
-     sym one ∙ so_far.2)
+    (link_moves file (so_far.0 - 1) before more next (link_at file place) read) in (
+      so_far.0 - 1,
+      enough_behind (length file) so_far.0 (so_far.0 - 1) place next e so_far.1 onward within,
+      sym one ∙ so_far.2,
+    )
 
 -- a section that can't be read ends the reading
 pub chain_fails : (file : List ℕ) (before : List FileOption) (place : Place) (e : ReadError)
@@ -103,5 +105,5 @@ chain_fails file before place e total fails so_far =
     let k : so_far.0 ≡ suc (so_far.0 - 1) = omega (arith, so_far.1.0, so_far.1.1) in
     let one : Fails e (with_list before (options_of_chain file so_far.0 place)) =
     rw (first_known file so_far.0 (so_far.0 - 1) place k)
-        (link_fails file (so_far.0 - 1) before e (link_at file place) fails) in
+    (link_fails file (so_far.0 - 1) before e (link_at file place) fails) in
     subst (λ r. Fails e r) so_far.2 one

@@ -42,9 +42,9 @@ pub each_goes_on : {X Y A : Type 0} (see : X → Y) (of : Y → Reading (List A)
     → with_list more (each_of of (map see (drop (i + 1) xs))) ≡ total
 each_goes_on see of before more xs i x total lt is read so_far =
     let one : with_list before (each_of of (map see (drop i xs)))
-        ≡ with_list more (each_of of (map see (drop (i + 1) xs))) =
+    ≡ with_list more (each_of of (map see (drop (i + 1) xs))) =
     rw (next_known see of xs i x lt is)
-        (list_moves before more (of (see x)) (each_of of (map see (drop (i + 1) xs))) read) in
+    (list_moves before more (of (see x)) (each_of of (map see (drop (i + 1) xs))) read) in
     sym one ∙ so_far
 
 -- a list that can't be read ends the reading
@@ -55,7 +55,7 @@ pub each_fails : {X Y A : Type 0} (see : X → Y) (of : Y → Reading (List A)) 
 each_fails see of before xs i x e total lt is fails so_far =
     let one : Fails e (with_list before (each_of of (map see (drop i xs)))) =
     rw (next_known see of xs i x lt is)
-        (list_fails before e (of (see x)) (each_of of (map see (drop (i + 1) xs))) fails) in
+    (list_fails before e (of (see x)) (each_of of (map see (drop (i + 1) xs))) fails) in
     subst (λ r. Fails e r) so_far one
 
 -- all lists were read

@@ -50,7 +50,7 @@ unfolding all_at
 goes_on field before more count i part after total lt read so_far =
     let k : count - i ≡ suc (count - (i + 1)) = omega arith in
     let one : with_front before (all_at field i (count - i) part)
-        ≡ with_front more (all_at field (i + 1) (count - (i + 1)) after) =
+    ≡ with_front more (all_at field (i + 1) (count - (i + 1)) after) =
     rw k (front_moves before (field i part) (λ p. all_at field (i + 1) (count - (i + 1)) p) more after read) in
     sym one ∙ so_far
 

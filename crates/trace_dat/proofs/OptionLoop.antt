@@ -35,9 +35,11 @@ pub option_goes_on : (before : List FileOption) (part after : FilePart) (option 
 option_goes_on before part after option total read shorter so_far =
     let one : with_front before (option_at part >>= rest_of (so_far.0 - 1))
     ≡ with_front (before ++ option ∷ []) (options_among (so_far.0 - 1) after) =
-    rw read (regroup before (option ∷ []) (options_among (so_far.0 - 1) after)) in
-    (so_far.0 - 1, omega (arith, so_far.1),
-     sym one ∙ sym (from_first before so_far.0 (so_far.0 - 1) part (omega (arith, so_far.1))) ∙ so_far.2)
+    rw read (regroup before (option ∷ []) (options_among (so_far.0 - 1) after)) in (
+      so_far.0 - 1,
+      omega (arith, so_far.1),
+      sym one ∙ sym (from_first before so_far.0 (so_far.0 - 1) part (omega (arith, so_far.1))) ∙ so_far.2,
+    )
 
 -- the options end here
 pub options_end : (before : List FileOption) (part after : FilePart) (total : Reading (List FileOption × FilePart))
@@ -60,5 +62,5 @@ pub option_fails : (before : List FileOption) (part : FilePart) (e : ReadError)
 option_fails before part e total fails so_far =
     let one : Fails e (with_front before (options_among so_far.0 part)) =
     rw (from_first before so_far.0 (so_far.0 - 1) part (omega (arith, so_far.1)))
-        (first_fails before e (option_at part) (rest_of (so_far.0 - 1)) fails) in
+    (first_fails before e (option_at part) (rest_of (so_far.0 - 1)) fails) in
     subst (λ r. Fails e r) so_far.2 one

@@ -13,15 +13,20 @@ pub at_position : (h n p : ℕ) → p < n → (f : ℕ) × (h ≤ f) × (f < h +
 at_position zero n p below = (p, omega arith, omega arith, mod-eq_of_lt below)
 at_position (suc h) n p below = let (f, low, high, at) = at_position h n p below in
     dite (ℕ_discrete f h) (λ e. (f + n, omega arith, omega arith, add-mod_right f n ∙ at))
-        (λ e. (f, omega arith, omega arith, at))
+    (λ e. (f, omega arith, omega arith, at))
 
 -- the same fill, one turn earlier where it is the last of the row
 earlier : (h n f : ℕ) → suc h ≤ f → f < suc h + n
     → (g : ℕ) × (h ≤ g) × (g < h + n) × (g % n ≡ f % n) × ((f ≡ h + n) → g ≡ h) × ((f ≢ h + n) → g ≡ f)
 earlier h n f low high = dite (ℕ_discrete f (h + n))
-    (λ e.
-        (h, omega arith, omega arith, sym (ap (λ (k : ℕ). k % n) e ∙ add-mod_right h n), (λ _. refl),
-         (λ ne. absurd (ne e))))
+    (λ e. (
+      h,
+      omega arith,
+      omega arith,
+      sym (ap (λ (k : ℕ). k % n) e ∙ add-mod_right h n),
+      (λ _. refl),
+      (λ ne. absurd (ne e)),
+    ))
     (λ ne. (f, omega arith, omega arith, refl, (λ e. absurd (ne e)), (λ _. refl)))
 
 pub one_position : (h n f g : ℕ) → h ≤ f → f < h + n → h ≤ g → g < h + n → f % n ≡ g % n → f ≡ g
@@ -33,12 +38,12 @@ one_position (suc h) n f g lf hf lg hg e =
     let same : f' ≡ g' = one_position h n f' g' lf' hf' lg' hg' (ef ∙ e ∙ sym eg) in
     dite (ℕ_discrete f (h + n))
     (λ is.
-        dite (ℕ_discrete g (h + n)) (λ it. is ∙ sym it)
-            (λ ne. let a : f' ≡ h = f_last is in let b : g' ≡ g = g_else ne in absurd (omega arith)))
+    dite (ℕ_discrete g (h + n)) (λ it. is ∙ sym it)
+    (λ ne. let a : f' ≡ h = f_last is in let b : g' ≡ g = g_else ne in absurd (omega arith)))
     (λ ne.
-        dite (ℕ_discrete g (h + n))
-            (λ it. let a : f' ≡ f = f_else ne in let b : g' ≡ h = g_last it in absurd (omega arith))
-            (λ it. sym (f_else ne) ∙ same ∙ g_else it))
+    dite (ℕ_discrete g (h + n))
+    (λ it. let a : f' ≡ f = f_else ne in let b : g' ≡ h = g_last it in absurd (omega arith))
+    (λ it. sym (f_else ne) ∙ same ∙ g_else it))
 
 -- two fills of the row lie at different positions
 pub apart : (h n f g : ℕ) → h ≤ f → f < h + n → h ≤ g → g < h + n → f ≢ g → f % n ≢ g % n

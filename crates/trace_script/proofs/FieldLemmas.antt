@@ -10,7 +10,7 @@ use Rattle.text_model.specs.Text.{fields_of}
 abbrev pub IsCut : List ℕ → List ℕ → Option (Bor (List ℕ)) → Type 0
 IsCut line field o =
     MatchOption o (slice_split (λ b. b == 32) line ≡ field ∷ [])
-        (λ rest. slice_split (λ b. b == 32) line ≡ field ∷ slice_split (λ b. b == 32) rest.now)
+    (λ rest. slice_split (λ b. b == 32) line ≡ field ∷ slice_split (λ b. b == 32) rest.now)
 
 pub one_field : (line field : List ℕ) → fields_of line ≡ field ∷ [] → length (fields_of line) ≡ 1
 one_field line field h = ap (λ (fs : List (List ℕ)). length fs) h

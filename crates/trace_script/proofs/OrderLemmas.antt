@@ -63,9 +63,11 @@ decimal_solid field n h =
     chosen (is_decimal field) _ _ n (λ is _.
     let parts = decimal_parts field is in
     let digits = digits_are field parts.2 in
-    record { some = parts.0;
-            solid = all_solid 32 is_ascii_digit field refl digits;
-            no_feed = all_solid 10 is_ascii_digit field refl digits })
+    record {
+      some = parts.0;
+      solid = all_solid 32 is_ascii_digit field refl digits;
+      no_feed = all_solid 10 is_ascii_digit field refl digits;
+    })
     (λ other. absurd (ok_is_no_err n bad_number (sym other))) h
 
 below_solid : (limit : ℕ) (field : List ℕ) (n : ℕ) → number_below limit field ≡ Ok n → IsSolid field
@@ -78,8 +80,8 @@ count_solid : (field : List ℕ) (n : ℕ) → count_in field ≡ Ok n → IsSol
 unfolding count_in
 count_solid field n h =
     let first =
-        bind_ok (decimal_in field) (λ n. cond (leb MIN_LINE_STEPS n && leb n MAX_LINE_STEPS) (Ok n) (Err out_of_range))
-            n h in
+    bind_ok (decimal_in field) (λ n. cond (leb MIN_LINE_STEPS n && leb n MAX_LINE_STEPS) (Ok n) (Err out_of_range))
+    n h in
     decimal_solid field first.0 first.1
 
 named_solid : (field : List ℕ) → names_cpu field ≡ true → IsSolid field
@@ -92,17 +94,17 @@ named_solid (letter ∷ digits) h =
       some = omega arith;
       solid =
           All-cons (λ b. (b == 32) ≡ false) letter digits (ne_eqb letter 32 (λ same. omega arith))
-              (all_solid 32 is_ascii_digit digits refl (digits_are digits a.1));
+          (all_solid 32 is_ascii_digit digits refl (digits_are digits a.1));
       no_feed =
           All-cons (λ b. (b == 10) ≡ false) letter digits (ne_eqb letter 10 (λ same. omega arith))
-              (all_solid 10 is_ascii_digit digits refl (digits_are digits a.1));
+          (all_solid 10 is_ascii_digit digits refl (digits_are digits a.1));
     }
 
 cpu_solid : (cpus : ℕ) (field : List ℕ) (cpu : ℕ) → cpu_in cpus field ≡ Ok cpu → IsSolid field
 unfolding cpu_in
 cpu_solid cpus field cpu h =
     chosen (names_cpu field) _ _ cpu (λ is _. named_solid field is)
-        (λ other. absurd (ok_is_no_err cpu bad_line (sym other))) h
+    (λ other. absurd (ok_is_no_err cpu bad_line (sym other))) h
 
 hex_solid : (field : List ℕ) → is_hex field ≡ true → IsSolid field
 unfolding is_hex
@@ -111,16 +113,18 @@ hex_solid field h = elim (or_cases _ _ h) [
       subst IsSolid (sym same) (one_byte 45 refl refl)
   | inr is ↦ let a = and_parts _ _ is in
       let b = and_parts _ _ a.0 in
-      record { some = ltb-true _ _ b.0;
-              solid = all_solid 32 (λ c. is_digit c 16) field refl a.1;
-              no_feed = all_solid 10 (λ c. is_digit c 16) field refl a.1 }
+      record {
+        some = ltb-true _ _ b.0;
+        solid = all_solid 32 (λ c. is_digit c 16) field refl a.1;
+        no_feed = all_solid 10 (λ c. is_digit c 16) field refl a.1;
+      }
 ]
 
 payload_solid : (field payload : List ℕ) → payload_in field ≡ Ok payload → IsSolid field
 unfolding payload_in
 payload_solid field payload h =
     chosen (is_hex field) _ _ payload (λ is _. hex_solid field is)
-        (λ other. absurd (ok_is_no_err payload bad_hex (sym other))) h
+    (λ other. absurd (ok_is_no_err payload bad_hex (sym other))) h
 
 -- ---- the fields of a command
 abbrev pub AreSolid : List (List ℕ) → Type 0
@@ -130,17 +134,19 @@ AreSolid (field ∷ fields) = IsSolid field × AreSolid fields
 pub spelled_solid : (cpus collectors : ℕ) (command : Command) (fields : List (List ℕ))
     → SpellsCommand cpus collectors command fields → AreSolid fields
 spelled_solid cpus collectors (begin_frame cpu moment payload) fields h =
-    subst AreSolid (sym h.3)
-        (cpu_solid cpus h.0 cpu h.4,
-         (one_byte 98 refl refl, (decimal_solid h.1 moment h.5, (payload_solid h.2 payload h.6, tt))))
+    subst AreSolid (sym h.3) (
+      cpu_solid cpus h.0 cpu h.4,
+      (one_byte 98 refl refl, (decimal_solid h.1 moment h.5, (payload_solid h.2 payload h.6, tt))),
+    )
 spelled_solid cpus collectors (step_frame cpu count) fields h =
     subst AreSolid (sym h.2) (cpu_solid cpus h.0 cpu h.3, (one_byte 115 refl refl, (count_solid h.1 count h.4, tt)))
 spelled_solid cpus collectors (finish_frame cpu) fields h =
     subst AreSolid (sym h.1) (cpu_solid cpus h.0 cpu h.2, (one_byte 102 refl refl, tt))
 spelled_solid cpus collectors (write cpu moment payload) fields h =
-    subst AreSolid (sym h.3)
-        (cpu_solid cpus h.0 cpu h.4,
-         (one_byte 119 refl refl, (decimal_solid h.1 moment h.5, (payload_solid h.2 payload h.6, tt))))
+    subst AreSolid (sym h.3) (
+      cpu_solid cpus h.0 cpu h.4,
+      (one_byte 119 refl refl, (decimal_solid h.1 moment h.5, (payload_solid h.2 payload h.6, tt))),
+    )
 spelled_solid cpus collectors (close cpu) fields h =
     subst AreSolid (sym h.1) (cpu_solid cpus h.0 cpu h.2, (one_byte 99 refl refl, tt))
 spelled_solid cpus collectors (step_reader cpu count) fields h =
@@ -150,9 +156,10 @@ spelled_solid cpus collectors (take_page cpu) fields h =
 spelled_solid cpus collectors (wish cpu) fields h =
     subst AreSolid (sym h.1) (cpu_solid cpus h.0 cpu h.2, (one_byte 97 refl refl, tt))
 spelled_solid cpus collectors (deliver collector cpu fill) fields h =
-    subst AreSolid (sym h.3)
-        (one_byte 100 refl refl,
-         (below_solid collectors h.0 collector h.4, (cpu_solid cpus h.1 cpu h.5, (decimal_solid h.2 fill h.6, tt))))
+    subst AreSolid (sym h.3) (
+      one_byte 100 refl refl,
+      (below_solid collectors h.0 collector h.4, (cpu_solid cpus h.1 cpu h.5, (decimal_solid h.2 fill h.6, tt))),
+    )
 
 pub solid_spaced : (fields : List (List ℕ)) → AreSolid fields → is_well_spaced fields ≡ true
 solid_spaced [] h = refl
@@ -179,23 +186,23 @@ stands cpus collectors text (Two a b) command are solid h =
     command_in_form cpus collectors text (a.now ∷ b.now ∷ []) are (solid_spaced (a.now ∷ b.now ∷ []) solid) ∙ h
 stands cpus collectors text (Three a b d) command are solid h =
     command_in_form cpus collectors text (a.now ∷ b.now ∷ d.now ∷ []) are
-            (solid_spaced (a.now ∷ b.now ∷ d.now ∷ []) solid) ∙ h
+    (solid_spaced (a.now ∷ b.now ∷ d.now ∷ []) solid) ∙ h
 stands cpus collectors text (More a b d rest) command are solid h =
     let alone : fields_of rest.now ≡ rest.now ∷ [] = slice_split_none (λ b. b == 32) rest.now solid.1.1.1.0.solid in
     command_in_form cpus collectors text (a.now ∷ b.now ∷ d.now ∷ rest.now ∷ [])
-            (are ∙ ap (λ (fs : List (List ℕ)). a.now ∷ b.now ∷ d.now ∷ fs) alone)
-            (solid_spaced (a.now ∷ b.now ∷ d.now ∷ rest.now ∷ []) solid) ∙ h
+    (are ∙ ap (λ (fs : List (List ℕ)). a.now ∷ b.now ∷ d.now ∷ fs) alone)
+    (solid_spaced (a.now ∷ b.now ∷ d.now ∷ rest.now ∷ []) solid) ∙ h
 
 pub order_stands : (cpus collectors : ℕ) (text : List ℕ) (fields : Fields) (order : Kept) (old new : List ℕ)
     → AreFields fields (fields_of text)
     → (payload : List ℕ) × (new ≡ old ++ payload)
-        × (command_of cpus collectors (fields_seen fields) ≡ Ok (shown payload order))
+    × (command_of cpus collectors (fields_seen fields) ≡ Ok (shown payload order))
     → (payload : List ℕ) × (new ≡ old ++ payload) × (command_in cpus collectors text ≡ Ok (shown payload order))
 order_stands cpus collectors text fields order old new are puts =
     let command = shown puts.0 order in
     let solid =
-        spelled_solid cpus collectors command (fields_seen fields)
-            (command_spelled cpus collectors (fields_seen fields) command puts.2) in
+    spelled_solid cpus collectors command (fields_seen fields)
+    (command_spelled cpus collectors (fields_seen fields) command puts.2) in
     (puts.0, puts.1, stands cpus collectors text fields command are solid puts.2)
 
 -- ---- a fault
@@ -224,8 +231,8 @@ pub fault_stands : (cpus collectors : ℕ) (text : List ℕ) (fields : Fields) (
     → Fails fault (command_of cpus collectors (fields_seen fields)) → Fails fault (command_in cpus collectors text)
 fault_stands cpus collectors text fields fault are whole spaced h =
     subst (λ (read : Result Command LineFault). Fails fault read)
-        (sym (command_in_form cpus collectors text (fields_of text) refl spaced
-              ∙ same_command cpus collectors fields (fields_of text) are whole)) h
+    (sym (command_in_form cpus collectors text (fields_of text) refl spaced
+    ∙ same_command cpus collectors fields (fields_of text) are whole)) h
   where
     same_command : (cpus collectors : ℕ) (fields : Fields) (all : List (List ℕ)) → AreFields fields all
         → HasNoFifth fields → command_of cpus collectors all ≡ command_of cpus collectors (fields_seen fields)
@@ -234,7 +241,7 @@ fault_stands cpus collectors text fields fault are whole spaced h =
     same_command cpus collectors (Three a b d) all are whole = ap (command_of cpus collectors) are
     same_command cpus collectors (More a b d rest) all are whole =
         ap (command_of cpus collectors)
-            (are ∙ ap (λ (fs : List (List ℕ)). a.now ∷ b.now ∷ d.now ∷ fs) (whole_part rest.now whole))
+        (are ∙ ap (λ (fs : List (List ℕ)). a.now ∷ b.now ∷ d.now ∷ fs) (whole_part rest.now whole))
 
 badly_spaced : (cpus collectors : ℕ) (text : List ℕ) → is_well_spaced (fields_of text) ≡ false
     → command_in cpus collectors text ≡ Err bad_line
@@ -264,8 +271,8 @@ not_whole cpus collectors text (Three a b d) are more = absurd (more tt)
 not_whole cpus collectors text (More a b d rest) are more =
     let some = length-slice_split (λ b. b == 32) rest.now in
     no_order cpus collectors text
-        (ap (command_of cpus collectors) are
-         ∙ too_many cpus collectors a.now b.now d.now (fields_of rest.now) (omega (arith, some)) more)
+    (ap (command_of cpus collectors) are
+    ∙ too_many cpus collectors a.now b.now d.now (fields_of rest.now) (omega (arith, some)) more)
 
 -- what is wrong with a line whose form is
 pub no_command : (text : List ℕ) (fields : Fields) → AreFields fields (fields_of text)

@@ -54,7 +54,7 @@ low_in_table byte small = let here : 0 + byte ≡ byte = omega arith in
 -- what a digit is worth, and what another byte
 high_of : (c : ℕ)
     → ((is_digit c 16 ≡ true) × (high_value c ≡ 16 * digit_value c) × (digit_value c < 16))
-        ⊎ ((is_digit c 16 ≡ false) × (high_value c ≡ 4096))
+    ⊎ ((is_digit c 16 ≡ false) × (high_value c ≡ 4096))
 high_of c = elim (cases_Bool (is_digit c 16)) [
   | inl is ↦ inl (is, cond-true (is_digit c 16) _ _ is, ltb-true _ _ is)
   | inr other ↦ inr (other, cond-false (is_digit c 16) _ _ other)
@@ -62,7 +62,7 @@ high_of c = elim (cases_Bool (is_digit c 16)) [
 
 low_of : (c : ℕ)
     → ((is_digit c 16 ≡ true) × (low_value c ≡ digit_value c) × (digit_value c < 16))
-        ⊎ ((is_digit c 16 ≡ false) × (low_value c ≡ 4096))
+    ⊎ ((is_digit c 16 ≡ false) × (low_value c ≡ 4096))
 low_of c = elim (cases_Bool (is_digit c 16)) [
   | inl is ↦ inl (is, cond-true (is_digit c 16) _ _ is, ltb-true _ _ is)
   | inr other ↦ inr (other, cond-false (is_digit c 16) _ _ other)
@@ -71,7 +71,7 @@ low_of c = elim (cases_Bool (is_digit c 16)) [
 -- the digits of a pair that is worth less than no digit
 pub pair_of : (high low : ℕ) → pair_value high low < 4096
     → (is_digit high 16 ≡ true) × (is_digit low 16 ≡ true)
-        × (pair_value high low ≡ 16 * digit_value high + digit_value low) × (pair_value high low < 256)
+    × (pair_value high low ≡ 16 * digit_value high + digit_value low) × (pair_value high low < 256)
 pair_of high low small = elim (high_of high) [
   | inr other ↦ absurd (omega (arith, other.1, small))
   | inl first ↦ elim (low_of low) [
@@ -85,7 +85,7 @@ pair_of high low small = elim (high_of high) [
 -- a pair more
 pairs_push : (digits : List ℕ) (high low : ℕ) → length digits % 2 ≡ 0
     → bytes_of_pairs (digits ++ high ∷ low ∷ [])
-        ≡ bytes_of_pairs digits ++ (16 * digit_value high + digit_value low) ∷ []
+    ≡ bytes_of_pairs digits ++ (16 * digit_value high + digit_value low) ∷ []
 pairs_push [] high low even = refl
 pairs_push (a ∷ []) high low even = absurd (omega (arith, even))
 pairs_push (a ∷ b ∷ digits) high low even =
@@ -103,7 +103,7 @@ pair_put text left old new after high low value so_far is small more =
       even = (let len = length-append digits (high ∷ low ∷ []) in omega (arith, len, so_far.even));
       are_digits =
           list_all-append (λ c. is_digit c 16) digits (high ∷ low ∷ [])
-              ∙ and_from _ _ so_far.are_digits (and_from _ _ pair.0 (and_from _ _ pair.1 refl));
+          ∙ and_from _ _ so_far.are_digits (and_from _ _ pair.0 (and_from _ _ pair.1 refl));
       put = more
           ∙ ap (λ (bs : List ℕ). bs ++ value ∷ []) so_far.put
           ∙ append_assoc old (bytes_of_pairs digits) (value ∷ [])
@@ -127,11 +127,11 @@ put_then text middle left old between new first second =
       digits = first.digits ++ second.digits;
       cut =
           first.cut ∙ ap (λ (ds : List ℕ). first.digits ++ ds) second.cut
-              ∙ sym (append_assoc first.digits second.digits left);
+          ∙ sym (append_assoc first.digits second.digits left);
       even = (let len = length-append first.digits second.digits in omega (arith, len, first.even, second.even));
       are_digits =
           list_all-append (λ c. is_digit c 16) first.digits second.digits
-              ∙ and_from _ _ first.are_digits second.are_digits;
+          ∙ and_from _ _ first.are_digits second.are_digits;
       put = second.put
           ∙ ap (λ (bs : List ℕ). bs ++ bytes_of_pairs second.digits) first.put
           ∙ append_assoc old (bytes_of_pairs first.digits) (bytes_of_pairs second.digits)
@@ -142,9 +142,11 @@ pub pair_fits : (high low : ℕ) → pair_value high low ≤ 8192
 pair_fits high low = elim (high_of high) [
   | inr other ↦ elim (low_of low)
       [ inr same ↦ omega (arith, other.1, same.1) | inl second ↦ omega (arith, other.1, second.1, second.2) ]
-  | inl first ↦ elim (low_of low)
-      [ inr other ↦ omega (arith, first.1, first.2, other.1) | inl second ↦ omega
-       (arith, first.1, first.2, second.1, second.2) ]
+  | inl first ↦ elim (low_of low) [
+    | inr other ↦ omega (arith, first.1, first.2, other.1)
+    | inl second ↦ omega
+        (arith, first.1, first.2, second.1, second.2)
+  ]
 ]
 
 pub pair_is_byte : (high low value : ℕ) → value ≡ pair_value high low → value < 4096 → value < 256
@@ -184,8 +186,8 @@ some_room len room more some = omega arith
 -- eight bytes of a text, and the rest after them, in the code's words
 pub eight_and_rest : (left : List ℕ) → 8 ≤ length left
     → left
-        ≡ get_or left 0 0 ∷ get_or left 1 0 ∷ get_or left 2 0 ∷ get_or left 3 0 ∷ get_or left 4 0 ∷ get_or left 5 0
-            ∷ get_or left 6 0 ∷ get_or left 7 0 ∷ take (length left - 8) (drop 8 left)
+    ≡ get_or left 0 0 ∷ get_or left 1 0 ∷ get_or left 2 0 ∷ get_or left 3 0 ∷ get_or left 4 0 ∷ get_or left 5 0
+    ∷ get_or left 6 0 ∷ get_or left 7 0 ∷ take (length left - 8) (drop 8 left)
 eight_and_rest [] some = absurd (omega arith)
 eight_and_rest (a ∷ []) some = absurd (omega arith)
 eight_and_rest (a ∷ b ∷ []) some = absurd (omega arith)
@@ -200,10 +202,10 @@ eight_and_rest (a ∷ b ∷ c ∷ d ∷ e ∷ f ∷ g ∷ h ∷ left) some =
 -- the same of the next bytes of a text
 pub pair_turn : (text left old new after : List ℕ) (value : ℕ) → ArePut text left old new → 2 ≤ length left
     → value ≡ pair_value (get_or left 0 0) (get_or left 1 0) → value < 4096 → after ≡ new ++ value ∷ []
-        → ArePut text (take (length left - 2) (drop 2 left)) old after
+    → ArePut text (take (length left - 2) (drop 2 left)) old after
 pair_turn text left old new after value so_far some is small more =
     pair_put text (take (length left - 2) (drop 2 left)) old new after _ _ value
-        (subst (λ (l : List ℕ). ArePut text l old new) (two_and_rest left some) so_far) is small more
+    (subst (λ (l : List ℕ). ArePut text l old new) (two_and_rest left some) so_far) is small more
 
 -- four pairs more
 pub four_turn : (text left old new one two three after : List ℕ) (first second third fourth : ℕ)
@@ -211,7 +213,7 @@ pub four_turn : (text left old new one two three after : List ℕ) (first second
     → first ≡ pair_value (get_or left 0 0) (get_or left 1 0) → second ≡ pair_value (get_or left 2 0) (get_or left 3 0)
     → third ≡ pair_value (get_or left 4 0) (get_or left 5 0) → fourth ≡ pair_value (get_or left 6 0) (get_or left 7 0)
     → first + second + third + fourth < 4096 → one ≡ new ++ first ∷ [] → two ≡ one ++ second ∷ []
-        → three ≡ two ++ third ∷ [] → after ≡ three ++ fourth ∷ []
+    → three ≡ two ++ third ∷ [] → after ≡ three ++ fourth ∷ []
     → ArePut text (take (length left - 8) (drop 8 left)) old after
 four_turn text left old new one two three after first second third fourth so_far some is1 is2 is3 is4 small put1 put2
     put3 put4 =
@@ -223,12 +225,12 @@ four_turn text left old new one two three after first second third fourth so_far
 
 -- eight pairs more
 pub eight_turn : (text left old new one two three four five six seven after : List ℕ)
-        (first second third fourth fifth sixth seventh eighth : ℕ) → ArePut text left old new → 16 ≤ length left
+    (first second third fourth fifth sixth seventh eighth : ℕ) → ArePut text left old new → 16 ≤ length left
     → first ≡ pair_value (get_or left 0 0) (get_or left 1 0) → second ≡ pair_value (get_or left 2 0) (get_or left 3 0)
     → third ≡ pair_value (get_or left 4 0) (get_or left 5 0) → fourth ≡ pair_value (get_or left 6 0) (get_or left 7 0)
     → fifth ≡ pair_value (get_or left 8 0) (get_or left 9 0) → sixth ≡ pair_value (get_or left 10 0) (get_or left 11 0)
     → seventh ≡ pair_value (get_or left 12 0) (get_or left 13 0)
-        → eighth ≡ pair_value (get_or left 14 0) (get_or left 15 0)
+    → eighth ≡ pair_value (get_or left 14 0) (get_or left 15 0)
     → first + second + third + fourth < 4096 → fifth + sixth + seventh + eighth < 4096
     → one ≡ new ++ first ∷ [] → two ≡ one ++ second ∷ [] → three ≡ two ++ third ∷ [] → four ≡ three ++ fourth ∷ []
     → five ≡ four ++ fifth ∷ [] → six ≡ five ++ sixth ∷ [] → seven ≡ six ++ seventh ∷ [] → after ≡ seven ++ eighth ∷ []
@@ -236,19 +238,19 @@ pub eight_turn : (text left old new one two three four five six seven after : Li
 eight_turn text left old new one two three four five six seven after first second third fourth fifth sixth seventh
     eighth so_far some is1 is2 is3 is4 is5 is6 is7 is8 small more_small put1 put2 put3 put4 put5 put6 put7 put8 =
     let half =
-        four_turn text left old new one two three four first second third fourth so_far (omega arith) is1 is2 is3 is4
-            small put1 put2 put3 put4 in
+    four_turn text left old new one two three four first second third fourth so_far (omega arith) is1 is2 is3 is4
+    small put1 put2 put3 put4 in
     let there = subst (λ (l : List ℕ). ArePut text l old four) (take_rest left 8) half in
     let len = length-drop 8 left in
     let done =
-        four_turn text (drop 8 left) old four five six seven after fifth sixth seventh eighth there (omega (arith, len))
+    four_turn text (drop 8 left) old four five six seven after fifth sixth seventh eighth there (omega (arith, len))
     (is5 ∙ behind 0 1) (is6 ∙ behind 2 3) (is7 ∙ behind 4 5) (is8 ∙ behind 6 7) more_small put5 put6 put7 put8 in
     subst (λ (l : List ℕ). ArePut text l old after)
-        (take_rest (drop 8 left) 8 ∙ drop-drop 8 8 left ∙ sym (take_rest left 16)) done
+    (take_rest (drop 8 left) 8 ∙ drop-drop 8 8 left ∙ sym (take_rest left 16)) done
   where
     behind : (i j : ℕ)
         → pair_value (get_or left (8 + i) 0) (get_or left (8 + j) 0)
-            ≡ pair_value (get_or (drop 8 left) i 0) (get_or (drop 8 left) j 0)
+        ≡ pair_value (get_or (drop 8 left) i 0) (get_or (drop 8 left) j 0)
     behind i j = rw (get_or-drop 8 left i 0, get_or-drop 8 left j 0) refl
 
 -- ---- a payload
@@ -258,8 +260,8 @@ unfolding payload_in is_hex
 payload_read text some even digits =
     let some_length : length text ≢ 0 = eqb-false (length text) 0 some in
     cond-true (is_hex text) _ _
-        (or_right _ _
-         (and_from _ _ (and_from _ _ (lt-ltb 0 (length text) (omega arith)) (eq-eqb (length text % 2) 0 even)) digits))
+    (or_right _ _
+    (and_from _ _ (and_from _ _ (lt-ltb 0 (length text) (omega arith)) (eq-eqb (length text % 2) 0 even)) digits))
 
 no_payload : (text : List ℕ) → is_hex text ≡ false → payload_in text ≡ Err bad_hex
 unfolding payload_in
@@ -281,8 +283,8 @@ pub payload_refused : (text : List ℕ) → bytes_eq text (codes "-") ≡ false
     → payload_in text ≡ Err bad_hex
 payload_refused text dash (inl none) =
     no_payload text
-        (false_from_ne_true _
-         (λ yes. let test = digits_test text dash yes in let no = eqb-true (length text) 0 none in omega arith))
+    (false_from_ne_true _
+    (λ yes. let test = digits_test text dash yes in let no = eqb-true (length text) 0 none in omega arith))
 payload_refused text dash (inr (inl odd)) =
     no_payload text (false_from_ne_true _ (λ yes. odd (digits_test text dash yes).1))
 payload_refused text dash (inr (inr other)) =
@@ -316,20 +318,23 @@ payload_there text left rest old new put feed more =
 
 pub dash_there : (text rest old : List ℕ) → text ≡ 45 ∷ 10 ∷ rest → IsPayloadCut text rest old old
 dash_there text rest old is =
-    record { field = codes "-";
-            payload = [];
-            are = is;
-            spells = dash_payload (codes "-") refl;
-            put = sym (append-nil old) }
+    record {
+      field = codes "-";
+      payload = [];
+      are = is;
+      spells = dash_payload (codes "-") refl;
+      put = sym (append-nil old);
+    }
 
 -- pairs are put, and then those at the beginning of what is left
 pub pairs_then : (r : Result (Bor (List ℕ)) NoMemory) (text left old between new : List ℕ)
     → ArePut text left old between → PutsPairs r left between new → PutsPairs r text old new
 pairs_then (Ok rest) text left old between new first (put, ends) =
     (put_then text left rest.now old between new first put, ends)
-pairs_then (Err e) text left old between new first (some, put) =
-    (bytes_of_pairs first.digits ++ some,
-     put ∙ ap (λ (bs : List ℕ). bs ++ some) first.put ∙ append_assoc old (bytes_of_pairs first.digits) some)
+pairs_then (Err e) text left old between new first (some, put) = (
+  bytes_of_pairs first.digits ++ some,
+  put ∙ ap (λ (bs : List ℕ). bs ++ some) first.put ∙ append_assoc old (bytes_of_pairs first.digits) some,
+)
 
 -- ---- a whole field
 -- of an even number of digits, nothing is left that begins with no pair
@@ -343,10 +348,10 @@ none_left field (a ∷ []) old new put ends even digits =
     absurd (omega (arith, len, whole, front, even))
 none_left field (a ∷ b ∷ left) old new put ends even digits =
     let all =
-        sym (list_all-append (λ c. is_digit c 16) put.digits (a ∷ b ∷ left))
-            ∙ ap (list_all (λ c. is_digit c 16)) (sym put.cut) ∙ digits in
+    sym (list_all-append (λ c. is_digit c 16) put.digits (a ∷ b ∷ left))
+    ∙ ap (list_all (λ c. is_digit c 16)) (sym put.cut) ∙ digits in
     let rest : list_all (λ c. is_digit c 16) (a ∷ b ∷ left) ≡ true =
-        (and_parts (list_all (λ c. is_digit c 16) put.digits) (list_all (λ c. is_digit c 16) (a ∷ b ∷ left)) all).1 in
+    (and_parts (list_all (λ c. is_digit c 16) put.digits) (list_all (λ c. is_digit c 16) (a ∷ b ∷ left)) all).1 in
     let one = and_parts (is_digit a 16) (is_digit b 16 && list_all (λ c. is_digit c 16) left) rest in
     let two = and_parts (is_digit b 16) (list_all (λ c. is_digit c 16) left) one.1 in
     absurd (both_ways (is_digit a 16 && is_digit b 16) ends (and_from (is_digit a 16) (is_digit b 16) one.0 two.0))
@@ -354,5 +359,5 @@ none_left field (a ∷ b ∷ left) old new put ends even digits =
 pub all_put : (field left old new : List ℕ) → ArePut field left old new → left ≡ [] → new ≡ old ++ bytes_of_pairs field
 all_put field left old new put none =
     put.put
-        ∙ ap (λ (ds : List ℕ). old ++ bytes_of_pairs ds)
-            (sym (put.cut ∙ ap (λ (l : List ℕ). put.digits ++ l) none ∙ append-nil put.digits))
+    ∙ ap (λ (ds : List ℕ). old ++ bytes_of_pairs ds)
+    (sym (put.cut ∙ ap (λ (l : List ℕ). put.digits ++ l) none ∙ append-nil put.digits))

@@ -25,10 +25,11 @@ place_found : (p : ℕ → Bool) (bytes : List ℕ) (place : ℕ) → Some place
     → (position_or_len p bytes < length bytes) × (position_or_len p bytes ≡ place)
 place_found p bytes place h =
     elim (cases_Bool (ltb (position_or_len p bytes) (length bytes))) [
-      | inl there ↦
-          (ltb-true _ _ there,
-           sym (same_some place (position_or_len p bytes)
-                (h ∙ cond-true _ (Some (position_or_len p bytes)) None there)))
+      | inl there ↦ (
+        ltb-true _ _ there,
+        sym (same_some place (position_or_len p bytes)
+            (h ∙ cond-true _ (Some (position_or_len p bytes)) None there)),
+      )
       | inr not_there ↦ absurd
           (none_is_no_some place (sym (h ∙ cond-false _ (Some (position_or_len p bytes)) None not_there)))
     ]
@@ -44,11 +45,11 @@ place_missing p bytes h =
 -- the first part, and the parts of the rest after it
 pub parts_behind : (p : ℕ → Bool) (bytes : List ℕ) (place : ℕ) → Some place ≡ position p bytes
     → slice_split p bytes
-        ≡ take place bytes ∷ slice_split p (take (length bytes - (place + 1)) (drop (place + 1) bytes))
+    ≡ take place bytes ∷ slice_split p (take (length bytes - (place + 1)) (drop (place + 1) bytes))
 parts_behind p bytes place h =
     let found = place_found p bytes place h in
     let rest : take (length bytes - (place + 1)) (drop (place + 1) bytes) ≡ drop (place + 1) bytes =
-        take_rest bytes (place + 1) in
+    take_rest bytes (place + 1) in
     slice_split_first p bytes 0 found.0
     ∙ ap (λ (n : ℕ). take n bytes ∷ slice_split p (drop (n + 1) bytes)) found.1
     ∙ ap (λ (bs : List ℕ). take place bytes ∷ slice_split p bs) (sym rest)
@@ -73,16 +74,16 @@ pub first_place : (byte : ℕ) (hay : List ℕ) (r : Option ℕ) → IsFirstByte
     → r ≡ position (λ b. b == byte) hay
 first_place byte hay None h =
     let at =
-        position_or_len_is (λ b. b == byte) hay (length hay) 0 (omega arith)
-            (λ k l. false_from_ne_true _ (h k (omega arith) l)) (λ l. absurd (omega (arith, l))) in
+    position_or_len_is (λ b. b == byte) hay (length hay) 0 (omega arith)
+    (λ k l. false_from_ne_true _ (h k (omega arith) l)) (λ l. absurd (omega (arith, l))) in
     let past : ltb (position_or_len (λ b. b == byte) hay) (length hay) ≡ false =
-        false_from_ne_true _ (λ yes. let l = ltb-true _ _ yes in absurd (omega arith)) in
+    false_from_ne_true _ (λ yes. let l = ltb-true _ _ yes in absurd (omega arith)) in
     sym (cond-false _ (Some (position_or_len (λ b. b == byte) hay)) None past)
 first_place byte hay (Some k) h =
     let high = h.0.high in
     let at =
-        position_or_len_is (λ b. b == byte) hay k 0 (omega arith)
-            (λ j l. false_from_ne_true _ (h.0.before j (omega arith) l)) (λ l. h.1) in
+    position_or_len_is (λ b. b == byte) hay k 0 (omega arith)
+    (λ j l. false_from_ne_true _ (h.0.before j (omega arith) l)) (λ l. h.1) in
     let there : ltb (position_or_len (λ b. b == byte) hay) (length hay) ≡ true = lt-ltb _ _ (omega arith) in
     sym (cond-true _ (Some (position_or_len (λ b. b == byte) hay)) None there ∙ ap (λ (n : ℕ). Some n) at)
 
@@ -122,7 +123,7 @@ not_empty (b ∷ text) some = omega arith
 pub next_line : (text line : List ℕ) (o : Option (Bor (List ℕ))) (r none : Bor (List ℕ)) → r ≡ unwrap_or o none
     → none.now ≡ [] → (length text == 0) ≡ false
     → MatchOption o (slice_split (λ b. b == 10) text ≡ line ∷ [])
-        (λ rest. slice_split (λ b. b == 10) text ≡ line ∷ slice_split (λ b. b == 10) rest.now)
+    (λ rest. slice_split (λ b. b == 10) text ≡ line ∷ slice_split (λ b. b == 10) rest.now)
     → MatchOption o (line ≡ text) (λ rest. ⊤)
     → lines_of text ≡ line ∷ lines_of r.now
 next_line text line (Some rest) r none is empty some parts whole =
@@ -140,8 +141,8 @@ significant_line : (passed : ℕ) (text line rest : List ℕ) → lines_of text 
 unfolding significant_lines_after
 significant_line passed text line rest h says =
     ap
-        (λ (lines : List (List ℕ)).
-            filter (λ (x : NumberedLine). is_significant x.1) (enumerate_from (passed + 1) lines)) h
+    (λ (lines : List (List ℕ)).
+    filter (λ (x : NumberedLine). is_significant x.1) (enumerate_from (passed + 1) lines)) h
     ∙ cond-true (is_significant line) _ _ says
 
 skipped_line : (passed : ℕ) (text line rest : List ℕ) → lines_of text ≡ line ∷ lines_of rest
@@ -150,16 +151,16 @@ skipped_line : (passed : ℕ) (text line rest : List ℕ) → lines_of text ≡ 
 unfolding significant_lines_after
 skipped_line passed text line rest h silent =
     ap
-        (λ (lines : List (List ℕ)).
-            filter (λ (x : NumberedLine). is_significant x.1) (enumerate_from (passed + 1) lines)) h
+    (λ (lines : List (List ℕ)).
+    filter (λ (x : NumberedLine). is_significant x.1) (enumerate_from (passed + 1) lines)) h
     ∙ cond-false (is_significant line) _ _ silent
 
 pub no_significant_lines : (passed : ℕ) (text : List ℕ) → lines_of text ≡ [] → significant_lines_after passed text ≡ []
 unfolding significant_lines_after
 no_significant_lines passed text h =
     ap
-        (λ (lines : List (List ℕ)).
-            filter (λ (x : NumberedLine). is_significant x.1) (enumerate_from (passed + 1) lines)) h
+    (λ (lines : List (List ℕ)).
+    filter (λ (x : NumberedLine). is_significant x.1) (enumerate_from (passed + 1) lines)) h
 
 -- the end stays where it is from line to line
 end_line_after_line : (passed : ℕ) (text line rest : List ℕ) → lines_of text ≡ line ∷ lines_of rest
@@ -179,7 +180,7 @@ IsNext passed number after = (number ≡ passed + 1) × (after ≡ passed + 1)
 pub significant_turn : (passed number after : ℕ) (text line rest : List ℕ) (all : List NumberedLine)
     → lines_of text ≡ line ∷ lines_of rest → IsNext passed number after
     → is_significant line ≡ true → significant_lines_after passed text ≡ all
-        → all ≡ (number, line) ∷ significant_lines_after after rest
+    → all ≡ (number, line) ∷ significant_lines_after after rest
 significant_turn passed number after text line rest all cut next says left =
     sym left ∙ significant_line passed text line rest cut says
     ∙ ap (λ (n : ℕ). (n, line) ∷ significant_lines_after (passed + 1) rest) (sym next.0)

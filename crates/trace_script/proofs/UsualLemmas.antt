@@ -53,7 +53,7 @@ cpu_says : (cpus : ℕ) (x f : List ℕ) (fields : List (List ℕ)) (cpu : ℕ) 
 unfolding cpu_in
 cpu_says cpus x f fields cpu h =
     chosen (names_cpu x) _ _ cpu (λ is _. letter_says x f fields is)
-        (λ other. absurd (ok_is_no_err cpu bad_line (sym other))) h
+    (λ other. absurd (ok_is_no_err cpu bad_line (sym other))) h
 
 abbrev says : List (List ℕ) → Type 0
 says fields = (0 < length fields) × (is_significant (line_of fields) ≡ true)
@@ -90,12 +90,12 @@ begins_with cpus collectors text rest command fields spells are =
       line = line_of fields;
       lines =
           first_line text (line_of fields) rest
-              (ap (slice_split (λ b. b == 10)) are
-               ∙ slice_split_at (λ b. b == 10) (line_of fields) 10 rest (no_feed_in fields said.0 solid) refl);
+          (ap (slice_split (λ b. b == 10)) are
+          ∙ slice_split_at (λ b. b == 10) (line_of fields) 10 rest (no_feed_in fields said.0 solid) refl);
       significant = said.1;
       spells =
           command_in_form cpus collectors (line_of fields) fields again (solid_spaced fields solid)
-              ∙ spelled_command cpus collectors fields command spells;
+          ∙ spelled_command cpus collectors fields command spells;
       shorter = omega (arith, ap (λ (bs : List ℕ). length bs) are, length-append (line_of fields) (10 ∷ rest));
     }
 
@@ -131,7 +131,7 @@ pub record_joined : (x t hex text behind rest : List ℕ) (word : ℕ) → text 
     → x ++ 32 ∷ word ∷ 32 ∷ text ≡ line_of (x ∷ (word ∷ []) ∷ t ∷ hex ∷ []) ++ 10 ∷ rest
 record_joined x t hex text behind rest word is behind_is =
     ap (λ (bs : List ℕ). x ++ 32 ∷ word ∷ 32 ∷ bs)
-        (is ∙ ap (λ (bs : List ℕ). t ++ 32 ∷ bs) behind_is ∙ sym (append_assoc t (32 ∷ hex) (10 ∷ rest)))
+    (is ∙ ap (λ (bs : List ℕ). t ++ 32 ∷ bs) behind_is ∙ sym (append_assoc t (32 ∷ hex) (10 ∷ rest)))
     ∙ sym (append_assoc x (32 ∷ word ∷ 32 ∷ (t ++ 32 ∷ hex)) (10 ∷ rest))
 
 pub delivery_joined : (k x f text given named filled rest : List ℕ) → text ≡ 100 ∷ 32 ∷ given → given ≡ k ++ 32 ∷ named
@@ -139,18 +139,18 @@ pub delivery_joined : (k x f text given named filled rest : List ℕ) → text �
     → text ≡ line_of (codes "d" ∷ k ∷ x ∷ f ∷ []) ++ 10 ∷ rest
 delivery_joined k x f text given named filled rest is given_is named_is filled_is =
     let behind : named ≡ (x ++ 32 ∷ f) ++ 10 ∷ rest =
-        named_is ∙ ap (λ (bs : List ℕ). x ++ 32 ∷ bs) filled_is ∙ sym (append_assoc x (32 ∷ f) (10 ∷ rest)) in
+    named_is ∙ ap (λ (bs : List ℕ). x ++ 32 ∷ bs) filled_is ∙ sym (append_assoc x (32 ∷ f) (10 ∷ rest)) in
     is
-        ∙ ap (λ (bs : List ℕ). 100 ∷ 32 ∷ bs)
-            (given_is ∙ ap (λ (bs : List ℕ). k ++ 32 ∷ bs) behind
-             ∙ sym (append_assoc k (32 ∷ (x ++ 32 ∷ f)) (10 ∷ rest)))
+    ∙ ap (λ (bs : List ℕ). 100 ∷ 32 ∷ bs)
+    (given_is ∙ ap (λ (bs : List ℕ). k ++ 32 ∷ bs) behind
+    ∙ sym (append_assoc k (32 ∷ (x ++ 32 ∷ f)) (10 ∷ rest)))
 
 -- ---- a line after the name of a CPU
 pub steps_behind : (cpu : ℕ) (text front old : List ℕ) (o : Option UsualLine)
     → IfSome o
-            (λ line.
-                (cpus collectors : ℕ) → BeginsBehindCpu cpus collectors cpu front line.rest.now (shown [] line.order))
-        → text ≡ front
+    (λ line.
+    (cpus collectors : ℕ) → BeginsBehindCpu cpus collectors cpu front line.rest.now (shown [] line.order))
+    → text ≡ front
     → MatchOption o (old ≡ old) (λ line. (cpus collectors : ℕ) → IsUsualBehindCpu cpus collectors cpu text old old line)
 steps_behind cpu text front old None h is = refl
 steps_behind cpu text front old (Some line) h is = λ cpus collectors. (
@@ -162,7 +162,7 @@ steps_behind cpu text front old (Some line) h is = λ cpus collectors. (
 
 pub record_behind : (cpu : ℕ) (text front old new : List ℕ) (o : Option UsualLine)
     → MatchOption o (new ≡ old)
-            (λ line. (cpus collectors : ℕ) → IsUsualBehindCpu cpus collectors cpu front old new line) → text ≡ front
+    (λ line. (cpus collectors : ℕ) → IsUsualBehindCpu cpus collectors cpu front old new line) → text ≡ front
     → MatchOption o (new ≡ old) (λ line. (cpus collectors : ℕ) → IsUsualBehindCpu cpus collectors cpu text old new line)
 record_behind cpu text front old new None h is = h
 record_behind cpu text front old new (Some line) h is = λ cpus collectors.
@@ -171,7 +171,7 @@ record_behind cpu text front old new (Some line) h is = λ cpus collectors.
 pub usual_of_cpu : (cpus collectors : ℕ) (text old new : List ℕ) (cpu : NumberCut) (o : Option UsualLine)
     → IsCpuCut cpus text cpu
     → MatchOption o (new ≡ old)
-        (λ line. (cpus collectors : ℕ) → IsUsualBehindCpu cpus collectors cpu.number cpu.rest.now old new line)
+    (λ line. (cpus collectors : ℕ) → IsUsualBehindCpu cpus collectors cpu.number cpu.rest.now old new line)
     → MatchOption o (new ≡ old) (λ line. IsUsual cpus collectors text old new line)
 usual_of_cpu cpus collectors text old new cpu None cut h = h
 usual_of_cpu cpus collectors text old new cpu (Some line) cut h =
@@ -186,7 +186,7 @@ usual_of_cpu cpus collectors text old new cpu (Some line) cut h =
 pub usual_next : (cpus collectors passed after : ℕ) (text rest old new : List ℕ) (line : UsualLine)
     → IsUsual cpus collectors text old new line → rest ≡ line.rest.now → after ≡ passed + 1
     → PutsNext cpus collectors (Ok (Some line.order)) old new (significant_lines_after passed text) after
-        (significant_lines_after after rest)
+    (significant_lines_after after rest)
 usual_next cpus collectors passed after text rest old new line is behind next =
     let begins = is.2 in (
       begins.line,

@@ -64,7 +64,7 @@ digits_turn field i digit below is range digits =
 pub value_turn : (field : List ℕ) (i digit number next : ℕ) → i < length field → digit ≡ get_or field i 0
     → IsInRange 48 57 digit
     → number ≡ digits_value 10 (take i field) → next ≡ number * 10 + (digit - 48)
-        → next ≡ digits_value 10 (take (i + 1) field)
+    → next ≡ digits_value 10 (take (i + 1) field)
 value_turn field i digit number next below is range value h =
     h ∙ ap (λ (n : ℕ). n * 10 + (digit - 48)) value ∙ sym (more_value field i digit below is range)
 
@@ -76,7 +76,7 @@ number_stops field i digit number below is value h =
     no_number field (false_from_ne_true _ (λ yes.
     let parts = decimal_parts field yes in
     let range : IsInRange 48 57 digit =
-        subst (λ (c : ℕ). IsInRange 48 57 c) (sym is) (digit_there field i parts.2 below) in
+    subst (λ (c : ℕ). IsInRange 48 57 c) (sym is) (digit_there field i parts.2 below) in
     let more = value_turn field i digit number (number * 10 + (digit - 48)) below is range value refl in
     let front = digits_value-take-le 10 field (i + 1) (omega arith) in
     h (range, omega arith)))
@@ -87,8 +87,8 @@ pub number_whole : (field : List ℕ) (number : ℕ) → 0 < length field → le
 unfolding decimal_in is_decimal
 number_whole field number some few digits value small =
     cond-true (is_decimal field) _ _
-        (and_from _ _ (and_from _ _ (and_from _ _ (lt-ltb 0 (length field) some) (le-leb (length field) 20 few)) digits)
-         (lt-ltb (digits_value 10 field) (2 ^ 64) (omega arith)))
+    (and_from _ _ (and_from _ _ (and_from _ _ (lt-ltb 0 (length field) some) (le-leb (length field) 20 few)) digits)
+    (lt-ltb (digits_value 10 field) (2 ^ 64) (omega arith)))
     ∙ ap (λ (n : ℕ). let r : Result ℕ LineFault = Ok n in r) (sym value)
 
 -- the last digit is read

@@ -43,10 +43,10 @@ refused_so old moment payload code new fault code_is is payloads same = record {
   written = λ none. absurd (false≢true (sym (ap is_some none)));
   refused =
       λ other equal.
-             subst
-                 (λ (f : WriteFault).
-                     (code ≡ fault_code f) × IsRefusedWrite old.shape old.part moment (length payload) f new.part)
-                 (ap (fault_or fault) equal) (code_is, is);
+      subst
+      (λ (f : WriteFault).
+      (code ≡ fault_code f) × IsRefusedWrite old.shape old.part moment (length payload) f new.part)
+      (ap (fault_or fault) equal) (code_is, is);
   payloads = payloads;
   rooms_are = same;
 }
@@ -68,7 +68,7 @@ add_fits (Err NoMemory) = refl
 
 -- so does that of what a collector takes
 pub collects_so : (old : HeldReader) (listed : ListedCollector) (was : Taken) (was_at : FaultAt) (code : ℤ)
-        (reported : Taken) (at : FaultAt) (new : HeldReader) (left : ListedCollector)
+    (reported : Taken) (at : FaultAt) (new : HeldReader) (left : ListedCollector)
     → CollectsSo old listed was was_at code reported at new left
     → CollectsSo old listed was was_at (to_z w32 (of_z w32 code)) reported at new left
 collects_so old listed was was_at code reported at new left (adds_page page missed answer c n a l t r) =
@@ -78,7 +78,7 @@ collects_so old listed was was_at code reported at new left (adds_none n u l t r
 
 -- the number of a take's answer fits its type
 pub takes_so : (old : HeldReader) (out : List ℕ) (was : Taken) (code : ℤ) (left : List ℕ) (reported : Taken)
-        (new : HeldReader) → TakesSo old out was code left reported new
+    (new : HeldReader) → TakesSo old out was code left reported new
     → TakesSo old out was (to_z w32 (of_z w32 code)) left reported new
 takes_so old out was code left reported new (is_page page missed c n u g d) =
     is_page page missed (ap (λ (n : ℤ). to_z w32 (of_z w32 n)) c) n u g d

@@ -55,7 +55,7 @@ pub never_long : {X : Type 0} (frames : List Frame) (result : Result X WriteFaul
     → (code : ℤ) → code ≡ fault_code fault → to_z w32 (of_z w32 code) ≡ pos 2 → ⊥
 never_long frames result fault is none lacks has code code_is two =
     let long : fault_code fault ≡ pos 2 =
-        sym (code_fits fault) ∙ ap (λ (n : ℤ). to_z w32 (of_z w32 n)) (sym code_is) ∙ two in
+    sym (code_fits fault) ∙ ap (λ (n : ℤ). to_z w32 (of_z w32 n)) (sym code_is) ∙ two in
     ⊎_elim
     (λ six. let e : 6 ≡ 2 = ap size_of (sym six ∙ long) in omega (arith, e))
     (λ seven. let e : 7 ≡ 2 = ap size_of (sym seven ∙ long) in omega (arith, e))

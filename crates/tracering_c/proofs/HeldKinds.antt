@@ -47,36 +47,44 @@ fleet_named (Some (inr (inr (inr y)))) x is = ap (λ (o : Option HeldFleet). as_
 
 abbrev pub writers : Kept
 writers =
-    record { row = writer.the_row;
-            named = λ x. inl x;
-            of = writer_of;
-            of_named = λ x. refl;
-            named_of = writer_named;
-            lies = λ p x. refl }
+    record {
+      row = writer.the_row;
+      named = λ x. inl x;
+      of = writer_of;
+      of_named = λ x. refl;
+      named_of = writer_named;
+      lies = λ p x. refl;
+    }
 
 abbrev pub readers : Kept
 readers =
-    record { row = reader.the_row;
-            named = λ x. inr (inl x);
-            of = reader_of;
-            of_named = λ x. refl;
-            named_of = reader_named;
-            lies = λ p x. refl }
+    record {
+      row = reader.the_row;
+      named = λ x. inr (inl x);
+      of = reader_of;
+      of_named = λ x. refl;
+      named_of = reader_named;
+      lies = λ p x. refl;
+    }
 
 abbrev pub collectors : Kept
 collectors =
-    record { row = collector.the_row;
-            named = λ x. inr (inr (inl x));
-            of = collector_of;
-            of_named = λ x. refl;
-            named_of = collector_named;
-            lies = λ p x. refl }
+    record {
+      row = collector.the_row;
+      named = λ x. inr (inr (inl x));
+      of = collector_of;
+      of_named = λ x. refl;
+      named_of = collector_named;
+      lies = λ p x. refl;
+    }
 
 abbrev pub fleets : Kept
 fleets =
-    record { row = fleet.the_row;
-            named = λ x. inr (inr (inr x));
-            of = fleet_of;
-            of_named = λ x. refl;
-            named_of = fleet_named;
-            lies = λ p x. refl }
+    record {
+      row = fleet.the_row;
+      named = λ x. inr (inr (inr x));
+      of = fleet_of;
+      of_named = λ x. refl;
+      named_of = fleet_named;
+      lies = λ p x. refl;
+    }

@@ -57,18 +57,18 @@ module _ (E : Kept) where
   abbrev pub of_code : Fn
   of_code = plain_code 1
       (local (lone handle.the_row.mir) value_local ∷ local (lone From.mir) value_local ∷ local ty_ptr value_local
-       ∷ local (lone Heap.the_row.mir) value_local ∷ local ty_ptr value_local ∷ [])
+      ∷ local (lone Heap.the_row.mir) value_local ∷ local ty_ptr value_local ∷ [])
       (seq (assign (place 2 []) (rv_opd (copy (place 1 (field 0 ∷ [])))))
-       (seq (assign (place 3 []) (rv_opd (copy (place 1 (field 1 ∷ [])))))
-        (seq (assign (place 4 []) (rv_opd (copy (place 2 []))))
+      (seq (assign (place 3 []) (rv_opd (copy (place 1 (field 1 ∷ [])))))
+      (seq (assign (place 4 []) (rv_opd (copy (place 2 []))))
       (seq (assign (place 0 []) (aggregate (copy (place 4 []) ∷ []))) return))))
 
   abbrev pub into_code : Fn
   into_code = plain_code 2
       (local (lone From.mir) value_local ∷ local (lone handle.the_row.mir) value_local
-       ∷ local (lone Heap.the_row.mir) value_local ∷ local ty_ptr value_local ∷ local ty_ptr value_local ∷ [])
+      ∷ local (lone Heap.the_row.mir) value_local ∷ local ty_ptr value_local ∷ local ty_ptr value_local ∷ [])
       (seq (assign (place 3 []) (rv_opd (copy (place 1 (field 0 ∷ [])))))
-       (seq (assign (place 4 []) (rv_opd (copy (place 3 []))))
+      (seq (assign (place 4 []) (rv_opd (copy (place 3 []))))
       (seq (assign (place 0 []) (aggregate (copy (place 4 []) ∷ copy (place 2 []) ∷ []))) return)))
 
   abbrev pub lend_code : Fn
@@ -80,43 +80,55 @@ module _ (E : Kept) where
     params = 1;
     locals =
         local (ty_ref (named 0) mut (pointee E.row.written)) value_local
-            ∷ local (ty_ref (named 0) mut (pointee handle.the_row.written)) value_local
-            ∷ local (ty_ref erased mut (pointee E.row.written)) value_local ∷ local ty_ptr value_local
-            ∷ local ty_ptr value_local ∷ [];
+        ∷ local (ty_ref (named 0) mut (pointee handle.the_row.written)) value_local
+        ∷ local (ty_ref erased mut (pointee E.row.written)) value_local ∷ local ty_ptr value_local
+        ∷ local ty_ptr value_local ∷ [];
     body =
         seq (block (seq (assign (place 3 []) (rv_opd (copy (place 1 (deref (lone handle.the_row.mir) ∷ field 0 ∷ [])))))
-                    (seq (assign (place 4 []) (rv_opd (copy (place 3 []))))
+        (seq (assign (place 4 []) (rv_opd (copy (place 3 []))))
         (assign (place 2 []) (addr_of (place 4 (deref (lone E.row.mir) ∷ [])))))))
-            (seq (assign (place 0 []) (rv_opd (copy (place 2 [])))) return);
+        (seq (assign (place 0 []) (rv_opd (copy (place 2 [])))) return);
   }
 
   -- ---- the contract of each
   abbrev pub of_ended : Ended
   of_ended =
-      record { signature =
-                  record { lifetimes = 0;
-                          outlives = [];
-                          params = plain (λ κs. From) ∷ [];
-                          result = plain (λ κs. handle.the_row) };
-              kept = (yes, tt) }
+      record {
+        signature =
+            record {
+              lifetimes = 0;
+              outlives = [];
+              params = plain (λ κs. From) ∷ [];
+              result = plain (λ κs. handle.the_row);
+            };
+        kept = (yes, tt);
+      }
 
   abbrev pub into_ended : Ended
   into_ended =
-      record { signature =
-                  record { lifetimes = 0;
-                          outlives = [];
-                          params = plain (λ κs. handle.the_row) ∷ plain (λ κs. Heap.the_row) ∷ [];
-                          result = plain (λ κs. From) };
-              kept = (yes, (yes, tt)) }
+      record {
+        signature =
+            record {
+              lifetimes = 0;
+              outlives = [];
+              params = plain (λ κs. handle.the_row) ∷ plain (λ κs. Heap.the_row) ∷ [];
+              result = plain (λ κs. From);
+            };
+        kept = (yes, (yes, tt));
+      }
 
   abbrev pub lend_ended : Ended
   lend_ended =
-      record { signature =
-                  record { lifetimes = 1;
-                          outlives = [];
-                          params = mut_ref_to (0 ∷ []) tt (plain (λ κs. handle.the_row)) ∷ [];
-                          result = mut_ref_to (0 ∷ []) tt (plain (λ κs. E.row)) };
-              kept = (no, tt) }
+      record {
+        signature =
+            record {
+              lifetimes = 1;
+              outlives = [];
+              params = mut_ref_to (0 ∷ []) tt (plain (λ κs. handle.the_row)) ∷ [];
+              result = mut_ref_to (0 ∷ []) tt (plain (λ κs. E.row));
+            };
+        kept = (no, tt);
+      }
 
   module _ {M : Type 1} (𝓤 : Ura M) (𝓛 : Logic 𝓤) where
     abbrev pub of_clauses : Clauses 𝓤 of_ended
@@ -149,18 +161,18 @@ module _ (E : Kept) where
       let H = 𝓛.H in let 𝓣 = tables 𝓤 H 𝓜 𝓡 𝓡.env in let c = of_clauses 𝓤 𝓛 in
       let hs : Stays of_ended.signature.params of_ended.kept = (stay_dropped (plain (λ _. From)) yes, tt) in
       proved_at 𝓛 of_ended hs c 𝓜 𝓡 (Goes-dropped 𝓛 0 (plain (λ _. From)) yes (λ κs x w. refl), tt) k of_code closed
-          (λ z are.
+      (λ z are.
       let v = z.0.3.0 in
       let Post : Val → SProp 𝓤 = (walk_of 𝓛 of_ended hs c).post z in
       let Run : List Val → SProp 𝓤 = λ ws. WpFn 𝓤 H 𝓣.C 𝓣.Λ of_code ws Post in
       qed 𝓛
-          ((‵ ftrue ⊛ ‵ (owns (types_at of_ended.signature.params z.0.0) z.0.3 z.0.4))
-           ∷ raw ((c z.0.0 z.0.3).requires z.1) ∷ []) ∵ split ! $ move ! (1 ∷ []) $ fsplit ! $
+      ((‵ ftrue ⊛ ‵ (owns (types_at of_ended.signature.params z.0.0) z.0.3 z.0.4))
+      ∷ raw ((c z.0.0 z.0.3).requires z.1) ∷ []) ∵ split ! $ move ! (1 ∷ []) $ fsplit ! $
       loose_out E.row Heap.the_row heap.the_row_laws ghosts ! v z.0.4.0 (λ b o h e ws fits.
       let w : Val = both (vptr b o) h in
       let typed = loose_good E.row Heap.the_row heap.the_row_laws ghosts b o h fits in
       suffices ! (Run (w ∷ []))
-          (subst (λ (us : List Val). ent 𝓤 (Run (w ∷ [])) (Run us)) (sym (λ i. ws i ++ [])) (id⊢ 𝓤 (Run (w ∷ [])))) $
+      (subst (λ (us : List Val). ent 𝓤 (Run (w ∷ [])) (Run us)) (sym (λ i. ws i ++ [])) (id⊢ 𝓤 (Run (w ∷ [])))) $
       enter ! 𝓣.C 𝓣.Λ of_code (w ∷ []) Post $ alloc_all ! (λ l. pass_all ! refl (typed, tt) $
       sets ! (of_opd ! (get_in ! (fld ! refl (stop !)) (sub ! 0 refl (whole !)))) refl (tt, tt) $
       sets ! (of_opd ! (get_in ! (fld ! refl (stop !)) (sub ! 1 refl (whole !)))) refl fits $
@@ -169,12 +181,12 @@ module _ (E : Kept) where
       handle_in E ! b o v.value $
       let is = E.of_named v.value in
       use0 𝓛 (raw (fact 𝓤 (E.of (Some (E.named v.value)) ≡ Some v.value)))
-          (fact_i 𝓤 (E.of (Some (E.named v.value)) ≡ Some v.value) (emp 𝓤) is) $ nothing ! $ nothing ! $ fjoin ! $
-          nothing ! $
+      (fact_i 𝓤 (E.of (Some (E.named v.value)) ≡ Some v.value) (emp 𝓤) is) $ nothing ! $ nothing ! $ fjoin ! $
+      nothing ! $
       returns ! (look_at ! 0 refl) $ free_all ! refl $ keep ! (0 ∷ 1 ∷ 3 ∷ 2 ∷ []) $
       by !
-          (leaves 𝓛 of_ended hs c z (one_val (vptr b o)) (record { at = block_ptr b o; value = Some (E.named v.value) })
-           (tt, tt) (tt, tt)))))
+      (leaves 𝓛 of_ended hs c z (one_val (vptr b o)) (record { at = block_ptr b o; value = Some (E.named v.value) })
+      (tt, tt) (tt, tt)))))
 
   pub into_Meets : {M : Type 1} (𝓤 : Ura M) (𝓛 : Logic 𝓤) (𝓜 : Model 𝓤 𝓛.H) (𝓡 : Running 𝓤 𝓛.H 𝓜) (k : Callee)
       → Closed 𝓤 𝓛.H (tables 𝓤 𝓛.H 𝓜 𝓡 𝓡.env).C (tables 𝓤 𝓛.H 𝓜 𝓡 𝓡.env).Λ k into_code
@@ -182,39 +194,40 @@ module _ (E : Kept) where
   into_Meets 𝓤 𝓛 𝓜 𝓡 k closed =
       let H = 𝓛.H in let 𝓣 = tables 𝓤 H 𝓜 𝓡 𝓡.env in let c = into_clauses 𝓤 𝓛 in
       let hs : Stays into_ended.signature.params into_ended.kept =
-          (stay_dropped (plain (λ _. handle.the_row)) yes, (stay_dropped (plain (λ _. Heap.the_row)) yes, tt)) in
-      proved_at 𝓛 into_ended hs c 𝓜 𝓡
-          (Goes-dropped 𝓛 0 (plain (λ _. handle.the_row)) yes (λ κs x w. refl),
-           (Goes-dropped 𝓛 0 (plain (λ _. Heap.the_row)) yes (λ κs x w. refl), tt)) k into_code closed (λ z are.
+      (stay_dropped (plain (λ _. handle.the_row)) yes, (stay_dropped (plain (λ _. Heap.the_row)) yes, tt)) in
+      proved_at 𝓛 into_ended hs c 𝓜 𝓡 (
+        Goes-dropped 𝓛 0 (plain (λ _. handle.the_row)) yes (λ κs x w. refl),
+        (Goes-dropped 𝓛 0 (plain (λ _. Heap.the_row)) yes (λ κs x w. refl), tt),
+      ) k into_code closed (λ z are.
       let v = z.0.3.0 in
       let a = z.0.3.1.0 in
       let Post : Val → SProp 𝓤 = (walk_of 𝓛 into_ended hs c).post z in
       let Run : List Val → SProp 𝓤 = λ ws. WpFn 𝓤 H 𝓣.C 𝓣.Λ into_code ws Post in
       qed 𝓛
-          ((‵ ftrue ⊛ ‵ (owns (types_at into_ended.signature.params z.0.0) z.0.3 z.0.4))
-           ∷ raw (fact 𝓤 (is_some (E.of v.value) ≡ true)) ∷ []) ∵ move ! (1 ∷ []) $ heard !
-          (is_some (E.of v.value) ≡ true) (λ live.
+      ((‵ ftrue ⊛ ‵ (owns (types_at into_ended.signature.params z.0.0) z.0.3 z.0.4))
+      ∷ raw (fact 𝓤 (is_some (E.of v.value) ≡ true)) ∷ []) ∵ move ! (1 ∷ []) $ heard !
+      (is_some (E.of v.value) ≡ true) (λ live.
       let x = (the_value (E.of v.value) live).0 in
       let is = (the_value (E.of v.value) live).1 in
       split ! $ move ! (1 ∷ []) $ fsplit ! $
       handle_out E ! v z.0.4.0 x is
-          (λ b o e ws. move ! (1 ∷ []) $ fsplit ! $ handle_tells al ! a z.0.4.1.0 (λ h ea fits.
+      (λ b o e ws. move ! (1 ∷ []) $ fsplit ! $ handle_tells al ! a z.0.4.1.0 (λ h ea fits.
       let w : Val = one_val (vptr b o) in
       let good = loose_good E.row Heap.the_row heap.the_row_laws ghosts b o h fits in
       suffices ! (Run (w ∷ h ∷ []))
-          (subst (λ (us : List Val). ent 𝓤 (Run (w ∷ h ∷ [])) (Run us)) (sym (λ i. ws i ++ (ea i ++ [])))
-           (id⊢ 𝓤 (Run (w ∷ h ∷ [])))) $
+      (subst (λ (us : List Val). ent 𝓤 (Run (w ∷ h ∷ [])) (Run us)) (sym (λ i. ws i ++ (ea i ++ [])))
+      (id⊢ 𝓤 (Run (w ∷ h ∷ [])))) $
       enter ! 𝓣.C 𝓣.Λ into_code (w ∷ h ∷ []) Post $ alloc_all ! (λ l. pass_all ! refl ((tt, (tt, tt)), (fits, tt)) $
       sets ! (of_opd ! (get_in ! (fld ! refl (stop !)) (sub ! 0 refl (whole !)))) refl (tt, tt) $
       sets ! (of_opd ! (get ! refl)) refl (tt, tt) $
       sets ! (agg ! (and_then ! (get ! refl) (and_then ! (get ! refl) (no_more !)))) refl good $
       move ! (2 ∷ 0 ∷ []) $ loose_in E.row Heap.the_row heap.the_row_laws ghosts ! b o h a x $
       use0 𝓛 (raw (fact 𝓤 (E.of v.value ≡ Some x))) (fact_i 𝓤 (E.of v.value ≡ Some x) (emp 𝓤) is) $ nothing ! $ nothing
-          ! $ fjoin ! $ nothing ! $ fjoin ! $ nothing ! $
+      ! $ fjoin ! $ nothing ! $ fjoin ! $ nothing ! $
       returns ! (look_at ! 0 refl) $ free_all ! refl $ keep ! (0 ∷ 1 ∷ 3 ∷ 2 ∷ []) $
       by !
-          (leaves 𝓛 into_ended hs c z (both (vptr b o) h) (record { at = block_ptr b o; alloc = a; value = x })
-           (tt, (tt, tt)) (tt, (tt, tt))))))))
+      (leaves 𝓛 into_ended hs c z (both (vptr b o) h) (record { at = block_ptr b o; alloc = a; value = x })
+      (tt, (tt, tt)) (tt, (tt, tt))))))))
 
   abbrev stayed : Stays lend_ended.signature.params lend_ended.kept
   stayed = (stay_dropped (mut_ref_to (0 ∷ []) tt (plain (λ _. handle.the_row))) no, tt)
@@ -227,22 +240,22 @@ module _ (E : Kept) where
     abbrev Rest : Fml
     Rest =
         fsep (ghosts.dealloc_token the_heap (bare (lone E.row.mir)) (block_ptr b o))
-            (cell_at full_share handle.the_row.mir (one_val (vptr b o) ∷ []) rb ro)
+        (cell_at full_share handle.the_row.mir (one_val (vptr b o) ∷ []) rb ro)
 
     back : h.at ≡ block_ptr b o → (w : E.row.Denot)
         → ent 𝓤 (sep 𝓤 (sem 𝓛 ((mem E.row).own_at w b o)) (sem 𝓛 Rest))
-            (sem 𝓛 ((mem handle.the_row).own_at (with_kept h w) rb ro))
+        (sem 𝓛 ((mem handle.the_row).own_at (with_kept h w) rb ro))
     unfolding part_of
     back at_b w =
         qed 𝓛 (‵ (part_at E.row full_share w b o) ∷ ‵ Rest ∷ []) ∵ move ! (1 ∷ []) $ fsplit ! $ move ! (2 ∷ 0 ∷ []) $
-            fjoin ! $
+        fjoin ! $
         handle_in E ! b o w $ rewrite ! 0
-            (λ (p : Ptr).
-                ‵ (handle.the_row.own_val (record { at = p; value = Some (E.named w) }) (one_val (vptr b o) ∷ [])))
-            (sym at_b) refl $ move ! (1 ∷ 0 ∷ []) $ fjoin ! $
+        (λ (p : Ptr).
+        ‵ (handle.the_row.own_val (record { at = p; value = Some (E.named w) }) (one_val (vptr b o) ∷ [])))
+        (sym at_b) refl $ move ! (1 ∷ 0 ∷ []) $ fjoin ! $
         fpack ! (List Val)
-            (λ us. fsep (cell_at full_share handle.the_row.mir us rb ro) (handle.the_row.own_val (with_kept h w) us))
-            (one_val (vptr b o) ∷ []) $ done !
+        (λ us. fsep (cell_at full_share handle.the_row.mir us rb ro) (handle.the_row.own_val (with_kept h w) us))
+        (one_val (vptr b o) ∷ []) $ done !
 
   pub lend_Meets : {M : Type 1} (𝓤 : Ura M) (𝓛 : Logic 𝓤) (𝓜 : Model 𝓤 𝓛.H) (𝓡 : Running 𝓤 𝓛.H 𝓜) (k : Callee)
       → Closed 𝓤 𝓛.H (tables 𝓤 𝓛.H 𝓜 𝓡 𝓡.env).C (tables 𝓤 𝓛.H 𝓜 𝓡 𝓡.env).Λ k lend_code
@@ -250,7 +263,7 @@ module _ (E : Kept) where
   lend_Meets 𝓤 𝓛 𝓜 𝓡 k closed =
       let H = 𝓛.H in let 𝓣 = tables 𝓤 H 𝓜 𝓡 𝓡.env in let c = lend_clauses 𝓤 𝓛 in
       proved 𝓛 lend_ended stayed c 𝓜 𝓡 (Goes-spent_ref 𝓛 1 (0 ∷ []) tt (plain (λ _. handle.the_row)), tt) k lend_code
-          closed
+      closed
       (λ κs. (mut_vals, tt)) (λ κs. (mut_Tells (named 0) κs.0 handle.the_row, tt)) (λ κs qs bounds a g are.
       let κ = κs.0 in
       let q = qs.0 in
@@ -263,39 +276,39 @@ module _ (E : Kept) where
       let y : (walk_of 𝓛 lend_ended stayed c).Ghost = ((κs, qs, bounds, a, (mut_vals self, tt)), g) in
       let Post : Val → SProp 𝓤 = (walk_of 𝓛 lend_ended stayed c).post y in
       qed 𝓛
-          (((‵ (flft κ q) ⊛ ‵ ftrue) ⊛ ‵
-            (owns (MutRef (named 0) κ handle.the_row ∷ []) (self, tt) (vptr rb ro ∷ [], tt)))
-           ∷ raw (fact 𝓤 (is_some (E.of h.value) ≡ true)) ∷ []) ∵
+      (((‵ (flft κ q) ⊛ ‵ ftrue) ⊛ ‵
+      (owns (MutRef (named 0) κ handle.the_row ∷ []) (self, tt) (vptr rb ro ∷ [], tt)))
+      ∷ raw (fact 𝓤 (is_some (E.of h.value) ≡ true)) ∷ []) ∵
       move ! (1 ∷ []) $ heard ! (is_some (E.of h.value) ≡ true)
-          (λ live. let x = (the_value (E.of h.value) live).0 in let is = (the_value (E.of h.value) live).1 in
+      (λ live. let x = (the_value (E.of h.value) live).0 in let is = (the_value (E.of h.value) live).1 in
       enter ! 𝓣.C 𝓣.Λ lend_code (vptr rb ro ∷ []) Post $ alloc_all !
-          (λ l. pass_all ! refl ((tt, tt), tt) $ let En : Env 𝓤 H = env lend_code.locals l in
+      (λ l. pass_all ! refl ((tt, tt), tt) $ let En : Env 𝓤 H = env lend_code.locals l in
       split ! $ split ! $ move ! (2 ∷ []) $ fsplit ! $ fsplit3 ! $ drop ! $ move ! (0 ∷ 1 ∷ 3 ∷ []) $
       opens ! tt handle.the_row {h = h} rb ro
-          (λ vs.
-              move ! (1 ∷ []) $ handle_out E ! h vs x is
-                  (λ b o e ws.
-                      rewrite ! 1 (λ (us : List Val). ‵ (cell_at full_share handle.the_row.mir us rb ro)) ws refl $
+      (λ vs.
+      move ! (1 ∷ []) $ handle_out E ! h vs x is
+      (λ b o e ws.
+      rewrite ! 1 (λ (us : List Val). ‵ (cell_at full_share handle.the_row.mir us rb ro)) ws refl $
       -- [the box; the word; the open borrow; obs; auth]
       first ! $ blocks ! $ sets !
-          (of_opd ! (load ! (through ! refl (fld ! refl (stop !))) (look_in ! 1 (sub ! 0 refl (whole !))))) refl
-          (tt, tt) $ sets ! (of_opd ! (get ! refl)) refl (tt, tt) $ sets_last ! (addr ! (through ! refl (stop !))) refl
-          (tt, tt) $
+      (of_opd ! (load ! (through ! refl (fld ! refl (stop !))) (look_in ! 1 (sub ! 0 refl (whole !))))) refl
+      (tt, tt) $ sets ! (of_opd ! (get ! refl)) refl (tt, tt) $ sets_last ! (addr ! (through ! refl (stop !))) refl
+      (tt, tt) $
       exec ! 𝓣.C 𝓣.Λ En (after 1 lend_code.body) (at_ret En Post) $ sets ! (of_opd ! (get ! refl)) refl (tt, tt) $
       fsplit ! $ move ! (1 ∷ 2 ∷ []) $ fjoin ! $ move ! (2 ∷ 3 ∷ 4 ∷ 1 ∷ 0 ∷ []) $ group ! 5 $
       use1 𝓛
-          (later (some (λ (γ' : GName).
-                           raw (Part 𝓛 handle.the_row E.row (with_kept h) (named 0) κ q rb ro b o γ
-                                (sem 𝓛 (Rest 𝓛 h b o rb ro)) (back 𝓛 h b o rb ro e) x γ'))))
+      (later (some (λ (γ' : GName).
+      raw (Part 𝓛 handle.the_row E.row (with_kept h) (named 0) κ q rb ro b o γ
+      (sem 𝓛 (Rest 𝓛 h b o rb ro)) (back 𝓛 h b o rb ro e) x γ'))))
       (lends_Part 𝓛 handle.the_row E.row (with_kept h) (named 0) κ q rb ro b o γ (sem 𝓛 (Rest 𝓛 h b o rb ro))
-       (back 𝓛 h b o rb ro e) coded coded x) $ await ! tt $ pick ! (λ γ'.
+      (back 𝓛 h b o rb ro e) coded coded x) $ await ! tt $ pick ! (λ γ'.
       use1 𝓛
-          (‵
-           ((MutRef (named 0) κ E.row).own_val (record { ref_ptr = (b, o); ghost_name = γ'; now = x }) (vptr b o ∷ []))
-           ⊛ ‵ (flft κ q) ⊛ ‵ (follows handle.the_row E.row γ γ' (with_kept h))) (id⊢ 𝓤 _) $ split3 ! $
+      (‵
+      ((MutRef (named 0) κ E.row).own_val (record { ref_ptr = (b, o); ghost_name = γ'; now = x }) (vptr b o ∷ []))
+      ⊛ ‵ (flft κ q) ⊛ ‵ (follows handle.the_row E.row γ γ' (with_kept h))) (id⊢ 𝓤 _) $ split3 ! $
       returns ! (look_at ! 0 refl) $ free_all ! refl $ keep ! (0 ∷ 1 ∷ 2 ∷ []) $
       suffices ! _
-          (ends_at 𝓛 lend_ended stayed c y (vptr b o) (record { ref_ptr = (b, o); ghost_name = γ'; now = x }) (tt, tt)
-           (tt, tt)) $
+      (ends_at 𝓛 lend_ended stayed c y (vptr b o) (record { ref_ptr = (b, o); ghost_name = γ'; now = x }) (tt, tt)
+      (tt, tt)) $
       nothing ! $ nothing ! $ fjoin ! $ join ! $ nothing ! $ move ! (2 ∷ 0 ∷ []) $ join ! $ join ! $ frame ! $ says ! is
-          $ done !))))))
+      $ done !))))))

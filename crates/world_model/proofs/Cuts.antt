@@ -49,7 +49,7 @@ first_at_zero number (s ∷ pieces) p first at is =
 first_next : (number : ℕ) (pieces : List Piece) (k : ℕ) (p q : Piece) (a b : ℕ) → slice_get pieces k ≡ Some p
     → slice_get pieces (suc k) ≡ Some q
     → first_from number pieces k ≡ Some a → first_from number pieces (suc k) ≡ Some b
-        → b ≡ a + length p.records + q.skipped
+    → b ≡ a + length p.records + q.skipped
 first_next number [] k p q a b at_p at_q is_a is_b = absurd (none-some p at_p)
 first_next number (s ∷ []) zero p q a b at_p at_q is_a is_b = absurd (none-some q at_q)
 first_next number (s ∷ w ∷ pieces) zero p q a b at_p at_q is_a is_b =
@@ -118,10 +118,10 @@ module _ (n size start : ℕ) (c : Core) (r : IsReached n size start c) where
   -- no number is one of a page's own and one that another skips
   apart : (j k : ℕ) (u t : TakenFill) (number : ℕ) → slice_get taken j ≡ Some u → slice_get taken k ≡ Some t
       → u.held.first ≤ number → number < u.held.first + length (map as_record u.held.records)
-          → t.held.first ≤ number + t.skipped → number < t.held.first → ⊥
+      → t.held.first ≤ number + t.skipped → number < t.held.first → ⊥
   apart j k u t number at_u at_t low high least below = let a = page j u at_u in let b = page k t at_t in
       own_or_skipped 0 (pieces_of taken) j k (piece_of u) (piece_of t) u.held.first t.held.first number a.piece_at
-          b.piece_at a.first_at b.first_at low high least below
+      b.piece_at a.first_at b.first_at low high least below
 
   pub events : List RingEvent
   events = (run_events n size start r.from c r.exchanges (ring_start n size start r.from r.may_start r.is_new) r.run).0
@@ -144,7 +144,7 @@ module _ (n size start : ℕ) (c : Core) (r : IsReached n size start c) where
   fill_of_page : (k : ℕ) (t : TakenFill) → slice_get taken k ≡ Some t → Contains (fills_taken start events) t.fill
   fill_of_page k t at =
       subst (λ (l : List ℕ). Contains l t.fill) (sym reported.took)
-          (contains_at (numbers_of taken) k t.fill (get_map (λ (t : TakenFill). t.fill) taken k t at))
+      (contains_at (numbers_of taken) k t.fill (get_map (λ (t : TakenFill). t.fill) taken k t at))
 
   first_at_fill : (i : ℕ) → first_of_fill c.history start (start + i) ≡ get_or (0 ∷ cuts) i 0
   first_at_fill i = ap (λ (m : ℕ). get_or (0 ∷ cuts) m 0) (let e : start + i - start ≡ i = omega arith in e)
@@ -177,10 +177,10 @@ module _ (n size start : ℕ) (c : Core) (r : IsReached n size start c) where
     earlier : j < t.fill - start
     earlier = dite (dec_le (suc j) (t.fill - start)) (λ less. less)
         (λ more. let first = p.first_is in
-         let begins = lies.first_le in
-         let le = lies.fill_le in
-         let rise = rises (t.fill - start) j (omega arith) le in
-         absurd (let no : ⊥ = omega arith in no))
+        let begins = lies.first_le in
+        let le = lies.fill_le in
+        let rise = rises (t.fill - start) j (omega arith) le in
+        absurd (let no : ⊥ = omega arith in no))
 
     stands : StandsIn c.history start (start + j) number
     stands = let within = p.within in let less = earlier in let begins = lies.first_le in let ends = lies.number_lt in
@@ -198,8 +198,8 @@ module _ (n size start : ℕ) (c : Core) (r : IsReached n size start c) where
     lost : Contains (fills_lost start events) (start + j)
     lost = let less = earlier in let below = p.below in
         ⊎_elim (λ has. absurd (not_taken has)) (λ has. has)
-            (passed_by n [] (first_window start) (window_of c) events (start + j) reported.window (omega arith)
-             (omega arith))
+        (passed_by n [] (first_window start) (window_of c) events (start + j) reported.window (omega arith)
+        (omega arith))
 
     behind : (f : ℕ) → Contains (fills_taken start events) f → f < t.fill → f < start + j
     behind f has before =
@@ -213,12 +213,12 @@ module _ (n size start : ℕ) (c : Core) (r : IsReached n size start c) where
             dite (dec_le u.held.first number)
             (λ yes. dite (ℕ_discrete j (u.fill - start))
             (λ here. let e = ap (λ (m : ℕ). get_or (0 ∷ cuts) m 0) here in
-             let e' = ap (λ (m : ℕ). length (get_or (cut_from 0 cuts xs) m [])) here in
+            let e' = ap (λ (m : ℕ). length (get_or (cut_from 0 cuts xs) m [])) here in
             apart i k u t number at_u at yes (omega arith) low high)
             (λ other. let next = ends_before cuts xs j (u.fill - start) (omega arith) (omega arith) rising in
-             omega arith))
+            omega arith))
             (λ no. let next =
-             ends_before cuts xs (u.fill - start) (t.fill - start) (omega arith) (omega arith) rising in
+            ends_before cuts xs (u.fill - start) (t.fill - start) (omega arith) (omega arith) rising in
             apart i k u t u.held.first at_u at (omega arith) (omega arith) (omega arith) (omega arith))
 
     stands_by_events : StandsIn (history_events_of events) start (start + j) number
@@ -227,11 +227,13 @@ module _ (n size start : ℕ) (c : Core) (r : IsReached n size start c) where
 
     overwritten : IsOverwrittenBefore start events t.fill number
     overwritten =
-        record { lost = start + j;
-                was_lost = lost;
-                stands = stands_by_events;
-                before = let less = earlier in omega arith;
-                after_taken = behind }
+        record {
+          lost = start + j;
+          was_lost = lost;
+          stands = stands_by_events;
+          before = let less = earlier in omega arith;
+          after_taken = behind;
+        }
 
   -- ---- what was lost is missing
 
@@ -257,8 +259,8 @@ module _ (n size start : ℕ) (c : Core) (r : IsReached n size start c) where
         omega arith
     is_low (suc k) at = let (u, at_u) = one_before taken k t at in let p = page (suc k) t at in let q = page k u at_u in
         let next =
-            first_next 0 (pieces_of taken) k (piece_of u) (piece_of t) u.held.first t.held.first q.piece_at p.piece_at
-                q.first_at p.first_at in
+        first_next 0 (pieces_of taken) k (piece_of u) (piece_of t) u.held.first t.held.first q.piece_at p.piece_at
+        q.first_at p.first_at in
         let less = kept.partition.fills.rising k (suc k) u t (omega arith) at_u at in
         let behind = o.after_taken u.fill (fill_of_page k u at_u) less in
         let from = from_start in let before = o.before in let within = p.within in let begins = lost_stands.0 in
@@ -277,8 +279,8 @@ module _ (n size start : ℕ) (c : Core) (r : IsReached n size start c) where
       let from = p.from_start in
       let next = ends_before cuts xs (t.fill - start) (suc (t.fill - start)) (omega arith) (omega arith) rising in
       let e =
-          ap (λ (m : ℕ). get_or (0 ∷ cuts) m 0)
-              (let s : suc t.fill - start ≡ suc (t.fill - start) = omega arith in s) in
+      ap (λ (m : ℕ). get_or (0 ∷ cuts) m 0)
+      (let s : suc t.fill - start ≡ suc (t.fill - start) = omega arith in s) in
       (omega arith, omega arith)
 
   stands_own : (k : ℕ) (t : TakenFill) (number : ℕ) → slice_get taken k ≡ Some t
@@ -291,15 +293,15 @@ module _ (n size start : ℕ) (c : Core) (r : IsReached n size start c) where
       let from = p.from_start in
       let i : ℕ = t.fill - start in
       let e =
-          ap (λ (m : ℕ). get_or (0 ∷ cuts) m 0)
-              (let s : suc t.fill - start ≡ suc (t.fill - start) = omega arith in s) in
+      ap (λ (m : ℕ). get_or (0 ∷ cuts) m 0)
+      (let s : suc t.fill - start ≡ suc (t.fill - start) = omega arith in s) in
       let all = first_below 0 cuts (length xs) (suc i) (omega arith) rising in
       let lies = lies_in cuts xs number (length cuts - i) i (omega arith) rising low (omega arith) in
       let least = lies.least_le in let begins = lies.first_le in let ends = lies.number_lt in let le = lies.fill_le in
       let here : lies.fill ≡ i =
-          dite (dec_le lies.fill i) (λ le. omega arith)
-              (λ more. let rise = rises (suc i) lies.fill (omega arith) le in
-               absurd {A = lies.fill ≡ i} (let no : ⊥ = omega arith in no)) in
+      dite (dec_le lies.fill i) (λ le. omega arith)
+      (λ more. let rise = rises (suc i) lies.fill (omega arith) le in
+      absurd {A = lies.fill ≡ i} (let no : ⊥ = omega arith in no)) in
       let e' = ap (λ (m : ℕ). get_or (0 ∷ cuts) m 0 + length (get_or (cut_from 0 cuts xs) m [])) here in
       (omega arith, omega arith)
 
@@ -339,7 +341,7 @@ module _ (n size start : ℕ) (c : Core) (r : IsReached n size start c) where
       page_of_parcel k parcel at =
           let (t, there, is) =
           get_from_map (parcel_of cpu) taken k parcel
-              (subst (λ (l : List Parcel). slice_get l k ≡ Some parcel) same at) in
+          (subst (λ (l : List Parcel). slice_get l k ≡ Some parcel) same at) in
           record { index = k; taken_page = t; page_at = there; parcel_is = is }
 
       pub page_of_one : (parcel : Parcel) → Contains parcels parcel → IsPageOf parcel
@@ -361,12 +363,12 @@ module _ (n size start : ℕ) (c : Core) (r : IsReached n size start c) where
         rest = (taken_partition n size start c kept).0;
         partition =
             subst
-                (λ (l : List Piece).
-                    IsPartition (committed_records c.history) l (taken_partition n size start c kept).0)
-                (pieces_same taken ∙ ap pieces_in (sym same)) (taken_partition n size start c kept).1;
+            (λ (l : List Piece).
+            IsPartition (committed_records c.history) l (taken_partition n size start c kept).0)
+            (pieces_same taken ∙ ap pieces_in (sym same)) (taken_partition n size start c kept).1;
         missing = λ parcel number has. let p = page_of_one parcel has in
             subst (λ (x : Parcel). IsMissingOf x x.cpu number ↔ IsOverwrittenBefore start events x.fill number)
-                p.parcel_is (is_missing p.index p.taken_page number p.page_at);
+            p.parcel_is (is_missing p.index p.taken_page number p.page_at);
       }
 
     -- ---- a collector
@@ -382,21 +384,21 @@ module _ (n size start : ℕ) (c : Core) (r : IsReached n size start c) where
           → slice_get (committed_records c.history) (t.held.first + i) ≡ Some x
       record_of k t i x at there = let p = page k t at in
           own_records (committed_records c.history) (pieces_of taken) (taken_partition n size start c kept).0 k
-              (piece_of t) t.held.first i x (taken_partition n size start c kept).1 p.piece_at p.first_at there
+          (piece_of t) t.held.first i x (taken_partition n size start c kept).1 p.piece_at p.first_at there
 
       has_stands : (number : ℕ) (x : Record) → Has parcels cpu number x
           → (slice_get (committed_records c.history) number ≡ Some x) × (parcel : Parcel) × IsOneOf parcels cpu parcel
-              × StandsIn c.history start parcel.fill number
+          × StandsIn c.history start parcel.fill number
       has_stands number x h =
           let one = one_of h.index h.parcel h.at h.pair.cpu_is in let p = pages h.parcel one in let t = p.taken_page in
           let first : t.held.first ≡ h.parcel.first = ap (λ (q : Parcel). q.first) p.parcel_is in
           let records : map as_record t.held.records ≡ h.parcel.records = ap (λ (q : Parcel). q.records) p.parcel_is in
           let is = h.pair.number_is in
           let there : slice_get (map as_record t.held.records) h.pair.index ≡ Some x =
-              subst (λ (l : List Record). slice_get l h.pair.index ≡ Some x) (sym records) h.pair.record_is in
+          subst (λ (l : List Record). slice_get l h.pair.index ≡ Some x) (sym records) h.pair.record_is in
           let low = slice_get_within (map as_record t.held.records) h.pair.index x there in (
             ap (slice_get (committed_records c.history))
-                    (let e : number ≡ t.held.first + h.pair.index = omega arith in e)
+                (let e : number ≡ t.held.first + h.pair.index = omega arith in e)
                 ∙ record_of p.index t h.pair.index x p.page_at there,
             h.parcel,
             one,
@@ -409,20 +411,20 @@ module _ (n size start : ℕ) (c : Core) (r : IsReached n size start c) where
       stands_has number x parcel committed one stands =
           let p = pages parcel one in let t = p.taken_page in
           let (low, high) =
-              stands_own p.index t number p.page_at
-                  (subst (λ (f : ℕ). StandsIn c.history start f number) (sym (ap (λ (q : Parcel). q.fill) p.parcel_is))
-                   stands) in
+          stands_own p.index t number p.page_at
+          (subst (λ (f : ℕ). StandsIn c.history start f number) (sym (ap (λ (q : Parcel). q.fill) p.parcel_is))
+          stands) in
           let (k, at) = element_at parcels parcel one.0 in
           let i : ℕ = number - t.held.first in
           let back : t.held.first + i ≡ number = omega arith in
           let first : t.held.first ≡ parcel.first = ap (λ (q : Parcel). q.first) p.parcel_is in
           let there : slice_get (map as_record t.held.records) i ≡ Some x = ⊎_elim
           (λ (y, within, is, same).
-              is ∙ sym (record_of p.index t i y p.page_at is) ∙ ap (slice_get (committed_records c.history)) back
-                  ∙ committed)
+          is ∙ sym (record_of p.index t i y p.page_at is) ∙ ap (slice_get (committed_records c.history)) back
+          ∙ committed)
           (λ (past, none).
-              absurd {A = slice_get (map as_record t.held.records) i ≡ Some x} (let no : ⊥ = omega arith in no))
-              (slice_get_cases (map as_record t.held.records) i).1 in
+          absurd {A = slice_get (map as_record t.held.records) i ≡ Some x} (let no : ⊥ = omega arith in no))
+          (slice_get_cases (map as_record t.held.records) i).1 in
           record {
             index = k;
             parcel = parcel;
@@ -433,7 +435,7 @@ module _ (n size start : ℕ) (c : Core) (r : IsReached n size start c) where
               number_is = omega arith;
               record_is =
                   subst (λ (l : List Record). slice_get l i ≡ Some x) (ap (λ (q : Parcel). q.records) p.parcel_is)
-                      there;
+                  there;
             };
           }
 
@@ -441,14 +443,15 @@ module _ (n size start : ℕ) (c : Core) (r : IsReached n size start c) where
           → IsMissingOf parcel cpu number ↔ IsOverwrittenBefore start events parcel.fill number
       missing_of parcel number one = let p = pages parcel one in
           subst (λ (x : Parcel). IsMissingOf x cpu number ↔ IsOverwrittenBefore start events x.fill number) p.parcel_is
-              (is_missing p.index p.taken_page number p.page_at)
+          (is_missing p.index p.taken_page number p.page_at)
 
       pub is_exact : IsExact c.history start events cpu parcels parcels
       is_exact = record {
         has =
-            λ number x.
-                   (has_stands number x,
-                    λ (committed, parcel, one, stands). stands_has number x parcel committed one stands);
+            λ number x. (
+              has_stands number x,
+              λ (committed, parcel, one, stands). stands_has number x parcel committed one stands,
+            );
         misses = λ number. (
           λ m. let one = one_of m.index m.parcel m.at m.missing.cpu_is in
               (m.parcel, one, (missing_of m.parcel number one).0 m.missing),

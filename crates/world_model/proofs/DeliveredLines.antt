@@ -45,19 +45,22 @@ module _ (script : Script) (line : ℕ) where
       inl (parcels, ap (λ (w : World). slice_get w.delivered collector) (sym d.after_is) ∙ at, has)
   by_delivery to cpu fill before after collector parcel (delivers d) (parcels, at, has) = dite (ℕ_discrete collector to)
       (λ e. let now =
-       sym (get_set_here before.delivered to (d.earlier ++ d.parcel ∷ [])
-            (slice_get_within before.delivered to d.earlier d.earlier_are))
-           ∙ subst (λ (j : ℕ). slice_get (slice_set before.delivered to (d.earlier ++ d.parcel ∷ [])) j ≡ Some parcels)
-               e there in
+      sym (get_set_here before.delivered to (d.earlier ++ d.parcel ∷ [])
+      (slice_get_within before.delivered to d.earlier d.earlier_are))
+      ∙ subst (λ (j : ℕ). slice_get (slice_set before.delivered to (d.earlier ++ d.parcel ∷ [])) j ≡ Some parcels)
+      e there in
       ⊎_elim
       (λ old.
-          inl (d.earlier, subst (λ (j : ℕ). slice_get before.delivered j ≡ Some d.earlier) (sym e) d.earlier_are, old))
+      inl (d.earlier, subst (λ (j : ℕ). slice_get before.delivered j ≡ Some d.earlier) (sym e) d.earlier_are, old))
       (λ is. inr (commands e is, subst (Contains before.taken) is d.was_taken))
       (Contains-push_cases d.earlier d.parcel parcel
-       (subst (λ (l : List Parcel). Contains l parcel) (sym (some_is (d.earlier ++ d.parcel ∷ []) parcels now)) has)))
+      (subst (λ (l : List Parcel). Contains l parcel) (sym (some_is (d.earlier ++ d.parcel ∷ []) parcels now)) has)))
       (λ apart.
-          inl (parcels, sym (get_set_other before.delivered to collector (d.earlier ++ d.parcel ∷ []) apart) ∙ there,
-               has))
+      inl (
+        parcels,
+        sym (get_set_other before.delivered to collector (d.earlier ++ d.parcel ∷ []) apart) ∙ there,
+        has,
+      ))
     where
       there : slice_get (slice_set before.delivered to (d.earlier ++ d.parcel ∷ [])) collector ≡ Some parcels
       there = ap (λ (w : World). slice_get w.delivered collector) (sym d.after_is) ∙ at
@@ -65,8 +68,8 @@ module _ (script : Script) (line : ℕ) where
       commands : collector ≡ to → d.parcel ≡ parcel → deliver to cpu fill ≡ deliver collector parcel.cpu parcel.fill
       commands e is =
           λ i.
-                 deliver (sym e i) ((sym d.fill_is.0 ∙ ap (λ (p : Parcel). p.cpu) is) i)
-                     ((sym d.fill_is.1 ∙ ap (λ (p : Parcel). p.fill) is) i)
+          deliver (sym e i) ((sym d.fill_is.0 ∙ ap (λ (p : Parcel). p.cpu) is) i)
+          ((sym d.fill_is.1 ∙ ap (λ (p : Parcel). p.fill) is) i)
 
   by_line : (command : Command) (before after : World) (collector : ℕ) (parcel : Parcel)
       → Obeys script line command before after → HasGot after collector parcel
@@ -101,19 +104,20 @@ module _ (script : Script) (line : ℕ) where
   keeps_delivery to cpu fill before after collector parcel (delivers d) (parcels, at, has) =
       dite (ℕ_discrete collector to)
       (λ e. let same : parcels ≡ d.earlier =
-           some_is parcels d.earlier (sym at ∙ ap (slice_get before.delivered) e ∙ d.earlier_are) in
-       (
+      some_is parcels d.earlier (sym at ∙ ap (slice_get before.delivered) e ∙ d.earlier_are) in (
         d.earlier ++ d.parcel ∷ [],
         ap (λ (w : World). slice_get w.delivered collector) d.after_is
             ∙ ap (slice_get (slice_set before.delivered to (d.earlier ++ d.parcel ∷ []))) e
             ∙ get_set_here before.delivered to (d.earlier ++ d.parcel ∷ [])
-                (slice_get_within before.delivered to d.earlier d.earlier_are),
+            (slice_get_within before.delivered to d.earlier d.earlier_are),
         Contains-append_left d.earlier (d.parcel ∷ []) parcel (subst (λ (l : List Parcel). Contains l parcel) same has),
       ))
-      (λ apart.
-          (parcels,
-           ap (λ (w : World). slice_get w.delivered collector) d.after_is
-               ∙ get_set_other before.delivered to collector (d.earlier ++ d.parcel ∷ []) apart ∙ at, has))
+      (λ apart. (
+        parcels,
+        ap (λ (w : World). slice_get w.delivered collector) d.after_is
+            ∙ get_set_other before.delivered to collector (d.earlier ++ d.parcel ∷ []) apart ∙ at,
+        has,
+      ))
 
   keeps_line : (command : Command) (before after : World) (collector : ℕ) (parcel : Parcel)
       → Obeys script line command before after → HasGot before collector parcel → HasGot after collector parcel
@@ -139,7 +143,7 @@ module _ (script : Script) (line : ℕ) where
       → (other : Parcel) × IsFill cpu fill other × HasGot after collector other
   hands collector cpu fill before after parcel (lacks d) has is = let (k, at) = element_at before.taken parcel has in
       absurd (d.not_taken k parcel (slice_get_within before.taken k parcel at)
-              (subst (IsFill cpu fill) (sym (get_or_from_slice_get before.taken k parcel parcel at)) is))
+      (subst (IsFill cpu fill) (sym (get_or_from_slice_get before.taken k parcel parcel at)) is))
   hands collector cpu fill before after parcel (delivers d) has is = (
     d.parcel,
     d.fill_is,
@@ -147,7 +151,7 @@ module _ (script : Script) (line : ℕ) where
       d.earlier ++ d.parcel ∷ [],
       ap (λ (w : World). slice_get w.delivered collector) d.after_is
           ∙ get_set_here before.delivered collector (d.earlier ++ d.parcel ∷ [])
-              (slice_get_within before.delivered collector d.earlier d.earlier_are),
+          (slice_get_within before.delivered collector d.earlier d.earlier_are),
       has_last d.earlier d.parcel,
     ),
   )
@@ -161,15 +165,15 @@ module _ (script : Script) where
       × Contains (world_at script lines before after all k).taken parcel
 
   by_lines : (lines : List (ℕ × Command)) (before after : World) (all : ObeysAll script lines before after)
-          (collector : ℕ) (parcel : Parcel) → HasGot after collector parcel
+      (collector : ℕ) (parcel : Parcel) → HasGot after collector parcel
       → HasGot before collector parcel ⊎ IsHanded lines before after all collector parcel
   by_lines [] before after all collector parcel got =
       inl (subst (λ (w : World). HasGot w collector parcel) (sym all) got)
   by_lines (line ∷ lines) before after (between, obeys, all) collector parcel got =
       ⊎_elim
       (λ here.
-          ⊎_elim (λ old. inl old) (λ (is, taken). inr (0, line.0, ap (λ (c : Command). Some (line.0, c)) is, taken))
-              (by_line script line.0 line.1 before between collector parcel obeys here))
+      ⊎_elim (λ old. inl old) (λ (is, taken). inr (0, line.0, ap (λ (c : Command). Some (line.0, c)) is, taken))
+      (by_line script line.0 line.1 before between collector parcel obeys here))
       (λ (k, number, at, taken). inr (suc k, number, at, taken))
       (by_lines lines between after all collector parcel got)
 
@@ -178,7 +182,7 @@ module _ (script : Script) where
   keeps_lines [] before after all collector parcel got = subst (λ (w : World). HasGot w collector parcel) all got
   keeps_lines (line ∷ lines) before after (between, obeys, all) collector parcel got =
       keeps_lines lines between after all collector parcel
-          (keeps_line script line.0 line.1 before between collector parcel obeys got)
+      (keeps_line script line.0 line.1 before between collector parcel obeys got)
 
   pub hands_lines : (lines : List (ℕ × Command)) (before after : World) (all : ObeysAll script lines before after)
       (k number collector cpu fill : ℕ) (parcel : Parcel)
@@ -191,7 +195,7 @@ module _ (script : Script) where
   hands_lines (line ∷ lines) before after (between, obeys, all) zero number collector cpu fill parcel at has is =
       let (other, same, got) = hands script number collector cpu fill before between parcel
       (subst (λ (l : ℕ × Command). Obeys script l.0 l.1 before between)
-       (some_is line (number, deliver collector cpu fill) at) obeys) has is in
+      (some_is line (number, deliver collector cpu fill) at) obeys) has is in
       (other, same, keeps_lines lines between after all collector other got)
   hands_lines (line ∷ lines) before after (between, obeys, all) (suc k) number collector cpu fill parcel at has is =
       hands_lines lines between after all k number collector cpu fill parcel at has is
@@ -211,7 +215,7 @@ handed_by_lines script w collector parcels parcel of at has =
     none_new : (first : List Parcel) → slice_get of.new.delivered collector ≡ Some first → Contains first parcel → ⊥
     none_new first there one = nothing (subst (λ (l : List Parcel). Contains l parcel)
         (sym (get_or_from_slice_get of.new.delivered collector first first there)
-         ∙ of.is_new.none_delivered collector first (slice_get_within of.new.delivered collector first there)) one)
+        ∙ of.is_new.none_delivered collector first (slice_get_within of.new.delivered collector first there)) one)
 
 pub delivered_by_lines : (script : Script) (w : World) (collector : ℕ) (parcels : List Parcel) (parcel : Parcel)
     → WorldOf script w

@@ -35,7 +35,7 @@ module _ (n size : ℕ) (c : Core) (frame : Frame) (below : List Frame) (answer 
       → Moves c.frames after.frames
   left_by d [] e is =
       changes frame _ below top refl
-          (is ∙ ap (λ (l : List Frame). record frame { state = left; phase = closing_phase d } ∷ l) (sym e))
+      (is ∙ ap (λ (l : List Frame). record frame { state = left; phase = closing_phase d } ∷ l) (sym e))
   left_by d (next ∷ under) e is = pops frame below top (is ∙ sym e)
 
   leaves : (d next : Core) → next.frames ≡ frames_after_leave d frame below → after ≡ next → Moves c.frames after.frames
@@ -108,7 +108,7 @@ module _ (n size : ℕ) (c : Core) (frame : Frame) (below : List Frame) (answer 
   pub frame_moves : (phase : Phase) → FrameStep n size c frame below phase answer after → Moves c.frames after.frames
   frame_moves = by_phase n size c frame below answer after (λ phase. Moves c.frames after.frames)
       (idle_moves frame.state) load_link_moves claim_head_moves load_next_moves mark_head_moves clear_update_moves
-          open_fill_moves release_fill_moves load_wish_moves
+      open_fill_moves release_fill_moves load_wish_moves
 
 pub reads_stay : (n : ℕ) (c : Core) (answer : Answer) (after : Core) (phase : ReaderPhase)
     → ReadStep n c phase answer after → after.frames ≡ c.frames
@@ -144,7 +144,7 @@ step_moves n size c event answer after none (frame_step frame below e top step) 
     frame_moves n size c frame below answer after top frame.phase step
 step_moves n size c event answer after none (frame_lacks e empty a is) = stays (ap (λ (d : Core). d.frames) is)
 step_moves n size c event answer after none
-        (end_step payload frame below number moment len e top at kind size_is a is) =
+    (end_step payload frame below number moment len e top at kind size_is a is) =
     leaves n size c frame below answer after top c _ refl is
 step_moves n size c event answer after none (end_lacks payload e empty a is) = stays (ap (λ (d : Core). d.frames) is)
 step_moves n size c event answer after none (end_early payload frame below e top waits a is) =

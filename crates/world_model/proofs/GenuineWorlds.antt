@@ -34,7 +34,7 @@ pub genuine_parcels_agree : (parcels : List Parcel) (pieces : ℕ → List Piece
     → Agree parcels
 genuine_parcels_agree parcels pieces genuine =
     genuine_agree (λ cpu. (some_records (pieces cpu)).0) pieces (λ cpu. []) parcels
-        (λ cpu. (some_records (pieces cpu)).1) genuine
+    (λ cpu. (some_records (pieces cpu)).1) genuine
 
 module _ (script : Script) (w : World) (kept : IsWorldKept script w) where
   is_genuine : (k : ℕ) (parcel : Parcel) → slice_get w.taken k ≡ Some parcel
@@ -46,13 +46,13 @@ module _ (script : Script) (w : World) (kept : IsWorldKept script w) where
       let ring = reached_kept script.pages script.size script.start lane.core (kept.reached parcel.cpu lane lane_at) in
       let same : pieces_of lane.core.reader.taken ≡ pieces_in (parcels_from parcel.cpu w.taken) =
       pieces_same script.pages script.size script.start lane.core (kept.reached parcel.cpu lane lane_at) parcel.cpu
-              lane.core.reader.taken ∙ ap pieces_in (sym (kept.taken parcel.cpu lane lane_at)) in
+      lane.core.reader.taken ∙ ap pieces_in (sym (kept.taken parcel.cpu lane lane_at)) in
       record {
         index = t.index;
         piece_is = get_map piece_in (parcels_from parcel.cpu w.taken) t.index parcel t.in_place;
         first_is =
             ap (λ (l : List Piece). first_of l t.index) (sym same) ∙ ring.partition.firsts t.index t.page t.page_at
-                ∙ ap (λ (p : Parcel). Some p.first) t.parcel_is;
+            ∙ ap (λ (p : Parcel). Some p.first) t.parcel_is;
       }
 
   pub kept_genuine : IsGenuineWorld script w
@@ -61,18 +61,18 @@ module _ (script : Script) (w : World) (kept : IsWorldKept script w) where
     collectors = kept.collectors;
     cut =
         λ cpu lane at.
-               is_cut script.pages script.size script.start lane.core (kept.reached cpu lane at) cpu
-                   (parcels_from cpu w.taken) (kept.taken cpu lane at);
+        is_cut script.pages script.size script.start lane.core (kept.reached cpu lane at) cpu
+        (parcels_from cpu w.taken) (kept.taken cpu lane at);
     of_a_cpu = kept.of_a_cpu;
     genuine = is_genuine;
     agree = genuine_parcels_agree w.taken (λ cpu. pieces_in (parcels_from cpu w.taken)) is_genuine;
     delivered = kept.delivered;
     exact =
         λ collector cpu parcels lane at_parcels at.
-               is_exact script.pages script.size script.start lane.core (kept.reached cpu lane at) cpu parcels
+        is_exact script.pages script.size script.start lane.core (kept.reached cpu lane at) cpu parcels
         (λ parcel one. let t =
-         taken_by_reader script w kept cpu lane parcel at one.1
-             (kept.delivered collector parcels parcel at_parcels one.0) in
+        taken_by_reader script w kept cpu lane parcel at one.1
+        (kept.delivered collector parcels parcel at_parcels one.0) in
         record { index = t.index; taken_page = t.page; page_at = t.page_at; parcel_is = t.parcel_is });
   }
 
@@ -92,5 +92,5 @@ pub collectors_join : (script : Script) (w : World) (one other : ℕ) (parcels o
 collectors_join script w one other parcels others g at at_other =
     joined_least parcels others (taken_agree script w (parcels ++ others) g
     (λ parcel has.
-        ⊎_elim (λ h. g.delivered one parcels parcel at h) (λ h. g.delivered other others parcel at_other h)
-            (Contains-append_cases parcels others parcel has)))
+    ⊎_elim (λ h. g.delivered one parcels parcel at h) (λ h. g.delivered other others parcel at_other h)
+    (Contains-append_cases parcels others parcel has)))

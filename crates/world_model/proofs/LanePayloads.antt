@@ -46,8 +46,8 @@ popped : (frame : Frame) (below : List Frame) (payloads : List (List ℕ)) → F
 popped frame below [] fit = absurd fit
 popped frame below (payload ∷ payloads) fit = let count = as_many below payloads fit.1 in
     subst (FitFrames below)
-        (sym (ap (λ (k : ℕ). drop k (payload ∷ payloads))
-              (let e : length (payload ∷ payloads) - length below ≡ suc zero = omega arith in e))) fit.1
+    (sym (ap (λ (k : ℕ). drop k (payload ∷ payloads))
+    (let e : length (payload ∷ payloads) - length below ≡ suc zero = omega arith in e))) fit.1
 
 fit_left : (frames : List Frame) (payloads : List (List ℕ)) → FitFrames frames payloads
     → FitFrames frames (payloads_left frames payloads)
@@ -60,10 +60,10 @@ fit_moved before after payloads fit (stays is) =
     fit_left after payloads (subst (λ (l : List Frame). FitFrames l payloads) (sym is) fit)
 fit_moved before after payloads fit (changes frame next below top kind is) = fit_left after payloads
     (subst (λ (l : List Frame). FitFrames l payloads) (sym is)
-     (changed frame next below payloads kind (subst (λ (l : List Frame). FitFrames l payloads) top fit)))
+    (changed frame next below payloads kind (subst (λ (l : List Frame). FitFrames l payloads) top fit)))
 fit_moved before after payloads fit (pops frame below top is) =
     subst (λ (l : List Frame). FitFrames l (payloads_left l payloads)) (sym is)
-        (popped frame below payloads (subst (λ (l : List Frame). FitFrames l payloads) top fit))
+    (popped frame below payloads (subst (λ (l : List Frame). FitFrames l payloads) top fit))
 
 -- ---- the frame on top may be asked
 
@@ -89,15 +89,15 @@ takes_slot : (kind : Purpose) (payload : List ℕ) (moment len : ℕ) → kind �
     → slot_len (length (padded payload)) ≡ slot_len len
 takes_slot kind payload moment len is fits =
     ap slot_len (length-padded payload) ∙ slot_len-slot_len (length payload)
-        ∙ ap slot_len (subst (λ (k : Purpose). FitsKind k payload) is fits)
+    ∙ ap slot_len (subst (λ (k : Purpose). FitsKind k payload) is fits)
 
 may_ask_in : (c : Core) (frame : Frame) (below : List Frame) (payload : List ℕ) (payloads : List (List ℕ))
-        (state : Progress) → c.frames ≡ frame ∷ below → FitsKind frame.kind payload
+    (state : Progress) → c.frames ≡ frame ∷ below → FitsKind frame.kind payload
     → MayAsk c (event_in state (payload ∷ payloads))
 may_ask_in c frame below payload payloads waiting top fits = tt
 may_ask_in c frame below payload payloads (reserved number) top fits = λ other under number' moment len top' state kind.
     takes_slot frame.kind payload moment len
-        (ap (λ (f : Frame). f.kind) (first_same frame other below under (sym top ∙ top')) ∙ kind) fits
+    (ap (λ (f : Frame). f.kind) (first_same frame other below under (sym top ∙ top')) ∙ kind) fits
 may_ask_in c frame below payload payloads left top fits = tt
 
 may_ask_of : (c : Core) (frames : List Frame) (payloads : List (List ℕ)) → c.frames ≡ frames → FitFrames frames payloads
@@ -117,7 +117,7 @@ module _ (n size : ℕ) where
       → Step n size before.core event answer core → HasPayloads (lane_behind before core)
   behind_fits before event answer core none fit step =
       fit_moved before.core.frames core.frames before.payloads fit
-          (step_moves n size before.core event answer core none (cases_of step))
+      (step_moves n size before.core event answer core none (cases_of step))
 
   frames_fit : (depth : ℕ) (before after : Lane) (xs : List Exchange) → HasPayloads before
       → FrameRun n size depth before xs after → HasPayloads after
@@ -125,7 +125,7 @@ module _ (n size : ℕ) where
   frames_fit depth before after (x ∷ xs) fit (stands, event, core, step, run) =
       frames_fit depth (lane_behind before core) after xs
       (behind_fits before x.event x.answer core
-       (subst PushesNone (sym event) (pushes_none before.core.frames before.payloads)) fit step) run
+      (subst PushesNone (sym event) (pushes_none before.core.frames before.payloads)) fit step) run
 
   steps_fit : (count : ℕ) (before after : Lane) (xs : List Exchange) → HasPayloads before
       → StepsFrame n size count before xs after → HasPayloads after
@@ -160,14 +160,14 @@ module _ (n size : ℕ) where
   push_fits event payload before answer core is_push fit (push_step moment len e few short early a is) =
       answered payload before answer pushed core a
       (subst (λ (d : Core). FitFrames d.frames (payload ∷ before.payloads)) (sym is)
-       (subst (λ (ev : Event). IsPushOf ev payload) e is_push, fit))
+      (subst (λ (ev : Event). IsPushOf ev payload) e is_push, fit))
   push_fits event payload before answer core is_push fit (push_refused moment len why e refusal a is) =
       answered payload before answer (refused why) core a
       (subst (λ (d : Core). FitFrames d.frames before.payloads) (sym is) fit)
   push_fits event payload before answer core is_push fit (close_step e few a is) =
       answered payload before answer pushed core a
       (subst (λ (d : Core). FitFrames d.frames (payload ∷ before.payloads)) (sym is)
-       (subst (λ (ev : Event). IsPushOf ev payload) e is_push, fit))
+      (subst (λ (ev : Event). IsPushOf ev payload) e is_push, fit))
   push_fits event payload before answer core is_push fit (close_refused e many a is) =
       answered payload before answer (refused _) core a
       (subst (λ (d : Core). FitFrames d.frames before.payloads) (sym is) fit)
@@ -176,7 +176,7 @@ module _ (n size : ℕ) where
   push_fits event payload before answer core is_push fit (frame_lacks e stand a is) =
       absurd (subst (λ (ev : Event). IsPushOf ev payload) e is_push)
   push_fits event payload before answer core is_push fit
-          (end_step bytes frame below number moment len e top at kind size_is a is) =
+      (end_step bytes frame below number moment len e top at kind size_is a is) =
       absurd (subst (λ (ev : Event). IsPushOf ev payload) e is_push)
   push_fits event payload before answer core is_push fit (end_lacks bytes e stand a is) =
       absurd (subst (λ (ev : Event). IsPushOf ev payload) e is_push)
@@ -211,7 +211,7 @@ module _ (n size : ℕ) where
       → HasPayloads before → WritesFrame n size event payload before xs after → HasPayloads after
   writes_fit event payload before after xs is_push fit w =
       pushed_fit w.push.answer w.between after w.rest
-          (pushes_fit event payload before w.between w.push is_push fit w.pushes) w.finishes
+      (pushes_fit event payload before w.between w.push is_push fit w.pushes) w.finishes
 
   reader_fit : (before after : Lane) (xs : List Exchange) → HasPayloads before → ReaderRun n size before xs after
       → HasPayloads after

@@ -34,7 +34,7 @@ module _ (n size start : ℕ) where
   -- ---- a frame
 
   own_lowers : (c : Core) (payloads : List (List ℕ)) (frame : Frame) (below : List Frame) (answer : Answer)
-          (after : Core) → IsRingKept n size start c → c.frames ≡ frame ∷ below → (state : Progress)
+      (after : Core) → IsRingKept n size start c → c.frames ≡ frame ∷ below → (state : Progress)
       → frame.state ≡ state → Step n size c (event_in state payloads) answer after
       → length after.frames ≡ length c.frames → frame_rank n after < frame_rank n c
   own_lowers c payloads frame below answer after r top waiting is step stays =
@@ -66,14 +66,14 @@ module _ (n size start : ℕ) where
       omega arith
   ranks_fall depth before after (x ∷ xs) some reached (here, event, core, step, run) stands =
       let own : Step n size before.core (event_on_top before.core.frames before.payloads) x.answer core =
-          subst (λ (e : Event). Step n size before.core e x.answer core) event step in
+      subst (λ (e : Event). Step n size before.core e x.answer core) event step in
       let there : length core.frames ≡ depth = still_stands depth (lane_behind before core) after xs run stands in
       let less =
-          top_lowers before.core before.payloads before.core.frames x.answer core
-              (reached_kept n size start before.core reached) refl (omega arith) own (there ∙ sym here) in
+      top_lowers before.core before.payloads before.core.frames x.answer core
+      (reached_kept n size start before.core reached) refl (omega arith) own (there ∙ sym here) in
       let rest =
-          ranks_fall depth (lane_behind before core) after xs some
-              (reached_on n size start before.core core (x ∷ []) reached (core, step, refl)) run stands in
+      ranks_fall depth (lane_behind before core) after xs some
+      (reached_on n size start before.core core (x ∷ []) reached (core, step, refl)) run stands in
       omega arith
 
   -- ---- the reader
@@ -85,19 +85,19 @@ module _ (n size start : ℕ) where
   takes_fall before after (x ∷ []) reached (event, more, core, step, run) goes =
       let on : x.answer ≡ reading = still_reading x.answer goes in
       let less =
-          takes_lower n size start before.core core (reached_kept n size start before.core reached)
-              (subst (λ (a : Answer). Step n size before.core reads a core) on step) in
+      takes_lower n size start before.core core (reached_kept n size start before.core reached)
+      (subst (λ (a : Answer). Step n size before.core reads a core) on step) in
       let same = ap (λ (l : Lane). reader_rank n l.core) run in
       omega arith
   takes_fall before after (x ∷ y ∷ xs) reached (event, more, core, step, run) goes =
       let on : x.answer ≡ reading = more (λ e. cc) in
       let less =
-          takes_lower n size start before.core core (reached_kept n size start before.core reached)
-              (subst (λ (a : Answer). Step n size before.core reads a core) on step) in
+      takes_lower n size start before.core core (reached_kept n size start before.core reached)
+      (subst (λ (a : Answer). Step n size before.core reads a core) on step) in
       let rest =
-          takes_fall (lane_behind before core) after (y ∷ xs)
-              (reached_on n size start before.core core (record { event = reads; answer = x.answer } ∷ []) reached
-               (core, step, refl)) run goes in
+      takes_fall (lane_behind before core) after (y ∷ xs)
+      (reached_on n size start before.core core (record { event = reads; answer = x.answer } ∷ []) reached
+      (core, step, refl)) run goes in
       omega arith
 
 pub frame_runs_short : FrameRunsAreShort

@@ -24,7 +24,7 @@ module _ (n size : ℕ) where
       → Step n size c event answer core → Step n size c event' answer' core' → (answer ≡ answer') × (core ≡ core')
   same_step event event' answer answer' c core core' e step step' =
       steps_are_determined n size c event answer answer' core core' step
-          (subst (λ (ev : Event). Step n size c ev answer' core') (sym e) step')
+      (subst (λ (ev : Event). Step n size c ev answer' core') (sym e) step')
 
   same_exchange : (x y : Exchange) → x.event ≡ y.event → x.answer ≡ y.answer → x ≡ y
   same_exchange x y e a = λ i. record { event = e i; answer = a i }
@@ -44,8 +44,8 @@ module _ (n size : ℕ) where
       let events = event ∙ sym event' in
       let (answer, state) = same_step x.event y.event x.answer y.answer before.core core core' events step step' in
       let (rest, last) =
-          frames_same depth (lane_behind before core) one other xs ys (omega arith) run
-              (subst (λ (c : Core). FrameRun n size depth (lane_behind before c) ys other) (sym state) run') in
+      frames_same depth (lane_behind before core) one other xs ys (omega arith) run
+      (subst (λ (c : Core). FrameRun n size depth (lane_behind before c) ys other) (sym state) run') in
       (longer x y xs ys (same_exchange x y events answer) rest, last)
 
   -- a shorter run doesn't reach its frame's end
@@ -57,15 +57,15 @@ module _ (n size : ℕ) where
   frames_shorter depth before one other (x ∷ xs) (y ∷ ys) low (stands, event, core, step, run)
       (stands', event', core', step', run') =
       let (answer, state) =
-          same_step x.event y.event x.answer y.answer before.core core core' (event ∙ sym event') step step' in
+      same_step x.event y.event x.answer y.answer before.core core core' (event ∙ sym event') step step' in
       frames_shorter depth (lane_behind before core) one other xs ys (omega arith) run
-          (subst (λ (c : Core). FrameRun n size depth (lane_behind before c) ys other) (sym state) run')
+      (subst (λ (c : Core). FrameRun n size depth (lane_behind before c) ys other) (sym state) run')
 
   -- two runs are the same where neither can go on
   frames_one : (depth : ℕ) (before one other : Lane) (xs ys : List Exchange) → FrameRun n size depth before xs one
       → FrameRun n size depth before ys other
       → (length xs < length ys → length one.core.frames ≡ depth → ⊥)
-          → (length ys < length xs → length other.core.frames ≡ depth → ⊥) → SameLine xs ys one other
+      → (length ys < length xs → length other.core.frames ≡ depth → ⊥) → SameLine xs ys one other
   frames_one depth before one other xs ys run run' ends ends' = dite (dec_le (suc (length xs)) (length ys))
       (λ low. absurd (ends low (frames_shorter depth before one other xs ys low run run')))
       (λ high. dite (dec_le (suc (length ys)) (length xs))
@@ -90,7 +90,7 @@ module _ (n size : ℕ) where
       let depth =
       length before.core.frames in
       frames_one depth before one other xs ys run run' (stops count depth xs ys one other stop stop')
-          (stops count depth ys xs other one stop' stop)
+      (stops count depth ys xs other one stop' stop)
 
   finishes_one : (before one other : Lane) (xs ys : List Exchange) → FinishesFrame n size before xs one
       → FinishesFrame n size before ys other → SameLine xs ys one other
@@ -101,7 +101,7 @@ module _ (n size : ℕ) where
       let depth =
       length before.core.frames in
       frames_one depth before one other xs ys run run' (λ low stands. let no : ⊥ = omega arith in no)
-          (λ low stands. let no : ⊥ = omega arith in no)
+      (λ low stands. let no : ⊥ = omega arith in no)
 
   -- ---- a push
 
@@ -110,9 +110,10 @@ module _ (n size : ℕ) where
       → (x ≡ y) × (one ≡ other)
   pushes_one event payload before one other x y p q =
       let (answer, state) =
-          steps_are_determined n size before.core event x.answer y.answer p.core q.core p.step q.step in
-      (same_exchange x y (p.event_is ∙ sym q.event_is) answer,
-       p.after_is ∙ (λ i. lane_with before payload (answer i) (state i)) ∙ sym q.after_is)
+      steps_are_determined n size before.core event x.answer y.answer p.core q.core p.step q.step in (
+        same_exchange x y (p.event_is ∙ sym q.event_is) answer,
+        p.after_is ∙ (λ i. lane_with before payload (answer i) (state i)) ∙ sym q.after_is,
+      )
 
   pushed_one : (answer : Answer) (before one other : Lane) (xs ys : List Exchange)
       → FinishesPushed n size answer before xs one → FinishesPushed n size answer before ys other
@@ -136,8 +137,8 @@ module _ (n size : ℕ) where
   writes_one event payload before one other xs ys v w =
       let (push, between) = pushes_one event payload before v.between w.between v.push w.push v.pushes w.pushes in
       let behind : FinishesPushed n size v.push.answer v.between w.rest other =
-          subst (λ (l : Lane). FinishesPushed n size v.push.answer l w.rest other) (sym between)
-              (subst (λ (x : Exchange). FinishesPushed n size x.answer w.between w.rest other) (sym push) w.finishes) in
+      subst (λ (l : Lane). FinishesPushed n size v.push.answer l w.rest other) (sym between)
+      (subst (λ (x : Exchange). FinishesPushed n size x.answer w.between w.rest other) (sym push) w.finishes) in
       let (rest, last) = pushed_one v.push.answer v.between one other v.rest w.rest v.finishes behind in
       (v.exchanges_are ∙ longer v.push w.push v.rest w.rest push rest ∙ sym w.exchanges_are, last)
 
@@ -151,8 +152,8 @@ module _ (n size : ℕ) where
   readers_same before one other (x ∷ xs) (y ∷ ys) e (event, more, core, step, run) (event', more', core', step', run') =
       let (answer, state) = steps_are_determined n size before.core reads x.answer y.answer core core' step step' in
       let (rest, last) =
-          readers_same (lane_behind before core) one other xs ys (omega arith) run
-              (subst (λ (c : Core). ReaderRun n size (lane_behind before c) ys other) (sym state) run') in
+      readers_same (lane_behind before core) one other xs ys (omega arith) run
+      (subst (λ (c : Core). ReaderRun n size (lane_behind before c) ys other) (sym state) run') in
       (longer x y xs ys (same_exchange x y (event ∙ sym event') answer) rest, last)
 
   -- a shorter run hasn't been answered
@@ -169,7 +170,7 @@ module _ (n size : ℕ) where
       (event', more', core', step', run') answered =
       let (answer, state) = steps_are_determined n size before.core reads x.answer y.answer core core' step step' in
       readers_shorter (lane_behind before core) one other (w ∷ xs) ys (omega arith) run
-          (subst (λ (c : Core). ReaderRun n size (lane_behind before c) ys other) (sym state) run') answered
+      (subst (λ (c : Core). ReaderRun n size (lane_behind before c) ys other) (sym state) run') answered
 
   readers_one : (before one other : Lane) (xs ys : List Exchange) → ReaderRun n size before xs one
       → ReaderRun n size before ys other → (length xs < length ys → HasTakeAnswer xs)
@@ -189,9 +190,10 @@ module _ (n size : ℕ) where
       → Wishes n size before ys other → SameLine xs ys one other
   wishes_one before one other xs ys v w =
       let (answer, state) =
-          steps_are_determined n size before.core wishes v.answer w.answer v.core w.core v.step w.step in
-      (v.exchanges_are ∙ (λ i. record { event = wishes; answer = answer i } ∷ []) ∙ sym w.exchanges_are,
-       v.after_is ∙ ap (lane_behind before) state ∙ sym w.after_is)
+      steps_are_determined n size before.core wishes v.answer w.answer v.core w.core v.step w.step in (
+        v.exchanges_are ∙ (λ i. record { event = wishes; answer = answer i } ∷ []) ∙ sym w.exchanges_are,
+        v.after_is ∙ ap (lane_behind before) state ∙ sym w.after_is,
+      )
 
   -- ---- the whole
 

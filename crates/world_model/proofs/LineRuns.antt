@@ -35,9 +35,11 @@ module _ (n size : ℕ) where
   push_run : (event : Event) (payload : List ℕ) (before between after : Lane) (x : Exchange) (xs : List Exchange)
       → PushesFrame n size event payload before x between → Run n size between.core xs after.core
       → Run n size before.core (x ∷ xs) after.core
-  push_run event payload before between after x xs p run =
-      (p.core, subst (λ (e : Event). Step n size before.core e x.answer p.core) (sym p.event_is) p.step,
-       subst (λ (l : Lane). Run n size l.core xs after.core) p.after_is run)
+  push_run event payload before between after x xs p run = (
+    p.core,
+    subst (λ (e : Event). Step n size before.core e x.answer p.core) (sym p.event_is) p.step,
+    subst (λ (l : Lane). Run n size l.core xs after.core) p.after_is run,
+  )
 
   pushed_run : (answer : Answer) (before after : Lane) (xs : List Exchange)
       → FinishesPushed n size answer before xs after → Run n size before.core xs after.core
@@ -60,14 +62,16 @@ module _ (n size : ℕ) where
   writes_run event payload before after xs w =
       subst (λ (l : List Exchange). Run n size before.core l after.core) (sym w.exchanges_are)
       (push_run event payload before w.between after w.push w.rest w.pushes
-       (pushed_run w.push.answer w.between after w.rest w.finishes))
+      (pushed_run w.push.answer w.between after w.rest w.finishes))
 
   reader_run : (before after : Lane) (xs : List Exchange) → ReaderRun n size before xs after
       → Run n size before.core xs after.core
   reader_run before after [] run = ap (λ (l : Lane). l.core) run
-  reader_run before after (x ∷ xs) (event, more, core, step, run) =
-      (core, subst (λ (e : Event). Step n size before.core e x.answer core) (sym event) step,
-       reader_run (lane_behind before core) after xs run)
+  reader_run before after (x ∷ xs) (event, more, core, step, run) = (
+    core,
+    subst (λ (e : Event). Step n size before.core e x.answer core) (sym event) step,
+    reader_run (lane_behind before core) after xs run,
+  )
 
   wishes_run : (before after : Lane) (xs : List Exchange) → Wishes n size before xs after
       → Run n size before.core xs after.core
@@ -79,7 +83,7 @@ module _ (n size : ℕ) where
       → Run n size before.core xs after.core
   line_run (begin_frame cpu moment payload) before after xs (x, is, p) =
       subst (λ (l : List Exchange). Run n size before.core l after.core) (sym is)
-          (push_run _ payload before after after x [] p refl)
+      (push_run _ payload before after after x [] p refl)
   line_run (step_frame cpu count) before after xs run = steps_run count before after xs run
   line_run (finish_frame cpu) before after xs run = finishes_run before after xs run
   line_run (write cpu moment payload) before after xs run = writes_run _ payload before after xs run
@@ -89,4 +93,4 @@ module _ (n size : ℕ) where
   line_run (wish cpu) before after xs run = wishes_run before after xs run
   line_run (deliver collector cpu fill) before after xs run =
       subst (λ (l : List Exchange). Run n size before.core l after.core) (sym run.0)
-          (ap (λ (l : Lane). l.core) (sym run.1))
+      (ap (λ (l : Lane). l.core) (sym run.1))

@@ -16,7 +16,7 @@ module _ (n start : ℕ) (c : Core) (events others : List RingEvent) (reported :
   lost_same : (f : ℕ) → Contains (fills_lost start events) f → Contains (fills_lost start others) f
   lost_same f has =
       let (low, high, closed, full) =
-          lost_closed n [] (first_window start) (window_of c) events f reported.window has in
+      lost_closed n [] (first_window start) (window_of c) events f reported.window has in
       ⊎_elim (λ taken. absurd (not_both start events f (taken_same f taken) has)) (λ lost. lost)
       (passed_by n [] (first_window start) (window_of c) others f other.window low high)
 
@@ -27,7 +27,7 @@ module _ (n start : ℕ) (c : Core) (events others : List RingEvent) (reported :
     was_lost = lost_same o.lost o.was_lost;
     stands =
         subst (λ (h : List HistoryEvent). StandsIn h start o.lost number)
-            (reported.history_events ∙ sym other.history_events) o.stands;
+        (reported.history_events ∙ sym other.history_events) o.stands;
     before = o.before;
     after_taken = λ taken has. o.after_taken taken (taken_same taken has);
   }

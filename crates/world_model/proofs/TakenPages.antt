@@ -45,8 +45,8 @@ module _ (n size start : ℕ) (c : Core) (event : Event) (answer : Answer) (afte
   none_taken : ((t : TakenFill) → answer ≢ page_taken t) → after.reader.taken ≡ c.reader.taken ++ []
   none_taken not =
       ⊎_elim (λ stays. stays.1) (λ (what, happened). by_what what happened)
-              (step_owed n size start c event answer after kept.links kept.stack kept.history (cases_of step)).window
-          ∙ sym (append-nil c.reader.taken)
+      (step_owed n size start c event answer after kept.links kept.stack kept.history (cases_of step)).window
+      ∙ sym (append-nil c.reader.taken)
     where
       by_what : (what : RingEvent) → MovesWindow n c what after → after.reader.taken ≡ c.reader.taken
       by_what (acts (push moment len)) h = absurd h.shown
@@ -118,7 +118,7 @@ pub parcels_of_is : (cpu : ℕ) (xs : List Exchange) → parcels_of cpu xs ≡ m
 parcels_of_is cpu [] = refl
 parcels_of_is cpu (x ∷ xs) =
     (λ i. parcels_in_is cpu x.answer i ++ parcels_of_is cpu xs i)
-        ∙ sym (map-append (parcel_of cpu) (taken_in x.answer) (taken_by xs))
+    ∙ sym (map-append (parcel_of cpu) (taken_in x.answer) (taken_by xs))
 
 -- they are all of this CPU, and none of another
 pub all_of_cpu : (cpu : ℕ) (taken : List TakenFill)

@@ -40,7 +40,7 @@ module _ (script : Script) where
   kept_at lines before after all kept zero = kept
   kept_at lines before after all kept (suc k) =
       kept_at (other_lines lines) (second_world lines before after all) after (others_obeyed lines before after all)
-          (second_kept lines before after all kept) k
+      (second_kept lines before after all kept) k
 
   -- after all lines it is the last one
   pub world_last : (lines : List (ℕ × Command)) (before after : World) (all : ObeysAll script lines before after)

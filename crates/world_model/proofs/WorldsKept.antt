@@ -51,8 +51,8 @@ pub new_kept : (script : Script) (w : World) → IsWithinLimits script → IsNew
 new_kept script w limits new =
     let first : (cpu : ℕ) (lane : Lane) → slice_get w.lanes cpu ≡ Some lane → IsNewLane script.pages script.start lane =
     λ cpu lane at.
-           subst (IsNewLane script.pages script.start) (get_or_from_slice_get w.lanes cpu lane lane at)
-               (new.new cpu lane (slice_get_within w.lanes cpu lane at)) in
+    subst (IsNewLane script.pages script.start) (get_or_from_slice_get w.lanes cpu lane lane at)
+    (new.new cpu lane (slice_get_within w.lanes cpu lane at)) in
     record {
       cpus = new.cpus;
       collectors = new.collectors;
@@ -65,12 +65,12 @@ new_kept script w limits new =
       };
       taken =
           λ cpu lane at.
-                 ap (parcels_from cpu) new.none_taken
-                     ∙ ap (λ (r : Reader). map (parcel_of cpu) r.taken) (sym (first cpu lane at).0.reader);
+          ap (parcels_from cpu) new.none_taken
+          ∙ ap (λ (r : Reader). map (parcel_of cpu) r.taken) (sym (first cpu lane at).0.reader);
       of_a_cpu = λ parcel has. has_none parcel (subst (λ (l : List Parcel). Contains l parcel) new.none_taken has);
       delivered = λ collector parcels parcel at has. has_none parcel (subst (λ (l : List Parcel). Contains l parcel)
           (sym (get_or_from_slice_get w.delivered collector parcels parcels at)
-           ∙ new.none_delivered collector parcels (slice_get_within w.delivered collector parcels at)) has);
+          ∙ new.none_delivered collector parcels (slice_get_within w.delivered collector parcels at)) has);
     }
 
 -- ---- a line of a ring
@@ -102,7 +102,7 @@ module _ (script : Script) (line : ℕ) (command : Command) (cpu : ℕ) (before 
   here : (lane : Lane) → slice_get lanes cpu ≡ Some lane → r.next ≡ lane
   here lane at =
       some_is r.next lane
-          (sym (get_set_here before.lanes cpu r.next (slice_get_within before.lanes cpu r.lane r.lane_is)) ∙ at)
+      (sym (get_set_here before.lanes cpu r.next (slice_get_within before.lanes cpu r.lane r.lane_is)) ∙ at)
 
   there : (other : ℕ) (lane : Lane) → other ≢ cpu → slice_get lanes other ≡ Some lane
       → slice_get before.lanes other ≡ Some lane
@@ -110,10 +110,10 @@ module _ (script : Script) (line : ℕ) (command : Command) (cpu : ℕ) (before 
 
   brought : (other : ℕ)
       → parcels_from other (before.taken ++ parcels_of cpu r.exchanges)
-          ≡ parcels_from other before.taken ++ parcels_from other (map (parcel_of cpu) (taken_by r.exchanges))
+      ≡ parcels_from other before.taken ++ parcels_from other (map (parcel_of cpu) (taken_by r.exchanges))
   brought other =
       ap (λ (l : List Parcel). parcels_from other (before.taken ++ l)) (parcels_of_is cpu r.exchanges)
-          ∙ filter-append _ before.taken (map (parcel_of cpu) (taken_by r.exchanges))
+      ∙ filter-append _ before.taken (map (parcel_of cpu) (taken_by r.exchanges))
 
   taken_here : parcels_from cpu (before.taken ++ parcels_of cpu r.exchanges)
       ≡ map (parcel_of cpu) r.next.core.reader.taken
@@ -121,15 +121,15 @@ module _ (script : Script) (line : ℕ) (command : Command) (cpu : ℕ) (before 
       ∙ (λ i. kept.taken cpu r.lane r.lane_is i ++ all_of_cpu cpu (taken_by r.exchanges) i)
       ∙ sym (map-append (parcel_of cpu) r.lane.core.reader.taken (taken_by r.exchanges))
       ∙ ap (map (parcel_of cpu))
-          (sym (run_takes script.pages script.size script.start r.lane.core r.next.core r.exchanges
-                (reached_kept script.pages script.size script.start r.lane.core (kept.reached cpu r.lane r.lane_is))
-                runs))
+      (sym (run_takes script.pages script.size script.start r.lane.core r.next.core r.exchanges
+      (reached_kept script.pages script.size script.start r.lane.core (kept.reached cpu r.lane r.lane_is))
+      runs))
 
   taken_there : (other : ℕ) (lane : Lane) → other ≢ cpu → slice_get lanes other ≡ Some lane
       → parcels_from other (before.taken ++ parcels_of cpu r.exchanges) ≡ map (parcel_of other) lane.core.reader.taken
   taken_there other lane apart at = brought other
       ∙ ap (λ (l : List Parcel). parcels_from other before.taken ++ l)
-          (none_of_cpu other cpu (taken_by r.exchanges) (λ e. apart (sym e)))
+      (none_of_cpu other cpu (taken_by r.exchanges) (λ e. apart (sym e)))
       ∙ append-nil (parcels_from other before.taken)
       ∙ kept.taken other lane (there other lane apart at)
 
@@ -139,7 +139,7 @@ module _ (script : Script) (line : ℕ) (command : Command) (cpu : ℕ) (before 
   brought_of_cpu : (parcel : Parcel) → Contains (parcels_of cpu r.exchanges) parcel → parcel.cpu ≡ cpu
   brought_of_cpu parcel has =
       All-contains (λ p. p.cpu ≡ cpu) (map (parcel_of cpu) (taken_by r.exchanges)) parcel
-          (All-map (λ p. p.cpu ≡ cpu) (parcel_of cpu) (taken_by r.exchanges) (λ k d low. refl))
+      (All-map (λ p. p.cpu ≡ cpu) (parcel_of cpu) (taken_by r.exchanges) (λ k d low. refl))
       (subst (λ (l : List Parcel). Contains l parcel) (parcels_of_is cpu r.exchanges) has)
 
   line_kept : IsWorldKept script after
@@ -148,31 +148,31 @@ module _ (script : Script) (line : ℕ) (command : Command) (cpu : ℕ) (before 
     collectors = kept.collectors;
     reached = λ other lane at. dite (ℕ_discrete other cpu)
         (λ e.
-            subst (λ (l : Lane). IsReached script.pages script.size script.start l.core)
-                (here lane (subst (λ (j : ℕ). slice_get lanes j ≡ Some lane) e at))
+        subst (λ (l : Lane). IsReached script.pages script.size script.start l.core)
+        (here lane (subst (λ (j : ℕ). slice_get lanes j ≡ Some lane) e at))
         (reached_on script.pages script.size script.start r.lane.core r.next.core r.exchanges
-         (kept.reached cpu r.lane r.lane_is) runs))
+        (kept.reached cpu r.lane r.lane_is) runs))
         (λ apart. kept.reached other lane (there other lane apart at));
     taken = λ other lane at. dite (ℕ_discrete other cpu)
         (λ e.
-            subst
-                (λ (j : ℕ).
-                    parcels_from j (before.taken ++ parcels_of cpu r.exchanges)
-                        ≡ map (parcel_of j) lane.core.reader.taken) (sym e)
+        subst
+        (λ (j : ℕ).
+        parcels_from j (before.taken ++ parcels_of cpu r.exchanges)
+        ≡ map (parcel_of j) lane.core.reader.taken) (sym e)
         (subst
-         (λ (l : Lane).
-             parcels_from cpu (before.taken ++ parcels_of cpu r.exchanges) ≡ map (parcel_of cpu) l.core.reader.taken)
-         (here lane (subst (λ (j : ℕ). slice_get lanes j ≡ Some lane) e at)) taken_here))
+        (λ (l : Lane).
+        parcels_from cpu (before.taken ++ parcels_of cpu r.exchanges) ≡ map (parcel_of cpu) l.core.reader.taken)
+        (here lane (subst (λ (j : ℕ). slice_get lanes j ≡ Some lane) e at)) taken_here))
         (λ apart. taken_there other lane apart at);
     of_a_cpu =
         λ parcel has.
-               ⊎_elim (λ old. kept.of_a_cpu parcel old)
-                   (λ new. subst (λ (j : ℕ). j < script.cpus) (sym (brought_of_cpu parcel new)) within)
-                   (Contains-append_cases before.taken (parcels_of cpu r.exchanges) parcel has);
+        ⊎_elim (λ old. kept.of_a_cpu parcel old)
+        (λ new. subst (λ (j : ℕ). j < script.cpus) (sym (brought_of_cpu parcel new)) within)
+        (Contains-append_cases before.taken (parcels_of cpu r.exchanges) parcel has);
     delivered =
         λ collector parcels parcel at has.
-               Contains-append_left before.taken (parcels_of cpu r.exchanges) parcel
-                   (kept.delivered collector parcels parcel at has);
+        Contains-append_left before.taken (parcels_of cpu r.exchanges) parcel
+        (kept.delivered collector parcels parcel at has);
   }
 
 -- ---- a delivery
@@ -185,15 +185,15 @@ module _ (script : Script) (line collector cpu fill : ℕ) (before after : World
   to_it : (parcels : List Parcel) → slice_get delivered collector ≡ Some parcels → d.earlier ++ d.parcel ∷ [] ≡ parcels
   to_it parcels at = some_is (d.earlier ++ d.parcel ∷ []) parcels
       (sym (get_set_here before.delivered collector (d.earlier ++ d.parcel ∷ [])
-            (slice_get_within before.delivered collector d.earlier d.earlier_are)) ∙ at)
+      (slice_get_within before.delivered collector d.earlier d.earlier_are)) ∙ at)
 
   to_collector : (parcels : List Parcel) (parcel : Parcel) → slice_get delivered collector ≡ Some parcels
       → Contains parcels parcel → Contains before.taken parcel
   to_collector parcels parcel at has =
       ⊎_elim (λ old. kept.delivered collector d.earlier parcel d.earlier_are old)
-          (λ is. subst (Contains before.taken) is d.was_taken)
+      (λ is. subst (Contains before.taken) is d.was_taken)
       (Contains-push_cases d.earlier d.parcel parcel
-       (subst (λ (l : List Parcel). Contains l parcel) (sym (to_it parcels at)) has))
+      (subst (λ (l : List Parcel). Contains l parcel) (sym (to_it parcels at)) has))
 
   taken_kept : IsWorldKept script after
   taken_kept = subst (IsWorldKept script) (sym d.after_is) record {
@@ -205,8 +205,8 @@ module _ (script : Script) (line collector cpu fill : ℕ) (before after : World
     delivered = λ other parcels parcel at has. dite (ℕ_discrete other collector)
         (λ e. to_collector parcels parcel (subst (λ (j : ℕ). slice_get delivered j ≡ Some parcels) e at) has)
         (λ apart.
-            kept.delivered other parcels parcel
-                (sym (get_set_other before.delivered collector other (d.earlier ++ d.parcel ∷ []) apart) ∙ at) has);
+        kept.delivered other parcels parcel
+        (sym (get_set_other before.delivered collector other (d.earlier ++ d.parcel ∷ []) apart) ∙ at) has);
   }
 
 module _ (script : Script) (line collector cpu fill : ℕ) (before after : World) (kept : IsWorldKept script before) where

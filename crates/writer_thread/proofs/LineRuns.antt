@@ -73,7 +73,7 @@ part_way_more depth count old now next part_way some deep top =
       run = subst (λ (l : List (List ℕ)). TopCalls s.pages s.size s.start (depth - 1) (writer_in old.writer.part)
           (payloads_of old) (part_way.calls ++ top.x ∷ []) (writer_in next.writer.part) l) (sym top.lefts_are)
           (top_calls_go_on s.pages s.size s.start (depth - 1) (writer_in old.writer.part) (payloads_of old)
-           part_way.calls
+          part_way.calls
           (writer_in now.writer.part) (payloads_of now) top.x (writer_in next.writer.part) part_way.run top_here
           top.event_is call);
       has_made = made_then old now next part_way.calls (top.x ∷ []) part_way.has_made top.has_made;

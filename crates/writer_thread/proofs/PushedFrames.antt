@@ -116,8 +116,8 @@ module _ (old : LineWriter) (is : IsLineWriter old) (v : WriterValue) (event : E
       → made_in v.part ≡ made_in old.writer.part ++ record { event = event; answer = reported } ∷ []
   log reported e =
       subst
-          (λ (a : model.Answer). made_in v.part ≡ made_in old.writer.part ++ record { event = event; answer = a } ∷ [])
-          e
+      (λ (a : model.Answer). made_in v.part ≡ made_in old.writer.part ++ record { event = event; answer = a } ∷ [])
+      e
       (logged old.writer.shape old.writer.part event result v.part makes.call)
 
   -- it is refused

@@ -125,7 +125,7 @@ module _ (shape : Shape) (below : List Frame) (payload : List ℕ) (payloads : L
         b,
         stands_then from between after steps Going a.frame s a.top
             (other_steps (IsReserving a.frame.kind) a.frame.state (payload ∷ payloads) (λ number is. is) a.reserves)
-                call b.frame b.top,
+            call b.frame b.top,
       )
 
   -- ---- until it is popped
@@ -143,7 +143,7 @@ module _ (shape : Shape) (below : List Frame) (payload : List ℕ) (payloads : L
         b,
         stands_then from between after steps Going a.frame t a.top
             (other_steps (IsLeaving a.frame.kind) a.frame.state (payload ∷ payloads) (λ number is. is) a.leaves) call
-                b.frame b.top,
+            b.frame b.top,
       )
 
   leaves : (from start : Writing) (answer : Answer) (after : Writing) (frame : Frame)
@@ -162,7 +162,7 @@ module _ (shape : Shape) (below : List Frame) (payload : List ℕ) (payloads : L
       leaves from next last after other
       (stands_then from mid next steps (Refused fault) a.frame t a.top
       (other_steps (IsLeaving a.frame.kind) a.frame.state (payload ∷ payloads) (λ number is. is) a.leaves) call other
-          above)
+      above)
       above is_leaving rest
 
 -- ---- a whole write
@@ -215,7 +215,7 @@ module _ (shape : Shape) (before : Writing) (moment : ℕ) (payload : List ℕ) 
       (stands_then shape before.frames payload payloads many w.pushed w.reserve.between w.reserved steps
       (Reserved w.number) a.frame s a.top
       (other_steps (IsReserving a.frame.kind) a.frame.state (payload ∷ payloads) (λ number is. is) a.reserves)
-          w.reserve.last t.next t.top)
+      w.reserve.last t.next t.top)
       t w.end w.goes w.frames
 
   refused_calls : (fault : WriteFault) (r : IsRefusedPartWay shape before moment (length payload) fault after)
@@ -240,14 +240,14 @@ module _ (shape : Shape) (before : Writing) (moment : ℕ) (payload : List ℕ) 
           (popped_then shape before.frames payload payloads many r.pushed r.reserve.between r.refused steps
           (Refused fault) a.frame s a.top
           (other_steps (IsReserving a.frame.kind) a.frame.state (payload ∷ payloads) (λ number is. is) a.reserves)
-              r.reserve.last
+          r.reserve.last
           (ap (λ (w : Writing). w.frames) (sym same) ∙ r.frames))
       rest a s (inr (frame, answer, top, is, all)) =
           leaves shape before.frames payload payloads many r.pushed r.refused answer after frame
           (stands_then shape before.frames payload payloads many r.pushed r.reserve.between r.refused steps
           (Refused fault) a.frame s a.top
           (other_steps (IsReserving a.frame.kind) a.frame.state (payload ∷ payloads) (λ number is. is) a.reserves)
-              r.reserve.last frame top)
+          r.reserve.last frame top)
           top is all
 
 -- ---- the line

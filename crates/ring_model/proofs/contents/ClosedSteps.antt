@@ -50,8 +50,11 @@ module _ (n start : ℕ) (c : Core) (k : LinksKept n c) (t : ContentsKept n star
   closed_opened for_close waiting page frame below =
       first_more (c.history ++ open_fill ∷ []) (leave None) (c.done - start)
       (let low = counted in
-       omega (arith, ap (length {A = ℕ}) (opens_of-open_fill c.history),
-              length-append (opens_of c.history) (length (reserved_records c.history) ∷ [])))
+      omega (
+        arith,
+        ap (length {A = ℕ}) (opens_of-open_fill c.history),
+        length-append (opens_of c.history) (length (reserved_records c.history) ∷ []),
+      ))
       (closed_more open_fill)
 
   again : (frame : Frame) (below : List Frame) (noted : ℕ) (answer : Answer) (after : Core)
@@ -63,74 +66,74 @@ module _ (n start : ℕ) (c : Core) (k : LinksKept n c) (t : ContentsKept n star
   closed_released : is_settled c.history ≡ true → c.done + 1 < c.opened → ClosedAt start c.history (c.done + 1)
   closed_released settled more = let all = committed_len-settled c.history settled in let a = t.begun in
       let low =
-          first_below 0 (opens_of c.history) (length (reserved_records c.history)) (c.done + 1 - start) (omega arith)
-              t.rising in
+      first_below 0 (opens_of c.history) (length (reserved_records c.history)) (c.done + 1 - start) (omega arith)
+      t.rising in
       omega arith
 
 module _ (n size start : ℕ) (c : Core) (frame : Frame) (below : List Frame) (k : LinksKept n c) (s : StackKept c)
     (h : HistoryKept n start c) (t : ContentsKept n start c) (z : ClosedKept start c) (top : c.frames ≡ frame ∷ below)
-    where
-  closed_reserve : (answer : Answer) (after : Core) → ReserveStep n size c frame below answer after
-      → ClosedKept start after
-  closed_reserve answer after (reserves moment len r kind r_is fits a is) =
-      subst (ClosedKept start) (sym is) (closed_more n start c k t z reserve)
-  closed_reserve answer after (finds_nothing kind none a is) =
-      subst (ClosedKept start) (sym is) (closed_more n start c k t z (leave None))
-  closed_reserve answer after (is_crowded needs full a is) =
-      subst (ClosedKept start) (sym is) (closed_more n start c k t z (leave None))
-  closed_reserve answer after (is_worn needs full last a is) =
-      subst (ClosedKept start) (sym is) (closed_more n start c k t z (leave None))
-  closed_reserve answer after (notes needs room small a is) = subst (ClosedKept start) (sym is) z
+  where
+    closed_reserve : (answer : Answer) (after : Core) → ReserveStep n size c frame below answer after
+        → ClosedKept start after
+    closed_reserve answer after (reserves moment len r kind r_is fits a is) =
+        subst (ClosedKept start) (sym is) (closed_more n start c k t z reserve)
+    closed_reserve answer after (finds_nothing kind none a is) =
+        subst (ClosedKept start) (sym is) (closed_more n start c k t z (leave None))
+    closed_reserve answer after (is_crowded needs full a is) =
+        subst (ClosedKept start) (sym is) (closed_more n start c k t z (leave None))
+    closed_reserve answer after (is_worn needs full last a is) =
+        subst (ClosedKept start) (sym is) (closed_more n start c k t z (leave None))
+    closed_reserve answer after (notes needs room small a is) = subst (ClosedKept start) (sym is) z
 
-  closed_idle : (state : Progress) (answer : Answer) (after : Core) → IdleStep n size c frame below state answer after
-      → ClosedKept start after
-  closed_idle waiting answer after step = closed_reserve answer after step
-  closed_idle (reserved number) answer after step = subst (ClosedKept start) (sym step.1) z
-  closed_idle left answer after step = absurd step
+    closed_idle : (state : Progress) (answer : Answer) (after : Core) → IdleStep n size c frame below state answer after
+        → ClosedKept start after
+    closed_idle waiting answer after step = closed_reserve answer after step
+    closed_idle (reserved number) answer after step = subst (ClosedKept start) (sym step.1) z
+    closed_idle left answer after step = absurd step
 
-  closed_frame : (phase : Phase) (answer : Answer) (after : Core) → frame.phase ≡ phase
-      → FrameStep n size c frame below phase answer after → ClosedKept start after
-  closed_frame idle answer after same step = closed_idle frame.state answer after step
-  closed_frame (looking noted) answer after same (load_link_late step) =
-      again n start c k t z frame below noted answer after step
-  closed_frame (looking noted) answer after same (sees_free page now at a is) = subst (ClosedKept start) (sym is) z
-  closed_frame (looking noted) answer after same (sees_header page lost now sum at a is) =
-      subst (ClosedKept start) (sym is) z
-  closed_frame (looking noted) answer after same (sees_update page lost now sum at a is) =
-      subst (ClosedKept start) (sym is) z
-  closed_frame (claiming noted page) answer after same (claim_late step) =
-      again n start c k t z frame below noted answer after step
-  closed_frame (claiming noted page) answer after same (claims lost now sum at a is) =
-      subst (ClosedKept start) (sym is) z
-  closed_frame (claiming noted page) answer after same (claim_fails now other a is) =
-      subst (ClosedKept start) (sym is) z
-  closed_frame (looking_next role noted page) answer after same (load_next_late helps step) =
-      again n start c k t z frame below noted answer after step
-  closed_frame (looking_next role noted page) answer after same (sees_normal lost next goes_on sum at a is) =
-      subst (ClosedKept start) (sym is) z
-  closed_frame (looking_next role noted page) answer after same (sees_other lost goes_on sum other a is) =
-      subst (ClosedKept start) (sym is) z
-  closed_frame (marking role noted page next) answer after same (mark_late helps step) =
-      again n start c k t z frame below noted answer after step
-  closed_frame (marking role noted page next) answer after same (marks lost goes_on sum at a is) =
-      subst (ClosedKept start) (sym is) z
-  closed_frame (marking role noted page next) answer after same (mark_fails lost goes_on sum other a is) =
-      subst (ClosedKept start) (sym is) z
-  closed_frame (clearing noted page) answer after same (clears lost sum at a is) = subst (ClosedKept start) (sym is) z
-  closed_frame (opening noted page) answer after same (open_late step) =
-      again n start c k t z frame below noted answer after step
-  closed_frame (opening noted page) answer after same (opens now a is) =
-      subst (ClosedKept start) (sym is) (closed_opened n start c k t z frame.kind frame.state page frame below)
-  closed_frame releasing answer after same (releases alone more a is) = subst (ClosedKept start) (sym is)
-      (closed_released n start c k t z
-       (settled_at_rest c.history (rest_releasing n size start c frame below k s h top same)) (omega arith))
-  closed_frame releasing answer after same (releases_last alone last a is) = subst (ClosedKept start) (sym is)
-      (closed_released n start c k t z
-       (settled_at_rest c.history (rest_releasing n size start c frame below k s h top same)) (omega arith))
-  closed_frame wishing answer after same (grants alone granted a is) =
-      subst (ClosedKept start) (sym is) (closed_more n start c k t z wished)
-  closed_frame wishing answer after same (closes_more alone none more a is) = subst (ClosedKept start) (sym is) z
-  closed_frame wishing answer after same (goes_away alone none last a is) = subst (ClosedKept start) (sym is) z
+    closed_frame : (phase : Phase) (answer : Answer) (after : Core) → frame.phase ≡ phase
+        → FrameStep n size c frame below phase answer after → ClosedKept start after
+    closed_frame idle answer after same step = closed_idle frame.state answer after step
+    closed_frame (looking noted) answer after same (load_link_late step) =
+        again n start c k t z frame below noted answer after step
+    closed_frame (looking noted) answer after same (sees_free page now at a is) = subst (ClosedKept start) (sym is) z
+    closed_frame (looking noted) answer after same (sees_header page lost now sum at a is) =
+        subst (ClosedKept start) (sym is) z
+    closed_frame (looking noted) answer after same (sees_update page lost now sum at a is) =
+        subst (ClosedKept start) (sym is) z
+    closed_frame (claiming noted page) answer after same (claim_late step) =
+        again n start c k t z frame below noted answer after step
+    closed_frame (claiming noted page) answer after same (claims lost now sum at a is) =
+        subst (ClosedKept start) (sym is) z
+    closed_frame (claiming noted page) answer after same (claim_fails now other a is) =
+        subst (ClosedKept start) (sym is) z
+    closed_frame (looking_next role noted page) answer after same (load_next_late helps step) =
+        again n start c k t z frame below noted answer after step
+    closed_frame (looking_next role noted page) answer after same (sees_normal lost next goes_on sum at a is) =
+        subst (ClosedKept start) (sym is) z
+    closed_frame (looking_next role noted page) answer after same (sees_other lost goes_on sum other a is) =
+        subst (ClosedKept start) (sym is) z
+    closed_frame (marking role noted page next) answer after same (mark_late helps step) =
+        again n start c k t z frame below noted answer after step
+    closed_frame (marking role noted page next) answer after same (marks lost goes_on sum at a is) =
+        subst (ClosedKept start) (sym is) z
+    closed_frame (marking role noted page next) answer after same (mark_fails lost goes_on sum other a is) =
+        subst (ClosedKept start) (sym is) z
+    closed_frame (clearing noted page) answer after same (clears lost sum at a is) = subst (ClosedKept start) (sym is) z
+    closed_frame (opening noted page) answer after same (open_late step) =
+        again n start c k t z frame below noted answer after step
+    closed_frame (opening noted page) answer after same (opens now a is) =
+        subst (ClosedKept start) (sym is) (closed_opened n start c k t z frame.kind frame.state page frame below)
+    closed_frame releasing answer after same (releases alone more a is) = subst (ClosedKept start) (sym is)
+        (closed_released n start c k t z
+        (settled_at_rest c.history (rest_releasing n size start c frame below k s h top same)) (omega arith))
+    closed_frame releasing answer after same (releases_last alone last a is) = subst (ClosedKept start) (sym is)
+        (closed_released n start c k t z
+        (settled_at_rest c.history (rest_releasing n size start c frame below k s h top same)) (omega arith))
+    closed_frame wishing answer after same (grants alone granted a is) =
+        subst (ClosedKept start) (sym is) (closed_more n start c k t z wished)
+    closed_frame wishing answer after same (closes_more alone none more a is) = subst (ClosedKept start) (sym is) z
+    closed_frame wishing answer after same (goes_away alone none last a is) = subst (ClosedKept start) (sym is) z
 
 closed_read : (n start : ℕ) (c : Core) (phase : ReaderPhase) (answer : Answer) (after : Core) → ClosedKept start c
     → ReadStep n c phase answer after → ClosedKept start after
@@ -162,7 +165,7 @@ closed_step n size start c event answer after k s h t z (frame_step frame below 
     closed_frame n size start c frame below k s h t z top frame.phase answer after refl step
 closed_step n size start c event answer after k s h t z (frame_lacks e none a is) = subst (ClosedKept start) (sym is) z
 closed_step n size start c event answer after k s h t z
-        (end_step payload frame below number moment len e top phase kind slot a is) =
+    (end_step payload frame below number moment len e top phase kind slot a is) =
     subst (ClosedKept start) (sym is) (closed_more n start c k t z (leave (Some payload)))
 closed_step n size start c event answer after k s h t z (end_lacks payload e none a is) =
     subst (ClosedKept start) (sym is) z

@@ -31,7 +31,7 @@ pub tail_page_is : (n : ℕ) (c : Core) → OpenPagesKept n c → c.done < c.ope
     → tail_page c ≡ page_at n c.order (c.opened - 1)
 tail_page_is n c o behind = let count = o.count in
     o.each (length c.open_pages - 1) (omega arith)
-        ∙ ap (page_at n c.order) (let e : c.done + (length c.open_pages - 1) ≡ c.opened - 1 = omega arith in e)
+    ∙ ap (page_at n c.order) (let e : c.done + (length c.open_pages - 1) ≡ c.opened - 1 = omega arith in e)
 
 -- ---- one fill more, or less
 
@@ -41,10 +41,10 @@ module _ (n : ℕ) (order pages : List ℕ) (done opened : ℕ) (o : OpenPagesAt
     count = omega (arith, length-append pages (page ∷ []));
     each = λ i low. dite (ℕ_discrete i (length pages))
         (λ e.
-            ap (λ (j : ℕ). get_or (pages ++ page ∷ []) j 0) e ∙ get_or-append_seam pages page [] 0 ∙ is
-                ∙ ap (page_at n order) (let same : opened ≡ done + i = omega arith in same))
+        ap (λ (j : ℕ). get_or (pages ++ page ∷ []) j 0) e ∙ get_or-append_seam pages page [] 0 ∙ is
+        ∙ ap (page_at n order) (let same : opened ≡ done + i = omega arith in same))
         (λ ne. let within : i < length pages = omega (arith, length-append pages (page ∷ [])) in
-         get_or-append pages (page ∷ []) 0 i within ∙ o.each i within);
+        get_or-append pages (page ∷ []) 0 i within ∙ o.each i within);
   }
 
   pages_released : done < opened → OpenPagesAt n order (drop 1 pages) (done + 1) opened
@@ -52,8 +52,8 @@ module _ (n : ℕ) (order pages : List ℕ) (done opened : ℕ) (o : OpenPagesAt
     count = omega (arith, length-drop 1 pages);
     each =
         λ i low.
-               get_or_after_one pages i 0 ∙ o.each (1 + i) (omega (arith, length-drop 1 pages))
-                   ∙ ap (page_at n order) (let same : done + (1 + i) ≡ (done + 1) + i = omega arith in same);
+        get_or_after_one pages i 0 ∙ o.each (1 + i) (omega (arith, length-drop 1 pages))
+        ∙ ap (page_at n order) (let same : done + (1 + i) ≡ (done + 1) + i = omega arith in same);
   }
 
   -- the page of a closed fill is swapped
@@ -63,10 +63,10 @@ module _ (n : ℕ) (order pages : List ℕ) (done opened : ℕ) (o : OpenPagesAt
     count = o.count;
     each =
         λ i low.
-               o.each i low
-                   ∙ sym
-                       (page_else head n order (done + i) head spare (omega arith) (omega arith) (omega arith)
-                        (omega arith) (λ e. omega arith));
+        o.each i low
+        ∙ sym
+        (page_else head n order (done + i) head spare (omega arith) (omega arith) (omega arith)
+        (omega arith) (λ e. omega arith));
   }
 
 -- ---- the frame on top
@@ -127,8 +127,8 @@ module _ (n size : ℕ) (c : Core) (frame : Frame) (below : List Frame) (k : Lin
   pages_frame (opening noted page) answer after same (open_late step) = pages_again noted answer after step
   pages_frame (opening noted page) answer after same (opens now a is) =
       let (open_yet, inside, page_is) =
-          (subst (PhaseKept n c.links c.order c.head c.done c.opened) same (top_kept n c frame below k top)).passed
-              noted page refl in
+      (subst (PhaseKept n c.links c.order c.head c.done c.opened) same (top_kept n c frame below k top)).passed
+      noted page refl in
       subst (OpenPagesKept n) (sym is) (begun_pages n (with_new_tail c page) frame.kind frame.state frame below
       (pages_opened n c.order c.open_pages c.done c.opened o page (page_is ∙ ap (page_at n c.order) now)))
   pages_frame releasing answer after same (releases alone more a is) =
@@ -159,7 +159,7 @@ pages_read n c (swapping page fill) answer after k facts o (swaps at a is) =
     let reported = header_reports n c.links c.order c.head c.frames g page fill link (same ∙ at) in
     let here : fill ≡ c.head = reported.0 ∙ reported.1 in let closed = facts.1 in
     subst (OpenPagesKept n) (sym (is ∙ ap (after_swap n c page) here))
-        (pages_kept n c.order c.open_pages c.done c.opened o c.head c.spare (omega arith) k.opened_le)
+    (pages_kept n c.order c.open_pages c.done c.opened o c.head c.spare (omega arith) k.opened_le)
 pages_read n c (swapping page fill) answer after k facts o (swap_fails at a is) = subst (OpenPagesKept n) (sym is) o
 
 pub open_pages_step : (n size : ℕ) (c : Core) (event : Event) (answer : Answer) (after : Core) → LinksKept n c
@@ -174,7 +174,7 @@ open_pages_step n size c event answer after k o (frame_step frame below e top st
     pages_frame n size c frame below k o top frame.phase answer after refl step
 open_pages_step n size c event answer after k o (frame_lacks e none a is) = subst (OpenPagesKept n) (sym is) o
 open_pages_step n size c event answer after k o
-        (end_step payload frame below number moment len e top state kind slot a is) =
+    (end_step payload frame below number moment len e top state kind slot a is) =
     subst (OpenPagesKept n) (sym is) o
 open_pages_step n size c event answer after k o (end_lacks payload e none a is) = subst (OpenPagesKept n) (sym is) o
 open_pages_step n size c event answer after k o (end_early payload frame below e top none a is) =

@@ -51,7 +51,7 @@ pub ended_alike : (number : Option ℕ) (payload : Option (List ℕ)) (h : PageR
 ended_alike None payload h = refl
 ended_alike (Some k) payload h = ap (λ (m : ℕ). h.first + m)
     (cond_both (nat_lt k h.first) h.records (records_with_payload (Some (k - h.first)) payload h.records)
-     (λ (rs : List Reservation). length rs ≡ length h.records)
+    (λ (rs : List Reservation). length rs ≡ length h.records)
     (λ _. refl) (λ _. length-records_with_payload (Some (k - h.first)) payload h.records))
 
 pub ended_empty : (number : Option ℕ) (payload : Option (List ℕ))
@@ -59,20 +59,20 @@ pub ended_empty : (number : Option ℕ) (payload : Option (List ℕ))
 ended_empty None payload = refl
 ended_empty (Some k) None =
     ap (λ (rs : List Reservation). let h : PageRecords = record { first = 0; records = rs } in h)
-        (cond_both (nat_lt k 0) [] [] (λ (rs : List Reservation). ◌≡◌ {A = List Reservation} rs []) (λ _. refl)
-         (λ _. refl))
+    (cond_both (nat_lt k 0) [] [] (λ (rs : List Reservation). ◌≡◌ {A = List Reservation} rs []) (λ _. refl)
+    (λ _. refl))
 ended_empty (Some k) (Some p) =
     ap (λ (rs : List Reservation). let h : PageRecords = record { first = 0; records = rs } in h)
-        (cond_both (nat_lt k 0) [] [] (λ (rs : List Reservation). ◌≡◌ {A = List Reservation} rs []) (λ _. refl)
-         (λ _. refl))
+    (cond_both (nat_lt k 0) [] [] (λ (rs : List Reservation). ◌≡◌ {A = List Reservation} rs []) (λ _. refl)
+    (λ _. refl))
 
 -- every page, with a payload
 pub ended_at : (number : Option ℕ) (payload : Option (List ℕ)) (held : List PageRecords) (page : ℕ)
     → get_or (map (held_with_payload number payload) held) page empty_page
-        ≡ held_with_payload number payload (get_or held page empty_page)
+    ≡ held_with_payload number payload (get_or held page empty_page)
 ended_at number payload held page =
     ap (get_or (map (held_with_payload number payload) held) page) (sym (ended_empty number payload))
-        ∙ get_or-map (held_with_payload number payload) held page empty_page
+    ∙ get_or-map (held_with_payload number payload) held page empty_page
 
 pub emptied_at : (held : List PageRecords) (page : ℕ) → get_or (set held page empty_page) page empty_page ≡ empty_page
 emptied_at [] zero = refl
@@ -84,8 +84,8 @@ emptied_end : (held : List PageRecords) (emptied page : ℕ)
     → end_of (get_or (set held emptied empty_page) page empty_page) ≤ end_of (get_or held page empty_page)
 emptied_end held emptied page = dite (ℕ_discrete page emptied)
     (λ e. let none =
-         ap end_of (ap (λ (p : ℕ). get_or (set held emptied empty_page) p empty_page) e ∙ emptied_at held emptied) in
-     omega arith)
+    ap end_of (ap (λ (p : ℕ). get_or (set held emptied empty_page) p empty_page) e ∙ emptied_at held emptied) in
+    omega arith)
     (λ ne. let same = ap end_of (get_or-set_other held emptied page empty_page empty_page ne) in omega arith)
 
 -- ---- one more history event
@@ -99,7 +99,7 @@ module _ (history : List HistoryEvent) (open_pages : List ℕ) (held : List Page
       → OtherPagesAt history open_pages (map (held_with_payload number payload) held)
   others_ended number payload page other = let was = z page other in
       let same =
-          ap end_of (ended_at number payload held page) ∙ ended_alike number payload (get_or held page empty_page) in
+      ap end_of (ended_at number payload held page) ∙ ended_alike number payload (get_or held page empty_page) in
       omega arith
 
   -- the contents of a page that the writer holds
@@ -107,7 +107,7 @@ module _ (history : List HistoryEvent) (open_pages : List ℕ) (held : List Page
       → OtherPagesAt history open_pages (set held (get_or open_pages i 0) h)
   others_set i h low page other = let was = z page other in
       let same =
-          ap end_of (get_or-set_other held (get_or open_pages i 0) page h empty_page (λ e. other i low (sym e))) in
+      ap end_of (get_or-set_other held (get_or open_pages i 0) page h empty_page (λ e. other i low (sym e))) in
       omega arith
 
   others_emptied : (emptied : ℕ) → OtherPagesAt history open_pages (set held emptied empty_page)
@@ -117,15 +117,15 @@ module _ (history : List HistoryEvent) (open_pages : List ℕ) (held : List Page
   others_opened : (opened : ℕ) (h : PageRecords) → OtherPagesAt history (open_pages ++ opened ∷ []) (set held opened h)
   others_opened opened h page other =
       let was =
-          z page
-              (λ i low e.
-                  other i (omega (arith, length-append open_pages (opened ∷ [])))
-                      (get_or-append open_pages (opened ∷ []) 0 i low ∙ e)) in
+      z page
+      (λ i low e.
+      other i (omega (arith, length-append open_pages (opened ∷ [])))
+      (get_or-append open_pages (opened ∷ []) 0 i low ∙ e)) in
       let same = ap end_of (get_or-set_other held opened page h empty_page
       (λ e.
-          other (length open_pages) (omega (arith, length-append open_pages (opened ∷ [])))
-              (get_or-append_seam open_pages opened [] 0 ∙ sym e))) in
-          omega arith
+      other (length open_pages) (omega (arith, length-append open_pages (opened ∷ [])))
+      (get_or-append_seam open_pages opened [] 0 ∙ sym e))) in
+      omega arith
 
   -- the oldest one is held no longer
   others_released : end_of (get_or held (get_or open_pages 0 0) empty_page) ≤ committed_len history
@@ -138,16 +138,16 @@ module _ (history : List HistoryEvent) (open_pages : List ℕ) (held : List Page
       apart ne zero low e = ne e
       apart ne (suc i) low e =
           other i (omega (arith, length-drop 1 open_pages))
-              (get_or_after_one open_pages i 0
-               ∙ ap (λ (j : ℕ). get_or open_pages j 0) (let one : 1 + i ≡ suc i = omega arith in one) ∙ e)
+          (get_or_after_one open_pages i 0
+          ∙ ap (λ (j : ℕ). get_or open_pages j 0) (let one : 1 + i ≡ suc i = omega arith in one) ∙ e)
 
 -- ---- a fill among the records
 
 -- a fill ends where the records do, or before
 pub fill_end : (n start : ℕ) (c : Core) (f : ℕ) → ContentsKept n start c → start ≤ f → f + 1 < c.opened
     → get_or (0 ∷ opens_of c.history) (f - start) 0
-            + length (get_or (cut_from 0 (opens_of c.history) (reserved_records c.history)) (f - start) [])
-        ≡ get_or (0 ∷ opens_of c.history) (suc (f - start)) 0
+    + length (get_or (cut_from 0 (opens_of c.history) (reserved_records c.history)) (f - start) [])
+    ≡ get_or (0 ∷ opens_of c.history) (suc (f - start)) 0
 fill_end n start c f t low high =
     let cuts : List ℕ = opens_of c.history in
     let xs : List Reservation = reserved_records c.history in
@@ -155,8 +155,8 @@ fill_end n start c f t low high =
     let count = t.begun in let within : i < length cuts = omega arith in
     let a = length-take-le (get_or (0 ∷ cuts) i 0) xs (first_below 0 cuts (length xs) i (omega arith) t.rising) in
     let b =
-        length-take-le (get_or (0 ∷ cuts) (suc i) 0) xs
-            (first_below 0 cuts (length xs) (suc i) (omega arith) t.rising) in
+    length-take-le (get_or (0 ∷ cuts) (suc i) 0) xs
+    (first_below 0 cuts (length xs) (suc i) (omega arith) t.rising) in
     let e = ap (length {A = Reservation}) (fill_behind 0 cuts xs i within t.rising) in
     let sum = length-append (take (get_or (0 ∷ cuts) i 0) xs) (get_or (cut_from 0 cuts xs) i []) in omega arith
 
@@ -167,7 +167,7 @@ module _ (c : Core) (z : OtherPagesKept c) where
       → OtherPagesKept (after_leave c frame below payload)
   others_left frame below payload = let number : Option ℕ = own_number frame.kind frame.state in
       others_ended (c.history ++ leave payload ∷ []) c.open_pages c.held
-          (others_more c.history c.open_pages c.held z (leave payload)) number payload
+      (others_more c.history c.open_pages c.held z (leave payload)) number payload
 
   others_begun : (kind : Purpose) (state : Progress) (frame : Frame) (below : List Frame)
       → OtherPagesKept (after_begin kind state c frame below)
@@ -178,7 +178,7 @@ module _ (c : Core) (z : OtherPagesKept c) where
 
 module _ (n size start : ℕ) (c : Core) (frame : Frame) (below : List Frame) (answer : Answer) (after : Core)
     (k : LinksKept n c) (s : StackKept c) (h : HistoryKept n start c) (t : ContentsKept n start c)
-        (o : OpenPagesKept n c) (z : OtherPagesKept c) (top : c.frames ≡ frame ∷ below) where
+    (o : OpenPagesKept n c) (z : OtherPagesKept c) (top : c.frames ≡ frame ∷ below) where
   others_again : (noted : ℕ) → BeginsAgain c frame below noted answer after → OtherPagesKept after
   others_again noted step =
       subst OtherPagesKept (sym step.after_is) (others_begun c z frame.kind frame.state frame below)
@@ -186,8 +186,8 @@ module _ (n size start : ℕ) (c : Core) (frame : Frame) (below : List Frame) (a
   others_idle : (state : Progress) → IdleStep n size c frame below state answer after → OtherPagesKept after
   others_idle waiting (reserves moment len r kind r_is fits a is) = let count = o.count in let behind = k.done_lt in
       subst OtherPagesKept (sym is)
-          (others_more c.history c.open_pages _
-           (others_set c.history c.open_pages c.held z (length c.open_pages - 1) _ (omega arith)) reserve)
+      (others_more c.history c.open_pages _
+      (others_set c.history c.open_pages c.held z (length c.open_pages - 1) _ (omega arith)) reserve)
   others_idle waiting (finds_nothing kind none a is) = subst OtherPagesKept (sym is) (others_left c z frame below None)
   others_idle waiting (is_crowded needs full a is) = subst OtherPagesKept (sym is) (others_left c z frame below None)
   others_idle waiting (is_worn needs full last a is) = subst OtherPagesKept (sym is) (others_left c z frame below None)
@@ -199,18 +199,18 @@ module _ (n size start : ℕ) (c : Core) (frame : Frame) (below : List Frame) (a
   others_closed : frame.phase ≡ releasing → c.done + 1 < c.opened → OtherPagesKept (with_released c)
   others_closed same more = others_released c.history c.open_pages c.held z
       (let all =
-       committed_len-settled c.history
-           (settled_at_rest c.history (rest_releasing n size start c frame below k s h top same)) in
+      committed_len-settled c.history
+      (settled_at_rest c.history (rest_releasing n size start c frame below k s h top same)) in
       let unread = k.head_le in let first = t.from_start in let count = o.count in let begun = t.begun in
       let page = o.each 0 (omega arith) in
       let held =
-          ap (λ (p : ℕ). end_of (get_or c.held p empty_page))
-                  (page ∙ ap (λ (f : ℕ). get_or c.order (f % n) 0) (let e : c.done + 0 ≡ c.done = omega arith in e))
-              ∙ ap end_of (t.each c.done unread (omega arith)) in
+      ap (λ (p : ℕ). end_of (get_or c.held p empty_page))
+      (page ∙ ap (λ (f : ℕ). get_or c.order (f % n) 0) (let e : c.done + 0 ≡ c.done = omega arith in e))
+      ∙ ap end_of (t.each c.done unread (omega arith)) in
       let last = fill_end n start c c.done t (omega arith) more in
       let low =
-          first_below 0 (opens_of c.history) (length (reserved_records c.history)) (suc (c.done - start)) (omega arith)
-              t.rising in
+      first_below 0 (opens_of c.history) (length (reserved_records c.history)) (suc (c.done - start)) (omega arith)
+      t.rising in
       omega arith)
 
   others_frame : (phase : Phase) → frame.phase ≡ phase → FrameStep n size c frame below phase answer after
@@ -236,8 +236,8 @@ module _ (n size start : ℕ) (c : Core) (frame : Frame) (below : List Frame) (a
   others_frame (opening noted page) same (open_late step) = others_again noted step
   others_frame (opening noted page) same (opens now a is) = subst OtherPagesKept (sym is)
       (others_begun (with_new_tail c page)
-       (others_more c.history (c.open_pages ++ page ∷ []) _ (others_opened c.history c.open_pages c.held z page _)
-        open_fill) frame.kind frame.state frame below)
+      (others_more c.history (c.open_pages ++ page ∷ []) _ (others_opened c.history c.open_pages c.held z page _)
+      open_fill) frame.kind frame.state frame below)
   others_frame releasing same (releases alone more a is) =
       subst OtherPagesKept (sym is) (others_closed same (omega arith))
   others_frame releasing same (releases_last alone last a is) =
@@ -261,7 +261,7 @@ others_read n c (loading_done page fill) answer after z (finds_closed below a is
 others_read n c (storing_spare_link page fill) answer after z step = subst OtherPagesKept (sym step.after_is) z
 others_read n c (swapping page fill) answer after z (swaps at a is) = subst OtherPagesKept (sym is)
     (others_emptied c.history c.open_pages (set c.held c.spare empty_page)
-     (others_emptied c.history c.open_pages c.held z c.spare) page)
+    (others_emptied c.history c.open_pages c.held z c.spare) page)
 others_read n c (swapping page fill) answer after z (swap_fails at a is) = subst OtherPagesKept (sym is) z
 
 pub other_pages_step : (n size start : ℕ) (c : Core) (event : Event) (answer : Answer) (after : Core) → LinksKept n c
@@ -280,7 +280,7 @@ other_pages_step n size start c event answer after k s h t o z (frame_step frame
 other_pages_step n size start c event answer after k s h t o z (frame_lacks e none a is) =
     subst OtherPagesKept (sym is) z
 other_pages_step n size start c event answer after k s h t o z
-        (end_step payload frame below number moment len e top at kind slot a is) =
+    (end_step payload frame below number moment len e top at kind slot a is) =
     subst OtherPagesKept (sym is) (others_left c z frame below (Some payload))
 other_pages_step n size start c event answer after k s h t o z (end_lacks payload e none a is) =
     subst OtherPagesKept (sym is) z

@@ -108,7 +108,7 @@ tried : (n size : ℕ) (new : Core) (exchanges : List Exchange) (committed : Lis
     → IsExample n size exchanges committed
 tried n size new exchanges committed some is gives records = λ start it.
     subst (λ (s : Core). (after : Core) × Run n size s exchanges after × (committed_records after.history ≡ committed))
-        (same_ring n 0 some new start is it)
+    (same_ring n 0 some new start is it)
     (last_from n size new exchanges, run_sound n size new (last_from n size new exchanges) exchanges gives, records)
 
 pub first_record_tried : FirstRecord
@@ -118,35 +118,35 @@ first_record_tried =
 pub nested_writer_tried : NestedWriter
 nested_writer_tried =
     tried 2 32 two_pages nested_writer (at 10 (four 170) ∷ at 20 (four 187) ∷ []) (omega arith) two_start (refl, refl)
-        refl
+    refl
 
 pub inner_reserves_first_tried : InnerReservesFirst
 inner_reserves_first_tried =
     tried 2 32 two_pages inner_reserves_first (at 20 (four 187) ∷ at 20 (four 170) ∷ []) (omega arith) two_start
-        (refl, refl) refl
+    (refl, refl) refl
 
 pub halted_head_move_tried : HaltedHeadMove
 halted_head_move_tried =
     tried 2 32 two_pages halted_head_move (at 1 (all 1) ∷ at 2 (all 2) ∷ at 3 (all 3) ∷ []) (omega arith) two_start
-        (refl, refl) refl
+    (refl, refl) refl
 
 pub helpers_at_the_head_tried : HelpersAtTheHead
 helpers_at_the_head_tried =
     tried 4 32 four_pages helpers_at_the_head
-        (at 1 (all 1) ∷ at 2 (all 2) ∷ at 3 (all 3) ∷ at 4 (all 4) ∷ at 6 (all 6) ∷ at 7 (all 7) ∷ at 7 (all 5) ∷ [])
-        (omega arith) four_start (refl, refl) refl
+    (at 1 (all 1) ∷ at 2 (all 2) ∷ at 3 (all 3) ∷ at 4 (all 4) ∷ at 6 (all 6) ∷ at 7 (all 7) ∷ at 7 (all 5) ∷ [])
+    (omega arith) four_start (refl, refl) refl
 
 pub late_swap_tried : LateSwap
 late_swap_tried =
     tried 2 32 two_pages late_swap (at 1 (all 1) ∷ at 2 (all 2) ∷ at 3 (all 3) ∷ at 4 (all 4) ∷ []) (omega arith)
-        two_start (refl, refl) refl
+    two_start (refl, refl) refl
 
 pub wish_answered_tried : WishAnswered
 wish_answered_tried =
     tried 2 32 two_pages wish_answered (at 1 (1 ∷ 2 ∷ 3 ∷ 4 ∷ []) ∷ at 2 (5 ∷ 6 ∷ 7 ∷ 8 ∷ []) ∷ []) (omega arith)
-        two_start (refl, refl) refl
+    two_start (refl, refl) refl
 
 pub wish_waits_for_the_outermost_tried : WishWaitsForTheOutermost
 wish_waits_for_the_outermost_tried =
     tried 2 32 two_pages wish_waits_for_the_outermost (at 1 (1 ∷ 2 ∷ 3 ∷ 4 ∷ []) ∷ at 2 (5 ∷ 6 ∷ 7 ∷ 8 ∷ []) ∷ [])
-        (omega arith) two_start (refl, refl) refl
+    (omega arith) two_start (refl, refl) refl

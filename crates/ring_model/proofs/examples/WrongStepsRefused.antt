@@ -34,11 +34,16 @@ refused n size start exchanges wrong some fits is gives breaks =
     let before = last_from n size start exchanges in
     let run = run_sound n size start before exchanges gives in
     let kept =
-        ring_run n size 0 start before exchanges
-            (ring_start n size 0 start record { some_pages = some; numbers_left = fits } is) run in
-    (start, before, is, run, breaks,
-     λ event answer step.
-            breaks (is_ring n size 0 (wrong before) (ring_step n size 0 before event answer (wrong before) kept step)))
+    ring_run n size 0 start before exchanges
+    (ring_start n size 0 start record { some_pages = some; numbers_left = fits } is) run in (
+      start,
+      before,
+      is,
+      run,
+      breaks,
+      λ event answer step.
+          breaks (is_ring n size 0 (wrong before) (ring_step n size 0 before event answer (wrong before) kept step)),
+    )
 
 same_code : (a b : Link) → a ≡ b → mark_code a.mark ≡ mark_code b.mark
 same_code a b e = ap (λ (l : Link). mark_code l.mark) e
@@ -53,12 +58,12 @@ loses_while_a_position_is_free =
     breaks : IsRing 4 0 (with_head_lost (last_from 4 32 four_pages to_free_positions)) → ⊥
     breaks r =
         ⊎_elim (λ taken. let (k, t, at, is) = taken in none_taken k t at) (λ full. let z : 4 ≤ 2 = full in omega arith)
-            (r.lost 0 (omega arith) (let one : 0 < 1 = omega arith in one))
+        (r.lost 0 (omega arith) (let one : 0 < 1 = omega arith in one))
 
 pub takes_the_tail : TakesTheTail
 takes_the_tail =
     refused 2 32 two_pages to_open_tail with_tail_taken (omega arith) (omega arith) two_start (refl, refl)
-        (λ r. let z : 1 ≤ 0 = r.head_le in omega arith)
+    (λ r. let z : 1 ≤ 0 = r.head_le in omega arith)
 
 abbrev cleared : Core
 cleared = with_update_cleared (last_from 2 32 two_pages to_helped_move)
@@ -68,36 +73,36 @@ cleared_breaks : IsBehindHead 2 cleared 2 → ⊥
 cleared_breaks (reported e none) =
     none 1 (record { kind = for_record 3 28; state = waiting; phase = looking_next owner 2 0 }, refl, refl)
 cleared_breaks (moved lost sum e by) =
-        let z : ◌≡◌ {A = ℕ} 0 2 =
-        same_code (link_into 2 cleared.links 2) (update_link 0 lost) e in
+    let z : ◌≡◌ {A = ℕ} 0 2 =
+    same_code (link_into 2 cleared.links 2) (update_link 0 lost) e in
     omega arith
 
 pub helper_clears_the_update : HelperClearsTheUpdate
 helper_clears_the_update =
     refused 2 32 two_pages to_helped_move with_update_cleared (omega arith) (omega arith) two_start (refl, refl)
-        (λ r.
-            cleared_breaks
-                (r.behind_head 2 (let low : 1 < 2 = omega arith in low) (let high : 2 < 3 = omega arith in high)))
+    (λ r.
+    cleared_breaks
+    (r.behind_head 2 (let low : 1 < 2 = omega arith in low) (let high : 2 < 3 = omega arith in high)))
 
 abbrev second_head : Core
 second_head = with_second_head (last_from 4 32 four_pages to_passed_mark)
 
 second_head_breaks : IsBehindHead 4 second_head 5 → ⊥
 second_head_breaks (reported e none) =
-        let z : ◌≡◌ {A = ℕ} 1 0 =
-        same_code (link_into 4 second_head.links 5) (normal_link (page_at 4 second_head.order 5) 5) e in
+    let z : ◌≡◌ {A = ℕ} 1 0 =
+    same_code (link_into 4 second_head.links 5) (normal_link (page_at 4 second_head.order 5) 5) e in
     omega arith
 second_head_breaks (moved lost sum e by) =
-        let z : ◌≡◌ {A = ℕ} 1 2 =
-        same_code (link_into 4 second_head.links 5) (update_link (page_at 4 second_head.order 5) lost) e in
+    let z : ◌≡◌ {A = ℕ} 1 2 =
+    same_code (link_into 4 second_head.links 5) (update_link (page_at 4 second_head.order 5) lost) e in
     omega arith
 
 pub two_heads : TwoHeads
 two_heads =
     refused 4 32 four_pages to_passed_mark with_second_head (omega arith) (omega arith) four_start (refl, refl)
-        (λ r.
-            second_head_breaks
-                (r.behind_head 5 (let low : 2 < 5 = omega arith in low) (let high : 5 < 6 = omega arith in high)))
+    (λ r.
+    second_head_breaks
+    (r.behind_head 5 (let low : 2 < 5 = omega arith in low) (let high : 5 < 6 = omega arith in high)))
 
 abbrev swapped_late : Core
 swapped_late = with_late_swap (last_from 2 32 two_pages to_late_swap)
@@ -106,14 +111,14 @@ swapped_late = with_late_swap (last_from 2 32 two_pages to_late_swap)
 swapped_late_breaks : IsAtHead 2 swapped_late → ⊥
 swapped_late_breaks (marked e) = let z : ◌≡◌ {A = ℕ} 1 3 = ap (λ (l : Link). l.fill) e in omega arith
 swapped_late_breaks (owed lost is e by) =
-        let z : ◌≡◌ {A = ℕ} 1 0 =
-        same_code (link_into 2 swapped_late.links 3) (normal_link (page_at 2 swapped_late.order 3) 3) e in
+    let z : ◌≡◌ {A = ℕ} 1 0 =
+    same_code (link_into 2 swapped_late.links 3) (normal_link (page_at 2 swapped_late.order 3) 3) e in
     omega arith
 
 pub swap_ignores_the_fill : SwapIgnoresTheFill
 swap_ignores_the_fill =
     refused 2 32 two_pages to_late_swap with_late_swap (omega arith) (omega arith) two_start (refl, refl)
-        (λ r. swapped_late_breaks r.at_head)
+    (λ r. swapped_late_breaks r.at_head)
 
 pub inner_end_publishes : InnerEndPublishes
 inner_end_publishes =
@@ -136,12 +141,17 @@ unpacked n size start exchanges wrong some fits is gives breaks =
     let before = last_from n size start exchanges in
     let run = run_sound n size start before exchanges gives in
     let kept =
-        ring_run n size 0 start before exchanges
-            (ring_start n size 0 start record { some_pages = some; numbers_left = fits } is) run in
-    (start, before, is, run, breaks,
-     λ event answer step.
-            breaks
-                (runs_packed n size 0 (wrong before) (ring_step n size 0 before event answer (wrong before) kept step)))
+    ring_run n size 0 start before exchanges
+    (ring_start n size 0 start record { some_pages = some; numbers_left = fits } is) run in (
+      start,
+      before,
+      is,
+      run,
+      breaks,
+      λ event answer step.
+          breaks
+          (runs_packed n size 0 (wrong before) (ring_step n size 0 before event answer (wrong before) kept step)),
+    )
 
 pub closes_without_a_wish : ClosesWithoutAWish
 closes_without_a_wish =
@@ -149,8 +159,8 @@ closes_without_a_wish =
   where
     breaks : IsPacked (with_page_begun (last_from 2 32 two_pages to_unasked_end)).history 32 → ⊥
     breaks packed =
-            let wrong : false ≡ true =
-            packed.asked (last_from 2 32 two_pages to_unasked_end).history [] refl refl in
+        let wrong : false ≡ true =
+        packed.asked (last_from 2 32 two_pages to_unasked_end).history [] refl refl in
         cc
 
 pub wish_closes_an_empty_page : WishClosesAnEmptyPage

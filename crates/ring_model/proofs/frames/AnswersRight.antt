@@ -171,7 +171,7 @@ pub refusal_true : (n size : ℕ) (c : Core) (event : Event) (answer : Answer) (
     → Step n size c event answer after → Says n c (λ d. Unit {0}) (λ f. Unit {0}) (λ t. Unit {0}) answer
 refusal_true n size c event answer after step =
     step_true n size c (λ d. Unit {0}) (λ f. Unit {0}) (λ t. Unit {0}) event answer after
-        (read_any n c c.reader.phase answer after) (cases_of step)
+    (read_any n c c.reader.phase answer after) (cases_of step)
 
 pub crowded_right : (n size : ℕ) (c : Core) (event : Event) (after : Core) → Step n size c event (refused crowded) after
     → c.opened ≡ c.done + n
@@ -180,8 +180,8 @@ crowded_right n size c event after step = refusal_true n size c event (refused c
 pub worn_right : (n size start : ℕ) (c : Core) (event : Event) (after : Core) → IsRingKept n size start c
     → Step n size c event (refused worn) after → (c.opened + n ≡ LINK_FILLS) × (c.opened ≡ c.done + n → ⊥)
 worn_right n size start c event after r step =
-        let (last, some) =
-        refusal_true n size c event (refused worn) after step in
+    let (last, some) =
+    refusal_true n size c event (refused worn) after step in
     let fits = r.links.fits in
     (omega arith, some)
 
@@ -228,16 +228,16 @@ module _ (n size start : ℕ) (c : Core) (r : IsRingKept n size start c) where
       let some_pages = r.links.some_pages in let le = r.links.hint_le in let unread = r.links.head_le in
       let (g, low, high, position) = at_position c.head n (c.reader.hint % n) (mod-lt c.reader.hint (omega arith)) in
       let same : link_into n c.links g ≡ link_into n c.links c.reader.hint =
-          ap (λ (i : ℕ). get_or c.links i (normal_link 0 0)) position in
+      ap (λ (i : ℕ). get_or c.links i (normal_link 0 0)) position in
       let reported =
-          update_reports n c.links c.order c.head c.frames g page lost (r.links.each g low high) (same ∙ at) in
+      update_reports n c.links c.order c.head c.frames g page lost (r.links.each g low high) (same ∙ at) in
       let sum = reported.0 in
       let (u, u_sum, below, open_yet, there) = owned_by n c r.links g reported.2 in
       let known : c.reader.hint ≤ lost = dite (dec_le c.reader.hint lost) (λ yes. yes)
       (λ no. let e =
-           one_position c.reader.hint n g c.reader.hint (omega arith) (omega arith) (omega arith) (omega arith)
-               position in
-       absurd (omega arith)) in
+      one_position c.reader.hint n g c.reader.hint (omega arith) (omega arith) (omega arith) (omega arith)
+      position in
+      absurd (omega arith)) in
       in_the_way lost (suc lost) (subst (HasMover c.frames) (sym sum) reported.2) (omega arith) (omega arith)
 
   -- a HEADER that is owed
@@ -249,13 +249,13 @@ module _ (n size start : ℕ) (c : Core) (r : IsRingKept n size start c) where
       let reported = normal_reports n c.links c.order c.head c.frames g page c.reader.hint link (same ∙ at) in
       let is = reported.0 in
       let (lost, next, st) =
-          owed_by n c.links c.order c.head c.frames g page c.reader.hint link (same ∙ at) (omega arith) in
+      owed_by n c.links c.order c.head c.frames g page c.reader.hint link (same ∙ at) (omega arith) in
       in_the_way lost c.reader.hint st (omega arith) (omega arith)
 
   abbrev NoneSaid : Core → ℕ → Type 0
   NoneSaid after d =
       (c.head ≡ d) × (c.done ≡ d) × (after.reader.taken ≡ c.reader.taken) × (after.reader.seen ≡ d)
-          × (after.head ≡ c.head)
+      × (after.head ≡ c.head)
 
   abbrev WaySaid : Core → ℕ → Type 0
   WaySaid after f = IsInTheWay n start c f × (after.reader.taken ≡ c.reader.taken)
@@ -263,7 +263,7 @@ module _ (n size start : ℕ) (c : Core) (r : IsRingKept n size start c) where
   abbrev TookSaid : Core → TakenFill → Type 0
   TookSaid after t =
       (t.fill ≡ c.head) × (c.head < c.done) × (after.head ≡ c.head + 1)
-          × (after.reader.taken ≡ c.reader.taken ++ t ∷ [])
+      × (after.reader.taken ≡ c.reader.taken ++ t ∷ [])
 
   read_true : (phase : ReaderPhase) (answer : Answer) (after : Core)
       → ReaderKept n c.links c.order c.spare_link c.head c.done c.reader.hint phase → ReadStep n c phase answer after
@@ -272,18 +272,22 @@ module _ (n size start : ℕ) (c : Core) (r : IsRingKept n size start c) where
       says n 0 c (NoneSaid after) (WaySaid after) (TookSaid after) answer reading a tt
   read_true loading_head answer after facts (loads_update page lost at a is) =
       says n 0 c (NoneSaid after) (WaySaid after) (TookSaid after) answer (moving (suc lost)) a
-          (finds_update page lost at, ap (λ (d : Core). d.reader.taken) is)
+      (finds_update page lost at, ap (λ (d : Core). d.reader.taken) is)
   read_true loading_head answer after facts (loads_owed page at a is) =
       says n 0 c (NoneSaid after) (WaySaid after) (TookSaid after) answer (moving c.reader.hint) a
-          (finds_owed page at, ap (λ (d : Core). d.reader.taken) is)
+      (finds_owed page at, ap (λ (d : Core). d.reader.taken) is)
   read_true loading_head answer after facts (loads_passed page fill least at more sum a is) =
       says n 0 c (NoneSaid after) (WaySaid after) (TookSaid after) answer reading a tt
   read_true (loading_done page fill) answer after facts (finds_none le a is) = let fill_is = facts.fill_is in
       let low = r.links.hint_le in
       let unread = r.links.head_le in
-      says n 0 c (NoneSaid after) (WaySaid after) (TookSaid after) answer (empty c.done) a
-          (omega arith, refl, ap (λ (d : Core). d.reader.taken) is, ap (λ (d : Core). d.reader.seen) is,
-           ap (λ (d : Core). d.head) is)
+      says n 0 c (NoneSaid after) (WaySaid after) (TookSaid after) answer (empty c.done) a (
+        omega arith,
+        refl,
+        ap (λ (d : Core). d.reader.taken) is,
+        ap (λ (d : Core). d.reader.seen) is,
+        ap (λ (d : Core). d.head) is,
+      )
   read_true (loading_done page fill) answer after facts (finds_closed below a is) =
       says n 0 c (NoneSaid after) (WaySaid after) (TookSaid after) answer reading a tt
   read_true (storing_spare_link page fill) answer after facts step =
@@ -293,7 +297,7 @@ module _ (n size start : ℕ) (c : Core) (r : IsRingKept n size start c) where
       let reported = header_reports n c.links c.order c.head c.frames g page fill link (same ∙ at) in
       let here : fill ≡ c.head = reported.0 ∙ reported.1 in let closed = facts.1 in
       says n 0 c (NoneSaid after) (WaySaid after) (TookSaid after) answer (page_taken _) a
-          (here, omega arith, ap (λ (d : Core). d.head) is, ap (λ (d : Core). d.reader.taken) is)
+      (here, omega arith, ap (λ (d : Core). d.head) is, ap (λ (d : Core). d.reader.taken) is)
   read_true (swapping page fill) answer after facts (swap_fails at a is) =
       says n 0 c (NoneSaid after) (WaySaid after) (TookSaid after) answer reading a tt
 
@@ -301,15 +305,15 @@ module _ (n size start : ℕ) (c : Core) (r : IsRingKept n size start c) where
       → Says n c (NoneSaid after) (WaySaid after) (TookSaid after) answer
   all_true event answer after step =
       step_true n size c (NoneSaid after) (WaySaid after) (TookSaid after) event answer after
-          (read_true c.reader.phase answer after r.links.reader) (cases_of step)
+      (read_true c.reader.phase answer after r.links.reader) (cases_of step)
 
 pub empty_right : (n size start : ℕ) (c : Core) (event : Event) (done : ℕ) (after : Core) → IsRingKept n size start c
     → Step n size c event (empty done) after
     → (c.head ≡ done) × (c.done ≡ done) × ArePassed n start c done × (after.reader.taken ≡ c.reader.taken)
-        × (after.reader.seen ≡ done) × (after.head ≡ done)
+    × (after.reader.seen ≡ done) × (after.head ≡ done)
 empty_right n size start c event done after r step =
-        let (a, b, same, seen, head) =
-        all_true n size start c r event (empty done) after step in
+    let (a, b, same, seen, head) =
+    all_true n size start c r event (empty done) after step in
     (a, b, passed_below n size start c r done (omega arith), same, seen, head ∙ a)
 
 pub moving_right : (n size start : ℕ) (c : Core) (event : Event) (fill : ℕ) (after : Core) → IsRingKept n size start c
@@ -319,5 +323,5 @@ moving_right n size start c event fill after r step = all_true n size start c r 
 pub swapped_right : (n size start : ℕ) (c : Core) (event : Event) (t : TakenFill) (after : Core)
     → IsRingKept n size start c → Step n size c event (page_taken t) after
     → (t.fill ≡ c.head) × (c.head < c.done) × (after.head ≡ c.head + 1)
-        × (after.reader.taken ≡ c.reader.taken ++ t ∷ [])
+    × (after.reader.taken ≡ c.reader.taken ++ t ∷ [])
 swapped_right n size start c event t after r step = all_true n size start c r event (page_taken t) after step

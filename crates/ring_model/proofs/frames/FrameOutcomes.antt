@@ -56,12 +56,12 @@ module _ (frame : Frame) (below : List Frame) (is : IsReserving frame.kind frame
   reserving_again for_close waiting c answer after k s a e =
       absurd (subst (λ (x : Purpose). IsReserving x waiting) (sym k) (subst (IsReserving frame.kind) (sym s) is))
   reserving_again kind (reserved number) c answer after k s a e =
-          let both : waiting ≡ reserved number =
-          sym (waits frame.kind frame.state is) ∙ sym s in
+      let both : waiting ≡ reserved number =
+      sym (waits frame.kind frame.state is) ∙ sym s in
       absurd (cc)
   reserving_again kind left c answer after k s a e =
-          let both : waiting ≡ left =
-          sym (waits frame.kind frame.state is) ∙ sym s in
+      let both : waiting ≡ left =
+      sym (waits frame.kind frame.state is) ∙ sym s in
       absurd (cc)
 
   module _ (n size : ℕ) (c : Core) (answer : Answer) (after : Core) where
@@ -81,14 +81,14 @@ module _ (frame : Frame) (below : List Frame) (is : IsReserving frame.kind frame
         absurd (subst (λ (x : Purpose). IsReserving x waiting) kind (subst (IsReserving frame.kind) at is))
     reserving_idle waiting at (is_crowded needs full a e) =
         is_refused crowded a
-            (left_behind frame below c answer after below refl (inr (crowded, a)) (ap (λ (d : Core). d.frames) e))
+        (left_behind frame below c answer after below refl (inr (crowded, a)) (ap (λ (d : Core). d.frames) e))
     reserving_idle waiting at (is_worn needs room last a e) =
         is_refused worn a
-            (left_behind frame below c answer after below refl (inr (worn, a)) (ap (λ (d : Core). d.frames) e))
+        (left_behind frame below c answer after below refl (inr (worn, a)) (ap (λ (d : Core). d.frames) e))
     reserving_idle waiting at (notes needs room small a e) = goes (looking c.opened) _ refl a e
     reserving_idle (reserved number) at step =
-            let both : waiting ≡ reserved number =
-            sym (waits frame.kind frame.state is) ∙ at in
+        let both : waiting ≡ reserved number =
+        sym (waits frame.kind frame.state is) ∙ at in
         absurd (cc)
     reserving_idle left at step = absurd step
 
@@ -130,7 +130,7 @@ frames_reserve n size start c frame below answer after kept top is step =
     let agree = top_agrees c frame below top kept.stack in
     reserving_in frame below is n size c answer after frame.phase
     (λ e. releasing_left frame.kind frame.state frame.phase e agree.0)
-        (λ e. wishing_left frame.kind frame.state frame.phase e agree.0)
+    (λ e. wishing_left frame.kind frame.state frame.phase e agree.0)
     (top_stepped n size c frame below frame.phase answer after top refl step)
 
 -- ---- a frame that leaves, or has left
@@ -208,4 +208,4 @@ module _ (frame : Frame) (below : List Frame) (is : IsLeaving frame.kind frame.s
 pub frames_leave : FramesLeave
 frames_leave n size start c frame below answer after kept top is step =
     leaving_in frame below is n size c answer after frame.phase refl top
-        (top_stepped n size c frame below frame.phase answer after top refl step)
+    (top_stepped n size c frame below frame.phase answer after top refl step)

@@ -78,7 +78,7 @@ leaving : (c : Core) (frame : Frame) (below : List Frame) → length (frame ∷ 
     → StackAt c.done c.opened (frames_after_leave c frame below)
 leaving c frame [] few agree =
     going_on c.done c.opened (record frame { state = left; phase = closing_phase c }) [] few
-        (closing_moves c, (λ _. refl), tt)
+    (closing_moves c, (λ _. refl), tt)
 leaving c frame (next ∷ below) few agree = going_on c.done c.opened next below (omega arith) agree
 
 beginning : (c : Core) (kind : Purpose) (state : Progress) (frame : Frame) (below : List Frame) → frame.kind ≡ kind
@@ -86,15 +86,18 @@ beginning : (c : Core) (kind : Purpose) (state : Progress) (frame : Frame) (belo
     → StackKept (after_begin kind state c frame below)
 beginning c (for_record moment len) waiting frame below kind_is state_is few agree =
     going_on c.done c.opened (record frame { phase = idle }) below few
-        (subst (λ (s : Progress). MayBeIn frame.kind s idle) (sym state_is) ((λ e. cc), (λ e. cc)), agree.1, agree.2)
+    (subst (λ (s : Progress). MayBeIn frame.kind s idle) (sym state_is) ((λ e. cc), (λ e. cc)), agree.1, agree.2)
 beginning c for_close waiting frame below kind_is state_is few agree = leaving c frame below few agree.2
 beginning c kind (reserved number) frame below kind_is state_is few agree =
-    going_on c.done c.opened (record frame { phase = idle }) below few
-    (subst (λ (s : Progress). MayBeIn frame.kind s idle) (sym state_is)
-         ((subst (λ (s : Progress). MayBeIn frame.kind s frame.phase) state_is agree.0).0, refl), agree.1, agree.2)
+    going_on c.done c.opened (record frame { phase = idle }) below few (
+      subst (λ (s : Progress). MayBeIn frame.kind s idle) (sym state_is)
+          ((subst (λ (s : Progress). MayBeIn frame.kind s frame.phase) state_is agree.0).0, refl),
+      agree.1,
+      agree.2,
+    )
 beginning c kind left frame below kind_is state_is few agree =
     going_on c.done c.opened (record frame { phase = closing_phase c }) below few
-        (left_on frame.kind frame.state (closing_phase c) state_is (closing_moves c), agree.1, agree.2)
+    (left_on frame.kind frame.state (closing_phase c) state_is (closing_moves c), agree.1, agree.2)
 
 -- ---- the frame on top
 
@@ -105,14 +108,14 @@ module _ (n size : ℕ) (c : Core) (frame : Frame) (below : List Frame) (answer 
       → MayBeIn frame.kind frame.state phase → after ≡ next → StackKept after
   stack_in next phase top may is =
       subst StackKept (sym is)
-          (subst (StackAt next.done next.opened) (sym top)
-           (going_on next.done next.opened (record frame { phase = phase }) below k.few (may, k.agree.1, k.agree.2)))
+      (subst (StackAt next.done next.opened) (sym top)
+      (going_on next.done next.opened (record frame { phase = phase }) below k.few (may, k.agree.1, k.agree.2)))
 
   stack_goes : (next : Core) (phase : Phase) → next.frames ≡ record frame { phase = phase } ∷ below → frame.phase ≢ idle
       → phase ≢ idle → phase ≢ releasing → phase ≢ wishing → after ≡ next → StackKept after
   stack_goes next phase top moves on not_releasing not_wishing is =
       stack_in next phase top
-          (under_way frame.kind frame.state frame.phase phase moves on not_releasing not_wishing k.agree.0) is
+      (under_way frame.kind frame.state frame.phase phase moves on not_releasing not_wishing k.agree.0) is
 
   stack_leaves : (payload : Option (List ℕ)) → after ≡ after_leave c frame below payload → StackKept after
   stack_leaves payload is = subst StackKept (sym is) (leaving c frame below k.few k.agree.2)
@@ -133,13 +136,13 @@ module _ (n size : ℕ) (c : Core) (frame : Frame) (below : List Frame) (answer 
       → StackKept after
   stack_idle waiting at q (reserves moment len r kind r_is fits a is) = subst StackKept (sym is)
       (going_on c.done c.opened (record frame { state = reserved _; phase = idle }) below k.few
-       ((subst IsForRecord (sym kind) tt, refl), (λ e. absurd (waits_on _ e)), k.agree.2))
+      ((subst IsForRecord (sym kind) tt, refl), (λ e. absurd (waits_on _ e)), k.agree.2))
   stack_idle waiting at q (finds_nothing kind none a is) = stack_leaves None is
   stack_idle waiting at q (is_crowded needs full a is) = stack_leaves None is
   stack_idle waiting at q (is_worn needs room last a is) = stack_leaves None is
   stack_idle waiting at q (notes needs room small a is) =
       stack_in _ (looking c.opened) refl
-          (subst (λ (s : Progress). MayBeIn frame.kind s (looking c.opened)) (sym at) ((λ e. cc), (λ e. cc))) is
+      (subst (λ (s : Progress). MayBeIn frame.kind s (looking c.opened)) (sym at) ((λ e. cc), (λ e. cc))) is
   stack_idle (reserved number) at q step = subst StackKept (sym step.1) q
   stack_idle left at q step = absurd step
 
@@ -175,19 +178,19 @@ module _ (n size : ℕ) (c : Core) (frame : Frame) (below : List Frame) (answer 
       subst StackKept (sym is) (beginning _ frame.kind frame.state frame below refl refl k.few k.agree)
   stack_frame releasing at top q (releases alone more a is) =
       subst StackKept (sym is)
-          record { few = q.few; agree = q.agree; at_rest = λ none. absurd (no_frames frame below (sym top ∙ none)) }
+      record { few = q.few; agree = q.agree; at_rest = λ none. absurd (no_frames frame below (sym top ∙ none)) }
   stack_frame releasing at top q (releases_last alone last a is) =
       stack_in _ wishing refl
-          (left_on frame.kind frame.state wishing (releasing_left frame.kind frame.state frame.phase at k.agree.0)
-           (λ e. cc)) is
+      (left_on frame.kind frame.state wishing (releasing_left frame.kind frame.state frame.phase at k.agree.0)
+      (λ e. cc)) is
   stack_frame wishing at top q (grants alone granted a is) =
       stack_in _ (looking c.opened) refl
-          (left_on frame.kind frame.state (looking c.opened)
-           (wishing_left frame.kind frame.state frame.phase at k.agree.0) (λ e. cc)) is
+      (left_on frame.kind frame.state (looking c.opened)
+      (wishing_left frame.kind frame.state frame.phase at k.agree.0) (λ e. cc)) is
   stack_frame wishing at top q (closes_more alone denied more a is) =
       stack_in _ releasing refl
-          (left_on frame.kind frame.state releasing (wishing_left frame.kind frame.state frame.phase at k.agree.0)
-           (λ e. cc)) is
+      (left_on frame.kind frame.state releasing (wishing_left frame.kind frame.state frame.phase at k.agree.0)
+      (λ e. cc)) is
   stack_frame wishing at top q (goes_away alone denied none_left a is) =
       subst StackKept (sym is) record { few = omega arith; agree = tt; at_rest = λ none. none_left }
 
@@ -209,9 +212,9 @@ stack_pushed : (c after next : Core) (kind : Purpose) → length c.frames < MAX_
     → next.frames ≡ record { kind = kind; state = waiting; phase = idle } ∷ c.frames → after ≡ next → StackKept after
 stack_pushed c after next kind few q top is = let new : Frame = record { kind = kind; state = waiting; phase = idle } in
     subst StackKept (sym is)
-        (subst (StackAt next.done next.opened) (sym top)
-         (going_on next.done next.opened new c.frames (omega arith)
-          (((λ e. cc), (λ e. cc)), (λ e. absurd (stays e)), q.agree)))
+    (subst (StackAt next.done next.opened) (sym top)
+    (going_on next.done next.opened new c.frames (omega arith)
+    (((λ e. cc), (λ e. cc)), (λ e. absurd (stays e)), q.agree)))
   where
     stays : waiting ≢ left
     stays e = cc
@@ -245,7 +248,7 @@ stack_step n size c event answer after q (store_wish_step e a is) = subst StackK
 pub stack_start : (n start : ℕ) (c : Core) → IsStart n start c → StackKept c
 stack_start n start c s = let done = s.done in let opened = s.opened in
     subst (StackAt c.done c.opened) (sym s.frames)
-        record { few = omega arith; agree = tt; at_rest = λ none. omega arith }
+    record { few = omega arith; agree = tt; at_rest = λ none. omega arith }
 
 -- ---- the laws of the stack
 
@@ -259,7 +262,7 @@ closed_at_rest n size start c r none = r.stack.at_rest none
 abbrev StandsAt : List Frame → ℕ → Frame → Type 0
 StandsAt frames k frame =
     (frame.state ≡ left → k + 1 ≡ length frames) × (frame.phase ≡ releasing → frame.state ≡ left)
-        × (frame.phase ≡ wishing → frame.state ≡ left)
+    × (frame.phase ≡ wishing → frame.state ≡ left)
 
 stands_at : (frames : List Frame) (k : ℕ) (frame : Frame) → FramesAgree frames → slice_get frames k ≡ Some frame
     → StandsAt frames k frame

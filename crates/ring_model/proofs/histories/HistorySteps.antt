@@ -99,15 +99,17 @@ module _ (n start : ℕ) (c : Core) (frame : Frame) (below : List Frame) (h : Hi
   lost_on frames passes rest k f low high =
       why_stays n c.reader.taken c.reader.taken c.opened c.opened c.frames frames f (λ t. t) (omega arith)
       (λ p.
-          inr (refl,
-               passing_on frame below frames c.opened passes rest
-                   (subst (λ (fs : List Frame). Passing fs c.opened) top p)))
+      inr (
+        refl,
+        passing_on frame below frames c.opened passes rest
+            (subst (λ (fs : List Frame). Passing fs c.opened) top p),
+      ))
       (k.lost f low high)
 
   -- the frame on top goes on, and about to open a fill it stays so
   pub history_goes : (phase : Phase)
       → ((page : ℕ) → passed_spot frame.phase ≡ Some (spot c.opened page)
-         → (page' : ℕ) × (passed_spot phase ≡ Some (spot c.opened page')))
+      → (page' : ℕ) × (passed_spot phase ≡ Some (spot c.opened page')))
       → HistoryKept n start (in_phase c frame below phase)
   history_goes phase passes = record {
     allowed = h.allowed;
@@ -123,11 +125,11 @@ module _ (n start : ℕ) (c : Core) (frame : Frame) (below : List Frame) (h : Hi
   history_leaves f payload stack may passes = record {
     allowed =
         IsHistory-push c.history (leave payload) h.allowed
-            (subst (λ (s : List PushedFrame). MayLeave s payload) (sym stack) may);
+        (subst (λ (s : List PushedFrame). MayLeave s payload) (sym stack) may);
     stack = left_stack c.history f (pushed_frames below) payload stack ∙ sym (stack_left c frame below);
     lost =
         lost_on (frames_after_leave c frame below) (λ page at. absurd (passes page at))
-            (passing_left c frame below c.opened) h;
+        (passing_left c frame below c.opened) h;
   }
 
   -- a fill was begun by this frame or another
@@ -137,7 +139,7 @@ module _ (n start : ℕ) (c : Core) (frame : Frame) (below : List Frame) (h : Hi
   history_again (for_record moment len) waiting is passes = history_goes idle (λ page at. absurd (passes page at))
   history_again for_close waiting is passes =
       history_leaves (pushed_frame frame.kind waiting) None (stack_waiting is)
-          (may_leave frame.kind (pushed_frames below)) passes
+      (may_leave frame.kind (pushed_frames below)) passes
   history_again kind (reserved number) is passes = history_goes idle (λ page at. absurd (passes page at))
   history_again kind left is passes = history_goes (closing_phase c) (λ page at. absurd (passes page at))
 
@@ -149,8 +151,8 @@ history_begun n start c page h may = record {
   stack = opened_stack c.history (pushed_frames c.frames) h.stack;
   lost =
       λ f low high.
-             why_stays n c.reader.taken c.reader.taken c.opened (c.opened + 1) c.frames c.frames f (λ t. t)
-                 (omega arith) (λ p. inl (omega arith)) (h.lost f low high);
+      why_stays n c.reader.taken c.reader.taken c.opened (c.opened + 1) c.frames c.frames f (λ t. t)
+      (omega arith) (λ p. inl (omega arith)) (h.lost f low high);
 }
 
 -- a wish is found
@@ -174,7 +176,7 @@ module _ (n size start : ℕ) (c : Core) (frame : Frame) (below : List Frame) (k
     (h : HistoryKept n start c) (top : c.frames ≡ frame ∷ below) where
   goes : (after : Core) (old phase : Phase) → frame.phase ≡ old
       → ((page : ℕ) → passed_spot old ≡ Some (spot c.opened page)
-         → (page' : ℕ) × (passed_spot phase ≡ Some (spot c.opened page')))
+      → (page' : ℕ) × (passed_spot phase ≡ Some (spot c.opened page')))
       → after ≡ in_phase c frame below phase
       → Owed n start c after
   goes after old phase same passes is = subst (Owed n start c) (sym is) record {
@@ -188,7 +190,7 @@ module _ (n size start : ℕ) (c : Core) (frame : Frame) (below : List Frame) (k
   leaves after f payload same stack may is = subst (Owed n start c) (sym is) record {
     kept =
         history_leaves n start c frame below h top f payload stack may
-            (λ page at. none_some (sym (ap passed_spot same) ∙ at));
+        (λ page at. none_some (sym (ap passed_spot same) ∙ at));
     window = inl (refl, refl);
   }
 
@@ -197,7 +199,7 @@ module _ (n size start : ℕ) (c : Core) (frame : Frame) (below : List Frame) (k
       → Owed n start c after
   leaves_waiting after same waits is =
       leaves after (pushed_frame frame.kind waiting) None same (stack_waiting n start c frame below h top waits)
-          (may_leave frame.kind (pushed_frames below)) is
+      (may_leave frame.kind (pushed_frames below)) is
 
   same_window : (kind : Purpose) (state : Progress) → window_of (after_begin kind state c frame below) ≡ window_of c
   same_window (for_record moment len) waiting = refl
@@ -218,7 +220,7 @@ module _ (n size start : ℕ) (c : Core) (frame : Frame) (below : List Frame) (k
   again noted answer after old same only step = subst (Owed n start c) (sym step.after_is) record {
     kept =
         history_again n start c frame below h top frame.kind frame.state refl
-            (λ page at. step.passed (sym (only c.opened page (sym (ap passed_spot same) ∙ at))));
+        (λ page at. step.passed (sym (only c.opened page (sym (ap passed_spot same) ∙ at))));
     window = inl (same_window frame.kind frame.state, same_taken frame.kind frame.state);
   }
 
@@ -233,8 +235,8 @@ module _ (n size start : ℕ) (c : Core) (frame : Frame) (below : List Frame) (k
       → ReserveStep n size c frame below answer after → Owed n start c after
   reserve_owed answer after same waits (reserves moment len r kind r_is fits a is) =
       let stack =
-          stack_waiting n start c frame below h top waits
-              ∙ ap (λ (x : Purpose). pushed_frame x waiting ∷ pushed_frames below) kind in
+      stack_waiting n start c frame below h top waits
+      ∙ ap (λ (x : Purpose). pushed_frame x waiting ∷ pushed_frames below) kind in
       let number : ℕ = length (reserved_records c.history) in
       subst (Owed n start c) (sym is) record {
         kept = record {
@@ -243,7 +245,7 @@ module _ (n size start : ℕ) (c : Core) (frame : Frame) (below : List Frame) (k
               ∙ ap (λ (x : Purpose). pushed_frame x (reserved number) ∷ pushed_frames below) (sym kind);
           lost =
               lost_on n start c frame below h top (record frame { state = reserved number; phase = idle } ∷ below)
-                  (λ page at. absurd (none_some (sym (ap passed_spot same) ∙ at))) (λ q. inr q) h;
+              (λ page at. absurd (none_some (sym (ap passed_spot same) ∙ at))) (λ q. inr q) h;
         };
         window = inl (refl, refl);
       }
@@ -277,8 +279,8 @@ module _ (n size start : ℕ) (c : Core) (frame : Frame) (below : List Frame) (k
       again noted answer after (claiming noted page) same (no_spot noted (claiming noted page) refl) step
   claim_head_owed noted page answer after same (claims lost now sum at a is) =
       let (open_yet, begun_yet, room, small) =
-          (subst (PhaseKept n c.links c.order c.head c.done c.opened) same (top_kept n c frame below k top)).noted noted
-              refl in
+      (subst (PhaseKept n c.links c.order c.head c.done c.opened) same (top_kept n c frame below k top)).noted noted
+      refl in
       let unread = k.head_le in let within = k.opened_le in
       let (here, page_is, head_at) = header_inside n c k noted page lost (omega arith) (omega arith) sum at in
       let frames : List Frame = record frame { phase = looking_next owner noted page } ∷ below in
@@ -289,14 +291,15 @@ module _ (n size start : ℕ) (c : Core) (frame : Frame) (below : List Frame) (k
           lost = λ f low high. dite (ℕ_discrete f c.head)
               (λ e. inr (inr (omega arith, inl (page, ap (λ (o : ℕ). Some (spot o page)) now))))
               (λ ne.
-                  lost_on n start c frame below h top frames
-                      (λ q is_q. absurd (none_some (sym (ap passed_spot same) ∙ is_q))) (λ q. inr q) h f low
-                      (omega arith));
+              lost_on n start c frame below h top frames
+              (λ q is_q. absurd (none_some (sym (ap passed_spot same) ∙ is_q))) (λ q. inr q) h f low
+              (omega arith));
         };
         window =
-            inr
-                (loses,
-                 record { step = record { may = (omega arith, omega arith); after_is = refl }; shown = (refl, refl) });
+            inr (
+              loses,
+              record { step = record { may = (omega arith, omega arith); after_is = refl }; shown = (refl, refl) },
+            );
       }
   claim_head_owed noted page answer after same (claim_fails now other a is) =
       goes after (claiming noted page) (looking noted) same (λ p is_p. absurd (none_some is_p)) is
@@ -323,9 +326,9 @@ module _ (n size start : ℕ) (c : Core) (frame : Frame) (below : List Frame) (k
       → ClearUpdateStep n c frame below noted page answer after → Owed n start c after
   clear_update_owed noted page answer after same (clears lost sum at a is) = subst (Owed n start c) (sym is) record {
     kept =
-            let kept =
-            history_goes n start c frame below h top (opening noted page)
-                (λ p at_p. (p, sym (ap passed_spot same) ∙ at_p)) in
+        let kept =
+        history_goes n start c frame below h top (opening noted page)
+        (λ p at_p. (p, sym (ap passed_spot same) ∙ at_p)) in
         record { allowed = kept.allowed; stack = kept.stack; lost = kept.lost };
     window = inl (refl, refl);
   }
@@ -346,26 +349,36 @@ module _ (n size start : ℕ) (c : Core) (frame : Frame) (below : List Frame) (k
   release_fill_owed answer after same (releases alone more a is) = subst (Owed n start c) (sym is) record {
     kept = record { allowed = h.allowed; stack = h.stack; lost = h.lost };
     window =
-        inr
-            (closes,
-             record { step =
-                         record { may = (omega arith, settled_at_rest c.history (rest_releasing same));
-                           after_is = refl };
-                     shown = (refl, refl) });
+        inr (
+          closes,
+          record {
+            step =
+                record {
+                  may = (omega arith, settled_at_rest c.history (rest_releasing same));
+                  after_is = refl;
+                };
+            shown = (refl, refl);
+          },
+        );
   }
   release_fill_owed answer after same (releases_last alone last a is) = subst (Owed n start c) (sym is) record {
     kept =
-            let kept =
-            history_goes n start c frame below h top wishing
-                (λ page at. absurd (none_some (sym (ap passed_spot same) ∙ at))) in
+        let kept =
+        history_goes n start c frame below h top wishing
+        (λ page at. absurd (none_some (sym (ap passed_spot same) ∙ at))) in
         record { allowed = kept.allowed; stack = kept.stack; lost = kept.lost };
     window =
-        inr
-            (closes,
-             record { step =
-                         record { may = (omega arith, settled_at_rest c.history (rest_releasing same));
-                           after_is = refl };
-                     shown = (refl, refl) });
+        inr (
+          closes,
+          record {
+            step =
+                record {
+                  may = (omega arith, settled_at_rest c.history (rest_releasing same));
+                  after_is = refl;
+                };
+            shown = (refl, refl);
+          },
+        );
   }
 
   load_wish_owed : (answer : Answer) (after : Core) → frame.phase ≡ wishing → LoadWishStep n c frame below answer after
@@ -373,7 +386,7 @@ module _ (n size start : ℕ) (c : Core) (frame : Frame) (below : List Frame) (k
   load_wish_owed answer after same (grants alone granted a is) = subst (Owed n start c) (sym is) record {
     kept =
         history_goes n start (with_history_event c wished) frame below (history_wished n start c h (rest_wishing same))
-            top (looking c.opened) (λ page at. absurd (none_some (sym (ap passed_spot same) ∙ at)));
+        top (looking c.opened) (λ page at. absurd (none_some (sym (ap passed_spot same) ∙ at)));
     window = inl (refl, refl);
   }
   load_wish_owed answer after same (closes_more alone not_granted more a is) =
@@ -384,7 +397,7 @@ module _ (n size start : ℕ) (c : Core) (frame : Frame) (below : List Frame) (k
       stack = rest_wishing same;
       lost =
           lost_on n start c frame below h top [] (λ page at. none_some (sym (ap passed_spot same) ∙ at))
-              (λ q. subst (λ (fs : List Frame). Passing fs c.opened) alone q) h;
+          (λ q. subst (λ (fs : List Frame). Passing fs c.opened) alone q) h;
     };
     window = inl (refl, refl);
   }
@@ -407,31 +420,33 @@ module _ (n size start : ℕ) (c : Core) (frame : Frame) (below : List Frame) (k
   with_link_owed : (after : Core) (g : ℕ) (l : Link) → Owed n start c after
       → Owed n start c (record after { links = (with_link n c g l).links })
   with_link_owed after g l owed =
-      record { kept = record { allowed = owed.kept.allowed; stack = owed.kept.stack; lost = owed.kept.lost };
-              window =
-                  ⊎_elim (λ stays. inl stays)
-                      (λ (what, h).
-                          inr (what, record { step = h.step; shown = links_with_shown after g l what h.shown }))
-                      owed.window }
+      record {
+        kept = record { allowed = owed.kept.allowed; stack = owed.kept.stack; lost = owed.kept.lost };
+        window =
+            ⊎_elim (λ stays. inl stays)
+            (λ (what, h).
+            inr (what, record { step = h.step; shown = links_with_shown after g l what h.shown }))
+            owed.window;
+      }
 
   mark_head_owed : (role : Role) (noted page next : ℕ) (answer : Answer) (after : Core)
       → frame.phase ≡ marking role noted page next → MarkHeadStep n c frame below role noted page next answer after
       → Owed n start c after
   mark_head_owed role noted page next answer after same (mark_late helps step) =
       again n size start c frame below k s h top noted answer after (marking role noted page next) same
-          (one_spot n size start c frame below k s h top noted page) step
+      (one_spot n size start c frame below k s h top noted page) step
   mark_head_owed role noted page next answer after same (marks lost goes_on sum at a is) =
       subst (Owed n start c) (sym is)
       (with_link_owed (in_phase c frame below (after_next role noted page)) (suc lost) (header_link next (suc lost))
       (after_next_owed n size start c frame below k s h top role noted page
-       (in_phase c frame below (after_next role noted page)) (marking role noted page next) same refl refl))
+      (in_phase c frame below (after_next role noted page)) (marking role noted page next) same refl refl))
   mark_head_owed role noted page next answer after same (mark_fails lost goes_on sum other a is) =
       after_next_owed n size start c frame below k s h top role noted page after (marking role noted page next) same
-          refl is
+      refl is
 
   begun_window : (kind : Purpose) (state : Progress) (page : ℕ)
       → window_of (after_begin kind state (with_new_tail c page) frame below)
-          ≡ record { head = c.head; done = c.done; opened = c.opened + 1 }
+      ≡ record { head = c.head; done = c.done; opened = c.opened + 1 }
   begun_window (for_record moment len) waiting page = refl
   begun_window for_close waiting page = refl
   begun_window kind (reserved number) page = refl
@@ -455,8 +470,8 @@ module _ (n size start : ℕ) (c : Core) (frame : Frame) (below : List Frame) (k
   opens_for : (noted page : ℕ) → frame.phase ≡ opening noted page → MayOpen (writer_after c.history).stack
   opens_for noted page same = let a = top_agrees c frame below s top in ⊎_elim
       (λ waits.
-          subst MayOpen (sym (stack_waiting n start c frame below h top waits))
-              (may_open frame.kind (pushed_frames below)))
+      subst MayOpen (sym (stack_waiting n start c frame below h top waits))
+      (may_open frame.kind (pushed_frames below)))
       (λ gone. subst MayOpen (sym (stack_empty n start c frame below h top gone (a.1 gone))) tt)
       (waits_or_left frame.kind frame.state frame.phase a.0 (λ e. opens_idle (sym same ∙ e)))
     where
@@ -467,28 +482,31 @@ module _ (n size start : ℕ) (c : Core) (frame : Frame) (below : List Frame) (k
       → OpenFillStep n c frame below noted page answer after → Owed n start c after
   open_fill_owed noted page answer after same (open_late step) =
       again n size start c frame below k s h top noted answer after (opening noted page) same
-          (one_spot n size start c frame below k s h top noted page) step
+      (one_spot n size start c frame below k s h top noted page) step
   open_fill_owed noted page answer after same (opens now a is) =
       let (open_yet, inside, page_is) =
-          (subst (PhaseKept n c.links c.order c.head c.done c.opened) same (top_kept n c frame below k top)).passed
-              noted page refl in
+      (subst (PhaseKept n c.links c.order c.head c.done c.opened) same (top_kept n c frame below k top)).passed
+      noted page refl in
       subst (Owed n start c) (sym is) record {
         kept =
             history_again n start (with_new_tail c page) frame below
-                (history_begun n start c page h (opens_for noted page same)) top frame.kind frame.state refl
+            (history_begun n start c page h (opens_for noted page same)) top frame.kind frame.state refl
             (λ p at. let e =
-                 one_spot n size start c frame below k s h top noted page (c.opened + 1) p
-                     (sym (ap passed_spot same) ∙ at) in
-             absurd (omega arith));
+            one_spot n size start c frame below k s h top noted page (c.opened + 1) p
+            (sym (ap passed_spot same) ∙ at) in
+            absurd (omega arith));
         window =
-            inr
-                ((acts open_fill),
-                 record { step = record { may = omega arith; after_is = begun_window frame.kind frame.state page };
-                         shown = (begun_front frame.kind frame.state page, begun_reader frame.kind frame.state page) });
+            inr (
+              (acts open_fill),
+              record {
+                step = record { may = omega arith; after_is = begun_window frame.kind frame.state page };
+                shown = (begun_front frame.kind frame.state page, begun_reader frame.kind frame.state page);
+              },
+            );
       }
 
 frame_owed : (n size start : ℕ) (c : Core) (frame : Frame) (below : List Frame) (phase : Phase) (answer : Answer)
-        (after : Core) → LinksKept n c → StackKept c → HistoryKept n start c → c.frames ≡ frame ∷ below
+    (after : Core) → LinksKept n c → StackKept c → HistoryKept n start c → c.frames ≡ frame ∷ below
     → frame.phase ≡ phase → FrameStep n size c frame below phase answer after → Owed n start c after
 frame_owed n size start c frame below idle answer after k s h top same step =
     idle_owed n size start c frame below k s h top frame.state answer after same refl step
@@ -517,12 +535,14 @@ module _ (n start : ℕ) (c : Core) (k : LinksKept n c) (h : HistoryKept n start
       → after ≡ record c { spare_link = spare_link; reader = reader } → Owed n start c after
   reader_owed after spare_link reader same is = subst (Owed n start c) (sym is) record {
     kept =
-        record { allowed = h.allowed;
-                stack = h.stack;
-                lost =
-                    λ f low high.
-                           subst (λ (taken : List TakenFill). WhyPassed n taken c.opened c.frames f) (sym same)
-                               (h.lost f low high) };
+        record {
+          allowed = h.allowed;
+          stack = h.stack;
+          lost =
+              λ f low high.
+              subst (λ (taken : List TakenFill). WhyPassed n taken c.opened c.frames f) (sym same)
+              (h.lost f low high);
+        };
     window = inl (refl, same);
   }
 
@@ -551,8 +571,8 @@ module _ (n start : ℕ) (c : Core) (k : LinksKept n c) (h : HistoryKept n start
           lost = λ f low high. dite (ℕ_discrete f c.head)
               (λ e. inl (subst (TakenIn (c.reader.taken ++ t ∷ [])) (here ∙ sym e) (taken_last c.reader.taken t)))
               (λ ne.
-                  why_stays n c.reader.taken (c.reader.taken ++ t ∷ []) c.opened c.opened c.frames c.frames f
-                      (taken_more c.reader.taken t f) (omega arith) (λ p. inr (refl, p)) (h.lost f low (omega arith)));
+              why_stays n c.reader.taken (c.reader.taken ++ t ∷ []) c.opened c.opened c.frames c.frames f
+              (taken_more c.reader.taken t f) (omega arith) (λ p. inr (refl, p)) (h.lost f low (omega arith)));
         };
         window =
             inr (takes, record { step = record { may = omega arith; after_is = refl }; shown = (refl, t, here, refl) });
@@ -572,23 +592,24 @@ module _ (n start : ℕ) (c : Core) (k : LinksKept n c) (h : HistoryKept n start
 pushed_owed : (n start : ℕ) (c after : Core) (kind : Purpose) (history_event : HistoryEvent) → HistoryKept n start c
     → MayAct (writer_after c.history).stack history_event
     → ((after_event (writer_after c.history).stack (writer_after c.history).records history_event).stack
-       ≡ pushed_frame kind waiting ∷ (writer_after c.history).stack)
+    ≡ pushed_frame kind waiting ∷ (writer_after c.history).stack)
     → after
-        ≡ record c
-            { frames = record { kind = kind; state = waiting; phase = idle } ∷ c.frames;
-             history = c.history ++ history_event ∷ [] }
+    ≡ record c {
+      frames = record { kind = kind; state = waiting; phase = idle } ∷ c.frames;
+      history = c.history ++ history_event ∷ [];
+    }
     → Owed n start c after
 pushed_owed n start c after kind history_event h may pushes is = subst (Owed n start c) (sym is) record {
   kept = record {
     allowed = IsHistory-push c.history history_event h.allowed may;
     stack =
         ap (λ (w : WriterState). w.stack) (writer_snoc c.history history_event) ∙ pushes
-            ∙ ap (λ (s : List PushedFrame). pushed_frame kind waiting ∷ s) h.stack;
+        ∙ ap (λ (s : List PushedFrame). pushed_frame kind waiting ∷ s) h.stack;
     lost =
         λ f low high.
-               why_stays n c.reader.taken c.reader.taken c.opened c.opened c.frames
-                   (record { kind = kind; state = waiting; phase = idle } ∷ c.frames) f (λ t. t) (omega arith)
-                   (λ p. inr (refl, inr p)) (h.lost f low high);
+        why_stays n c.reader.taken c.reader.taken c.opened c.opened c.frames
+        (record { kind = kind; state = waiting; phase = idle } ∷ c.frames) f (λ t. t) (omega arith)
+        (λ p. inr (refl, inr p)) (h.lost f low high);
   };
   window = inl (refl, refl);
 }
@@ -612,10 +633,10 @@ step_owed n size start c event answer after k s h (frame_lacks e none a is) = st
 step_owed n size start c event answer after k s h
     (end_step payload frame below number moment len e top state kind slot a is) =
     leaves n size start c frame below k s h top after (pushed_frame frame.kind (reserved number)) (Some payload)
-        (reserved_idle frame.kind frame.state number frame.phase (top_agrees c frame below s top).0 state)
+    (reserved_idle frame.kind frame.state number frame.phase (top_agrees c frame below s top).0 state)
     (stack_reserved n start c frame below h top number state)
-        (subst (λ (x : Purpose). MayLeave (pushed_frame x (reserved number) ∷ pushed_frames below) (Some payload))
-         (sym kind) slot) is
+    (subst (λ (x : Purpose). MayLeave (pushed_frame x (reserved number) ∷ pushed_frames below) (Some payload))
+    (sym kind) slot) is
 step_owed n size start c event answer after k s h (end_lacks payload e none a is) = stays_owed n start c after h is
 step_owed n size start c event answer after k s h (end_early payload frame below e top none a is) =
     stays_owed n start c after h is
@@ -623,4 +644,4 @@ step_owed n size start c event answer after k s h (read_step e step) =
     read_owed n start c k h c.reader.phase answer after k.reader step
 step_owed n size start c event answer after k s h (store_wish_step e a is) =
     subst (Owed n start c) (sym is)
-        record { kept = record { allowed = h.allowed; stack = h.stack; lost = h.lost }; window = inl (refl, refl) }
+    record { kept = record { allowed = h.allowed; stack = h.stack; lost = h.lost }; window = inl (refl, refl) }

@@ -65,7 +65,7 @@ module _ (n size : ℕ) (c : Core) (below : List Frame) (answer : Answer) (after
   abbrev Reported : Purpose → Progress → Phase → Type 0
   Reported kind state phase =
       (history_events : List HistoryEvent) × (after.history ≡ c.history ++ history_events)
-          × FrameAppends n c kind state phase below answer history_events
+      × FrameAppends n c kind state phase below answer history_events
 
   history_is : (next : Core) → after ≡ next → after.history ≡ next.history
   history_is next is = ap (λ (d : Core). d.history) is
@@ -90,31 +90,39 @@ module _ (n size : ℕ) (c : Core) (below : List Frame) (answer : Answer) (after
       → noted_fill phase ≡ Some noted → owned_update phase ≡ None
       → BeginsAgain c (record { kind = kind; state = state; phase = phase }) below noted answer after
       → Reported kind state phase
-  late (for_record moment len) waiting phase noted may notes_it free step =
-      ([], nothing _ step.after_is refl,
-       record_goes_on (late_opens_none c phase noted notes_it step.passed) step.answer_is refl)
-  late for_close waiting phase noted may notes_it free step =
-      (leave None ∷ [], history_is _ step.after_is,
-       close_leaves (was_faster noted notes_it step.passed free) step.answer_is refl)
+  late (for_record moment len) waiting phase noted may notes_it free step = (
+    [],
+    nothing _ step.after_is refl,
+    record_goes_on (late_opens_none c phase noted notes_it step.passed) step.answer_is refl,
+  )
+  late for_close waiting phase noted may notes_it free step = (
+    leave None ∷ [],
+    history_is _ step.after_is,
+    close_leaves (was_faster noted notes_it step.passed free) step.answer_is refl,
+  )
   late kind (reserved number) phase noted may notes_it free step =
       absurd (none_some (sym (ap noted_fill may.1) ∙ notes_it))
-  late kind left phase noted may notes_it free step =
-      ([], nothing _ step.after_is refl,
-       left_stays (late_opens_none c phase noted notes_it step.passed) (λ g. noted_no_wish phase noted notes_it g.0)
-           (inl step.answer_is) refl)
+  late kind left phase noted may notes_it free step = (
+    [],
+    nothing _ step.after_is refl,
+    left_stays (late_opens_none c phase noted notes_it step.passed) (λ g. noted_no_wish phase noted notes_it g.0)
+        (inl step.answer_is) refl,
+  )
 
   -- it begins the fill
   begins : (kind : Purpose) (state : Progress) (noted page : ℕ) → MayBeIn kind state (opening noted page)
       → noted ≡ c.opened → answer ≡ begin_answer kind state below
       → after
-              ≡ after_begin kind state (with_new_tail c page)
-                  (record { kind = kind; state = state; phase = opening noted page }) below
-          → Reported kind state (opening noted page)
+      ≡ after_begin kind state (with_new_tail c page)
+      (record { kind = kind; state = state; phase = opening noted page }) below
+      → Reported kind state (opening noted page)
   begins (for_record moment len) waiting noted page may now a is =
       (open_fill ∷ [], history_is _ is, record_opens (page, ap (λ (f : ℕ). opening f page) now) a refl)
-  begins for_close waiting noted page may now a is =
-      (open_fill ∷ leave None ∷ [], history_is _ is ∙ append_assoc c.history (open_fill ∷ []) (leave None ∷ []),
-       close_opens (page, ap (λ (f : ℕ). opening f page) now) a refl)
+  begins for_close waiting noted page may now a is = (
+    open_fill ∷ leave None ∷ [],
+    history_is _ is ∙ append_assoc c.history (open_fill ∷ []) (leave None ∷ []),
+    close_opens (page, ap (λ (f : ℕ). opening f page) now) a refl,
+  )
   begins kind (reserved number) noted page may now a is = absurd (none_some (sym (ap noted_fill may.1)))
   begins kind left noted page may now a is =
       (open_fill ∷ [], history_is _ is, left_opens (page, ap (λ (f : ℕ). opening f page) now) a refl)
@@ -154,14 +162,14 @@ module _ (n size : ℕ) (c : Core) (below : List Frame) (answer : Answer) (after
       → Reported kind state (looking noted)
   looks kind state noted next may now a is e =
       stays kind state (looking noted) next may (λ z. cc) (λ (p, z). cc) (still_wants c (looking noted) noted refl now)
-          (λ (z, g). cc) a is e
+      (λ (z, g). cc) a is e
 
   tries : (kind : Purpose) (state : Progress) (noted page : ℕ) (next : Core) → MayBeIn kind state (claiming noted page)
       → noted ≡ c.opened → answer ≡ going → after ≡ next → next.history ≡ c.history
       → Reported kind state (claiming noted page)
   tries kind state noted page next may now a is e =
       stays kind state (claiming noted page) next may (λ z. cc) (λ (p, z). cc)
-          (still_wants c (claiming noted page) noted refl now) (λ (z, g). cc) a is e
+      (still_wants c (claiming noted page) noted refl now) (λ (z, g). cc) a is e
 
   -- it looks at the next link, or tries to set it
   looks_next : (kind : Purpose) (state : Progress) (role : Role) (noted page : ℕ) (next : Core)
@@ -169,20 +177,20 @@ module _ (n size : ℕ) (c : Core) (below : List Frame) (answer : Answer) (after
       → after ≡ next → next.history ≡ c.history → Reported kind state (looking_next role noted page)
   looks_next kind state owner noted page next may on a is e =
       stays kind state (looking_next owner noted page) next may (λ z. cc) (λ (p, z). cc)
-          (owner_wants_on c (looking_next owner noted page) noted refl) (λ (z, g). cc) a is e
+      (owner_wants_on c (looking_next owner noted page) noted refl) (λ (z, g). cc) a is e
   looks_next kind state helper noted page next may on a is e =
       stays kind state (looking_next helper noted page) next may (λ z. cc) (λ (p, z). cc)
-          (still_wants c (looking_next helper noted page) noted refl on) (λ (z, g). cc) a is e
+      (still_wants c (looking_next helper noted page) noted refl on) (λ (z, g). cc) a is e
 
   moves_on : (kind : Purpose) (state : Progress) (role : Role) (noted page second : ℕ) (next : Core)
       → MayBeIn kind state (marking role noted page second) → MayContinue role noted c.opened → answer ≡ going
       → after ≡ next → next.history ≡ c.history → Reported kind state (marking role noted page second)
   moves_on kind state owner noted page second next may on a is e =
       stays kind state (marking owner noted page second) next may (λ z. cc) (λ (p, z). cc)
-          (owner_wants_on c (marking owner noted page second) noted refl) (λ (z, g). cc) a is e
+      (owner_wants_on c (marking owner noted page second) noted refl) (λ (z, g). cc) a is e
   moves_on kind state helper noted page second next may on a is e =
       stays kind state (marking helper noted page second) next may (λ z. cc) (λ (p, z). cc)
-          (still_wants c (marking helper noted page second) noted refl on) (λ (z, g). cc) a is e
+      (still_wants c (marking helper noted page second) noted refl on) (λ (z, g). cc) a is e
 
   -- it closes fills, or looks for a wish, which only a frame does that has left
   no_opening : (phase : Phase) → (phase ≡ releasing) ⊎ (phase ≡ wishing) → IsOpening c phase → ⊥
@@ -229,21 +237,21 @@ module _ (n size : ℕ) (c : Core) (below : List Frame) (answer : Answer) (after
       tries kind state noted page _ may now a is refl
   reported_frame kind state (looking_next role noted page) may (load_next_late helps step) =
       late kind state (looking_next role noted page) noted may refl
-          (ap (λ (r : Role). owned_update (looking_next r noted page)) helps) step
+      (ap (λ (r : Role). owned_update (looking_next r noted page)) helps) step
   reported_frame kind state (looking_next role noted page) may (sees_normal lost next on sum at a is) =
       looks_next kind state role noted page _ may on a is refl
   reported_frame kind state (looking_next role noted page) may (sees_other lost on sum none a is) =
       looks_next kind state role noted page _ may on a is refl
   reported_frame kind state (marking role noted page next) may (mark_late helps step) =
       late kind state (marking role noted page next) noted may refl
-          (ap (λ (r : Role). owned_update (marking r noted page next)) helps) step
+      (ap (λ (r : Role). owned_update (marking r noted page next)) helps) step
   reported_frame kind state (marking role noted page next) may (marks lost on sum at a is) =
       moves_on kind state role noted page next _ may on a is refl
   reported_frame kind state (marking role noted page next) may (mark_fails lost on sum differ a is) =
       moves_on kind state role noted page next _ may on a is refl
   reported_frame kind state (clearing noted page) may (clears lost sum at a is) =
       stays kind state (clearing noted page) _ may (λ e. cc) (λ (p, e). cc)
-          (owner_wants_on c (clearing noted page) noted refl) (λ (e, g). cc) a is refl
+      (owner_wants_on c (clearing noted page) noted refl) (λ (e, g). cc) a is refl
   reported_frame kind state (opening noted page) may (open_late step) =
       late kind state (opening noted page) noted may refl refl step
   reported_frame kind state (opening noted page) may (opens now a is) = begins kind state noted page may now a is
@@ -288,50 +296,64 @@ reported_end payload frame below answer none a = by frame.state none
 case_appends : (n size start : ℕ) (c : Core) (event : Event) (answer : Answer) (after : Core)
     → IsRingKept n size start c → StepCases n size c event answer after
     → (appended : List HistoryEvent) × (after.history ≡ c.history ++ appended) × Appends n c event answer appended
-case_appends n size start c event answer after kept (push_step moment len e few short early a is) =
-    (push moment len ∷ [], ap (λ (d : Core). d.history) is,
-     subst (λ (x : Event). Appends n c x answer (push moment len ∷ [])) (sym e) (is_pushed a refl))
+case_appends n size start c event answer after kept (push_step moment len e few short early a is) = (
+  push moment len ∷ [],
+  ap (λ (d : Core). d.history) is,
+  subst (λ (x : Event). Appends n c x answer (push moment len ∷ [])) (sym e) (is_pushed a refl),
+)
 case_appends n size start c event answer after kept (push_refused moment len why e refuses a is) =
     ([], same c after is, subst (λ (x : Event). Appends n c x answer []) (sym e) (isnt_pushed why a refl))
-case_appends n size start c event answer after kept (close_step e few a is) =
-    (push_close ∷ [], ap (λ (d : Core). d.history) is,
-     subst (λ (x : Event). Appends n c x answer (push_close ∷ [])) (sym e) (is_pushed a refl))
+case_appends n size start c event answer after kept (close_step e few a is) = (
+  push_close ∷ [],
+  ap (λ (d : Core). d.history) is,
+  subst (λ (x : Event). Appends n c x answer (push_close ∷ [])) (sym e) (is_pushed a refl),
+)
 case_appends n size start c event answer after kept (close_refused e many a is) =
     ([], same c after is, subst (λ (x : Event). Appends n c x answer []) (sym e) (isnt_pushed too_deep a refl))
 case_appends n size start c event answer after kept (frame_step frame below e top step) =
     let (history_events, is, by) =
-        reported_frame n size c below answer after frame.kind frame.state frame.phase
-            (top_agrees c frame below kept.stack top).0 step in
-    (history_events, is,
-     subst (λ (x : Event). Appends n c x answer history_events) (sym e)
-         (subst (λ (fs : List Frame). TopAppends n c fs answer history_events) (sym top) by))
-case_appends n size start c event answer after kept (frame_lacks e none a is) =
-    ([], same c after is,
-     subst (λ (x : Event). Appends n c x answer []) (sym e)
-         (subst (λ (fs : List Frame). TopAppends n c fs answer []) (sym none) (a, refl)))
-case_appends n size start c event answer after kept
-        (end_step payload frame below number moment len e top has kind slot a is) =
-    (
-  leave (Some payload) ∷ [],
-  ap (λ (d : Core). d.history) is,
-  subst (λ (x : Event). Appends n c x answer (leave (Some payload) ∷ [])) (sym e)
-      (subst (λ (fs : List Frame). TopEndAppends payload fs answer (leave (Some payload) ∷ [])) (sym top)
-       (subst (λ (s : Progress). EndAppends payload s below answer (leave (Some payload) ∷ [])) (sym has) (a, refl))),
+    reported_frame n size c below answer after frame.kind frame.state frame.phase
+    (top_agrees c frame below kept.stack top).0 step in (
+      history_events,
+      is,
+      subst (λ (x : Event). Appends n c x answer history_events) (sym e)
+          (subst (λ (fs : List Frame). TopAppends n c fs answer history_events) (sym top) by),
+    )
+case_appends n size start c event answer after kept (frame_lacks e none a is) = (
+  [],
+  same c after is,
+  subst (λ (x : Event). Appends n c x answer []) (sym e)
+      (subst (λ (fs : List Frame). TopAppends n c fs answer []) (sym none) (a, refl)),
 )
-case_appends n size start c event answer after kept (end_lacks payload e none a is) =
-    ([], same c after is,
-     subst (λ (x : Event). Appends n c x answer []) (sym e)
-         (subst (λ (fs : List Frame). TopEndAppends payload fs answer []) (sym none) (a, refl)))
-case_appends n size start c event answer after kept (end_early payload frame below e top none a is) =
-    ([], same c after is,
-     subst (λ (x : Event). Appends n c x answer []) (sym e)
-         (subst (λ (fs : List Frame). TopEndAppends payload fs answer []) (sym top)
-          (reported_end payload frame below answer none a)))
+case_appends n size start c event answer after kept
+    (end_step payload frame below number moment len e top has kind slot a is) = (
+      leave (Some payload) ∷ [],
+      ap (λ (d : Core). d.history) is,
+      subst (λ (x : Event). Appends n c x answer (leave (Some payload) ∷ [])) (sym e)
+          (subst (λ (fs : List Frame). TopEndAppends payload fs answer (leave (Some payload) ∷ [])) (sym top)
+          (subst (λ (s : Progress). EndAppends payload s below answer (leave (Some payload) ∷ [])) (sym has)
+          (a, refl))),
+    )
+case_appends n size start c event answer after kept (end_lacks payload e none a is) = (
+  [],
+  same c after is,
+  subst (λ (x : Event). Appends n c x answer []) (sym e)
+      (subst (λ (fs : List Frame). TopEndAppends payload fs answer []) (sym none) (a, refl)),
+)
+case_appends n size start c event answer after kept (end_early payload frame below e top none a is) = (
+  [],
+  same c after is,
+  subst (λ (x : Event). Appends n c x answer []) (sym e)
+      (subst (λ (fs : List Frame). TopEndAppends payload fs answer []) (sym top)
+      (reported_end payload frame below answer none a)),
+)
 case_appends n size start c event answer after kept (read_step e step) =
     ([], read_same n c after c.reader.phase answer step, subst (λ (x : Event). Appends n c x answer []) (sym e) refl)
-case_appends n size start c event answer after kept (store_wish_step e a is) =
-    ([], ap (λ (d : Core). d.history) is ∙ sym (append-nil c.history),
-     subst (λ (x : Event). Appends n c x answer []) (sym e) refl)
+case_appends n size start c event answer after kept (store_wish_step e a is) = (
+  [],
+  ap (λ (d : Core). d.history) is ∙ sym (append-nil c.history),
+  subst (λ (x : Event). Appends n c x answer []) (sym e) refl,
+)
 
 pub steps_append : StepsAppend
 steps_append n size start c event answer after kept step =
@@ -443,7 +465,7 @@ module _ (c : Core) (phase : Phase) (answer : Answer) (some others : List Histor
   left_is_one n (left_stays none denied a is) (left_stays other refused_too b that) = is ∙ sym that
 
 frame_is_one : (n : ℕ) (c : Core) (kind : Purpose) (state : Progress) (phase : Phase) (below : List Frame)
-        (answer : Answer) (some others : List HistoryEvent) → FrameAppends n c kind state phase below answer some
+    (answer : Answer) (some others : List HistoryEvent) → FrameAppends n c kind state phase below answer some
     → FrameAppends n c kind state phase below answer others → some ≡ others
 frame_is_one n c (for_record moment len) waiting phase below answer some others one other =
     record_is_one c phase answer some others one other

@@ -45,20 +45,24 @@ pub record Leads (n : ℕ) (c after : Core) : Type 0 where
 no_event : (n : ℕ) (c after : Core) → after.history ≡ c.history → window_of after ≡ window_of c
     → numbers_of after.reader.taken ≡ numbers_of c.reader.taken → Leads n c after
 no_event n c after h w t =
-    record { events = [];
-            history_events = h ∙ sym (append-nil c.history);
-            window = sym w;
-            took = t ∙ sym (append-nil (numbers_of c.reader.taken)) }
+    record {
+      events = [];
+      history_events = h ∙ sym (append-nil c.history);
+      window = sym w;
+      took = t ∙ sym (append-nil (numbers_of c.reader.taken));
+    }
 
 -- a history event of a frame, and what happens with it
 does : (n : ℕ) (c after : Core) (a : HistoryEvent) → MayMove n c.history (window_of c) (acts a)
     → after.history ≡ c.history ++ a ∷ [] → window_of after ≡ window_after (window_of c) (acts a)
     → numbers_of after.reader.taken ≡ numbers_of c.reader.taken → Leads n c after
 does n c after a may h w t =
-    record { events = acts a ∷ [];
-            history_events = h;
-            window = (may, sym w);
-            took = t ∙ sym (append-nil (numbers_of c.reader.taken)) }
+    record {
+      events = acts a ∷ [];
+      history_events = h;
+      window = (may, sym w);
+      took = t ∙ sym (append-nil (numbers_of c.reader.taken));
+    }
 
 leads_again : (n : ℕ) (c : Core) (frame : Frame) (below : List Frame) (kind : Purpose) (state : Progress)
     → Leads n c (after_begin kind state c frame below)
@@ -125,15 +129,17 @@ module _ (n size start : ℕ) (c : Core) (frame : Frame) (below : List Frame) (k
   leads_frame (claiming noted page) answer after same (claim_late step) = again n c frame below noted answer after step
   leads_frame (claiming noted page) answer after same (claims lost now sum at a is) =
       let (open_yet, begun_yet, room, small) =
-          (subst (PhaseKept n c.links c.order c.head c.done c.opened) same (top_kept n c frame below k top)).noted noted
-              refl in
+      (subst (PhaseKept n c.links c.order c.head c.done c.opened) same (top_kept n c frame below k top)).noted noted
+      refl in
       let unread = k.head_le in let within = k.opened_le in
       let (here, page_is, head_at) = header_inside n c k noted page lost (omega arith) (omega arith) sum at in
       subst (Leads n c) (sym is)
-          record { events = loses ∷ [];
-                  history_events = sym (append-nil c.history);
-                  window = ((omega arith, omega arith), refl);
-                  took = sym (append-nil (numbers_of c.reader.taken)) }
+      record {
+        events = loses ∷ [];
+        history_events = sym (append-nil c.history);
+        window = ((omega arith, omega arith), refl);
+        took = sym (append-nil (numbers_of c.reader.taken));
+      }
   leads_frame (claiming noted page) answer after same (claim_fails now other a is) =
       subst (Leads n c) (sym is) (no_event n c _ refl refl refl)
   leads_frame (looking_next role noted page) answer after same (load_next_late helps step) =
@@ -153,8 +159,8 @@ module _ (n size start : ℕ) (c : Core) (frame : Frame) (below : List Frame) (k
   leads_frame (opening noted page) answer after same (open_late step) = again n c frame below noted answer after step
   leads_frame (opening noted page) answer after same (opens now a is) =
       let (open_yet, inside, page_is) =
-          (subst (PhaseKept n c.links c.order c.head c.done c.opened) same (top_kept n c frame below k top)).passed
-              noted page refl in
+      (subst (PhaseKept n c.links c.order c.head c.done c.opened) same (top_kept n c frame below k top)).passed
+      noted page refl in
       subst (Leads n c) (sym is) (leads_begun n c frame below page frame.kind frame.state (omega arith))
   leads_frame releasing answer after same (releases alone more a is) =
       subst (Leads n c) (sym is) (leads_closed answer _ same (omega arith) refl refl refl)
@@ -194,7 +200,7 @@ leads_read n c (swapping page fill) answer after k facts (swaps at a is) =
       window = (omega arith, refl);
       took =
           numbers-push c.reader.taken (taken_fill c page fill)
-              ∙ ap (λ (f : ℕ). numbers_of c.reader.taken ++ f ∷ []) here;
+          ∙ ap (λ (f : ℕ). numbers_of c.reader.taken ++ f ∷ []) here;
     }
 leads_read n c (swapping page fill) answer after k facts (swap_fails at a is) =
     subst (Leads n c) (sym is) (no_event n c _ refl refl refl)
@@ -214,7 +220,7 @@ leads_step n size start c event answer after k s h (frame_step frame below e top
 leads_step n size start c event answer after k s h (frame_lacks e none a is) =
     subst (Leads n c) (sym is) (no_event n c c refl refl refl)
 leads_step n size start c event answer after k s h
-        (end_step payload frame below number moment len e top state kind slot a is) =
+    (end_step payload frame below number moment len e top state kind slot a is) =
     subst (Leads n c) (sym is) (does n c _ (leave (Some payload)) tt refl refl refl)
 leads_step n size start c event answer after k s h (end_lacks payload e none a is) =
     subst (Leads n c) (sym is) (no_event n c c refl refl refl)
@@ -232,17 +238,17 @@ leads_on n c between after x y = record {
   events = x.events ++ y.events;
   history_events =
       y.history_events ∙ ap (λ (h : List HistoryEvent). h ++ history_events_of y.events) x.history_events
-          ∙ append_assoc c.history (history_events_of x.events) (history_events_of y.events)
-          ∙ ap (λ (h : List HistoryEvent). c.history ++ h) (sym (history_events-append x.events y.events));
+      ∙ append_assoc c.history (history_events_of x.events) (history_events_of y.events)
+      ∙ ap (λ (h : List HistoryEvent). c.history ++ h) (sym (history_events-append x.events y.events));
   window =
       run-append n c.history (window_of c) (window_of between) (window_of after) x.events y.events x.window
-          (subst (λ (h : List HistoryEvent). WindowRunFrom n h (window_of between) y.events (window_of after))
-           x.history_events y.window);
+      (subst (λ (h : List HistoryEvent). WindowRunFrom n h (window_of between) y.events (window_of after))
+      x.history_events y.window);
   took =
       y.took ∙ ap (λ (l : List ℕ). l ++ fills_taken between.head y.events) x.took
-          ∙ append_assoc (numbers_of c.reader.taken) (fills_taken c.head x.events) (fills_taken between.head y.events)
+      ∙ append_assoc (numbers_of c.reader.taken) (fills_taken c.head x.events) (fills_taken between.head y.events)
       ∙ ap (λ (l : List ℕ). numbers_of c.reader.taken ++ l)
-          (sym (taken-append n c.history (window_of c) (window_of between) x.events y.events x.window));
+      (sym (taken-append n c.history (window_of c) (window_of between) x.events y.events x.window));
 }
 
 pub leads_run : (n size start : ℕ) (c after : Core) (exchanges : List Exchange) → IsRingKept n size start c
@@ -250,7 +256,7 @@ pub leads_run : (n size start : ℕ) (c after : Core) (exchanges : List Exchange
 leads_run n size start c after [] r run = subst (Leads n c) run (no_event n c c refl refl refl)
 leads_run n size start c after (x ∷ exchanges) r (between, step, run) =
     leads_on n c between after
-        (leads_step n size start c x.event x.answer between r.links r.stack r.history (cases_of step))
+    (leads_step n size start c x.event x.answer between r.links r.stack r.history (cases_of step))
     (leads_run n size start between after exchanges (ring_step n size start c x.event x.answer between r step) run)
 
 -- events that describe a state, and those that lead on from there, describe the later one
@@ -259,14 +265,14 @@ reported_on : (n start : ℕ) (c after : Core) (events : List RingEvent) → Are
 reported_on n start c after events t x = record {
   history_events =
       history_events-append events x.events
-          ∙ ap (λ (h : List HistoryEvent). h ++ history_events_of x.events) t.history_events ∙ sym x.history_events;
+      ∙ ap (λ (h : List HistoryEvent). h ++ history_events_of x.events) t.history_events ∙ sym x.history_events;
   window =
       run-append n [] (first_window start) (window_of c) (window_of after) events x.events t.window
-          (subst (λ (h : List HistoryEvent). WindowRunFrom n h (window_of c) x.events (window_of after))
-           (sym t.history_events) x.window);
+      (subst (λ (h : List HistoryEvent). WindowRunFrom n h (window_of c) x.events (window_of after))
+      (sym t.history_events) x.window);
   took =
       taken-append n [] (first_window start) (window_of c) events x.events t.window
-          ∙ ap (λ (l : List ℕ). l ++ fills_taken c.head x.events) t.took ∙ sym x.took;
+      ∙ ap (λ (l : List ℕ). l ++ fills_taken c.head x.events) t.took ∙ sym x.took;
 }
 
 -- the events of a longer run go on from those of a shorter one
@@ -274,8 +280,8 @@ pub run_extends : (n size start : ℕ) (c after : Core) (exchanges : List Exchan
     → IsRingKept n size start c → AreEventsOfRun n start c events → Run n size c exchanges after
     → (more : List RingEvent) × AreEventsOfRun n start after (events ++ more)
 run_extends n size start c after exchanges events r reported run =
-        let x =
-        leads_run n size start c after exchanges r run in
+    let x =
+    leads_run n size start c after exchanges r run in
     (x.events, reported_on n start c after events reported x)
 
 -- a new ring is described by no events
@@ -290,7 +296,7 @@ pub run_reported : (n size start : ℕ) (c : Core) → IsReached n size start c
     → (events : List RingEvent) × AreEventsOfRun n start c events
 run_reported n size start c r =
     run_extends n size start r.from c r.exchanges [] (ring_start n size start r.from r.may_start r.is_new)
-        (start_reported n start r.from r.is_new) r.run
+    (start_reported n start r.from r.is_new) r.run
 
 pub counts_rise : (n size start : ℕ) (c after : Core) (exchanges : List Exchange) → IsRingKept n size start c
     → Run n size c exchanges after → (c.head ≤ after.head) × (c.done ≤ after.done) × (c.opened ≤ after.opened)

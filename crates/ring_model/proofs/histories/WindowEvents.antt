@@ -22,13 +22,13 @@ module _ (n : ℕ) (c after : Core) where
       → (window_after (window_of c) what).head ≡ (window_after (window_of c) other).head
   same_heads what other h g =
       heads (window_after (window_of c) what) (window_after (window_of c) other) (window_of after) h.step.after_is
-          g.step.after_is
+      g.step.after_is
 
   same_dones : (what other : RingEvent) → MovesWindow n c what after → MovesWindow n c other after
       → (window_after (window_of c) what).done ≡ (window_after (window_of c) other).done
   same_dones what other h g =
       dones (window_after (window_of c) what) (window_after (window_of c) other) (window_of after) h.step.after_is
-          g.step.after_is
+      g.step.after_is
 
   took_is_not_lost : MovesWindow n c takes after → MovesWindow n c loses after → ⊥
   took_is_not_lost h g = let (same, t, here, more) = h.shown in

@@ -24,9 +24,10 @@ pub some_is : (a b : ℕ) → Some a ≡ Some b → a ≡ b
 some_is a b e = cc
 
 pub pair_is : (a b c d : ℕ) → Some (spot a b) ≡ Some (spot c d) → (a ≡ c) × (b ≡ d)
-pair_is a b c d e =
-    (ap (λ (o : Option Spot). (unwrap_or o (spot 0 0)).fill) e,
-     ap (λ (o : Option Spot). (unwrap_or o (spot 0 0)).page) e)
+pair_is a b c d e = (
+  ap (λ (o : Option Spot). (unwrap_or o (spot 0 0)).fill) e,
+  ap (λ (o : Option Spot). (unwrap_or o (spot 0 0)).page) e,
+)
 
 pub normal_ne_header : (p f q g : ℕ) → normal_link p f ≢ header_link q g
 normal_ne_header p f q g e = let m : normal ≡ header = ap (λ (l : Link). l.mark) e in cc
@@ -44,8 +45,8 @@ pub before_set : (n : ℕ) (links : List Link) (g f : ℕ) (new l : Link) → 1 
     → link_into n (links_with n links g new) f ≡ l → link_into n links f ≡ l
 before_set n links g f new l some wide differ at = dite (ℕ_discrete (f % n) (g % n))
     (λ e.
-        absurd (differ (sym (link_here n links g new some wide)
-                        ∙ ap (λ (k : ℕ). get_or (links_with n links g new) k (normal_link 0 0)) (sym e) ∙ at)))
+    absurd (differ (sym (link_here n links g new some wide)
+    ∙ ap (λ (k : ℕ). get_or (links_with n links g new) k (normal_link 0 0)) (sym e) ∙ at)))
     (λ ne. sym (get_or-set_other links (g % n) (f % n) new (normal_link 0 0) ne) ∙ at)
 
 -- what was there, and isn't what was set over, is there now
@@ -66,7 +67,7 @@ Passed n order head done o page = (done < o) × (o < head + n) × (page ≡ page
 abbrev pub Owned : ℕ → List Link → List ℕ → ℕ → ℕ → ℕ → Type 0
 Owned n links order head done o =
     (lost : ℕ) × (lost + n ≡ o) × (lost < head) × (done < o)
-        × (link_into n links o ≡ update_link (page_at n order o) lost)
+    × (link_into n links o ≡ update_link (page_at n order o) lost)
 
 module _ (n : ℕ) (links : List Link) (order : List ℕ) (head done opened : ℕ) where
   -- a phase in which nothing is known
@@ -205,7 +206,7 @@ module _ (n : ℕ) (links : List Link) (order : List ℕ) (head done opened : �
 
 -- where one link is set that is no UPDATE of the frame's, to one that isn't the next link that it saw
 pub relink_phase : (n : ℕ) (links : List Link) (order : List ℕ) (head head' done opened g : ℕ) (old new : Link)
-        (phase : Phase) → 1 ≤ n → length links ≡ n → head ≤ head'
+    (phase : Phase) → 1 ≤ n → length links ≡ n → head ≤ head'
     → link_into n links g ≡ old
     → ((o page lost : ℕ) → owned_update phase ≡ Some o → lost + n ≡ o → old ≢ update_link page lost)
     → ((seen lost : ℕ) → lost < head → new ≢ normal_link seen (suc lost))
@@ -214,29 +215,35 @@ pub relink_phase : (n : ℕ) (links : List Link) (order : List ℕ) (head head' 
 relink_phase n links order head head' done opened g old new phase some wide le was differ fresh k = record {
   noted = k.noted;
   passed = λ o page is. let (a, b, c) = k.passed o page is in (a, omega arith, c);
-  moves = λ o is. let (lost, sum, below, open_yet, at) = k.moves o is in
-      (lost, sum, omega arith, open_yet,
-       after_set n links g o old new (update_link (page_at n order o) lost) was
-           (differ o (page_at n order o) lost is sum) at);
-  marks = λ o next lost is sum. let (below, same) = k.marks o next lost is sum in
-      (omega arith,
-       λ seen at.
-              same seen
-                  (before_set n links g (suc lost) new (normal_link seen (suc lost)) some wide (fresh seen lost below)
-                   at));
-  clears = λ o lost is sum. let (below, gone) = k.clears o lost is sum in
-      (omega arith,
-       λ seen at.
-              gone seen
-                  (before_set n links g (suc lost) new (normal_link seen (suc lost)) some wide (fresh seen lost below)
-                   at));
+  moves = λ o is. let (lost, sum, below, open_yet, at) = k.moves o is in (
+    lost,
+    sum,
+    omega arith,
+    open_yet,
+    after_set n links g o old new (update_link (page_at n order o) lost) was
+        (differ o (page_at n order o) lost is sum) at,
+  );
+  marks = λ o next lost is sum. let (below, same) = k.marks o next lost is sum in (
+    omega arith,
+    λ seen at.
+        same seen
+        (before_set n links g (suc lost) new (normal_link seen (suc lost)) some wide (fresh seen lost below)
+        at),
+  );
+  clears = λ o lost is sum. let (below, gone) = k.clears o lost is sum in (
+    omega arith,
+    λ seen at.
+        gone seen
+        (before_set n links g (suc lost) new (normal_link seen (suc lost)) some wide (fresh seen lost below)
+        at),
+  );
   releases = k.releases;
 }
 
 pub map_frames : (n : ℕ) (links links' : List Link) (order order' : List ℕ) (head head' done done' opened opened' : ℕ)
     (frames : List Frame)
     → ((phase : Phase) → PhaseKept n links order head done opened phase
-       → PhaseKept n links' order' head' done' opened' phase)
+    → PhaseKept n links' order' head' done' opened' phase)
     → FramesKept n links order head done opened frames
     → FramesKept n links' order' head' done' opened' frames
 map_frames n links links' order order' head head' done done' opened opened' [] step k = tt
@@ -248,13 +255,14 @@ pub map_others : (n : ℕ) (links links' : List Link) (order order' : List ℕ) 
     (frames : List Frame)
     → (HasMover frames f → ⊥)
     → ((phase : Phase) → (owned_update phase ≡ Some f → ⊥) → PhaseKept n links order head done opened phase
-       → PhaseKept n links' order' head' done' opened' phase)
+    → PhaseKept n links' order' head' done' opened' phase)
     → FramesKept n links order head done opened frames
     → FramesKept n links' order' head' done' opened' frames
 map_others n links links' order order' head head' done done' opened opened' f [] none step k = tt
-map_others n links links' order order' head head' done done' opened opened' f (frame ∷ below) none step k =
-    (step frame.phase (λ is. none (inl is)) k.0,
-     map_others n links links' order order' head head' done done' opened opened' f below (λ st. none (inr st)) step k.1)
+map_others n links links' order order' head head' done done' opened opened' f (frame ∷ below) none step k = (
+  step frame.phase (λ is. none (inl is)) k.0,
+  map_others n links links' order order' head head' done done' opened opened' f below (λ st. none (inr st)) step k.1,
+)
 
 -- an UPDATE that is set is one of the frames' own
 pub stands_owned : (n : ℕ) (links : List Link) (order : List ℕ) (head done opened : ℕ) (frames : List Frame) (f : ℕ)
@@ -266,7 +274,7 @@ stands_owned n links order head done opened (frame ∷ below) f k (inr st) =
 
 -- what the reader knows stays so, if what it has seen does
 pub map_reader : (n : ℕ) (links links' : List Link) (order : List ℕ) (spare_link : Link)
-        (head head' done done' hint : ℕ) (phase : ReaderPhase) → done ≤ done'
+    (head head' done done' hint : ℕ) (phase : ReaderPhase) → done ≤ done'
     → ((page fill : ℕ) → HasSeen n links head hint page fill → HasSeen n links' head' hint page fill)
     → ReaderKept n links order spare_link head done hint phase
     → ReaderKept n links' order spare_link head' done' hint phase

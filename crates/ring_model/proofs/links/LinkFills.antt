@@ -50,22 +50,22 @@ module _ (n : ℕ) (c : Core) (k : LinksKept n c) where
       → (f < c.head + n) × (page ≡ page_at n c.order f)
   normal_inside f page low high at = let some_pages = k.some_pages in dite (ℕ_discrete f (c.head + n))
       (λ e. let reported =
-       normal_reports n c.links c.order c.head c.frames c.head page f (k.each c.head (omega arith) (omega arith))
-           (sym (link_round n c.links c.head) ∙ ap (link_into n c.links) (sym e) ∙ at) in
+      normal_reports n c.links c.order c.head c.frames c.head page f (k.each c.head (omega arith) (omega arith))
+      (sym (link_round n c.links c.head) ∙ ap (link_into n c.links) (sym e) ∙ at) in
       let is : f ≡ c.head = reported.0 in absurd (omega arith))
       (λ ne. let within : f < c.head + n = omega arith in
-       (within, (normal_reports n c.links c.order c.head c.frames f page f (k.each f low within) at).1))
+      (within, (normal_reports n c.links c.order c.head c.frames f page f (k.each f low within) at).1))
 
   -- the fill to open, if the head was moved on from its position
   pub update_inside : (f page lost : ℕ) → c.head ≤ f → f ≤ c.head + n → lost + n ≡ f
       → link_into n c.links f ≡ update_link page lost → (f < c.head + n) × (page ≡ page_at n c.order f)
   update_inside f page lost low high sum at = let some_pages = k.some_pages in dite (ℕ_discrete f (c.head + n))
       (λ e. let reported =
-       update_reports n c.links c.order c.head c.frames c.head page lost (k.each c.head (omega arith) (omega arith))
-           (sym (link_round n c.links c.head) ∙ ap (link_into n c.links) (sym e) ∙ at) in
+      update_reports n c.links c.order c.head c.frames c.head page lost (k.each c.head (omega arith) (omega arith))
+      (sym (link_round n c.links c.head) ∙ ap (link_into n c.links) (sym e) ∙ at) in
       let is : lost + n ≡ c.head = reported.0 in absurd (omega arith))
       (λ ne. let within : f < c.head + n = omega arith in
-       (within, (update_reports n c.links c.order c.head c.frames f page lost (k.each f low within) at).1))
+      (within, (update_reports n c.links c.order c.head c.frames f page lost (k.each f low within) at).1))
 
   -- the fill to open, if the ring is full: its position is the head's
   pub header_inside : (f page lost : ℕ) → c.head < f → f ≤ c.head + n → lost + n ≡ f
@@ -74,13 +74,13 @@ module _ (n : ℕ) (c : Core) (k : LinksKept n c) where
   header_inside f page lost low high sum at = let some_pages = k.some_pages in dite (ℕ_discrete f (c.head + n))
       (λ e. let here = sym (link_round n c.links c.head) ∙ ap (link_into n c.links) (sym e) ∙ at in
       let reported =
-          header_reports n c.links c.order c.head c.frames c.head page lost (k.each c.head (omega arith) (omega arith))
-              here in
+      header_reports n c.links c.order c.head c.frames c.head page lost (k.each c.head (omega arith) (omega arith))
+      here in
       (reported.0, reported.2, here))
       (λ ne. let reported =
-           header_reports n c.links c.order c.head c.frames f page lost (k.each f (omega arith) (omega arith)) at in
-       let is : f ≡ c.head = reported.1 in
-       absurd (omega arith))
+      header_reports n c.links c.order c.head c.frames f page lost (k.each f (omega arith) (omega arith)) at in
+      let is : f ≡ c.head = reported.1 in
+      absurd (omega arith))
 
   -- the link to a fill whose HEADER is owed
   pub next_inside : (lost page : ℕ) → lost < c.head → c.done < lost + n
@@ -89,19 +89,20 @@ module _ (n : ℕ) (c : Core) (k : LinksKept n c) where
   next_inside lost page below open_yet at = let some_pages = k.some_pages in
       let unread = k.head_le in
       dite (ℕ_discrete (suc lost) c.head)
-      (λ e.
-          (e,
-           (normal_reports n c.links c.order c.head c.frames (suc lost) page (suc lost)
-            (k.each (suc lost) (omega arith) (omega arith)) at).1))
+      (λ e. (
+        e,
+        (normal_reports n c.links c.order c.head c.frames (suc lost) page (suc lost)
+            (k.each (suc lost) (omega arith) (omega arith)) at).1,
+      ))
       (λ ne. let reported =
-       normal_reports n c.links c.order c.head c.frames (suc lost + n) page (suc lost)
-           (k.each (suc lost + n) (omega arith) (omega arith)) (link_round n c.links (suc lost) ∙ at) in
+      normal_reports n c.links c.order c.head c.frames (suc lost + n) page (suc lost)
+      (k.each (suc lost + n) (omega arith) (omega arith)) (link_round n c.links (suc lost) ∙ at) in
       let is : suc lost ≡ suc lost + n = reported.0 in absurd (omega arith))
 
   -- each position has a fill from the head on
   pub fill_at : (f : ℕ)
       → (g : ℕ) × (c.head ≤ g) × (g < c.head + n) × (link_into n c.links g ≡ link_into n c.links f)
-          × LinkKept n c.links c.order c.head c.frames g
+      × LinkKept n c.links c.order c.head c.frames g
   fill_at f = let some_pages = k.some_pages in
       let (g, low, high, at) = at_position c.head n (f % n) (mod-lt f (omega arith)) in
       (g, low, high, ap (λ (i : ℕ). get_or c.links i (normal_link 0 0)) at, k.each g low high)

@@ -40,7 +40,7 @@ module _ (n : ℕ) (c : Core) (k : LinksKept n c) (pages : n < LINK_PAGES) where
   links_fit : All FitsWord c.links
   links_fit = All-from_get_or FitsWord c.links (normal_link 0 0) (λ i below. let wide = k.positions in
       subst (λ (j : ℕ). FitsWord (get_or c.links j (normal_link 0 0)))
-          (mod-eq_of_lt (let low : i < n = omega arith in low)) (link_fits i))
+      (mod-eq_of_lt (let low : i < n = omega arith in low)) (link_fits i))
 
 pub links_fit_words : LinksFitWords
 links_fit_words n size start c r pages = let reported = r.links.spare_fits in

@@ -33,7 +33,7 @@ at_phase : (n : ℕ) (c : Core) (phase : ReaderPhase) (hint : ℕ) → LinksKept
     → ReaderKept n c.links c.order c.spare_link c.head c.done hint phase → LinksKept n (reader_at c phase hint)
 at_phase n c phase hint k le facts =
     reader_kept n c c.spare_link (record c.reader { phase = phase; hint = hint }) k le k.seen_le (omega arith)
-        k.spare_fits facts
+    k.spare_fits facts
 
 -- the reader wishes
 pub wished_kept : (n : ℕ) (c : Core) → LinksKept n c → LinksKept n (with_wish c)
@@ -48,8 +48,8 @@ load_head_kept n c after answer k (loads_header page fill at a is) =
     let here = reported.1 in
     let it = reported.0 in
     subst (LinksKept n) (sym is)
-        (at_phase n c (loading_done page fill) fill k (omega arith)
-         record { fill_is = refl; stays = λ e. ap (link_into n c.links) reported.0 ∙ same ∙ at })
+    (at_phase n c (loading_done page fill) fill k (omega arith)
+    record { fill_is = refl; stays = λ e. ap (link_into n c.links) reported.0 ∙ same ∙ at })
 load_head_kept n c after answer k (loads_update page lost at a is) =
     let (g, low, high, same, link) =
     fill_at n c k c.reader.hint in
@@ -70,7 +70,7 @@ saw_kept : (n : ℕ) (c : Core) (phase : ReaderPhase) → LinksKept n c
     → ReaderKept n c.links c.order c.spare_link c.head c.done c.reader.hint phase → LinksKept n (reader_saw c phase)
 saw_kept n c phase k facts =
     reader_kept n c c.spare_link (record c.reader { phase = phase; seen = c.done }) k k.hint_le (omega arith) k.seen_le
-        k.spare_fits facts
+    k.spare_fits facts
 
 pub load_done_kept : (n : ℕ) (c after : Core) (page fill : ℕ) (answer : Answer) → LinksKept n c
     → HasSeen n c.links c.head c.reader.hint page fill → LoadDoneStep c page fill answer after → LinksKept n after
@@ -89,8 +89,8 @@ pub store_spare_link_kept : (n : ℕ) (c after : Core) (page fill : ℕ) (answer
     → LinksKept n after
 store_spare_link_kept n c after page fill answer k facts step =
     subst (LinksKept n) (sym step.after_is)
-        (reader_kept n c (next_header n c fill) (record c.reader { phase = swapping page fill }) k k.hint_le k.seen_le
-         (omega arith) (next_fits n c fill k facts.1) (facts.0, facts.1, refl))
+    (reader_kept n c (next_header n c fill) (record c.reader { phase = swapping page fill }) k k.hint_le k.seen_le
+    (omega arith) (next_fits n c fill k facts.1) (facts.0, facts.1, refl))
 
 -- ---- the swap
 
@@ -100,30 +100,30 @@ swapped_apart : (n : ℕ) (order : List ℕ) (spare position page : ℕ) → Are
 swapped_apart n order spare position page a low is =
     let wide = a.pages in
     let here : get_or (set order position spare) position 0 ≡ spare =
-        get_or-set_same order position spare 0 (omega arith) in
+    get_or-set_same order position spare 0 (omega arith) in
     let there = λ (i : ℕ) (ne : i ≢ position). get_or-set_other order position i spare 0 ne in record {
       pages = length-set order position spare ∙ a.pages;
       each = λ i below. dite (ℕ_discrete i position)
           (λ e.
-              subst (λ (p : ℕ). p < n + 1) (sym (ap (λ (j : ℕ). get_or (set order position spare) j 0) e ∙ here))
-                  a.spare_below)
+          subst (λ (p : ℕ). p < n + 1) (sym (ap (λ (j : ℕ). get_or (set order position spare) j 0) e ∙ here))
+          a.spare_below)
           (λ ne. subst (λ (p : ℕ). p < n + 1) (sym (there i ne)) (a.each i below));
       differ = λ i j below_i below_j same. dite (ℕ_discrete i position)
           (λ e. dite (ℕ_discrete j position)
           (λ e'. e ∙ sym e')
           (λ ne'.
-              absurd (a.spare_differs j below_j
-                      (sym (there j ne') ∙ sym same ∙ ap (λ (m : ℕ). get_or (set order position spare) m 0) e ∙ here))))
+          absurd (a.spare_differs j below_j
+          (sym (there j ne') ∙ sym same ∙ ap (λ (m : ℕ). get_or (set order position spare) m 0) e ∙ here))))
           (λ ne. dite (ℕ_discrete j position)
           (λ e'.
-              absurd (a.spare_differs i below_i
-                      (sym (there i ne) ∙ same ∙ ap (λ (m : ℕ). get_or (set order position spare) m 0) e' ∙ here)))
+          absurd (a.spare_differs i below_i
+          (sym (there i ne) ∙ same ∙ ap (λ (m : ℕ). get_or (set order position spare) m 0) e' ∙ here)))
           (λ ne'. a.differ i j below_i below_j (sym (there i ne) ∙ same ∙ there j ne')));
       spare_below = subst (λ (p : ℕ). p < n + 1) (sym is) (a.each position low);
       spare_differs = λ i below same. dite (ℕ_discrete i position)
           (λ e.
-              a.spare_differs position low
-                  (sym is ∙ sym same ∙ ap (λ (m : ℕ). get_or (set order position spare) m 0) e ∙ here))
+          a.spare_differs position low
+          (sym is ∙ sym same ∙ ap (λ (m : ℕ). get_or (set order position spare) m 0) e ∙ here))
           (λ ne. ne (a.differ i position below low (sym (there i ne) ∙ same ∙ is)));
     }
 
@@ -157,7 +157,7 @@ taken_link n links links' order order' head frames f more same page (is_update l
 
 module _ (n : ℕ) (c : Core) (page : ℕ) (k : LinksKept n c) (closed : c.head < c.done)
     (at : link_into n c.links c.head ≡ header_link page c.head)
-        (ready : c.spare_link ≡ header_link (page_at n c.order (suc c.head)) (suc c.head)) where
+    (ready : c.spare_link ≡ header_link (page_at n c.order (suc c.head)) (suc c.head)) where
   once : List Link
   once = links_with n c.links c.head (normal_link c.spare (c.head + n))
 
@@ -169,27 +169,27 @@ module _ (n : ℕ) (c : Core) (page : ℕ) (k : LinksKept n c) (closed : c.head 
   unfolding once
   next_once = let some_pages = k.some_pages in
       link_else c.head n c.links (suc c.head) c.head (normal_link c.spare (c.head + n)) (omega arith) (omega arith)
-              (omega arith) (omega arith) (λ e. omega arith) ∙ behind_closed n c k closed
+      (omega arith) (omega arith) (λ e. omega arith) ∙ behind_closed n c k closed
 
   swapped_phase : (phase : Phase) → PhaseKept n c.links c.order c.head c.done c.opened phase
       → PhaseKept n (links_with n once (suc c.head) c.spare_link) (set c.order (c.head % n) c.spare) (c.head + 1) c.done
-          c.opened phase
+      c.opened phase
   unfolding once
   swapped_phase phase facts = let some_pages = k.some_pages in let wide = k.positions in
       relink_phase n once (set c.order (c.head % n) c.spare) c.head (c.head + 1) c.done c.opened (suc c.head)
-          (normal_link (page_at n c.order (suc c.head)) (suc c.head)) c.spare_link phase (omega arith) once_wide
-          (omega arith) next_once
+      (normal_link (page_at n c.order (suc c.head)) (suc c.head)) c.spare_link phase (omega arith) once_wide
+      (omega arith) next_once
       (λ o p u _ _. normal_ne_update (page_at n c.order (suc c.head)) (suc c.head) p u)
       (λ seen u _ e. normal_ne_header seen (suc u) (page_at n c.order (suc c.head)) (suc c.head) (sym e ∙ ready))
       (relink_phase n c.links (set c.order (c.head % n) c.spare) c.head c.head c.done c.opened c.head
-       (header_link page c.head) (normal_link c.spare (c.head + n)) phase (omega arith) wide (omega arith) at
+      (header_link page c.head) (normal_link c.spare (c.head + n)) phase (omega arith) wide (omega arith) at
       (λ o p u _ _. header_ne_update page c.head p u)
       (λ seen u below e. let fills : c.head + n ≡ suc u = ap (λ (l : Link). l.fill) e in absurd (omega arith))
       (reorder_phase n c.links c.order c.head c.done c.opened c.spare phase (omega arith) closed facts))
 
   swapped_link : (f : ℕ) → c.head + 1 ≤ f → f < (c.head + 1) + n
       → LinkKept n (links_with n once (suc c.head) c.spare_link) (set c.order (c.head % n) c.spare) (c.head + 1)
-          c.frames f
+      c.frames f
   unfolding once
   swapped_link f low high = let some_pages = k.some_pages in let wide = k.positions in let pages = k.apart.pages in
       let first : Link = normal_link c.spare (c.head + n) in
@@ -199,40 +199,40 @@ module _ (n : ℕ) (c : Core) (page : ℕ) (k : LinksKept n c) (closed : c.head 
       (λ e. is_header
       (ap (link_into n links) e ∙ link_here n once (suc c.head) c.spare_link (omega arith) once_wide ∙ ready
       ∙ ap (λ (p : ℕ). header_link p (suc c.head))
-          (sym (page_else c.head n c.order (suc c.head) c.head c.spare (omega arith) (omega arith) (omega arith)
-                (omega arith) (λ e'. omega arith)))
+      (sym (page_else c.head n c.order (suc c.head) c.head c.spare (omega arith) (omega arith) (omega arith)
+      (omega arith) (λ e'. omega arith)))
       ∙ ap (λ (g : ℕ). header_link (page_at n order g) g) (sym e))
       (omega arith))
       (λ ne. dite (ℕ_discrete f (c.head + n))
       (λ e. is_normal
       (ap (link_into n links) e
       ∙ link_else (c.head + 1) n once (c.head + n) (suc c.head) c.spare_link (omega arith) (omega arith) (omega arith)
-          (omega arith) (λ e'. ne (e ∙ e'))
+      (omega arith) (λ e'. ne (e ∙ e'))
       ∙ link_round n once c.head ∙ link_here n c.links c.head first (omega arith) wide
       ∙ ap (λ (p : ℕ). normal_link p (c.head + n))
-          (sym (page_turn n order c.head ∙ page_here n c.order c.head c.spare (omega arith) pages))
+      (sym (page_turn n order c.head ∙ page_here n c.order c.head c.spare (omega arith) pages))
       ∙ ap (λ (g : ℕ). normal_link (page_at n order g) g) (sym e))
       (λ at_head. absurd (omega arith)))
       (λ ne'. taken_link n c.links links c.order order c.head c.frames f (omega arith)
       (link_else (c.head + 1) n once f (suc c.head) c.spare_link low high (omega arith) (omega arith) ne
       ∙ link_else c.head n c.links f c.head first (omega arith) (omega arith) (omega arith) (omega arith)
-          (λ e. omega arith))
+      (λ e. omega arith))
       (page_else c.head n c.order f c.head c.spare (omega arith) (omega arith) (omega arith) (omega arith)
-       (λ e. omega arith))
+      (λ e. omega arith))
       (k.each f (omega arith) (omega arith))))
 
   -- the link after the head, which the spare's will be
   behind_fits : FitsRing n (link_into n c.links (suc c.head))
   behind_fits = let some_pages = k.some_pages in let behind = k.done_lt in let fits = k.fits in
       subst (FitsRing n) (sym (behind_closed n c k closed))
-          (k.apart.each (suc c.head % n) (mod-lt (suc c.head) (omega arith)), omega arith)
+      (k.apart.each (suc c.head % n) (mod-lt (suc c.head) (omega arith)), omega arith)
 
   pub swaps_kept : LinksKept n (after_swap n c page c.head)
   unfolding once
   swaps_kept = let some_pages = k.some_pages in let wide = k.positions in let within = k.opened_le in
       let reported =
-          header_reports n c.links c.order c.head c.frames c.head page c.head
-              (k.each c.head (omega arith) (omega arith)) at in
+      header_reports n c.links c.order c.head c.frames c.head page c.head
+      (k.each c.head (omega arith) (omega arith)) at in
       record {
         some_pages = k.some_pages;
         positions = length-set once _ c.spare_link ∙ once_wide;
@@ -244,8 +244,8 @@ module _ (n : ℕ) (c : Core) (page : ℕ) (k : LinksKept n c) (closed : c.head 
         each = swapped_link;
         frames =
             map_frames n c.links (links_with n once (suc c.head) c.spare_link) c.order
-                (set c.order (c.head % n) c.spare) c.head (c.head + 1) c.done c.done c.opened c.opened c.frames
-                swapped_phase k.frames;
+            (set c.order (c.head % n) c.spare) c.head (c.head + 1) c.done c.done c.opened c.opened c.frames
+            swapped_phase k.frames;
         movers = k.movers;
         hint_le = omega arith;
         seen_le = k.seen_le;
@@ -256,7 +256,7 @@ module _ (n : ℕ) (c : Core) (page : ℕ) (k : LinksKept n c) (closed : c.head 
 
 pub swap_head_kept : (n : ℕ) (c after : Core) (page fill : ℕ) (answer : Answer) → LinksKept n c
     → HasSeen n c.links c.head c.reader.hint page fill × (fill < c.done)
-        × (c.spare_link ≡ header_link (page_at n c.order (suc fill)) (suc fill))
+    × (c.spare_link ≡ header_link (page_at n c.order (suc fill)) (suc fill))
     → SwapHeadStep n c page fill answer after → LinksKept n after
 swap_head_kept n c after page fill answer k (seen, below, ready) (swaps at a is) =
     let (g, low, high, same, link) = fill_at n c k fill in
@@ -264,7 +264,7 @@ swap_head_kept n c after page fill answer k (seen, below, ready) (swaps at a is)
     let here : fill ≡ c.head = reported.0 ∙ reported.1 in
     subst (LinksKept n) (sym (is ∙ ap (after_swap n c page) here))
     (swaps_kept n c page k (omega arith) (ap (link_into n c.links) (sym here) ∙ at ∙ ap (header_link page) here)
-     (ready ∙ ap (λ (f : ℕ). header_link (page_at n c.order (suc f)) (suc f)) here))
+    (ready ∙ ap (λ (f : ℕ). header_link (page_at n c.order (suc f)) (suc f)) here))
 swap_head_kept n c after page fill answer k (seen, below, ready) (swap_fails at a is) =
     let le = k.hint_le in let it = seen.fill_is in
     let passed : fill ≢ c.head = λ e. at (seen.stays e) in

@@ -64,8 +64,8 @@ pub data Relinks (n : ℕ) (c : Core) (event : Event) (after : Core) : Type 0 wh
       → link_into n c.links c.head ≡ header_link page c.head
       → link_into n c.links (suc c.head) ≡ normal_link next (suc c.head)
       → after.links
-          ≡ links_with n (links_with n c.links c.head (normal_link c.spare (c.head + n))) (suc c.head)
-              (header_link next (suc c.head))
+      ≡ links_with n (links_with n c.links c.head (normal_link c.spare (c.head + n))) (suc c.head)
+      (header_link next (suc c.head))
       → Relinks n c event after
 
 links_after_begin : (kind : Purpose) (state : Progress) (c : Core) (frame : Frame) (below : List Frame)
@@ -76,7 +76,7 @@ links_after_begin kind (reserved number) c frame below = refl
 links_after_begin kind left c frame below = refl
 
 again : (n : ℕ) (c : Core) (event : Event) (frame : Frame) (below : List Frame) (noted : ℕ) (answer : Answer)
-        (after : Core) → BeginsAgain c frame below noted answer after → Relinks n c event after
+    (after : Core) → BeginsAgain c frame below noted answer after → Relinks n c event after
 again n c event frame below noted answer after step =
     leaves_links (ap (λ (d : Core). d.links) step.after_is ∙ links_after_begin frame.kind frame.state c frame below)
 
@@ -109,20 +109,22 @@ module _ (n size : ℕ) (c : Core) (event : Event) (frame : Frame) (below : List
       again n c event frame below noted answer after step
   relinks_frame (claiming noted page) answer after same (claims lost now sum at a is) =
       let (open_yet, begun_yet, room, small) =
-          (subst (PhaseKept n c.links c.order c.head c.done c.opened) same (top_kept n c frame below k top)).noted noted
-              refl in
+      (subst (PhaseKept n c.links c.order c.head c.done c.opened) same (top_kept n c frame below k top)).noted noted
+      refl in
       let unread = k.head_le in let within = k.opened_le in
       let (here, page_is, head_at) = header_inside n c k noted page lost (omega arith) (omega arith) sum at in
       claims_head noted page lost steps_is
-      record { sum = sum;
-              here = here;
-              closed = omega arith;
-              full = now;
-              passed = ap (λ (x : Core). x.head) is;
-              top = record frame { phase = looking_next owner noted page };
-              below = below;
-              is_top = ap (λ (x : Core). x.frames) is;
-              owns = refl }
+      record {
+        sum = sum;
+        here = here;
+        closed = omega arith;
+        full = now;
+        passed = ap (λ (x : Core). x.head) is;
+        top = record frame { phase = looking_next owner noted page };
+        below = below;
+        is_top = ap (λ (x : Core). x.frames) is;
+        owns = refl;
+      }
       at (ap (λ (x : Core). x.links) is)
   relinks_frame (claiming noted page) answer after same (claim_fails now other a is) = stays n c event after _ is refl
   relinks_frame (looking_next role noted page) answer after same (load_next_late helps step) =
@@ -138,13 +140,13 @@ module _ (n size : ℕ) (c : Core) (event : Event) (frame : Frame) (below : List
       let (open_yet, within, page_is) = kept.passed noted page refl in
       let (below_head, waits) = kept.marks noted next lost refl sum in
       marks_head lost next steps_is (next_inside n c k lost next below_head (omega arith) at).0
-          (ap (λ (x : Core). x.head) is) at (ap (λ (x : Core). x.links) is)
+      (ap (λ (x : Core). x.head) is) at (ap (λ (x : Core). x.links) is)
   relinks_frame (marking role noted page next) answer after same (mark_fails lost goes_on sum other a is) =
       stays n c event after _ is refl
   relinks_frame (clearing noted page) answer after same (clears lost sum at a is) =
       let kept = subst (PhaseKept n c.links c.order c.head c.done c.opened) same (top_kept n c frame below k top) in
       clears_own frame below noted page lost steps_is top (ap owned_update same) sum (kept.clears noted lost refl sum)
-          at (ap (λ (x : Core). x.links) is)
+      at (ap (λ (x : Core). x.links) is)
   relinks_frame (opening noted page) answer after same (open_late step) =
       again n c event frame below noted answer after step
   relinks_frame (opening noted page) answer after same (opens now a is) =
@@ -177,13 +179,13 @@ relinks_read n c event (swapping page fill) answer after k reads_is facts (swaps
     let reported = header_reports n c.links c.order c.head c.frames g page fill link (same ∙ at) in
     let here : fill ≡ c.head = reported.0 ∙ reported.1 in let closed = facts.1 in
     swaps_head page (page_at n c.order (suc c.head)) reads_is (ap (λ (x : Core). x.head) is)
-        (ap (link_into n c.links) (sym here) ∙ at ∙ ap (header_link page) here) (behind_closed n c k (omega arith))
+    (ap (link_into n c.links) (sym here) ∙ at ∙ ap (header_link page) here) (behind_closed n c k (omega arith))
     (ap (λ (x : Core). x.links) is
     ∙ ap (λ (l : Link). links_with n (links_with n c.links fill (normal_link c.spare (fill + n))) (suc fill) l) facts.2
     ∙ ap
-        (λ (f : ℕ).
-            links_with n (links_with n c.links f (normal_link c.spare (f + n))) (suc f)
-                (header_link (page_at n c.order (suc f)) (suc f))) here)
+    (λ (f : ℕ).
+    links_with n (links_with n c.links f (normal_link c.spare (f + n))) (suc f)
+    (header_link (page_at n c.order (suc f)) (suc f))) here)
 relinks_read n c event (swapping page fill) answer after k reads_is facts (swap_fails at a is) =
     stays n c event after _ is refl
 
@@ -229,7 +231,7 @@ pub data LinkChange (n : ℕ) (c : Core) (event : Event) (after : Core) (f : ℕ
   to_header : (page fill : ℕ) → link_into n c.links f ≡ normal_link page fill
       → link_into n after.links f ≡ header_link page fill → fill ≡ after.head
       → ((event ≡ steps) × (c.head ≡ fill) × (link_into n c.links c.head ≡ normal_link page fill))
-          ⊎ ((event ≡ reads) × (c.head + 1 ≡ fill))
+      ⊎ ((event ≡ reads) × (c.head + 1 ≡ fill))
       → LinkChange n c event after f
   to_next : (frame : Frame) (below : List Frame) (page lost : ℕ) → event ≡ steps → c.frames ≡ frame ∷ below
       → owned_update frame.phase ≡ Some (lost + n) → IsSet n c.links c.order c.head c.done c.opened lost
@@ -245,56 +247,56 @@ change_of n c event after f some wide (leaves_links same) = stands_still (ap (λ
 change_of n c event after f some wide (claims_head noted page lost by lose at is) =
     dite (ℕ_discrete (f % n) (noted % n))
     (λ e.
-        to_update page lost by (subst (λ (o : ℕ). IsLost n c after o lost) (sym lose.sum) lose)
-            (same_position n c.links f noted e ∙ at)
-            (ap (λ (l : List Link). link_into n l f) is
-             ∙ set_here n c.links f noted (update_link page lost) some wide e))
+    to_update page lost by (subst (λ (o : ℕ). IsLost n c after o lost) (sym lose.sum) lose)
+    (same_position n c.links f noted e ∙ at)
+    (ap (λ (l : List Link). link_into n l f) is
+    ∙ set_here n c.links f noted (update_link page lost) some wide e))
     (λ ne.
-        stands_still
-            (ap (λ (l : List Link). link_into n l f) is ∙ set_else n c.links f noted (update_link page lost) ne))
+    stands_still
+    (ap (λ (l : List Link). link_into n l f) is ∙ set_else n c.links f noted (update_link page lost) ne))
 change_of n c event after f some wide (marks_head lost next by here head at is) =
     dite (ℕ_discrete (f % n) (suc lost % n))
     (λ e.
-        to_header next (suc lost) (same_position n c.links f (suc lost) e ∙ at)
-            (ap (λ (l : List Link). link_into n l f) is
-             ∙ set_here n c.links f (suc lost) (header_link next (suc lost)) some wide e) (here ∙ sym head)
+    to_header next (suc lost) (same_position n c.links f (suc lost) e ∙ at)
+    (ap (λ (l : List Link). link_into n l f) is
+    ∙ set_here n c.links f (suc lost) (header_link next (suc lost)) some wide e) (here ∙ sym head)
     (inl (by, sym here, ap (link_into n c.links) (sym here) ∙ at)))
     (λ ne.
-        stands_still (ap (λ (l : List Link). link_into n l f) is
-                      ∙ set_else n c.links f (suc lost) (header_link next (suc lost)) ne))
+    stands_still (ap (λ (l : List Link). link_into n l f) is
+    ∙ set_else n c.links f (suc lost) (header_link next (suc lost)) ne))
 change_of n c event after f some wide (clears_own frame below noted page lost by top own sum set at is) =
     dite (ℕ_discrete (f % n) (noted % n))
     (λ e.
-        to_next frame below page lost by top (own ∙ ap Some (sym sum)) set (same_position n c.links f noted e ∙ at)
-            (ap (λ (l : List Link). link_into n l f) is
-             ∙ set_here n c.links f noted (normal_link page noted) some wide e ∙ ap (normal_link page) (sym sum)))
+    to_next frame below page lost by top (own ∙ ap Some (sym sum)) set (same_position n c.links f noted e ∙ at)
+    (ap (λ (l : List Link). link_into n l f) is
+    ∙ set_here n c.links f noted (normal_link page noted) some wide e ∙ ap (normal_link page) (sym sum)))
     (λ ne.
-        stands_still
-            (ap (λ (l : List Link). link_into n l f) is ∙ set_else n c.links f noted (normal_link page noted) ne))
+    stands_still
+    (ap (λ (l : List Link). link_into n l f) is ∙ set_else n c.links f noted (normal_link page noted) ne))
 change_of n c event after f some wide (swaps_head page next by head at behind is) =
     let first : Link = normal_link c.spare (c.head + n) in
     let once : List Link = links_with n c.links c.head first in
     let once_wide : length once ≡ n = length-set c.links (c.head % n) first ∙ wide in
     dite (ℕ_discrete (f % n) (suc c.head % n))
     (λ e.
-        to_header next (suc c.head) (same_position n c.links f (suc c.head) e ∙ behind)
-            (ap (λ (l : List Link). link_into n l f) is
-             ∙ set_here n once f (suc c.head) (header_link next (suc c.head)) some once_wide e) (omega arith)
-            (inr (by, omega arith)))
+    to_header next (suc c.head) (same_position n c.links f (suc c.head) e ∙ behind)
+    (ap (λ (l : List Link). link_into n l f) is
+    ∙ set_here n once f (suc c.head) (header_link next (suc c.head)) some once_wide e) (omega arith)
+    (inr (by, omega arith)))
     (λ ne. let outer =
-         ap (λ (l : List Link). link_into n l f) is
-             ∙ set_else n once f (suc c.head) (header_link next (suc c.head)) ne in
-     dite (ℕ_discrete (f % n) (c.head % n))
+    ap (λ (l : List Link). link_into n l f) is
+    ∙ set_else n once f (suc c.head) (header_link next (suc c.head)) ne in
+    dite (ℕ_discrete (f % n) (c.head % n))
     (λ e.
-        to_spare page c.spare c.head (same_position n c.links f c.head e ∙ at)
-            (outer ∙ set_here n c.links f c.head first some wide e))
+    to_spare page c.spare c.head (same_position n c.links f c.head e ∙ at)
+    (outer ∙ set_here n c.links f c.head first some wide e))
     (λ ne'. stands_still (outer ∙ set_else n c.links f c.head first ne')))
 
 pub change_step : (n size : ℕ) (c : Core) (event : Event) (answer : Answer) (after : Core) (f : ℕ) → LinksKept n c
     → Step n size c event answer after → LinkChange n c event after f
 change_step n size c event answer after f k step =
     change_of n c event after f (let two = k.some_pages in omega arith) k.positions
-        (relinks_step n size c event answer after k (cases_of step))
+    (relinks_step n size c event answer after k (cases_of step))
 
 -- ---- ages
 
@@ -322,7 +324,7 @@ pub raised_step : (n size start : ℕ) (c : Core) (event : Event) (answer : Answ
     → Rises (link_into n c.links f) (link_into n after.links f)
 raised_step n size start c event answer after f r step =
     raised n c event after f (let two = r.links.some_pages in omega arith)
-        (change_step n size c event answer after f r.links step)
+    (change_step n size c event answer after f r.links step)
 
 rises_on : (l m o : Link) → Rises l m → Rises m o → Rises l o
 rises_on l m o (inl e) (inl e') = inl (e' ∙ e)
@@ -335,7 +337,7 @@ pub raised_run : (n size start : ℕ) (c after : Core) (exchanges : List Exchang
 raised_run n size start c after [] f r run = inl (ap (λ (d : Core). link_into n d.links f) (sym run))
 raised_run n size start c after (x ∷ exchanges) f r (between, step, run) =
     rises_on (link_into n c.links f) (link_into n between.links f) (link_into n after.links f)
-        (raised_step n size start c x.event x.answer between f r step)
+    (raised_step n size start c x.event x.answer between f r step)
     (raised_run n size start between after exchanges f (ring_step n size start c x.event x.answer between r step) run)
 
 stands_once : (l m o : Link) → Rises l m → Rises m o → m ≢ l → o ≢ l
@@ -362,8 +364,8 @@ header_at n c k f page fill at =
     let some_pages = k.some_pages in
     let (g, low, high, position) = at_position c.head n (f % n) (mod-lt f (omega arith)) in
     let (reported, here, page_is) =
-        header_reports n c.links c.order c.head c.frames g page fill (k.each g low high)
-            (ap (λ (i : ℕ). get_or c.links i (normal_link 0 0)) position ∙ at) in
+    header_reports n c.links c.order c.head c.frames g page fill (k.each g low high)
+    (ap (λ (i : ℕ). get_or c.links i (normal_link 0 0)) position ∙ at) in
     (reported ∙ here, page_is ∙ ap (page_at n c.order) here, ap (λ (i : ℕ). i % n) (sym here) ∙ position)
 
 pub one_header : (n size start : ℕ) (c : Core) (f g page other_page fill other_fill : ℕ) → IsRingKept n size start c
@@ -401,7 +403,7 @@ header_set n c event after f page fill k (to_header p g was now head by) ne is =
       head_is = sym fills ∙ head;
       alone =
           ⊎_elim (λ (x, here, waits). inl (x, here ∙ fills, no_header n c k p g waits))
-              (λ (x, next). inr (x, next ∙ fills)) by;
+          (λ (x, next). inr (x, next ∙ fills)) by;
     }
 header_set n c event after f page fill k (to_next frame below p lost by top own set was now) ne is =
     absurd (normal_ne_header p (lost + n) page fill (sym now ∙ is))
@@ -421,7 +423,7 @@ too_old l m page other_page fill at (inl e) is = normal_ne_header other_page fil
 too_old l m page other_page fill at (inr more) is = let a = ap age_of at in let b = ap age_of is in omega arith
 
 pub headers_once : (n size start : ℕ) (c between : Core) (exchanges : List Exchange) (event : Event) (answer : Answer)
-        (after : Core) (f g page other_page fill : ℕ) → IsRingKept n size start c
+    (after : Core) (f g page other_page fill : ℕ) → IsRingKept n size start c
     → link_into n c.links f ≡ header_link page fill → Run n size c exchanges between
     → Step n size between event answer after
     → link_into n between.links g ≢ header_link other_page fill
@@ -431,10 +433,10 @@ headers_once n size start c between exchanges event answer after f g page other_
     let set = headers_owed n size start between event answer after g other_page fill r' step ne is in
     let (here, page_is, position) = header_at n c r.links f page fill at in
     let (there, other_is, other_position) =
-        header_at n after (ring_step n size start between event answer after r' step).links g other_page fill is in
+    header_at n after (ring_step n size start between event answer after r' step).links g other_page fill is in
     let same : f % n ≡ g % n = sym position ∙ ap (λ (k : ℕ). k % n) (sym here ∙ there) ∙ other_position in
     too_old (link_into n c.links f) (link_into n between.links f) page other_page fill at
-        (raised_run n size start c between exchanges f r run) (same_position n between.links f g same ∙ set.waited)
+    (raised_run n size start c between exchanges f r run) (same_position n between.links f g same ∙ set.waited)
 
 -- ---- the UPDATE
 
@@ -503,9 +505,9 @@ cleared n c event after f page lost k (to_next frame below p u by top own set wa
       lost_lt = (let low = set.0 in omega arith);
       header_set = λ next. head_marked n c k
           (λ seen e.
-              set.1 seen
-                  (ap (link_into n c.links) (let x : suc u ≡ c.head = omega arith in x) ∙ e
-                   ∙ ap (normal_link seen) (let x : c.head ≡ suc u = omega arith in x)))
+          set.1 seen
+          (ap (link_into n c.links) (let x : suc u ≡ c.head = omega arith in x) ∙ e
+          ∙ ap (normal_link seen) (let x : c.head ≡ suc u = omega arith in x)))
           (k.each c.head (omega arith) (omega arith));
     }
 cleared n c event after f page lost k (to_spare p other g was now) at ne =

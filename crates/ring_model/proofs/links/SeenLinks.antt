@@ -59,7 +59,7 @@ FramesSee n c = AllSee n c.links c.head c.frames
 abbrev Holds : (n opened : ℕ) → List Link → List Link → (head head' : ℕ) → Type 0
 Holds n opened links links' head head' =
     (noted page : ℕ) → noted ≤ opened → (noted ≡ head + n → link_into n links noted ≡ header_link page head)
-        → noted ≡ head' + n → link_into n links' noted ≡ header_link page head'
+    → noted ≡ head' + n → link_into n links' noted ≡ header_link page head'
 
 module _ (n : ℕ) (links links' : List Link) (order : List ℕ) (head head' done opened : ℕ)
     (holds : Holds n opened links links' head head') where
@@ -143,7 +143,7 @@ module _ (n : ℕ) (c : Core) (k : LinksKept n c) where
         → AllSee n links' head' below
     rest_moved links' head' holds =
         all_moved n c.links links' c.order c.head head' c.done c.opened holds below (below_kept n c frame below k top)
-            rest
+        rest
 
     idle_sees : (state : Progress) → IdleStep n size c frame below state answer after → FramesSee n after
     idle_sees waiting (reserves moment len r kind r_is fits a is) = become n after _ is (tt, rest)
@@ -164,9 +164,14 @@ module _ (n : ℕ) (c : Core) (k : LinksKept n c) where
     frame_sees (looking noted) (load_link_late late) = again_sees noted late
     frame_sees (looking noted) (sees_free page x at a is) = become n after _ is (tt, rest)
     frame_sees (looking noted) (sees_header page lost x sum at a is) =
-        become n after _ is
-            ((omega arith, page_seen noted _ at,
-              (λ e. at ∙ ap (header_link page) (let same : lost ≡ c.head = omega arith in same))), rest)
+        become n after _ is (
+          (
+            omega arith,
+            page_seen noted _ at,
+            (λ e. at ∙ ap (header_link page) (let same : lost ≡ c.head = omega arith in same)),
+          ),
+          rest,
+        )
     frame_sees (looking noted) (sees_update page lost x sum at a is) = become n after _ is (tt, rest)
     frame_sees (claiming noted page) (claim_late late) = again_sees noted late
     frame_sees (claiming noted page) (claims lost x sum at a is) =
@@ -180,20 +185,22 @@ module _ (n : ℕ) (c : Core) (k : LinksKept n c) where
     frame_sees (marking role noted page next) (mark_late helps late) = again_sees noted late
     frame_sees (marking role noted page next) (marks lost on sum at a is) =
         let new : Link = header_link next (suc lost) in
-        become n after _ is
-            (passed_sees n (links_with n c.links (suc lost) new) c.head role noted page,
-             rest_moved (links_with n c.links (suc lost) new) c.head
-                 (sets_other n c (suc lost) (normal_link next (suc lost)) new at
-                  (λ p. normal_ne_header next (suc lost) p c.head)))
+        become n after _ is (
+          passed_sees n (links_with n c.links (suc lost) new) c.head role noted page,
+          rest_moved (links_with n c.links (suc lost) new) c.head
+              (sets_other n c (suc lost) (normal_link next (suc lost)) new at
+              (λ p. normal_ne_header next (suc lost) p c.head)),
+        )
     frame_sees (marking role noted page next) (mark_fails lost on sum differ a is) =
         become n after _ is (passed_sees n c.links c.head role noted page, rest)
     frame_sees (clearing noted page) (clears lost sum at a is) =
         let new : Link = normal_link page noted in
-        become n after _ is
-            (tt,
-             rest_moved (links_with n c.links noted new) c.head
-                 (sets_other n c noted (update_link page lost) new at
-                  (λ p e. header_ne_update p c.head page lost (sym e))))
+        become n after _ is (
+          tt,
+          rest_moved (links_with n c.links noted new) c.head
+              (sets_other n c noted (update_link page lost) new at
+              (λ p e. header_ne_update p c.head page lost (sym e))),
+        )
     frame_sees (opening noted page) (open_late late) = again_sees noted late
     frame_sees (opening noted page) (opens now a is) =
         become n after _ is (begun_sees n frame.kind frame.state (with_new_tail c page) frame below rest)
@@ -214,8 +221,8 @@ module _ (n : ℕ) (c : Core) (k : LinksKept n c) where
   read_sees (storing_spare_link page fill) answer after all step = become n after _ step.after_is all
   read_sees (swapping page fill) answer after all (swaps at a is) =
       become n after _ is
-          (all_moved n c.links _ c.order c.head (c.head + 1) c.done c.opened (passes_head n c _ k) c.frames k.frames
-           all)
+      (all_moved n c.links _ c.order c.head (c.head + 1) c.done c.opened (passes_head n c _ k) c.frames k.frames
+      all)
   read_sees (swapping page fill) answer after all (swap_fails at a is) = become n after _ is all
 
   step_sees : (size : ℕ) (event : Event) (answer : Answer) (after : Core) → FramesSee n c
@@ -239,14 +246,14 @@ run_sees : (n size start : ℕ) (before after : Core) (exchanges : List Exchange
 run_sees n size start before after [] reached all run = subst (FramesSee n) run all
 run_sees n size start before after (x ∷ exchanges) reached all (between, step, run) =
     run_sees n size start between after exchanges
-        (reached_further n size start before x.event x.answer between reached step)
+    (reached_further n size start before x.event x.answer between reached step)
     (step_sees n before (reached_kept n size start before reached).links size x.event x.answer between all
-     (cases_of step)) run
+    (cases_of step)) run
 
 reached_sees : (n size start : ℕ) (c : Core) → IsReached n size start c → FramesSee n c
 reached_sees n size start c r =
     run_sees n size start r.from c r.exchanges
-        record { from = r.from; exchanges = []; may_start = r.may_start; is_new = r.is_new; run = refl }
+    record { from = r.from; exchanges = []; may_start = r.may_start; is_new = r.is_new; run = refl }
     (subst (AllSee n r.from.links r.from.head) (sym r.is_new.frames) tt) r.run
 
 -- ---- the laws
@@ -254,8 +261,8 @@ reached_sees n size start c r =
 pub claims_fail_once_the_head_moved : ClaimsFailOnceTheHeadMoved
 claims_fail_once_the_head_moved n size start c frame below noted page lost reached top at now sum other =
     let (round, page_is, still) =
-        subst (Sees n c.links c.head) at
-            (subst (AllSee n c.links c.head) top (reached_sees n size start c reached)).0 in
+    subst (Sees n c.links c.head) at
+    (subst (AllSee n c.links c.head) top (reached_sees n size start c reached)).0 in
     let k = (reached_kept n size start c reached).links in let within = k.opened_le in
     dite (ℕ_discrete lost c.head)
     (λ e. absurd (other (still (omega arith) ∙ ap (header_link page) (sym e))))

@@ -41,8 +41,8 @@ pub claims_kept : (n : ℕ) (c : Core) (frame : Frame) (below : List Frame) (not
     → lost + n ≡ noted
     → link_into n c.links noted ≡ header_link page lost
     → LinksKept n
-        (record (with_link n c noted (update_link page lost))
-         { head = c.head + 1; frames = record frame { phase = looking_next owner noted page } ∷ below })
+    (record (with_link n c noted (update_link page lost))
+    { head = c.head + 1; frames = record frame { phase = looking_next owner noted page } ∷ below })
 claims_kept n c frame below noted page lost k top none facts now sum at =
     let some_pages = k.some_pages in
     let wide = k.positions in
@@ -55,17 +55,17 @@ claims_kept n c frame below noted page lost k top none facts now sum at =
     let frames : List Frame = record frame { phase = looking_next owner noted page } ∷ below in
     let stands : HasMover frames (c.head + n) = inl (ap Some (let e : noted ≡ c.head + n = omega arith in e)) in
     let stays =
-        λ (g : ℕ) (st : HasMover c.frames g). let it : HasMover frames g =
-        ⊎_elim (λ e. absurd (none_some (sym none ∙ e))) (λ b. inr b) (stands_top n c frame below k top g st) in
+    λ (g : ℕ) (st : HasMover c.frames g). let it : HasMover frames g =
+    ⊎_elim (λ e. absurd (none_some (sym none ∙ e))) (λ b. inr b) (stands_top n c frame below k top g st) in
     it in
     let here : link_into n (links_with n c.links noted new) noted ≡ new =
-        link_here n c.links noted new (omega arith) wide in
+    link_here n c.links noted new (omega arith) wide in
     let page_now : page ≡ page_at n c.order noted =
-        page_is
-            ∙ sym
-                (ap (page_at n c.order) (let e : noted ≡ c.head + n = omega arith in e) ∙ page_turn n c.order c.head) in
+    page_is
+    ∙ sym
+    (ap (page_at n c.order) (let e : noted ≡ c.head + n = omega arith in e) ∙ page_turn n c.order c.head) in
     let owned : Owned n (links_with n c.links noted new) c.order (c.head + 1) c.done noted =
-        (lost, sum, omega arith, open_yet, here ∙ ap (λ (p : ℕ). update_link p lost) page_now) in
+    (lost, sum, omega arith, open_yet, here ∙ ap (λ (p : ℕ). update_link p lost) page_now) in
     record {
       some_pages = k.some_pages;
       positions = length-set c.links _ new ∙ k.positions;
@@ -76,22 +76,22 @@ claims_kept n c frame below noted page lost k top none facts now sum at =
       fits = k.fits;
       each = λ f low high. dite (ℕ_discrete f noted)
           (λ e.
-              is_update lost (sum ∙ sym e)
-                  (ap (link_into n (links_with n c.links noted new)) e ∙ here
-                   ∙ ap (λ (p : ℕ). update_link p lost) (page_now ∙ ap (page_at n c.order) (sym e)))
-                  (inl (ap Some (sym e))))
+          is_update lost (sum ∙ sym e)
+          (ap (link_into n (links_with n c.links noted new)) e ∙ here
+          ∙ ap (λ (p : ℕ). update_link p lost) (page_now ∙ ap (page_at n c.order) (sym e)))
+          (inl (ap Some (sym e))))
           (λ ne. moved_link n c.links (links_with n c.links noted new) c.order (c.head + 1) frames f
           (link_else (c.head + 1) n c.links f noted new low high (omega arith) (omega arith) ne)
           (lost_link n c.links c.order c.head c.frames frames f (omega arith) stands stays
-           (k.each f (omega arith) (omega arith))));
+          (k.each f (omega arith) (omega arith))));
       frames = (
         knows_looking_next n (links_with n c.links noted new) c.order (c.head + 1) c.done c.opened owner noted page
             facts (open_yet, omega arith, page_now) (λ _. owned),
         map_frames n c.links (links_with n c.links noted new) c.order c.order c.head (c.head + 1) c.done c.done c.opened
             c.opened below
             (λ phase.
-                relink_phase n c.links c.order c.head (c.head + 1) c.done c.opened noted (header_link page lost) new
-                    phase (omega arith) wide (omega arith) at
+            relink_phase n c.links c.order c.head (c.head + 1) c.done c.opened noted (header_link page lost) new
+            phase (omega arith) wide (omega arith) at
             (λ o p u _ _. header_ne_update page lost p u)
             (λ seen u _ e. normal_ne_update seen (suc u) page lost (sym e)))
             (below_kept n c frame below k top),
@@ -108,10 +108,10 @@ claims_kept n c frame below noted page lost k top none facts now sum at =
       spare_fits = k.spare_fits;
       reader =
           map_reader n c.links (links_with n c.links noted new) c.order c.spare_link c.head (c.head + 1) c.done c.done
-              c.reader.hint c.reader.phase (omega arith)
+          c.reader.hint c.reader.phase (omega arith)
           (λ p f seen. let it = seen.fill_is in
-           let le = k.hint_le in
-           record { fill_is = seen.fill_is; stays = λ e. absurd (omega arith) })
+          let le = k.hint_le in
+          record { fill_is = seen.fill_is; stays = λ e. absurd (omega arith) })
           k.reader;
     }
 
@@ -125,7 +125,7 @@ marks_kept n c lost next k below_head open_yet at =
     let (is, page_is) = next_inside n c k lost next below_head open_yet at in
     let new : Link = header_link next (suc lost) in
     let here : link_into n (links_with n c.links (suc lost) new) (suc lost) ≡ new =
-        link_here n c.links (suc lost) new (omega arith) wide in
+    link_here n c.links (suc lost) new (omega arith) wide in
     record {
       some_pages = k.some_pages;
       positions = length-set c.links _ new ∙ k.positions;
@@ -136,20 +136,20 @@ marks_kept n c lost next k below_head open_yet at =
       fits = k.fits;
       each = λ f low high. dite (ℕ_discrete f (suc lost))
           (λ e.
-              is_header
-                  (ap (link_into n (links_with n c.links (suc lost) new)) e ∙ here
-                   ∙ (λ i. header_link (page_is i) (suc lost))
-                   ∙ ap (λ (g : ℕ). header_link (page_at n c.order g) g) (sym e)) (e ∙ is))
+          is_header
+          (ap (link_into n (links_with n c.links (suc lost) new)) e ∙ here
+          ∙ (λ i. header_link (page_is i) (suc lost))
+          ∙ ap (λ (g : ℕ). header_link (page_at n c.order g) g) (sym e)) (e ∙ is))
           (λ ne.
-              moved_link n c.links (links_with n c.links (suc lost) new) c.order c.head c.frames f
-                  (link_else c.head n c.links f (suc lost) new low high (omega arith) (omega arith) ne)
-                  (k.each f low high));
+          moved_link n c.links (links_with n c.links (suc lost) new) c.order c.head c.frames f
+          (link_else c.head n c.links f (suc lost) new low high (omega arith) (omega arith) ne)
+          (k.each f low high));
       frames =
           map_frames n c.links (links_with n c.links (suc lost) new) c.order c.order c.head c.head c.done c.done
-              c.opened c.opened c.frames
+          c.opened c.opened c.frames
           (λ phase.
-              relink_phase n c.links c.order c.head c.head c.done c.opened (suc lost) (normal_link next (suc lost)) new
-                  phase (omega arith) wide (omega arith) at
+          relink_phase n c.links c.order c.head c.head c.done c.opened (suc lost) (normal_link next (suc lost)) new
+          phase (omega arith) wide (omega arith) at
           (λ o p u _ _. normal_ne_update next (suc lost) p u)
           (λ seen u _ e. normal_ne_header seen (suc u) next (suc lost) (sym e)))
           k.frames;
@@ -160,13 +160,15 @@ marks_kept n c lost next k below_head open_yet at =
       spare_fits = k.spare_fits;
       reader =
           map_reader n c.links (links_with n c.links (suc lost) new) c.order c.spare_link c.head c.head c.done c.done
-              c.reader.hint c.reader.phase (omega arith)
+          c.reader.hint c.reader.phase (omega arith)
           (λ p f seen.
-              record { fill_is = seen.fill_is;
-                      stays =
-                          λ e.
-                                 absurd (normal_ne_header next (suc lost) p f
-                                         (sym at ∙ ap (link_into n c.links) (is ∙ sym e) ∙ seen.stays e)) })
+          record {
+            fill_is = seen.fill_is;
+            stays =
+                λ e.
+                absurd (normal_ne_header next (suc lost) p f
+                (sym at ∙ ap (link_into n c.links) (is ∙ sym e) ∙ seen.stays e));
+          })
           k.reader;
     }
 
@@ -179,12 +181,14 @@ cleared_link : (n : ℕ) (links : List Link) (order : List ℕ) (head : ℕ) (fr
     → LinkKept n links order head frames f
     → LinkKept n links order head frames' f
 cleared_link n links order head frames frames' lost f other stays is_set (is_normal e owed) =
-    is_normal e (λ here. let (u, is, st) = owed here in
-    (u, is,
-     stays (u + n)
-         (λ same. let it : suc lost ≡ head = omega arith in
+    is_normal e (λ here. let (u, is, st) = owed here in (
+      u,
+      is,
+      stays (u + n)
+          (λ same. let it : suc lost ≡ head = omega arith in
           is_set it here (page_at n order f)
-              (ap (link_into n links) (it ∙ sym here) ∙ e ∙ ap (normal_link (page_at n order f)) (here ∙ sym it))) st))
+          (ap (link_into n links) (it ∙ sym here) ∙ e ∙ ap (normal_link (page_at n order f)) (here ∙ sym it))) st,
+    ))
 cleared_link n links order head frames frames' lost f other stays is_set (is_header e here) = is_header e here
 cleared_link n links order head frames frames' lost f other stays is_set (is_update u sum e st) =
     is_update u sum e (stays f other st)
@@ -192,23 +196,23 @@ cleared_link n links order head frames frames' lost f other stays is_set (is_upd
 pub clears_kept : (n : ℕ) (c : Core) (frame : Frame) (below : List Frame) (noted page lost : ℕ) → LinksKept n c
     → c.frames ≡ frame ∷ below → owned_update frame.phase ≡ Some noted → Passed n c.order c.head c.done noted page
     → PhaseKept n (links_with n c.links noted (normal_link page noted)) c.order c.head c.done c.opened
-        (opening noted page)
+    (opening noted page)
     → ((seen : ℕ) → link_into n c.links (suc lost) ≢ normal_link seen (suc lost))
     → lost + n ≡ noted → link_into n c.links noted ≡ update_link page lost
     → LinksKept n
-        (record (with_link n c noted (normal_link page noted))
-         { frames = record frame { phase = opening noted page } ∷ below })
+    (record (with_link n c noted (normal_link page noted))
+    { frames = record frame { phase = opening noted page } ∷ below })
 clears_kept n c frame below noted page lost k top own passed facts is_set sum at =
     let some_pages = k.some_pages in let wide = k.positions in let unread = k.head_le in
     let (open_yet, inside, page_is) = passed in
     let new : Link = normal_link page noted in
     let frames : List Frame = record frame { phase = opening noted page } ∷ below in
     let here : link_into n (links_with n c.links noted new) noted ≡ new =
-        link_here n c.links noted new (omega arith) wide in
+    link_here n c.links noted new (omega arith) wide in
     let stays =
-        λ (g : ℕ) (ne : g ≢ lost + n) (st : HasMover c.frames g). let it : HasMover frames g =
-        ⊎_elim (λ e. absurd (ne (sym (some_is noted g (sym own ∙ e)) ∙ sym sum))) (λ b. inr b)
-            (stands_top n c frame below k top g st) in
+    λ (g : ℕ) (ne : g ≢ lost + n) (st : HasMover c.frames g). let it : HasMover frames g =
+    ⊎_elim (λ e. absurd (ne (sym (some_is noted g (sym own ∙ e)) ∙ sym sum))) (λ b. inr b)
+    (stands_top n c frame below k top g st) in
     it in
     record {
       some_pages = k.some_pages;
@@ -220,22 +224,22 @@ clears_kept n c frame below noted page lost k top own passed facts is_set sum at
       fits = k.fits;
       each = λ f low high. dite (ℕ_discrete f noted)
           (λ e.
-              is_normal
-                  (ap (link_into n (links_with n c.links noted new)) e ∙ here ∙ (λ i. normal_link (page_is i) noted)
-                   ∙ ap (λ (g : ℕ). normal_link (page_at n c.order g) g) (sym e)) (λ at_head. absurd (omega arith)))
+          is_normal
+          (ap (link_into n (links_with n c.links noted new)) e ∙ here ∙ (λ i. normal_link (page_is i) noted)
+          ∙ ap (λ (g : ℕ). normal_link (page_at n c.order g) g) (sym e)) (λ at_head. absurd (omega arith)))
           (λ ne. moved_link n c.links (links_with n c.links noted new) c.order c.head frames f
           (link_else c.head n c.links f noted new low high (omega arith) (omega arith) ne)
           (cleared_link n c.links c.order c.head c.frames frames lost f (λ e. ne (e ∙ sum)) stays (λ _ _. is_set)
-           (k.each f low high)));
+          (k.each f low high)));
       frames = (
         facts,
         map_others n c.links (links_with n c.links noted new) c.order c.order c.head c.head c.done c.done c.opened
             c.opened noted below (top_alone n c frame below k top noted own)
             (λ phase others.
-                relink_phase n c.links c.order c.head c.head c.done c.opened noted (update_link page lost) new phase
-                    (omega arith) wide (omega arith) at
+            relink_phase n c.links c.order c.head c.head c.done c.opened noted (update_link page lost) new phase
+            (omega arith) wide (omega arith) at
             (λ o p u is u_sum e. let fills : lost ≡ u = ap (λ (l : Link). l.fill) e in
-             others (is ∙ ap Some (let same : o ≡ noted = omega arith in same)))
+            others (is ∙ ap Some (let same : o ≡ noted = omega arith in same)))
             (λ seen u below_head e. let fills : noted ≡ suc u = ap (λ (l : Link). l.fill) e in absurd (omega arith)))
             (below_kept n c frame below k top),
       );
@@ -246,13 +250,15 @@ clears_kept n c frame below noted page lost k top own passed facts is_set sum at
       spare_fits = k.spare_fits;
       reader =
           map_reader n c.links (links_with n c.links noted new) c.order c.spare_link c.head c.head c.done c.done
-              c.reader.hint c.reader.phase (omega arith)
+          c.reader.hint c.reader.phase (omega arith)
           (λ p f seen.
-              record { fill_is = seen.fill_is;
-                      stays =
-                          λ e.
-                                 after_set n c.links noted f (update_link page lost) new (header_link p f) at
-                                     (λ same. header_ne_update p f page lost (sym same)) (seen.stays e) })
+          record {
+            fill_is = seen.fill_is;
+            stays =
+                λ e.
+                after_set n c.links noted f (update_link page lost) new (header_link p f) at
+                (λ same. header_ne_update p f page lost (sym same)) (seen.stays e);
+          })
           k.reader;
     }
 
@@ -282,7 +288,7 @@ begun_kept n c page k room small = record {
   each = k.each;
   frames =
       map_frames n c.links c.links c.order c.order c.head c.head c.done c.done c.opened (c.opened + 1) c.frames
-          (opened_phase n c.links c.order c.head c.done c.opened) k.frames;
+      (opened_phase n c.links c.order c.head c.done c.opened) k.frames;
   movers = k.movers;
   hint_le = k.hint_le;
   seen_le = k.seen_le;
@@ -307,7 +313,7 @@ released_kept n c frames k more none facts differ = record {
   fits = k.fits;
   each =
       λ f low high.
-             link_stays n c.links c.order c.head c.frames frames f (λ g st. absurd (none g st)) (k.each f low high);
+      link_stays n c.links c.order c.head c.frames frames f (λ g st. absurd (none g st)) (k.each f low high);
   frames = facts;
   movers = differ;
   hint_le = k.hint_le;
@@ -316,5 +322,5 @@ released_kept n c frames k more none facts differ = record {
   spare_fits = k.spare_fits;
   reader =
       map_reader n c.links c.links c.order c.spare_link c.head c.head c.done (c.done + 1) c.reader.hint c.reader.phase
-          (omega arith) (λ page fill seen. seen) k.reader;
+      (omega arith) (λ page fill seen. seen) k.reader;
 }

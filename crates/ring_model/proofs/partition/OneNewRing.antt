@@ -88,8 +88,8 @@ module _ (n start : ℕ) (some : 1 ≤ n) where
   unfolding link_at
   link_is f low high =
       made_at (link_at n start) 0 n (f % n) (normal_link 0 0) (mod-lt f some)
-          ∙ ap (link_at n start) (let e : 0 + f % n ≡ f % n = omega arith in e)
-          ∙ ap (link_of start (f % n)) (fill_at_is n start f some low high)
+      ∙ ap (link_at n start) (let e : 0 + f % n ≡ f % n = omega arith in e)
+      ∙ ap (link_of start (f % n)) (fill_at_is n start f some low high)
 
   new_ring_starts : IsStart n start (new_ring n start)
   new_ring_starts = record {
@@ -110,7 +110,7 @@ module _ (n start : ℕ) (some : 1 ≤ n) where
     bodies = made_length (λ page. record { first = 0; records = [] }) 0 (n + 1);
     held =
         λ page low.
-               made_at (λ p. record { first = 0; records = [] }) 0 (n + 1) page record { first = 0; records = [] } low;
+        made_at (λ p. record { first = 0; records = [] }) 0 (n + 1) page record { first = 0; records = [] } low;
     history = refl;
   }
 
@@ -120,7 +120,7 @@ module _ (n start : ℕ) (some : 1 ≤ n) where
     links_same : c.links ≡ d.links
     links_same =
         ext_get_or (normal_link 0 0) c.links d.links (s.positions ∙ sym t.positions)
-            (λ i low. let wide = s.positions in same i (omega arith))
+        (λ i low. let wide = s.positions in same i (omega arith))
       where
         same : (i : ℕ) → i < n → get_or c.links i (normal_link 0 0) ≡ get_or d.links i (normal_link 0 0)
         same i low = let (f, f_low, f_high, position) = at_position start n i low in
@@ -132,12 +132,12 @@ module _ (n start : ℕ) (some : 1 ≤ n) where
     order_same : c.order ≡ d.order
     order_same =
         ext_get_or 0 c.order d.order (s.pages ∙ sym t.pages)
-            (λ i low. let wide = s.pages in s.order i (omega arith) ∙ sym (t.order i (omega arith)))
+        (λ i low. let wide = s.pages in s.order i (omega arith) ∙ sym (t.order i (omega arith)))
 
     held_same : c.held ≡ d.held
     held_same =
         ext_get_or record { first = 0; records = [] } c.held d.held (s.bodies ∙ sym t.bodies)
-            (λ i low. let wide = s.bodies in s.held i (omega arith) ∙ sym (t.held i (omega arith)))
+        (λ i low. let wide = s.bodies in s.held i (omega arith) ∙ sym (t.held i (omega arith)))
 
     pub same_ring : c ≡ d
     same_ring = λ i. record {
@@ -157,6 +157,8 @@ module _ (n start : ℕ) (some : 1 ≤ n) where
     }
 
 pub new_ring_is_one : NewRingIsOne
-new_ring_is_one n start some =
-    (new_ring n start, new_ring_starts n start some,
-     λ other t. same_ring n start some other (new_ring n start) t (new_ring_starts n start some))
+new_ring_is_one n start some = (
+  new_ring n start,
+  new_ring_starts n start some,
+  λ other t. same_ring n start some other (new_ring n start) t (new_ring_starts n start some),
+)

@@ -26,7 +26,7 @@ frozen_yet : (h : List HistoryEvent) (a : HistoryEvent) (e : ℕ) → e ≤ comm
 frozen_yet h a e low = let k = committed_prefix h in
     ap (λ (l : List Reservation). take e l) (records_snoc h a)
     ∙ take_after_event e (writer_after h).stack (writer_after h).records a (let within = k.within in omega arith)
-        (fewer (committed_len h) e low (writer_after h).stack k.behind)
+    (fewer (committed_len h) e low (writer_after h).stack k.behind)
   where
     fewer : (most least : ℕ) → least ≤ most → (stack : List PushedFrame) → Behind most stack → Behind least stack
     fewer most least le [] b = tt
@@ -36,14 +36,14 @@ pub frozen : (h : List HistoryEvent) (a : HistoryEvent) (e : ℕ) → e ≤ comm
     → take e (map as_record (reserved_records (h ++ a ∷ []))) ≡ take e (map as_record (reserved_records h))
 frozen h a e low =
     take_map as_record e (reserved_records (h ++ a ∷ [])) ∙ ap (map as_record) (frozen_yet h a e low)
-        ∙ sym (take_map as_record e (reserved_records h))
+    ∙ sym (take_map as_record e (reserved_records h))
 
 -- the first number of a fill that is begun stays the same
 pub first_stays : (h : List HistoryEvent) (a : HistoryEvent) (i : ℕ) → i ≤ length (opens_of h)
     → get_or (0 ∷ opens_of (h ++ a ∷ [])) i 0 ≡ get_or (0 ∷ opens_of h) i 0
 first_stays h a i low =
     ap (λ (l : List ℕ). get_or (0 ∷ l) i 0) (opens_more [] h a)
-        ∙ get_or-append (0 ∷ opens_of h) (opens_at h a) 0 i (let l : i < suc (length (opens_of h)) = omega arith in l)
+    ∙ get_or-append (0 ∷ opens_of h) (opens_at h a) 0 i (let l : i < suc (length (opens_of h)) = omega arith in l)
 
 -- a fill that is closed stays the same
 fill_stays : (h : List HistoryEvent) (a : HistoryEvent) (i : ℕ) → i < length (opens_of h)
@@ -52,7 +52,7 @@ fill_stays : (h : List HistoryEvent) (a : HistoryEvent) (i : ℕ) → i < length
 fill_stays h a i low r done =
     ap (λ (l : List ℕ). get_or (cut_from 0 l (reserved_records (h ++ a ∷ []))) i []) (opens_more [] h a)
     ∙ cut-stays 0 (opens_of h) (opens_at h a) (length (reserved_records h)) (reserved_records h)
-        (reserved_records (h ++ a ∷ [])) i r low (frozen_yet h a (get_or (0 ∷ opens_of h) (suc i) 0) done)
+    (reserved_records (h ++ a ∷ [])) i r low (frozen_yet h a (get_or (0 ∷ opens_of h) (suc i) 0) done)
 
 length-fills : (h : List HistoryEvent) → length (fills_of h) ≡ suc (length (opens_of h))
 length-fills h = length-cut_from 0 (opens_of h) (reserved_records h)
@@ -84,7 +84,7 @@ partition_more start h a head expected taken low r done p = record {
   expected_le = let le = p.expected_le in let e = first_stays h a (head - start) low in omega arith;
   partition =
       subst (λ (l : List Record). IsPartition l (pieces_of taken) [])
-          (sym (frozen h a expected (let le = p.expected_le in omega arith))) p.partition;
+      (sym (frozen h a expected (let le = p.expected_le in omega arith))) p.partition;
   total = p.total;
   firsts = p.firsts;
   fills = record {
@@ -93,11 +93,11 @@ partition_more start h a head expected taken low r done p = record {
         let high = p.below k t at in
         taken_stays start h a t (omega arith) r
         (let up =
-         first_rises_to (opens_of h) (length (reserved_records h)) (suc (t.fill - start)) (head - suc t.fill)
-             (omega arith) r in
+        first_rises_to (opens_of h) (length (reserved_records h)) (suc (t.fill - start)) (head - suc t.fill)
+        (omega arith) r in
         let e =
-            ap (λ (i : ℕ). get_or (0 ∷ opens_of h) i 0)
-                (let s : suc (t.fill - start) + (head - suc t.fill) ≡ head - start = omega arith in s) in
+        ap (λ (i : ℕ). get_or (0 ∷ opens_of h) i 0)
+        (let s : suc (t.fill - start) + (head - suc t.fill) ≡ head - start = omega arith in s) in
         omega arith) f;
     rising = p.fills.rising;
   };
@@ -112,8 +112,8 @@ partition_lost start h head expected taken from low r p = record {
   expected_le = let le = p.expected_le in
       let more = first_rises 0 (opens_of h) (length (reserved_records h)) (head - start) low r in
       let e =
-          ap (λ (i : ℕ). get_or (0 ∷ opens_of h) i 0)
-              (let s : (head + 1) - start ≡ suc (head - start) = omega arith in s) in
+      ap (λ (i : ℕ). get_or (0 ∷ opens_of h) i 0)
+      (let s : (head + 1) - start ≡ suc (head - start) = omega arith in s) in
       omega arith;
   partition = p.partition;
   total = p.total;
@@ -129,13 +129,13 @@ fills_taken : (start : ℕ) (h : List HistoryEvent) (head : ℕ) (taken : List T
 fills_taken start h head taken t here f fs below = record {
   each =
       λ k u at.
-             ⊎_elim (λ old. fs.each k u old) (λ (last, same). subst (IsFillOf start h) same f)
-                 (get_snoc taken t u k at);
+      ⊎_elim (λ old. fs.each k u old) (λ (last, same). subst (IsFillOf start h) same f)
+      (get_snoc taken t u k at);
   rising = λ j k a b less at_j at_k. ⊎_elim
       (λ old_k.
-          ⊎_elim (λ old_j. fs.rising j k a b less old_j old_k)
-              (λ (last, same). let within = slice_get_within taken k b old_k in absurd (omega arith))
-              (get_snoc taken t a j at_j))
+      ⊎_elim (λ old_j. fs.rising j k a b less old_j old_k)
+      (λ (last, same). let within = slice_get_within taken k b old_k in absurd (omega arith))
+      (get_snoc taken t a j at_j))
       (λ (last_k, same_k). ⊎_elim
       (λ old_j. let low = below j a old_j in let e = ap (λ (x : TakenFill). x.fill) same_k in omega arith)
       (λ (last_j, same_j). absurd (omega arith))
@@ -156,22 +156,22 @@ records_taken xs fill records before lost first next count len up split same =
 
 -- a partition up to that number, with the fill as one piece more
 partition_further : (xs fill : List Reservation) (before lost : List Record) (first next count : ℕ)
-        (pieces : List Piece) (t : TakenFill) → count ≡ next → take next xs ≡ take first xs ++ fill
+    (pieces : List Piece) (t : TakenFill) → count ≡ next → take next xs ≡ take first xs ++ fill
     → take first (map as_record xs) ≡ before ++ lost → t.held.records ≡ fill → length lost ≡ t.skipped
     → IsPartition before pieces []
     → IsPartition (take count (map as_record xs)) (pieces ++ piece_of t ∷ []) []
 partition_further xs fill before lost first next count pieces t len up split same missing partition =
     subst (λ (l : List Record). IsPartition l (pieces ++ piece_of t ∷ []) [])
-        (records_taken xs fill t.held.records before lost first next count len up split same)
-        (partition_snoc before pieces lost (piece_of t) partition missing)
+    (records_taken xs fill t.held.records before lost first next count len up split same)
+    (partition_snoc before pieces lost (piece_of t) partition missing)
 
 -- the head is taken, with its first number and its records
 pub partition_taken : (start : ℕ) (h : List HistoryEvent) (head expected : ℕ) (taken : List TakenFill) → start ≤ head
     → head - start < length (opens_of h) → IsRising 0 (opens_of h) (length (reserved_records h))
     → first_of_fill h start head ≤ length (reserved_records h)
     → (t : TakenFill) → t.fill ≡ head
-        → t.held ≡ record { first = first_of_fill h start head; records = get_or (fills_of h) (head - start) [] }
-        → t.skipped ≡ t.held.first - expected
+    → t.held ≡ record { first = first_of_fill h start head; records = get_or (fills_of h) (head - start) [] }
+    → t.skipped ≡ t.held.first - expected
     → PartitionAt start h head expected taken
     → PartitionAt start h (head + 1) (t.held.first + length t.held.records) (taken ++ t ∷ [])
 partition_taken start h head expected taken from low r short t here held skipped p =
@@ -182,7 +182,7 @@ partition_taken start h head expected taken from low r short t here held skipped
     let first_is : t.held.first ≡ first = ap (λ (x : PageRecords). x.first) held in
     let records_is : t.held.records ≡ fill = ap (λ (x : PageRecords). x.records) held in
     let up : take (get_or (0 ∷ opens_of h) (suc (head - start)) 0) xs ≡ take first xs ++ fill =
-        fill_behind 0 (opens_of h) xs (head - start) low r in
+    fill_behind 0 (opens_of h) xs (head - start) low r in
     let next : ℕ = get_or (0 ∷ opens_of h) (suc (head - start)) 0 in
     let within : next ≤ length xs = first_below 0 (opens_of h) (length xs) (suc (head - start)) low r in
     let len : t.held.first + length t.held.records ≡ next =
@@ -191,38 +191,38 @@ partition_taken start h head expected taken from low r short t here held skipped
     let d = length-take-le first xs short in
     let e = length-append (take first xs) fill in let g = ap (length {A = Reservation}) records_is in omega arith in
     let (lost, size, split) =
-        take_split expected first rs p.expected_le (let same = length-map xs as_record in omega arith) in
+    take_split expected first rs p.expected_le (let same = length-map xs as_record in omega arith) in
     let missing : length lost ≡ t.skipped = omega arith in record {
       expected_le =
-              let e =
-              ap (λ (i : ℕ). get_or (0 ∷ opens_of h) i 0)
-                  (let s : (head + 1) - start ≡ suc (head - start) = omega arith in s) in
+          let e =
+          ap (λ (i : ℕ). get_or (0 ∷ opens_of h) i 0)
+          (let s : (head + 1) - start ≡ suc (head - start) = omega arith in s) in
           omega arith;
       partition =
           subst (λ (l : List Piece). IsPartition (take (t.held.first + length t.held.records) rs) l [])
-              (sym (map-append piece_of taken (t ∷ [])))
+          (sym (map-append piece_of taken (t ∷ [])))
           (partition_further xs fill (take expected rs) lost first next (t.held.first + length t.held.records)
-           (pieces_of taken) t len up split records_is missing p.partition);
+          (pieces_of taken) t len up split records_is missing p.partition);
       total =
-              let e =
-              ap covered_total (map-append piece_of taken (t ∷ []))
-                  ∙ covered_total-snoc (pieces_of taken) (piece_of t) in
+          let e =
+          ap covered_total (map-append piece_of taken (t ∷ []))
+          ∙ covered_total-snoc (pieces_of taken) (piece_of t) in
           let was = p.total in
           let le = p.expected_le in
           let more = length-map t.held.records as_record in omega arith;
       firsts = λ j u at. ⊎_elim
           (λ old.
-              ap (λ (l : List Piece). first_of l j) (map-append piece_of taken (t ∷ []))
-                  ∙ first_old 0 (pieces_of taken) (piece_of t) j u.held.first (p.firsts j u old))
+          ap (λ (l : List Piece). first_of l j) (map-append piece_of taken (t ∷ []))
+          ∙ first_old 0 (pieces_of taken) (piece_of t) j u.held.first (p.firsts j u old))
           (λ (last, same).
-              ap (λ (l : List Piece). first_of l j) (map-append piece_of taken (t ∷ []))
-                  ∙ ap (first_of (pieces_of taken ++ piece_of t ∷ [])) (last ∙ sym (length-map taken piece_of))
-                  ∙ first_new 0 (pieces_of taken) (piece_of t)
+          ap (λ (l : List Piece). first_of l j) (map-append piece_of taken (t ∷ []))
+          ∙ ap (first_of (pieces_of taken ++ piece_of t ∷ [])) (last ∙ sym (length-map taken piece_of))
+          ∙ first_new 0 (pieces_of taken) (piece_of t)
           ∙ ap Some
-              (let was = p.total in
-               let le = p.expected_le in
-               let e : 0 + covered_total (pieces_of taken) + t.skipped ≡ t.held.first = omega arith in
-               e)
+          (let was = p.total in
+          let le = p.expected_le in
+          let e : 0 + covered_total (pieces_of taken) + t.skipped ≡ t.held.first = omega arith in
+          e)
           ∙ ap (λ (x : TakenFill). Some x.held.first) same)
           (get_snoc taken t u j at);
       fills = fills_taken start h head taken t here record {
@@ -230,14 +230,14 @@ partition_taken start h head expected taken from low r short t here held skipped
         begun = let count = length-fills h in omega arith;
         held =
             held
-                ∙ ap
-                    (λ (g : ℕ). let x : PageRecords =
-                         record { first = first_of_fill h start g; records = get_or (fills_of h) (g - start) [] } in
-                     x) (sym here);
+            ∙ ap
+            (λ (g : ℕ). let x : PageRecords =
+            record { first = first_of_fill h start g; records = get_or (fills_of h) (g - start) [] } in
+            x) (sym here);
       } p.fills p.below;
       below =
           λ j u at.
-                 ⊎_elim (λ old. let high = p.below j u old in omega arith)
-                     (λ (last, same). let e = ap (λ (x : TakenFill). x.fill) same in omega arith)
-                     (get_snoc taken t u j at);
+          ⊎_elim (λ old. let high = p.below j u old in omega arith)
+          (λ (last, same). let e = ap (λ (x : TakenFill). x.fill) same in omega arith)
+          (get_snoc taken t u j at);
     }

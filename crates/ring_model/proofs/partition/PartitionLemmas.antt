@@ -12,10 +12,14 @@ use Rattle.std.specs.List.{slice_get}
 pub partition_snoc : (records : List Record) (pieces : List Piece) (lost : List Record) (p : Piece)
     → IsPartition records pieces [] → length lost ≡ p.skipped
     → IsPartition (records ++ (lost ++ p.records)) (pieces ++ p ∷ []) []
-partition_snoc records [] lost p partition size =
-    (lost, [], size,
-     ap (λ (l : List Record). l ++ (lost ++ p.records)) partition
-         ∙ ap (λ (l : List Record). lost ++ l) (sym (append-nil p.records)), refl)
+partition_snoc records [] lost p partition size = (
+  lost,
+  [],
+  size,
+  ap (λ (l : List Record). l ++ (lost ++ p.records)) partition
+      ∙ ap (λ (l : List Record). lost ++ l) (sym (append-nil p.records)),
+  refl,
+)
 partition_snoc records (q ∷ pieces) lost p (skipped, behind, is, cut, partition) size = (
   skipped,
   behind ++ (lost ++ p.records),
@@ -48,8 +52,8 @@ take_split zero b xs le low = (take b xs, length-take-le b xs low ∙ (let e : b
 take_split (suc a) zero xs le low = absurd (omega arith)
 take_split (suc a) (suc b) [] le low = absurd (omega arith)
 take_split {A = A} (suc a) (suc b) (x ∷ xs) le low =
-        let (lost, size, is) =
-        take_split a b xs (omega arith) (omega arith) in
+    let (lost, size, is) =
+    take_split a b xs (omega arith) (omega arith) in
     (lost, size ∙ (let e : b - a ≡ suc b - suc a = omega arith in e), ap (λ (l : List A). x ∷ l) is)
 
 pub take_map : {A B : Type 0} (f : A → B) (n : ℕ) (xs : List A) → take n (map f xs) ≡ map f (take n xs)
@@ -70,11 +74,11 @@ pub first_new : (number : ℕ) (pieces : List Piece) (q : Piece)
 first_new number [] q = ap Some (let e : number + q.skipped ≡ number + 0 + q.skipped = omega arith in e)
 first_new number (p ∷ pieces) q =
     first_new (number + covered_count p) pieces q
-        ∙ ap Some
-            (let e : number + covered_count p + covered_total pieces + q.skipped
-                     ≡ number + (covered_count p + covered_total pieces) + q.skipped =
-                 omega arith in
-             e)
+    ∙ ap Some
+    (let e : number + covered_count p + covered_total pieces + q.skipped
+    ≡ number + (covered_count p + covered_total pieces) + q.skipped =
+    omega arith in
+    e)
 
 pub covered_total-snoc : (pieces : List Piece) (q : Piece)
     → covered_total (pieces ++ q ∷ []) ≡ covered_total pieces + covered_count q

@@ -40,11 +40,11 @@ module _ (n start : ℕ) (c : Core) (k : LinksKept n c) (t : ContentsKept n star
   pub head_settled : first_of_fill c.history start c.head ≤ committed_len c.history
   head_settled = let a = t.begun in let b = k.done_lt in let d = k.head_le in let e = t.from_start in
       let rises =
-          first_rises_to (opens_of c.history) (length (reserved_records c.history)) (c.head - start) (c.done - c.head)
-              (omega arith) t.rising in
+      first_rises_to (opens_of c.history) (length (reserved_records c.history)) (c.head - start) (c.done - c.head)
+      (omega arith) t.rising in
       let same =
-          ap (λ (i : ℕ). get_or (0 ∷ opens_of c.history) i 0)
-              (let s : (c.head - start) + (c.done - c.head) ≡ c.done - start = omega arith in s) in
+      ap (λ (i : ℕ). get_or (0 ∷ opens_of c.history) i 0)
+      (let s : (c.head - start) + (c.done - c.head) ≡ c.done - start = omega arith in s) in
       omega arith
 
   -- and so is what the reader expects
@@ -68,15 +68,18 @@ module _ (n start : ℕ) (c : Core) (k : LinksKept n c) (t : ContentsKept n star
   partition_closes =
       partition_more start (c.history ++ open_fill ∷ []) (leave None) c.head c.reader.expected c.reader.taken
       (let low = counted in
-       omega (arith, ap (length {A = ℕ}) (opens_of-open_fill c.history),
-              length-append (opens_of c.history) (length (reserved_records c.history) ∷ [])))
+      omega (
+        arith,
+        ap (length {A = ℕ}) (opens_of-open_fill c.history),
+        length-append (opens_of c.history) (length (reserved_records c.history) ∷ []),
+      ))
       (subst (λ (l : List ℕ). IsRising 0 l (length (reserved_records (c.history ++ open_fill ∷ []))))
-       (sym (opens_of-open_fill c.history))
+      (sym (opens_of-open_fill c.history))
       (subst
-       (λ (l : List Reservation).
-           IsRising 0 (opens_of c.history ++ length (reserved_records c.history) ∷ []) (length l))
-       (sym (records_snoc c.history open_fill))
-       (IsRising-snoc 0 (opens_of c.history) (length (reserved_records c.history)) t.rising)))
+      (λ (l : List Reservation).
+      IsRising 0 (opens_of c.history ++ length (reserved_records c.history) ∷ []) (length l))
+      (sym (records_snoc c.history open_fill))
+      (IsRising-snoc 0 (opens_of c.history) (length (reserved_records c.history)) t.rising)))
       (first_more c.history open_fill (c.head - start) counted head_settled)
       (partition_acts open_fill)
 
@@ -124,8 +127,8 @@ module _ (n size start : ℕ) (c : Core) (frame : Frame) (below : List Frame) (k
       again n start c k t z q frame below noted answer after step
   partition_frame (claiming noted page) answer after same (claims lost now sum at a is) =
       let (open_yet, begun_yet, room, small) =
-          (subst (PhaseKept n c.links c.order c.head c.done c.opened) same (top_kept n c frame below k top)).noted noted
-              refl in
+      (subst (PhaseKept n c.links c.order c.head c.done c.opened) same (top_kept n c frame below k top)).noted noted
+      refl in
       let unread = k.head_le in
       let within = k.opened_le in
       let behind = k.done_lt in
@@ -133,7 +136,7 @@ module _ (n size start : ℕ) (c : Core) (frame : Frame) (below : List Frame) (k
       let from_start = t.from_start in
       let (here, page_is, head_at) = header_inside n c k noted page lost (omega arith) (omega arith) sum at in
       subst (PartitionKept start) (sym is)
-          (partition_lost start c.history c.head c.reader.expected c.reader.taken from_start (omega arith) t.rising q)
+      (partition_lost start c.history c.head c.reader.expected c.reader.taken from_start (omega arith) t.rising q)
   partition_frame (claiming noted page) answer after same (claim_fails now other a is) =
       subst (PartitionKept start) (sym is) q
   partition_frame (looking_next role noted page) answer after same (load_next_late helps step) =
@@ -185,7 +188,7 @@ partition_read n start c (swapping page fill) answer after k t facts q (swaps at
     let here : fill ≡ c.head = reported.0 ∙ reported.1 in let below = facts.1 in
     let behind = k.done_lt in let count = t.begun in let from_start = t.from_start in
     subst (PartitionKept start) (sym is)
-        (partition_taken start c.history c.head c.reader.expected c.reader.taken from_start (omega arith) t.rising
+    (partition_taken start c.history c.head c.reader.expected c.reader.taken from_start (omega arith) t.rising
     (first_below 0 (opens_of c.history) (length (reserved_records c.history)) (c.head - start) (omega arith) t.rising)
     (taken_fill c page fill) here
     (ap (contents_of c) (reported.2 ∙ ap (page_at n c.order) reported.1) ∙ t.each c.head (omega arith) (omega arith))
@@ -209,7 +212,7 @@ partition_step n size start c event answer after k h t z q (frame_step frame bel
 partition_step n size start c event answer after k h t z q (frame_lacks e none a is) =
     subst (PartitionKept start) (sym is) q
 partition_step n size start c event answer after k h t z q
-        (end_step payload frame below number moment len e top phase kind slot a is) =
+    (end_step payload frame below number moment len e top phase kind slot a is) =
     subst (PartitionKept start) (sym is) (partition_acts n start c k t z q (leave (Some payload)))
 partition_step n size start c event answer after k h t z q (end_lacks payload e none a is) =
     subst (PartitionKept start) (sym is) q

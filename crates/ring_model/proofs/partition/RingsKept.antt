@@ -70,7 +70,7 @@ stands_moved (x ∷ frames) f differ (inr st) = further (stands_moved frames f d
         only m' (suc k) at = ap suc (m.alone k at)
 
 frame_at : (n : ℕ) (links : List Link) (order : List ℕ) (head done opened : ℕ) (frames : List Frame) (k : ℕ)
-        (frame : Frame) → FramesKept n links order head done opened frames → slice_get frames k ≡ Some frame
+    (frame : Frame) → FramesKept n links order head done opened frames → slice_get frames k ≡ Some frame
     → PhaseKept n links order head done opened frame.phase
 frame_at n links order head done opened [] k frame kept at = absurd (none_some at)
 frame_at n links order head done opened (x ∷ frames) zero frame kept at =
@@ -93,8 +93,8 @@ module _ (n size start : ℕ) (c : Core) (r : IsRingKept n size start c) where
       by_link : LinkKept n c.links c.order c.head c.frames f → IsBehindHead n c f
       by_link (is_normal e waits) =
           reported e
-              (λ k m. let (lost, sum, below, open_yet, at) = owned_by n c r.links f (moves_stands c.frames k f m) in
-               normal_ne_update (page_at n c.order f) f (page_at n c.order f) lost (sym e ∙ at))
+          (λ k m. let (lost, sum, below, open_yet, at) = owned_by n c r.links f (moves_stands c.frames k f m) in
+          normal_ne_update (page_at n c.order f) f (page_at n c.order f) lost (sym e ∙ at))
       by_link (is_header e here) = absurd (omega arith)
       by_link (is_update lost sum e st) = moved lost sum e (stands_moved c.frames f r.links.movers st)
 
@@ -118,7 +118,7 @@ module _ (n size start : ℕ) (c : Core) (r : IsRingKept n size start c) where
       let k = committed_prefix c.history in (
         map as_record (drop first (take base xs)),
         sym (ap (λ (l : List Reservation). map as_record l ++ map as_record (drop first (take base xs)))
-             (shorter first base xs r.closed)
+            (shorter first base xs r.closed)
             ∙ sym (map-append as_record (take first (take base xs)) (drop first (take base xs)))
             ∙ ap (map as_record) (take-append-drop first (take base xs))
             ∙ k.agrees),
@@ -164,8 +164,8 @@ module _ (n size start : ℕ) (c : Core) (r : IsRingKept n size start c) where
     lost_at_rest = λ f low high none. why_lost_at_rest f none (r.history.lost f low high);
     hint_le = r.links.hint_le;
     noted =
-            λ k o frame at is. let (a, b, x, y) =
-            (frame_at n c.links c.order c.head c.done c.opened c.frames k frame r.links.frames at).noted o is in
+        λ k o frame at is. let (a, b, x, y) =
+        (frame_at n c.links c.order c.head c.done c.opened c.frames k frame r.links.frames at).noted o is in
         (a, b);
     ready = ready c.reader.phase r.links.reader;
   }
@@ -174,9 +174,9 @@ module _ (n size start : ℕ) (c : Core) (r : IsRingKept n size start c) where
 -- the number that the reader expects; after that comes the rest.
 pub taken_partition_at : (n size start : ℕ) (c : Core) → IsRingKept n size start c
     → IsPartition (committed_records c.history) (pieces_of c.reader.taken)
-        (map as_record
-         (drop c.reader.expected
-          (take (length (reserved_records (settled_prefix c.history))) (reserved_records c.history))))
+    (map as_record
+    (drop c.reader.expected
+    (take (length (reserved_records (settled_prefix c.history))) (reserved_records c.history))))
 taken_partition_at n size start c r =
     let e : ℕ = c.reader.expected in
     let base : ℕ = length (reserved_records (settled_prefix c.history)) in
@@ -185,21 +185,22 @@ taken_partition_at n size start c r =
     let k = committed_prefix c.history in
     let whole : take e (map as_record xs) ++ rest ≡ committed_records c.history =
     ap (λ (l : List Record). l ++ rest)
-        (take_map as_record e xs
-         ∙ ap (map as_record) (shorter e base xs (settled n start c r.links r.contents r.closed r.partition)))
+    (take_map as_record e xs
+    ∙ ap (map as_record) (shorter e base xs (settled n start c r.links r.contents r.closed r.partition)))
     ∙ sym (map-append as_record (take e (take base xs)) (drop e (take base xs)))
     ∙ ap (map as_record) (take-append-drop e (take base xs))
     ∙ k.agrees in
     subst (λ (l : List Record). IsPartition l (pieces_of c.reader.taken) rest) whole
-        (partition_rest (take e (map as_record xs)) (pieces_of c.reader.taken) rest r.partition.partition)
+    (partition_rest (take e (map as_record xs)) (pieces_of c.reader.taken) rest r.partition.partition)
 
 pub taken_partition : (n size start : ℕ) (c : Core) → IsRingKept n size start c
     → (rest : List Record) × IsPartition (committed_records c.history) (pieces_of c.reader.taken) rest
-taken_partition n size start c r =
-    (map as_record
-         (drop c.reader.expected
-          (take (length (reserved_records (settled_prefix c.history))) (reserved_records c.history))),
-     taken_partition_at n size start c r)
+taken_partition n size start c r = (
+  map as_record
+      (drop c.reader.expected
+      (take (length (reserved_records (settled_prefix c.history))) (reserved_records c.history))),
+  taken_partition_at n size start c r,
+)
 
 -- ---- steps and runs
 
@@ -215,12 +216,12 @@ ring_step n size start c event answer after r step = record {
   open_pages = open_pages_step n size c event answer after r.links r.open_pages (cases_of step);
   other_pages =
       other_pages_step n size start c event answer after r.links r.stack r.history r.contents r.open_pages r.other_pages
-          (cases_of step);
+      (cases_of step);
   packed = packs_step n size start c event answer after r.links r.stack r.history r.contents r.packed (cases_of step);
   closed = closed_step n size start c event answer after r.links r.stack r.history r.contents r.closed (cases_of step);
   partition =
       partition_step n size start c event answer after r.links r.history r.contents r.closed r.partition
-          (cases_of step);
+      (cases_of step);
 }
 
 -- a run with one more step after it
@@ -248,8 +249,8 @@ nothing_done n start c some a s = let head = s.head in let opened = s.opened in 
   rising = omega arith;
   each = λ f low high. s.held (page_at n c.order f) (page_below n c.order c.spare f some a)
       ∙ ap
-          (λ (i : ℕ). let h : PageRecords = record { first = get_or (0 ∷ []) i 0; records = get_or ([] ∷ []) i [] } in
-           h) (let e : 0 ≡ f - start = omega arith in e);
+      (λ (i : ℕ). let h : PageRecords = record { first = get_or (0 ∷ []) i 0; records = get_or ([] ∷ []) i [] } in
+      h) (let e : 0 ≡ f - start = omega arith in e);
 }
 
 pub ring_start : (n size start : ℕ) (c : Core) → MayStart n start → IsStart n start c → IsRingKept n size start c
@@ -258,34 +259,38 @@ ring_start n size start c may s = let some = may.some_pages in
     let links = start_kept n start c s some fits in
     let done = s.done in
     record {
-  links = links;
-  stack = stack_start n start c s;
-  progress = progress_start n start c s;
-  history = start_history n start c s;
-  contents =
-      subst
+      links = links;
+      stack = stack_start n start c s;
+      progress = progress_start n start c s;
+      history = start_history n start c s;
+      contents =
+          subst
           (λ (h : List HistoryEvent).
-              PagesKept n start c.order c.held (opens_of h) (reserved_records h) c.head c.opened) (sym s.history)
+          PagesKept n start c.order c.held (opens_of h) (reserved_records h) c.head c.opened) (sym s.history)
           (nothing_done n start c (omega arith) links.apart s);
-  open_pages = start_open_pages n start c s some;
-  other_pages = other_pages_start n start c s;
-  packed = packed_start n size start c s;
-  closed =
-      subst (λ (h : List HistoryEvent). first_of_fill h start c.done ≤ length (reserved_records (settled_prefix h)))
+      open_pages = start_open_pages n start c s some;
+      other_pages = other_pages_start n start c s;
+      packed = packed_start n size start c s;
+      closed =
+          subst (λ (h : List HistoryEvent). first_of_fill h start c.done ≤ length (reserved_records (settled_prefix h)))
           (sym s.history)
-      (subst (λ (i : ℕ). get_or (0 ∷ []) i 0 ≤ 0) (let e : 0 ≡ c.done - start = omega arith in e)
-       (let z : 0 ≤ 0 = omega arith in z));
-  partition =
-      subst (λ (x : Reader). PartitionAt start c.history c.head x.expected x.taken) (sym s.reader)
-          record { expected_le = omega arith;
-                  partition = refl;
-                  total = refl;
-                  firsts = λ k t at. absurd (none_some at);
-                  fills =
-                      record { each = λ k t at. absurd (none_some at);
-                              rising = λ j k a b less at_j at_k. absurd (none_some at_j) };
-                  below = λ k t at. absurd (none_some at) };
-}
+          (subst (λ (i : ℕ). get_or (0 ∷ []) i 0 ≤ 0) (let e : 0 ≡ c.done - start = omega arith in e)
+          (let z : 0 ≤ 0 = omega arith in z));
+      partition =
+          subst (λ (x : Reader). PartitionAt start c.history c.head x.expected x.taken) (sym s.reader)
+          record {
+            expected_le = omega arith;
+            partition = refl;
+            total = refl;
+            firsts = λ k t at. absurd (none_some at);
+            fills =
+                record {
+                  each = λ k t at. absurd (none_some at);
+                  rising = λ j k a b less at_j at_k. absurd (none_some at_j);
+                };
+            below = λ k t at. absurd (none_some at);
+          };
+    }
 
 -- what every step keeps holds of every state that steps reach
 pub reached_kept : (n size start : ℕ) (c : Core) → IsReached n size start c → IsRingKept n size start c

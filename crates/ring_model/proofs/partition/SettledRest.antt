@@ -101,10 +101,10 @@ module _ (n size start : ℕ) (c : Core) (r : IsRingKept n size start c) (at_res
       let total = r.partition.total in
       let i : ℕ = c.head - 1 - start in
       let first_is : t.held.first ≡ get_or (0 ∷ cuts) i 0 =
-          ap (λ (h : PageRecords). h.first) fill.held ∙ ap (λ (f : ℕ). get_or (0 ∷ cuts) (f - start) 0) fill_is in
+      ap (λ (h : PageRecords). h.first) fill.held ∙ ap (λ (f : ℕ). get_or (0 ∷ cuts) (f - start) 0) fill_is in
       let wide : length t.held.records ≡ length (get_or (fills_of c.history) i []) =
-          ap (λ (h : PageRecords). length h.records) fill.held
-              ∙ ap (λ (f : ℕ). length (get_or (fills_of c.history) (f - start) [])) fill_is in
+      ap (λ (h : PageRecords). length h.records) fill.held
+      ∙ ap (λ (f : ℕ). length (get_or (fills_of c.history) (f - start) [])) fill_is in
       let next = next_first i (omega arith) in
       let head_is = ap (λ (m : ℕ). get_or (0 ∷ cuts) m 0) (let e : suc i ≡ c.head - start = omega arith in e) in
       omega arith
@@ -116,7 +116,7 @@ module _ (n size start : ℕ) (c : Core) (r : IsRingKept n size start c) (at_res
       elim (cases_lt start c.head) [
         | inl less ↦ expects_behind less
         | inr not_less ↦ let none =
-                ap (λ (m : ℕ). get_or (0 ∷ cuts) m 0) (let e : c.head - start ≡ 0 = omega arith in e) in
+            ap (λ (m : ℕ). get_or (0 ∷ cuts) m 0) (let e : c.head - start ≡ 0 = omega arith in e) in
             omega arith
       ]
 

@@ -43,8 +43,8 @@ module _ (n size start : ℕ) (c : Core) (r : IsRingKept n size start c) where
       let le = r.partition.expected_le in
       let ys : List Reservation = drop e (take base xs) in
       let same : drop gone (take base xs) ≡ drop (gone - e) ys =
-          ap (λ (m : ℕ). drop m (take base xs)) (let s : gone ≡ e + (gone - e) = omega arith in s)
-              ∙ sym (drop-drop (gone - e) e (take base xs)) in
+      ap (λ (m : ℕ). drop m (take base xs)) (let s : gone ≡ e + (gone - e) = omega arith in s)
+      ∙ sym (drop-drop (gone - e) e (take base xs)) in
       sym (map-append as_record (take (gone - e) ys) (drop gone (take base xs)))
       ∙ ap (λ (l : List Reservation). map as_record (take (gone - e) ys ++ l)) same
       ∙ ap (map as_record) (take-append-drop (gone - e) ys)
@@ -72,7 +72,7 @@ module _ (n size start : ℕ) (c : Core) (r : IsRingKept n size start c) where
       let begun = r.contents.begun in let le = r.links.head_le in let lt = r.links.done_lt in
       ap (λ (l : List Reservation). map as_record (drop gone l)) (all_committed none)
       ∙ ap (map as_record)
-          (sym (joined_behind 0 (opens_of c.history) xs (c.head - start) (omega arith) r.contents.rising))
+      (sym (joined_behind 0 (opens_of c.history) xs (c.head - start) (omega arith) r.contents.rising))
 
   rest_of : (lost' rest' : List Record) × IsRest start c lost' rest'
   rest_of = (
@@ -81,7 +81,7 @@ module _ (n size start : ℕ) (c : Core) (r : IsRingKept n size start c) where
     record {
       partition =
           subst (IsPartition (committed_records c.history) (pieces_of c.reader.taken)) (sym joined)
-              (taken_partition_at n size start c r);
+          (taken_partition_at n size start c r);
       behind = counted;
       at_rest = unread;
     },

@@ -70,7 +70,7 @@ tail_held (r ∷ records) holds = refl
 closing_le : (n : ℕ) (c : Core) (state : Progress) → phase_rank n c state (closing_phase c) ≤ wish_rank c + 1
 closing_le n c state =
     cond_both ((c.done + 1) == c.opened) wishing releasing (λ (p : Phase). phase_rank n c state p ≤ wish_rank c + 1)
-        (λ _. omega arith) (λ _. omega arith)
+    (λ _. omega arith) (λ _. omega arith)
 
 pub opened_tail : (h : List HistoryEvent) → tail_of (h ++ open_fill ∷ []) ≡ []
 opened_tail h =
@@ -79,9 +79,9 @@ opened_tail h =
     tail_is (h ++ open_fill ∷ [])
     ∙ (λ i. tail_at (opens_of-open_fill h i) (records_snoc h open_fill i))
     ∙ ap (λ (k : ℕ). get_or (cut_from 0 (cuts ++ length xs ∷ []) xs) k [])
-        (let long = length-append cuts (length xs ∷ []) in
-         let e : length (cuts ++ length xs ∷ []) ≡ suc (length cuts) = omega arith in
-         e)
+    (let long = length-append cuts (length xs ∷ []) in
+    let e : length (cuts ++ length xs ∷ []) ≡ suc (length cuts) = omega arith in
+    e)
     ∙ opened_last 0 cuts xs
 
 -- ---- a frame that leaves, or begins again
@@ -91,8 +91,8 @@ leave_le : (n : ℕ) (c : Core) (frame : Frame) (below : List Frame) (payload : 
     → frame_rank n (after_leave c frame below payload) ≤ 3 * (c.opened - c.done) + (wish_rank c + 1)
 leave_le n c frame [] payload same = let low = closing_le n c left in
     let le : 3 * (c.opened - c.done) + phase_rank n c left (closing_phase c)
-            ≤ 3 * (c.opened - c.done) + (wish_rank c + 1) =
-        omega arith in
+    ≤ 3 * (c.opened - c.done) + (wish_rank c + 1) =
+    omega arith in
     closing n c le
   where
     closing : (n : ℕ) (c : Core)
@@ -100,9 +100,9 @@ leave_le n c frame [] payload same = let low = closing_le n c left in
         → frame_rank n (after_leave c frame [] payload) ≤ 3 * (c.opened - c.done) + (wish_rank c + 1)
     closing n c le =
         cond_both ((c.done + 1) == c.opened) wishing releasing
-            (λ (p : Phase).
-                3 * (c.opened - c.done) + phase_rank n (after_leave c frame [] payload) left p
-                    ≤ 3 * (c.opened - c.done) + (wish_rank c + 1)) (λ _. omega arith) (λ _. omega arith)
+        (λ (p : Phase).
+        3 * (c.opened - c.done) + phase_rank n (after_leave c frame [] payload) left p
+        ≤ 3 * (c.opened - c.done) + (wish_rank c + 1)) (λ _. omega arith) (λ _. omega arith)
 leave_le n c frame (next ∷ below) payload same =
     absurd (let wrong : suc (length below) ≡ suc (suc (length below)) = same in omega arith)
 
@@ -118,14 +118,14 @@ begin_le : (n : ℕ) (c : Core) (kind : Purpose) (state : Progress) (frame : Fra
     → frame_rank n (after_begin kind state c frame below) ≤ 3 * (c.opened - c.done) + again_rank i w state
 begin_le n c (for_record moment len) waiting frame below i w same low wish_low le stays =
     subst (λ (s : Progress). 3 * (c.opened - c.done) + idle_rank c s ≤ 3 * (c.opened - c.done) + i) (sym same)
-        (omega arith)
+    (omega arith)
 begin_le n c for_close waiting frame below i w same low wish_low le stays =
-        let less =
-        leave_le n c frame below None stays in
+    let less =
+    leave_le n c frame below None stays in
     omega arith
 begin_le n c kind (reserved number) frame below i w same low wish_low le stays =
     subst (λ (s : Progress). 3 * (c.opened - c.done) + idle_rank c s ≤ 3 * (c.opened - c.done) + 15) (sym same)
-        (omega arith)
+    (omega arith)
 begin_le n c kind left frame below i w same low wish_low le stays = let less = closing_le n c frame.state in omega arith
 
 pub again_lt : (state : Progress) → again_rank 34 13 state < state_rank state + 25
@@ -170,10 +170,12 @@ claimable : (n : ℕ) (c : Core) (k : LinksKept n c) (noted page : ℕ) → c.he
     → (link_into n c.links noted).mark ≡ header → (link_into n c.links noted).page ≡ page
     → (lost : ℕ) × (lost + n ≡ noted) × (link_into n c.links noted ≡ header_link page lost)
 claimable n c k noted page low high at is = let some_pages = k.some_pages in dite (ℕ_discrete noted (c.head + n))
-    (λ e. let turn = ap (link_into n c.links) e ∙ link_round n c.links c.head in
-    (c.head, sym e,
-     turn ∙ reported c.head (k.each c.head (omega arith) (omega arith)) (sym (ap (λ (l : Link). l.mark) turn) ∙ at)
-         ∙ ap (λ (p : ℕ). header_link p c.head) (page_is turn)))
+    (λ e. let turn = ap (link_into n c.links) e ∙ link_round n c.links c.head in (
+      c.head,
+      sym e,
+      turn ∙ reported c.head (k.each c.head (omega arith) (omega arith)) (sym (ap (λ (l : Link). l.mark) turn) ∙ at)
+          ∙ ap (λ (p : ℕ). header_link p c.head) (page_is turn),
+    ))
     (λ ne. absurd (inside (k.each noted (omega arith) (omega arith))))
   where
     reported : (f : ℕ) → LinkKept n c.links c.order c.head c.frames f → (link_into n c.links f).mark ≡ header
@@ -203,14 +205,14 @@ module _ (n size start : ℕ) (c : Core) (frame : Frame) (below : List Frame) (r
       → frame_rank n c ≡ 3 * (c.opened - c.done) + phase_rank n c frame.state phase
   old phase same =
       ap (λ (fs : List Frame). 3 * (c.opened - c.done) + top_rank n c fs) top
-          ∙ ap (λ (p : Phase). 3 * (c.opened - c.done) + phase_rank n c frame.state p) same
+      ∙ ap (λ (p : Phase). 3 * (c.opened - c.done) + phase_rank n c frame.state p) same
 
   goes : (after : Core) (phase next : Phase) → frame.phase ≡ phase
       → phase_rank n c frame.state next < phase_rank n c frame.state phase → after ≡ in_phase c frame below next
       → frame_rank n after < frame_rank n c
   goes after phase next same less is = subst (λ (a : Core). frame_rank n a < frame_rank n c) (sym is)
       (subst (λ (m : ℕ). 3 * (c.opened - c.done) + phase_rank n c frame.state next < m) (sym (old phase same))
-       (omega arith))
+      (omega arith))
 
   stands : (after b : Core) → after ≡ b → length after.frames ≡ length c.frames → length b.frames ≡ suc (length below)
   stands after b is stays = sym (ap (λ (a : Core). length a.frames) is) ∙ stays ∙ ap (length {A = Frame}) top
@@ -233,9 +235,9 @@ module _ (n size start : ℕ) (c : Core) (frame : Frame) (below : List Frame) (r
       let wish_low = wish_le c in
       let begun : Core = after_begin frame.kind frame.state c frame below in
       let low =
-          begin_le n c frame.kind frame.state frame below 34 13 refl
-              (let low = tail_le (tail_of c.history) in omega arith) (omega arith) (omega arith)
-              (stands after begun step.after_is stays) in
+      begin_le n c frame.kind frame.state frame below 34 13 refl
+      (let low = tail_le (tail_of c.history) in omega arith) (omega arith) (omega arith)
+      (stands after begun step.after_is stays) in
       let less = again_lt frame.state in
       subst (λ (a : Core). frame_rank n a < frame_rank n c) (sym step.after_is)
       (subst (λ (m : ℕ). frame_rank n begun < m) (sym (old phase same)) (omega arith))
@@ -245,25 +247,25 @@ module _ (n size start : ℕ) (c : Core) (frame : Frame) (below : List Frame) (r
       → tail_of c.history ≢ []
   needs_tail kind kind_is state_is needs =
       let p : PackedAt size c.history c.opened (frame ∷ below) =
-          subst (PackedAt size c.history c.opened) top r.packed in
+      subst (PackedAt size c.history c.opened) top r.packed in
       (fit_open size c.history frame.kind frame.state (pushed_frames below)
-       (top_stack n start c frame below r.history top)
-       (λ gone. ap pushed_frames ((top_agrees c frame below r.stack top).1 gone)) p.needs.0
+      (top_stack n start c frame below r.history top)
+      (λ gone. ap pushed_frames ((top_agrees c frame below r.stack top).1 gone)) p.needs.0
       (subst (NeedsFill size (opens_of c.history) (reserved_records c.history) (is_wished c.history) frame.kind)
-       (sym state_is)
-       (subst
-        (λ (x : Purpose).
-            NeedsFill size (opens_of c.history) (reserved_records c.history) (is_wished c.history) x waiting)
-        (sym kind_is) (fill_for kind needs)))).0
+      (sym state_is)
+      (subst
+      (λ (x : Purpose).
+      NeedsFill size (opens_of c.history) (reserved_records c.history) (is_wished c.history) x waiting)
+      (sym kind_is) (fill_for kind needs)))).0
     where
       fill_for : (kind : Purpose) → NeedsPage size c kind
           → NeedsFill size (opens_of c.history) (reserved_records c.history) (is_wished c.history) kind waiting
       fill_for (for_record moment len) needs =
           λ fits.
-                 needs (subst
-                        (λ (l : List Reservation).
-                            FitsBehind size l (reservation_for moment len (reserved_records c.history)))
-                        (sym (tail_is c.history)) fits)
+          needs (subst
+          (λ (l : List Reservation).
+          FitsBehind size l (reservation_for moment len (reserved_records c.history)))
+          (sym (tail_is c.history)) fits)
       fill_for for_close needs = λ none. needs (tail_is c.history ∙ none)
 
   waiting_rank : frame.state ≡ waiting → phase_rank n c frame.state idle ≡ tail_rank (tail_of c.history)
@@ -278,13 +280,13 @@ module _ (n size start : ℕ) (c : Core) (frame : Frame) (below : List Frame) (r
       (subst (λ (m : ℕ). 3 * (c.opened - c.done) + 15 < m) (sym (old idle same)) (omega arith))
   reserve_lowers answer after same waits stays (finds_nothing kind none a is) =
       leaves after idle None same
-          (let high = tail_ge (tail_of c.history) in let now = waiting_rank waits in omega arith) stays is
+      (let high = tail_ge (tail_of c.history) in let now = waiting_rank waits in omega arith) stays is
   reserve_lowers answer after same waits stays (is_crowded needs full a is) =
       leaves after idle None same
-          (let high = tail_ge (tail_of c.history) in let now = waiting_rank waits in omega arith) stays is
+      (let high = tail_ge (tail_of c.history) in let now = waiting_rank waits in omega arith) stays is
   reserve_lowers answer after same waits stays (is_worn needs full last a is) =
       leaves after idle None same
-          (let high = tail_ge (tail_of c.history) in let now = waiting_rank waits in omega arith) stays is
+      (let high = tail_ge (tail_of c.history) in let now = waiting_rank waits in omega arith) stays is
   reserve_lowers answer after same waits stays (notes needs room small a is) =
       let now = waiting_rank waits in
       let high = tail_held (tail_of c.history) (needs_tail frame.kind refl waits needs) in
@@ -300,8 +302,8 @@ module _ (n size start : ℕ) (c : Core) (frame : Frame) (below : List Frame) (r
   load_link_lowers noted answer after same stays (sees_free page now at a is) =
       goes after (looking noted) (opening noted page) same (omega arith) is
   load_link_lowers noted answer after same stays (sees_header page lost now sum at a is) =
-          let nine =
-          claim_of (link_into n c.links noted) page lost at in
+      let nine =
+      claim_of (link_into n c.links noted) page lost at in
       goes after (looking noted) (claiming noted page) same (omega arith) is
   load_link_lowers noted answer after same stays (sees_update page lost now sum at a is) =
       goes after (looking noted) (looking_next helper noted page) same (omega arith) is
@@ -310,20 +312,20 @@ module _ (n size start : ℕ) (c : Core) (frame : Frame) (below : List Frame) (r
       → length after.frames ≡ length c.frames → ClaimHeadStep n c frame below noted page answer after
       → frame_rank n after < frame_rank n c
   claim_head_lowers noted page answer after same stays (claim_late step) =
-          let nine =
-          claim_ge (link_into n c.links noted).mark ((link_into n c.links noted).page == page) in
+      let nine =
+      claim_ge (link_into n c.links noted).mark ((link_into n c.links noted).page == page) in
       again noted answer after (claiming noted page) same (omega arith) stays step
   claim_head_lowers noted page answer after same stays (claims lost now sum at a is) =
       let nine = claim_of (link_into n c.links noted) page lost at in
       subst (λ (a : Core). frame_rank n a < frame_rank n c) (sym is)
       (subst (λ (m : ℕ). 3 * (c.opened - c.done) + (state_rank frame.state + late_rank noted c.opened + 8) < m)
-       (sym (old (claiming noted page) same)) (omega arith))
+      (sym (old (claiming noted page) same)) (omega arith))
   claim_head_lowers noted page answer after same stays (claim_fails now other a is) =
       let unread = k.head_le in let behind = k.done_lt in let within = k.opened_le in
       let eleven =
-          claim_other (link_into n c.links noted) page
-              (λ at is. let (lost, sum, it) = claimable n c k noted page (omega arith) (omega arith) at is in
-               other lost sum it) in
+      claim_other (link_into n c.links noted) page
+      (λ at is. let (lost, sum, it) = claimable n c k noted page (omega arith) (omega arith) at is in
+      other lost sum it) in
       goes after (claiming noted page) (looking noted) same (omega arith) is
 
   load_next_lowers : (role : Role) (noted page : ℕ) (answer : Answer) (after : Core)
@@ -338,7 +340,7 @@ module _ (n size start : ℕ) (c : Core) (frame : Frame) (below : List Frame) (r
     where
       next_less : (role : Role) (m : ℕ) → 6 < m
           → phase_rank n c frame.state (after_next role noted page)
-              < state_rank frame.state + late_rank noted c.opened + m
+          < state_rank frame.state + late_rank noted c.opened + m
       next_less owner m less = omega arith
       next_less helper m less = omega arith
 
@@ -349,8 +351,8 @@ module _ (n size start : ℕ) (c : Core) (frame : Frame) (below : List Frame) (r
       again noted answer after (marking role noted page next) same (omega arith) stays step
   mark_head_lowers role noted page next answer after same stays (marks lost goes_on sum at a is) =
       subst (λ (a : Core). frame_rank n a < frame_rank n c) (sym is)
-          (subst (λ (m : ℕ). frame_rank n (marked role) < m) (sym (old (marking role noted page next) same))
-           (less role))
+      (subst (λ (m : ℕ). frame_rank n (marked role) < m) (sym (old (marking role noted page next) same))
+      (less role))
     where
       marked : Role → Core
       marked role =
@@ -358,7 +360,7 @@ module _ (n size start : ℕ) (c : Core) (frame : Frame) (below : List Frame) (r
 
       less : (role : Role)
           → frame_rank n (marked role)
-              < 3 * (c.opened - c.done) + (state_rank frame.state + late_rank noted c.opened + 7)
+          < 3 * (c.opened - c.done) + (state_rank frame.state + late_rank noted c.opened + 7)
       less owner = omega arith
       less helper = omega arith
   mark_head_lowers role noted page next answer after same stays (mark_fails lost goes_on sum other a is) =
@@ -366,7 +368,7 @@ module _ (n size start : ℕ) (c : Core) (frame : Frame) (below : List Frame) (r
     where
       less : (role : Role)
           → phase_rank n c frame.state (after_next role noted page)
-              < state_rank frame.state + late_rank noted c.opened + 7
+          < state_rank frame.state + late_rank noted c.opened + 7
       less owner = omega arith
       less helper = omega arith
 
@@ -376,7 +378,7 @@ module _ (n size start : ℕ) (c : Core) (frame : Frame) (below : List Frame) (r
   clear_update_lowers noted page answer after same stays (clears lost sum at a is) =
       subst (λ (a : Core). frame_rank n a < frame_rank n c) (sym is)
       (subst (λ (m : ℕ). 3 * (c.opened - c.done) + (state_rank frame.state + late_rank noted c.opened + 5) < m)
-       (sym (old (clearing noted page) same)) (omega arith))
+      (sym (old (clearing noted page) same)) (omega arith))
 
   open_fill_lowers : (noted page : ℕ) (answer : Answer) (after : Core) → frame.phase ≡ opening noted page
       → length after.frames ≡ length c.frames → OpenFillStep n c frame below noted page answer after
@@ -390,8 +392,8 @@ module _ (n size start : ℕ) (c : Core) (frame : Frame) (below : List Frame) (r
       let unasked : wish_rank grown ≡ 0 = wish_none grown (λ e. let w : c.wish ≡ c.opened + 1 = e in omega arith) in
       let bare : tail_rank (tail_of grown.history) ≡ 16 = ap tail_rank (opened_tail c.history) in
       let low =
-          begin_le n grown frame.kind frame.state frame below 16 1 refl (omega arith) (omega arith) (omega arith)
-              (stands after begun is stays) in
+      begin_le n grown frame.kind frame.state frame below 16 1 refl (omega arith) (omega arith) (omega arith)
+      (stands after begun is stays) in
       let le : frame_rank n begun ≤ 3 * ((c.opened + 1) - c.done) + again_rank 16 1 frame.state = low in
       let less = opened_lt frame.state in
       subst (λ (a : Core). frame_rank n a < frame_rank n c) (sym is)
@@ -402,26 +404,26 @@ module _ (n size start : ℕ) (c : Core) (frame : Frame) (below : List Frame) (r
   release_fill_lowers answer after same (releases alone more a is) =
       subst (λ (a : Core). frame_rank n a < frame_rank n c) (sym is)
       (subst
-       (λ (fs : List Frame).
-           3 * (c.opened - (c.done + 1)) + top_rank n c fs < 3 * (c.opened - c.done) + top_rank n c fs) (sym top)
-       (omega arith))
+      (λ (fs : List Frame).
+      3 * (c.opened - (c.done + 1)) + top_rank n c fs < 3 * (c.opened - c.done) + top_rank n c fs) (sym top)
+      (omega arith))
   release_fill_lowers answer after same (releases_last alone last a is) =
       subst (λ (a : Core). frame_rank n a < frame_rank n c) (sym is)
       (subst (λ (m : ℕ). 3 * (c.opened - (c.done + 1)) + (wish_rank c + 1) < m) (sym (old releasing same))
-       (omega arith))
+      (omega arith))
 
   load_wish_lowers : (answer : Answer) (after : Core) → frame.phase ≡ wishing → length after.frames ≡ length c.frames
       → LoadWishStep n c frame below answer after → frame_rank n after < frame_rank n c
   load_wish_lowers answer after same stays (grants alone granted a is) =
       let asked = wish_now c granted.asks_tail in
       let gone =
-          ap state_rank
-              (wishing_left frame.kind frame.state
-               (subst (MayBeIn frame.kind frame.state) same (top_agrees c frame below r.stack top).0)) in
+      ap state_rank
+      (wishing_left frame.kind frame.state
+      (subst (MayBeIn frame.kind frame.state) same (top_agrees c frame below r.stack top).0)) in
       let fresh = late_now c.opened c.opened refl in
       subst (λ (a : Core). frame_rank n a < frame_rank n c) (sym is)
       (subst (λ (m : ℕ). 3 * (c.opened - c.done) + (state_rank frame.state + late_rank c.opened c.opened + 10) < m)
-       (sym (old wishing same)) (omega arith))
+      (sym (old wishing same)) (omega arith))
   load_wish_lowers answer after same stays (closes_more alone denied more a is) =
       goes after wishing releasing same (omega arith) is
   load_wish_lowers answer after same stays (goes_away alone denied none_left a is) =
@@ -455,13 +457,13 @@ module _ (n size start : ℕ) (c : Core) (frame : Frame) (below : List Frame) (r
 pub steps_lower : StepsComeToAnEnd
 steps_lower n size start c frame below answer after r top none step stays =
     frame_lowers n size start c frame below r top frame.phase answer after refl none stays
-        (top_step frame below frame.phase top refl step)
+    (top_step frame below frame.phase top refl step)
 
 pub ends_lower : EndsComeToAnEnd
 ends_lower n size start c frame below number payload answer after r top own step stays =
     let end = top_ends payload frame below number top own step in
     leaves n size start c frame below r top after idle (Some payload)
-        (idle_of frame.kind frame.state own (top_agrees c frame below r.stack top).0)
+    (idle_of frame.kind frame.state own (top_agrees c frame below r.stack top).0)
     (subst (λ (x : Progress). 13 < idle_rank c x) (sym own) (omega arith)) stays end.after_is
   where
     idle_of : (kind : Purpose) (state : Progress) → state ≡ reserved number → MayBeIn kind state frame.phase

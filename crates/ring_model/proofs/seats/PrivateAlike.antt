@@ -105,9 +105,11 @@ module _ (n size : ℕ) (c other : Core) where
         (after_leave d frame below None, is_crowded (needs_same frame.kind needs) full a refl, leaves_same is)
     idle_same waiting (is_worn needs room last a is) =
         (after_leave d frame below None, is_worn (needs_same frame.kind needs) room last a refl, leaves_same is)
-    idle_same waiting (notes needs room small a is) =
-        (in_phase d frame below (looking c.opened), notes (needs_same frame.kind needs) room small a refl,
-         same_there after _ _ is (phase_same frame below (looking c.opened)))
+    idle_same waiting (notes needs room small a is) = (
+      in_phase d frame below (looking c.opened),
+      notes (needs_same frame.kind needs) room small a refl,
+      same_there after _ _ is (phase_same frame below (looking c.opened)),
+    )
     idle_same (reserved number) step = (d, (step.0, refl), same_there after _ _ step.1 stays_same)
     idle_same left step = absurd step
 
@@ -125,15 +127,15 @@ module _ (n size : ℕ) (c other : Core) where
     frame_same (claiming noted page) own (claim_fails now other a is) = absurd (own now)
     frame_same (looking_next owner noted page) own step = absurd own
     frame_same (looking_next helper noted page) own (load_next_late helps step) =
-            let (next, again, same) =
-            again_same noted step in
+        let (next, again, same) =
+        again_same noted step in
         (next, load_next_late helps again, same)
     frame_same (looking_next helper noted page) own (sees_normal lost next on sum at a is) = absurd (own on)
     frame_same (looking_next helper noted page) own (sees_other lost on sum other a is) = absurd (own on)
     frame_same (marking owner noted page next) own step = absurd own
     frame_same (marking helper noted page next) own (mark_late helps step) =
-            let (there, again, same) =
-            again_same noted step in
+        let (there, again, same) =
+        again_same noted step in
         (there, mark_late helps again, same)
     frame_same (marking helper noted page next) own (marks lost on sum at a is) = absurd (own on)
     frame_same (marking helper noted page next) own (mark_fails lost on sum other a is) = absurd (own on)
@@ -151,9 +153,11 @@ module _ (n size : ℕ) (c other : Core) where
     push_step moment len e few short early a refl,
     same_there after _ _ is record { frames = refl; open_pages = refl; history = refl; done = refl; opened = refl },
   )
-  step_same event answer after own (push_refused moment len why e refused a is) =
-      (d, push_refused moment len why e (refused_same moment len why refused) a refl,
-       same_there after _ _ is stays_same)
+  step_same event answer after own (push_refused moment len why e refused a is) = (
+    d,
+    push_refused moment len why e (refused_same moment len why refused) a refl,
+    same_there after _ _ is stays_same,
+  )
   step_same event answer after own (close_step e few a is) = (
     with_history_event (with_frame d for_close) push_close,
     close_step e few a refl,
@@ -199,7 +203,7 @@ pub private_alike : (n size : ℕ) (c d : Core) (event : Event) (answer : Answer
 private_alike n size c d event answer after part own step =
     let (next, made, same) = step_same n size c d event answer after own (cases_of step) in
     subst (λ (x : Core). IsAlike n size x event answer after) (part_is c d part)
-        record { next = next; private = own_same n size c d event own; step = step_by made; same = same }
+    record { next = next; private = own_same n size c d event own; step = step_by made; same = same }
 
 -- so the function that computes a step gives it there
 pub private_computed : (n size : ℕ) (c d : Core) (event : Event) (answer : Answer) (after : Core) → WriterStays c d

@@ -95,10 +95,10 @@ private_result n size c event answer after own (close_step e few a is) = pushed_
 private_result n size c event answer after own (close_refused e many a is) = stays is
 private_result n size c event answer after own (frame_step frame below e top step) =
     frame_result n size c frame below answer after top frame.phase
-        (subst (λ (fs : List Frame). TopIsPrivate fs c.opened) top (subst (IsPrivate c) e own)) step
+    (subst (λ (fs : List Frame). TopIsPrivate fs c.opened) top (subst (IsPrivate c) e own)) step
 private_result n size c event answer after own (frame_lacks e none a is) = stays is
 private_result n size c event answer after own
-        (end_step payload frame below number moment len e top at kind slot a is) =
+    (end_step payload frame below number moment len e top at kind slot a is) =
     leaves frame below (Some payload) top is
 private_result n size c event answer after own (end_lacks payload e none a is) = stays is
 private_result n size c event answer after own (end_early payload frame below e top none a is) = stays is
@@ -119,16 +119,16 @@ changes_privately c after (leaves frame below payload top is) = subst (IsPrivate
 pub private_touches_no_word : (n size : ℕ) (c : Core) (event : Event) (answer : Answer) (after : Core)
     → IsPrivate c event → Step n size c event answer after → WordsStay c after
 private_touches_no_word n size c event answer after own step =
-        let is =
-        changes_privately c after (private_result n size c event answer after own (cases_of step)) in
+    let is =
+    changes_privately c after (private_result n size c event answer after own (cases_of step)) in
     record {
-  links = ap (λ (d : Core). d.links) is;
-  spare_link = ap (λ (d : Core). d.spare_link) is;
-  done = ap (λ (d : Core). d.done) is;
-  opened = ap (λ (d : Core). d.opened) is;
-  wish = ap (λ (d : Core). d.wish) is;
-  head = ap (λ (d : Core). d.head) is;
-}
+      links = ap (λ (d : Core). d.links) is;
+      spare_link = ap (λ (d : Core). d.spare_link) is;
+      done = ap (λ (d : Core). d.done) is;
+      opened = ap (λ (d : Core). d.opened) is;
+      wish = ap (λ (d : Core). d.wish) is;
+      head = ap (λ (d : Core). d.head) is;
+    }
 
 -- ---- the same step in another state
 
@@ -159,8 +159,10 @@ read_state words turned c = record c {
 abbrev pub held_reserved : List PageRecords → ℕ → Reservation → List PageRecords
 held_reserved held page r =
     slice_set held page
-        record { first = (slice_index_or held page empty_page).first;
-                records = (slice_index_or held page empty_page).records ++ r ∷ [] }
+    record {
+      first = (slice_index_or held page empty_page).first;
+      records = (slice_index_or held page empty_page).records ++ r ∷ [];
+    }
 
 -- it is the same whether the pages' contents change before a private step or after it
 pub record TurnsAlike (turned : List PageRecords → List PageRecords) (c : Core) : Type 0 where
@@ -178,10 +180,10 @@ module _ (n size : ℕ) (words : ReaderWords) (turned : List PageRecords → Lis
       → there (after_leave c frame below payload) ≡ after_leave (there c) frame below payload
   leave_there frame [] payload =
       ap (λ (b : List PageRecords). record (after_leave (there c) frame [] payload) { held = b })
-          (alike.ended (own_number frame.kind frame.state) payload)
+      (alike.ended (own_number frame.kind frame.state) payload)
   leave_there frame (next ∷ below) payload =
       ap (λ (b : List PageRecords). record (after_leave (there c) frame (next ∷ below) payload) { held = b })
-          (alike.ended (own_number frame.kind frame.state) payload)
+      (alike.ended (own_number frame.kind frame.state) payload)
 
   begin_there : (kind : Purpose) (state : Progress) (frame : Frame) (below : List Frame)
       → there (after_begin kind state c frame below) ≡ after_begin kind state (there c) frame below
@@ -204,18 +206,20 @@ module _ (n size : ℕ) (words : ReaderWords) (turned : List PageRecords → Lis
     again_there : (noted : ℕ) → BeginsAgain c frame below noted answer after
         → BeginsAgain (there c) frame below noted answer (there after)
     again_there noted step =
-        record { passed = step.passed;
-                answer_is = step.answer_is;
-                after_is = ap there step.after_is ∙ begin_there frame.kind frame.state frame below }
+        record {
+          passed = step.passed;
+          answer_is = step.answer_is;
+          after_is = ap there step.after_is ∙ begin_there frame.kind frame.state frame below;
+        }
 
     idle_there : (state : Progress) → IdleStep n size c frame below state answer after
         → IdleStep n size (there c) frame below state answer (there after)
     idle_there waiting (reserves moment len r kind r_is fits a is) = reserves moment len r kind r_is fits a
         (ap there is
-         ∙ ap
-             (λ (b : List PageRecords).
-                 record (in_reserved (with_reservation (there c) r) frame below (length (reserved_records c.history)))
-                     { held = b }) (alike.reserved r))
+        ∙ ap
+        (λ (b : List PageRecords).
+        record (in_reserved (with_reservation (there c) r) frame below (length (reserved_records c.history)))
+        { held = b }) (alike.reserved r))
     idle_there waiting (finds_nothing kind none a is) =
         finds_nothing kind none a (ap there is ∙ leave_there frame below None)
     idle_there waiting (is_crowded needs full a is) =
@@ -261,12 +265,12 @@ module _ (n size : ℕ) (words : ReaderWords) (turned : List PageRecords → Lis
   private_step_there event answer after own (close_refused e many a is) = close_refused e many a (ap there is)
   private_step_there event answer after own (frame_step frame below e top step) =
       frame_step frame below e top
-          (frame_there frame below answer after frame.phase
-           (subst (λ (fs : List Frame). TopIsPrivate fs c.opened) top (subst (IsPrivate c) e own)) step)
+      (frame_there frame below answer after frame.phase
+      (subst (λ (fs : List Frame). TopIsPrivate fs c.opened) top (subst (IsPrivate c) e own)) step)
   private_step_there event answer after own (frame_lacks e none a is) = frame_lacks e none a (ap there is)
   private_step_there event answer after own (end_step payload frame below number moment len e top at kind slot a is) =
       end_step payload frame below number moment len e top at kind slot a
-          (ap there is ∙ leave_there frame below (Some payload))
+      (ap there is ∙ leave_there frame below (Some payload))
   private_step_there event answer after own (end_lacks payload e none a is) = end_lacks payload e none a (ap there is)
   private_step_there event answer after own (end_early payload frame below e top none a is) =
       end_early payload frame below e top none a (ap there is)

@@ -59,7 +59,7 @@ module _ (n : ℕ) (c : Core) (k : LinksKept n c) (o : OpenPagesKept n c) where
       → get_or c.open_pages i 0 ≢ page_at n c.order c.head
   open_not_head i low closed e = let some_pages = k.some_pages in let within = k.opened_le in let count = o.count in
       pages_differ n c.order c.spare c.head (c.done + i) c.head (omega arith) k.apart (omega arith) (omega arith)
-          (omega arith) (omega arith) (λ same. omega arith) (sym (o.each i low) ∙ e)
+      (omega arith) (omega arith) (λ same. omega arith) (sym (o.each i low) ∙ e)
 
   -- a step of the reader empties the head's page and the spare at most
   read_pages : (phase : ReaderPhase) (answer : Answer) (after : Core)
@@ -82,7 +82,7 @@ module _ (n : ℕ) (c : Core) (k : LinksKept n c) (o : OpenPagesKept n c) where
   read_pages (swapping page fill) answer after facts (swaps at a is) = let head = head_taken n c page fill k facts at in
       subst (OpenPagesHold c) (sym is) (λ i low.
       get_or-set_other (set c.held c.spare empty_page) page (get_or c.open_pages i 0) empty_page empty_page
-          (λ e. open_not_head i low head.closed (e ∙ head.page_is))
+      (λ e. open_not_head i low head.closed (e ∙ head.page_is))
       ∙ get_or-set_other c.held c.spare (get_or c.open_pages i 0) empty_page empty_page (open_not_spare i low))
   read_pages (swapping page fill) answer after facts (swap_fails at a is) =
       subst (OpenPagesHold c) (sym is) (λ i low. refl)
@@ -102,7 +102,7 @@ reader_leaves_open_pages n size start c event answer after r reads (frame_step f
 reader_leaves_open_pages n size start c event answer after r reads (frame_lacks e none a is) =
     absurd (subst IsOfReader e reads)
 reader_leaves_open_pages n size start c event answer after r reads
-        (end_step payload frame below number moment len e top at kind slot a is) =
+    (end_step payload frame below number moment len e top at kind slot a is) =
     absurd (subst IsOfReader e reads)
 reader_leaves_open_pages n size start c event answer after r reads (end_lacks payload e none a is) =
     absurd (subst IsOfReader e reads)
@@ -129,7 +129,7 @@ untouched None payload h low = refl
 untouched (Some k) payload h low = let before = low k refl in
     ap (λ (rs : List Reservation). let g : PageRecords = record { first = h.first; records = rs } in g)
     (cond_both (nat_lt k h.first) h.records (records_with_payload (Some (k - h.first)) payload h.records)
-     (λ (rs : List Reservation). ◌≡◌ {A = List Reservation} rs h.records)
+    (λ (rs : List Reservation). ◌≡◌ {A = List Reservation} rs h.records)
     (λ _. refl) (λ _. beyond (k - h.first) payload h.records (omega arith)))
 
 -- the record of the frame on top isn't committed
@@ -145,7 +145,7 @@ module _ (n size start : ℕ) (c : Core) (r : IsRingKept n size start c) where
       → own_number frame.kind frame.state ≡ Some k → committed_len c.history ≤ k
   number_behind frame below top k e = own_behind (committed_len c.history) frame.kind frame.state (pushed_frames below)
       (subst (Behind (committed_len c.history)) (r.history.stack ∙ ap pushed_frames top)
-       (committed_prefix c.history).behind) k e
+      (committed_prefix c.history).behind) k e
 
   pub result_pages : (after : Core) → PrivateResult c after → OtherPagesHold c after
   result_pages after (stays is) = subst (OtherPagesHold c) (sym is) (λ page other. refl)
@@ -153,14 +153,14 @@ module _ (n size start : ℕ) (c : Core) (r : IsRingKept n size start c) where
   result_pages after (reserved_one frame below record_of number is) = let count = r.open_pages.count in
       let behind = r.links.done_lt in
       subst (OtherPagesHold c) (sym is)
-          (λ page other.
-              get_or-set_other c.held (tail_page c) page _ empty_page
-                  (λ e. other (length c.open_pages - 1) (omega arith) (sym e)))
+      (λ page other.
+      get_or-set_other c.held (tail_page c) page _ empty_page
+      (λ e. other (length c.open_pages - 1) (omega arith) (sym e)))
   result_pages after (goes_on frame below phase is) = subst (OtherPagesHold c) (sym is) (λ page other. refl)
   result_pages after (leaves frame below payload top is) = let number : Option ℕ = own_number frame.kind frame.state in
       subst (OtherPagesHold c) (sym is) (λ page other. ended_at number payload c.held page
       ∙ untouched number payload (get_or c.held page empty_page)
-          (λ k e. let closed = r.other_pages page other in let low = number_behind frame below top k e in omega arith))
+      (λ k e. let closed = r.other_pages page other in let low = number_behind frame below top k e in omega arith))
 
 pub private_leaves_other_pages : (n size start : ℕ) (c : Core) (event : Event) (answer : Answer) (after : Core)
     → IsRingKept n size start c → IsPrivate c event → Step n size c event answer after → OtherPagesHold c after

@@ -53,9 +53,11 @@ module _ (n size : ℕ) (part : ReaderPart) where
     again_seen : (noted : ℕ) → BeginsAgain c frame below noted answer after
         → BeginsAgain (seen_by part c) frame below noted answer (seen_by part after)
     again_seen noted step =
-        record { passed = step.passed;
-                answer_is = step.answer_is;
-                after_is = ap (seen_by part) step.after_is ∙ begin_seen frame.kind frame.state c frame below }
+        record {
+          passed = step.passed;
+          answer_is = step.answer_is;
+          after_is = ap (seen_by part) step.after_is ∙ begin_seen frame.kind frame.state c frame below;
+        }
 
     leaves_seen : after ≡ after_leave c frame below None
         → seen_by part after ≡ after_leave (seen_by part c) frame below None
@@ -109,7 +111,7 @@ module _ (n size : ℕ) (part : ReaderPart) where
         goes_away alone (λ g. denied (granted_before c g)) last a (ap (seen_by part) is)
 
 pub writer_reads_no_reader : (n size : ℕ) (c : Core) (event : Event) (answer : Answer) (after : Core)
-        (part : ReaderPart) → (IsOfReader event → ⊥) → StepCases n size c event answer after
+    (part : ReaderPart) → (IsOfReader event → ⊥) → StepCases n size c event answer after
     → StepCases n size (seen_by part c) event answer (seen_by part after)
 writer_reads_no_reader n size c event answer after part writes (push_step moment len e few short early a is) =
     push_step moment len e few short early a (ap (seen_by part) is)
@@ -126,7 +128,7 @@ writer_reads_no_reader n size c event answer after part writes (frame_lacks e no
 writer_reads_no_reader n size c event answer after part writes
     (end_step payload frame below number moment len e top at kind slot a is) =
     end_step payload frame below number moment len e top at kind slot a
-        (ap (seen_by part) is ∙ leave_seen n size part c frame below (Some payload))
+    (ap (seen_by part) is ∙ leave_seen n size part c frame below (Some payload))
 writer_reads_no_reader n size c event answer after part writes (end_lacks payload e none a is) =
     end_lacks payload e none a (ap (seen_by part) is)
 writer_reads_no_reader n size c event answer after part writes (end_early payload frame below e top none a is) =
@@ -144,8 +146,10 @@ record ReaderSide : Type 0 where
 
 reader_side : Core → ReaderSide
 reader_side c =
-    record { part = record { order = c.order; spare = c.spare; spare_link = c.spare_link; reader = c.reader };
-            wish = c.wish }
+    record {
+      part = record { order = c.order; spare = c.spare; spare_link = c.spare_link; reader = c.reader };
+      wish = c.wish;
+    }
 
 module _ (n size : ℕ) where
   begin_side : (kind : Purpose) (state : Progress) (c : Core) (frame : Frame) (below : List Frame)
@@ -218,15 +222,15 @@ pub writer_leaves_reader : (n size : ℕ) (c : Core) (event : Event) (answer : A
     → (IsOfReader event → ⊥) → Step n size c event answer after → ReaderStays c after
 unfolding reader_side
 writer_leaves_reader n size c event answer after writes step =
-        let same =
-        step_side n size c event answer after writes (cases_of step) in
+    let same =
+    step_side n size c event answer after writes (cases_of step) in
     record {
-  order = ap (λ (s : ReaderSide). s.part.order) same;
-  spare = ap (λ (s : ReaderSide). s.part.spare) same;
-  spare_link = ap (λ (s : ReaderSide). s.part.spare_link) same;
-  reader = ap (λ (s : ReaderSide). s.part.reader) same;
-  wish = ap (λ (s : ReaderSide). s.wish) same;
-}
+      order = ap (λ (s : ReaderSide). s.part.order) same;
+      spare = ap (λ (s : ReaderSide). s.part.spare) same;
+      spare_link = ap (λ (s : ReaderSide). s.part.spare_link) same;
+      reader = ap (λ (s : ReaderSide). s.part.reader) same;
+      wish = ap (λ (s : ReaderSide). s.wish) same;
+    }
 
 -- ---- the reader leaves the writer's part
 
@@ -234,7 +238,7 @@ stays : (c next after : Core) → next.frames ≡ c.frames → next.open_pages �
     → next.done ≡ c.done → next.opened ≡ c.opened → after ≡ next → WriterStays c after
 stays c next after frames open_pages history done opened is =
     subst (WriterStays c) (sym is)
-        record { frames = frames; open_pages = open_pages; history = history; done = done; opened = opened }
+    record { frames = frames; open_pages = open_pages; history = history; done = done; opened = opened }
 
 read_leaves : (n : ℕ) (c : Core) (phase : ReaderPhase) (answer : Answer) (after : Core)
     → ReadStep n c phase answer after → WriterStays c after
@@ -263,7 +267,7 @@ reader_leaves_writer n size c event answer after reads (frame_step frame below e
     absurd (subst IsOfReader e reads)
 reader_leaves_writer n size c event answer after reads (frame_lacks e none a is) = absurd (subst IsOfReader e reads)
 reader_leaves_writer n size c event answer after reads
-        (end_step payload frame below number moment len e top at kind slot a is) =
+    (end_step payload frame below number moment len e top at kind slot a is) =
     absurd (subst IsOfReader e reads)
 reader_leaves_writer n size c event answer after reads (end_lacks payload e none a is) =
     absurd (subst IsOfReader e reads)
@@ -292,7 +296,7 @@ module _ (n : ℕ) (part : WriterPart) (c : Core) (answer : Answer) (after : Cor
   read_beside (swapping page fill) (swap_fails at a is) = swap_fails at a (ap (written_by part) is)
 
 pub reader_reads_no_writer : (n size : ℕ) (c : Core) (event : Event) (answer : Answer) (after : Core)
-        (part : WriterPart) → IsOfReader event → StepCases n size c event answer after
+    (part : WriterPart) → IsOfReader event → StepCases n size c event answer after
     → StepCases n size (written_by part c) event answer (written_by part after)
 reader_reads_no_writer n size c event answer after part reads (push_step moment len e few short early a is) =
     absurd (subst IsOfReader e reads)
@@ -307,7 +311,7 @@ reader_reads_no_writer n size c event answer after part reads (frame_step frame 
 reader_reads_no_writer n size c event answer after part reads (frame_lacks e none a is) =
     absurd (subst IsOfReader e reads)
 reader_reads_no_writer n size c event answer after part reads
-        (end_step payload frame below number moment len e top at kind slot a is) =
+    (end_step payload frame below number moment len e top at kind slot a is) =
     absurd (subst IsOfReader e reads)
 reader_reads_no_writer n size c event answer after part reads (end_lacks payload e none a is) =
     absurd (subst IsOfReader e reads)

@@ -26,9 +26,9 @@ module _ (n size : ℕ) (c : Core) (k : LinksKept n c) where
   round_above g at above = dite (dec_le (c.reader.hint + n) g)
       (λ le. le)
       (λ no. let some_pages = k.some_pages in
-       let same =
-           one_position c.reader.hint n g c.reader.hint (omega arith) (omega arith) (omega arith) (omega arith) at in
-       absurd (omega arith))
+      let same =
+      one_position c.reader.hint n g c.reader.hint (omega arith) (omega arith) (omega arith) (omega arith) at in
+      absurd (omega arith))
 
   load_head_lowers : (answer : Answer) (after : Core) → answer ≡ reading → c.reader.phase ≡ loading_head
       → LoadHeadStep n c answer after → reader_rank n after < reader_rank n c
@@ -48,13 +48,13 @@ module _ (n size : ℕ) (c : Core) (k : LinksKept n c) where
       let some_pages = k.some_pages in
       let (g, low, high, place) = at_position c.head n (c.reader.hint % n) (mod-lt c.reader.hint (omega arith)) in
       let reported =
-          normal_reports n c.links c.order c.head c.frames g page fill (k.each g low high)
-              (ap (λ (i : ℕ). get_or c.links i (normal_link 0 0)) place ∙ at) in
+      normal_reports n c.links c.order c.head c.frames g page fill (k.each g low high)
+      (ap (λ (i : ℕ). get_or c.links i (normal_link 0 0)) place ∙ at) in
       let it = reported.0 in
       let above = round_above g place (omega arith) in
       let near = min-le_left (c.head + 1 - least) (n + 2) in
       let far : suc (c.head + 1 - least) ≤ min (c.head + 1 - c.reader.hint) (n + 2) =
-          le-min (let hint_le = k.hint_le in omega arith) (omega arith) in
+      le-min (let hint_le = k.hint_le in omega arith) (omega arith) in
       subst (λ (x : Core). reader_rank n x < reader_rank n c) (sym is)
       (subst (λ (m : ℕ). 4 * min (c.head + 1 - least) (n + 2) + 3 < m) (sym (old loading_head same)) (omega arith))
 
@@ -76,10 +76,10 @@ module _ (n size : ℕ) (c : Core) (k : LinksKept n c) where
       let near = min-le_left (c.head + 1 - suc fill) (n + 2) in
       let near_most = min-le_right (c.head + 1 - suc fill) (n + 2) in
       let far : suc (min (c.head + 1 - suc fill) (n + 2)) ≤ min (c.head + 1 - c.reader.hint) (n + 3) =
-          le-min (omega arith) (omega arith) in
+      le-min (omega arith) (omega arith) in
       subst (λ (x : Core). reader_rank n x < reader_rank n c) (sym is)
       (subst (λ (m : ℕ). 4 * min (c.head + 1 - suc fill) (n + 2) + 3 < m) (sym (old (swapping page fill) same))
-       (omega arith))
+      (omega arith))
 
   read_lowers : (phase : ReaderPhase) (answer : Answer) (after : Core) → answer ≡ reading → c.reader.phase ≡ phase
       → ReaderKept n c.links c.order c.spare_link c.head c.done c.reader.hint phase → ReadStep n c phase answer after

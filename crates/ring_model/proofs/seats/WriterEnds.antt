@@ -72,8 +72,8 @@ closing_le : (n passed opened : ℕ) (history : List HistoryEvent) (c : Core) (s
     → own_rank n passed opened history state (closing_phase c) ≤ grant_rank (tail_of history) + 1
 closing_le n passed opened history c state =
     cond_both ((c.done + 1) == c.opened) wishing releasing
-        (λ (p : Phase). own_rank n passed opened history state p ≤ grant_rank (tail_of history) + 1) (λ _. omega arith)
-        (λ _. omega arith)
+    (λ (p : Phase). own_rank n passed opened history state p ≤ grant_rank (tail_of history) + 1) (λ _. omega arith)
+    (λ _. omega arith)
 
 -- ---- a frame that leaves, or begins again
 
@@ -84,8 +84,8 @@ leave_le n passed c frame [] payload same =
     let history : List HistoryEvent = c.history ++ leave payload ∷ [] in
     let low = closing_le n passed c.opened history c left in let most = grant_le (tail_of history) in
     let le : 3 * (c.opened - c.done) + own_rank n passed c.opened history left (closing_phase c)
-            ≤ 3 * (c.opened - c.done) + 13 =
-        omega arith in
+    ≤ 3 * (c.opened - c.done) + 13 =
+    omega arith in
     le
 leave_le n passed c frame (next ∷ below) payload same =
     absurd (let wrong : suc (length below) ≡ suc (suc (length below)) = same in omega arith)
@@ -96,17 +96,17 @@ begin_le : (n passed : ℕ) (c : Core) (kind : Purpose) (state : Progress) (fram
     → rank_in n passed (after_begin kind state c frame below) ≤ 3 * (c.opened - c.done) + again_rank i w state
 begin_le n passed c (for_record moment len) waiting frame below i w same low wish_low le stays =
     subst (λ (s : Progress). 3 * (c.opened - c.done) + fresh_rank c.history s ≤ 3 * (c.opened - c.done) + i) (sym same)
-        (omega arith)
+    (omega arith)
 begin_le n passed c for_close waiting frame below i w same low wish_low le stays =
-        let less =
-        leave_le n passed c frame below None stays in
+    let less =
+    leave_le n passed c frame below None stays in
     omega arith
 begin_le n passed c kind (reserved number) frame below i w same low wish_low le stays =
     subst (λ (s : Progress). 3 * (c.opened - c.done) + fresh_rank c.history s ≤ 3 * (c.opened - c.done) + 15) (sym same)
-        (omega arith)
+    (omega arith)
 begin_le n passed c kind left frame below i w same low wish_low le stays =
-        let less =
-        closing_le n passed c.opened c.history c frame.state in
+    let less =
+    closing_le n passed c.opened c.history c frame.state in
     omega arith
 
 -- ---- the steps of a frame
@@ -120,7 +120,7 @@ module _ (n size start : ℕ) (c : Core) (frame : Frame) (below : List Frame) (r
       → rank_in n passed c ≡ 3 * (c.opened - c.done) + own_rank n passed c.opened c.history frame.state phase
   old phase same =
       ap (writer_rank n passed c.done c.opened c.history) top
-          ∙ ap (λ (p : Phase). 3 * (c.opened - c.done) + own_rank n passed c.opened c.history frame.state p) same
+      ∙ ap (λ (p : Phase). 3 * (c.opened - c.done) + own_rank n passed c.opened c.history frame.state p) same
 
   -- the state after the step has a lower rank than the phase
   sinks : (after next : Core) (phase : Phase) → frame.phase ≡ phase
@@ -128,7 +128,7 @@ module _ (n size start : ℕ) (c : Core) (frame : Frame) (below : List Frame) (r
       → after ≡ next → rank_in n knows after < rank_in n passed c
   sinks after next phase same less is =
       subst (λ (a : Core). rank_in n knows a < rank_in n passed c) (sym is)
-          (subst (λ (m : ℕ). rank_in n knows next < m) (sym (old phase same)) less)
+      (subst (λ (m : ℕ). rank_in n knows next < m) (sym (old phase same)) less)
 
   goes : (after : Core) (phase next : Phase) → frame.phase ≡ phase
       → own_rank n knows c.opened c.history frame.state next < own_rank n passed c.opened c.history frame.state phase
@@ -154,8 +154,8 @@ module _ (n size start : ℕ) (c : Core) (frame : Frame) (below : List Frame) (r
       let most = grant_le (tail_of c.history) in
       let begun : Core = after_begin frame.kind frame.state c frame below in
       let low =
-          begin_le n knows c frame.kind frame.state frame below 34 13 refl (need_le (tail_of c.history)) (omega arith)
-              (omega arith) (stands after begun step.after_is stays) in
+      begin_le n knows c frame.kind frame.state frame below 34 13 refl (need_le (tail_of c.history)) (omega arith)
+      (omega arith) (stands after begun step.after_is stays) in
       let less = again_lt frame.state in
       sinks after begun phase same (omega arith) step.after_is
 
@@ -171,10 +171,10 @@ module _ (n size start : ℕ) (c : Core) (frame : Frame) (below : List Frame) (r
       → rank_in n knows after < rank_in n passed c
   reserve_lowers answer after same waits stays (reserves moment len res kind r_is fits a is) = let high = rests waits in
       sinks after _ idle same
-          (let less : 3 * (c.opened - c.done) + 15
-                   < 3 * (c.opened - c.done) + own_rank n passed c.opened c.history frame.state idle =
-               omega arith in
-           less) is
+      (let less : 3 * (c.opened - c.done) + 15
+      < 3 * (c.opened - c.done) + own_rank n passed c.opened c.history frame.state idle =
+      omega arith in
+      less) is
   reserve_lowers answer after same waits stays (finds_nothing kind none a is) =
       leaves after idle None same (let high = rests waits in omega arith) stays is
   reserve_lowers answer after same waits stays (is_crowded needs full a is) =
@@ -184,7 +184,7 @@ module _ (n size start : ℕ) (c : Core) (frame : Frame) (below : List Frame) (r
   reserve_lowers answer after same waits stays (notes needs room small a is) =
       let now = waiting_rank waits in
       let high =
-          need_held (tail_of c.history) (needs_tail n size start c frame below r top frame.kind refl waits needs) in
+      need_held (tail_of c.history) (needs_tail n size start c frame below r top frame.kind refl waits needs) in
       let first = ap state_rank waits in
       let fresh = late_now c.opened c.opened refl in
       let low = look_le n knows c.opened in
@@ -196,8 +196,8 @@ module _ (n size start : ℕ) (c : Core) (frame : Frame) (below : List Frame) (r
   load_link_lowers noted answer after same behind stays (load_link_late step) = let high = look_ge n passed noted in
       again noted answer after (looking noted) same (omega arith) stays step
   load_link_lowers noted answer after same behind stays (sees_free page now at a is) =
-          let high =
-          look_ge n passed noted in
+      let high =
+      look_ge n passed noted in
       goes after (looking noted) (opening noted page) same (omega arith) is
   load_link_lowers noted answer after same behind stays (sees_header page lost now sum at a is) =
       let unread = k.head_le in let open_yet = k.done_lt in let within = k.opened_le in
@@ -206,8 +206,8 @@ module _ (n size start : ℕ) (c : Core) (frame : Frame) (below : List Frame) (r
       let twice = look_twice n passed noted (omega arith) in
       goes after (looking noted) (claiming noted page) same (omega arith) is
   load_link_lowers noted answer after same behind stays (sees_update page lost now sum at a is) =
-          let high =
-          look_ge n passed noted in
+      let high =
+      look_ge n passed noted in
       goes after (looking noted) (looking_next helper noted page) same (omega arith) is
 
   claim_head_lowers : (noted page : ℕ) (answer : Answer) (after : Core) → frame.phase ≡ claiming noted page
@@ -217,19 +217,19 @@ module _ (n size start : ℕ) (c : Core) (frame : Frame) (below : List Frame) (r
       again noted answer after (claiming noted page) same (omega arith) stays step
   claim_head_lowers noted page answer after same past stays (claims lost now sum at a is) =
       sinks after _ (claiming noted page) same
-          (let less : 3 * (c.opened - c.done) + (state_rank frame.state + late_rank noted c.opened + 8)
-                   < 3 * (c.opened - c.done) + (state_rank frame.state + late_rank noted c.opened + 11) =
-               omega arith in
-           less) is
+      (let less : 3 * (c.opened - c.done) + (state_rank frame.state + late_rank noted c.opened + 8)
+      < 3 * (c.opened - c.done) + (state_rank frame.state + late_rank noted c.opened + 11) =
+      omega arith in
+      less) is
   claim_head_lowers noted page answer after same past stays (claim_fails now other a is) =
-          let once =
-          look_once n knows noted (past now) in
+      let once =
+      look_once n knows noted (past now) in
       goes after (claiming noted page) (looking noted) same (omega arith) is
 
   -- after the look at the next link
   next_less : (role : Role) (noted page m : ℕ) → 6 < m
       → own_rank n knows c.opened c.history frame.state (after_next role noted page)
-          < state_rank frame.state + late_rank noted c.opened + m
+      < state_rank frame.state + late_rank noted c.opened + m
   next_less owner noted page m less = omega arith
   next_less helper noted page m less = omega arith
 
@@ -242,7 +242,7 @@ module _ (n size start : ℕ) (c : Core) (frame : Frame) (below : List Frame) (r
       goes after (looking_next role noted page) (marking role noted page next) same (omega arith) is
   load_next_lowers role noted page answer after same stays (sees_other lost goes_on sum other a is) =
       goes after (looking_next role noted page) (after_next role noted page) same
-          (next_less role noted page 8 (omega arith)) is
+      (next_less role noted page 8 (omega arith)) is
 
   mark_head_lowers : (role : Role) (noted page next : ℕ) (answer : Answer) (after : Core)
       → frame.phase ≡ marking role noted page next → length after.frames ≡ length c.frames
@@ -252,20 +252,20 @@ module _ (n size start : ℕ) (c : Core) (frame : Frame) (below : List Frame) (r
   mark_head_lowers role noted page next answer after same stays (marks lost goes_on sum at a is) =
       let low = next_less role noted page 7 (omega arith) in
       sinks after
-          (in_phase (with_link n c (suc lost) (header_link next (suc lost))) frame below (after_next role noted page))
-          (marking role noted page next) same (omega arith) is
+      (in_phase (with_link n c (suc lost) (header_link next (suc lost))) frame below (after_next role noted page))
+      (marking role noted page next) same (omega arith) is
   mark_head_lowers role noted page next answer after same stays (mark_fails lost goes_on sum other a is) =
       goes after (marking role noted page next) (after_next role noted page) same
-          (next_less role noted page 7 (omega arith)) is
+      (next_less role noted page 7 (omega arith)) is
 
   clear_update_lowers : (noted page : ℕ) (answer : Answer) (after : Core) → frame.phase ≡ clearing noted page
       → ClearUpdateStep n c frame below noted page answer after → rank_in n knows after < rank_in n passed c
   clear_update_lowers noted page answer after same (clears lost sum at a is) =
       sinks after _ (clearing noted page) same
-          (let less : 3 * (c.opened - c.done) + (state_rank frame.state + late_rank noted c.opened + 5)
-                   < 3 * (c.opened - c.done) + (state_rank frame.state + late_rank noted c.opened + 6) =
-               omega arith in
-           less) is
+      (let less : 3 * (c.opened - c.done) + (state_rank frame.state + late_rank noted c.opened + 5)
+      < 3 * (c.opened - c.done) + (state_rank frame.state + late_rank noted c.opened + 6) =
+      omega arith in
+      less) is
 
   open_fill_lowers : (noted page : ℕ) (answer : Answer) (after : Core) → frame.phase ≡ opening noted page
       → length after.frames ≡ length c.frames → OpenFillStep n c frame below noted page answer after
@@ -279,8 +279,8 @@ module _ (n size start : ℕ) (c : Core) (frame : Frame) (below : List Frame) (r
       let bare : need_rank (tail_of grown.history) ≡ 16 = ap need_rank (opened_tail c.history) in
       let unasked : grant_rank (tail_of grown.history) ≡ 0 = ap grant_rank (opened_tail c.history) in
       let low =
-          begin_le n knows grown frame.kind frame.state frame below 16 1 refl (omega arith) (omega arith) (omega arith)
-              (stands after begun is stays) in
+      begin_le n knows grown frame.kind frame.state frame below 16 1 refl (omega arith) (omega arith) (omega arith)
+      (stands after begun is stays) in
       let le : rank_in n knows begun ≤ 3 * ((c.opened + 1) - c.done) + again_rank 16 1 frame.state = low in
       let less = opened_lt frame.state in
       sinks after begun (opening noted page) same (omega arith) is
@@ -290,32 +290,32 @@ module _ (n size start : ℕ) (c : Core) (frame : Frame) (below : List Frame) (r
   release_fill_lowers answer after same (releases alone more a is) =
       let held : rank_in n knows (with_released c) ≡ 3 * (c.opened - (c.done + 1)) + grant_rank (tail_of c.history) =
       ap (writer_rank n knows (c.done + 1) c.opened c.history) top
-          ∙ ap (λ (p : Phase). 3 * (c.opened - (c.done + 1)) + own_rank n knows c.opened c.history frame.state p)
-              same in
+      ∙ ap (λ (p : Phase). 3 * (c.opened - (c.done + 1)) + own_rank n knows c.opened c.history frame.state p)
+      same in
       sinks after (with_released c) releasing same (omega arith) is
   release_fill_lowers answer after same (releases_last alone last a is) =
       sinks after _ releasing same
-          (let less : 3 * (c.opened - (c.done + 1)) + (grant_rank (tail_of c.history) + 1)
-                   < 3 * (c.opened - c.done) + grant_rank (tail_of c.history) =
-               omega arith in
-           less) is
+      (let less : 3 * (c.opened - (c.done + 1)) + (grant_rank (tail_of c.history) + 1)
+      < 3 * (c.opened - c.done) + grant_rank (tail_of c.history) =
+      omega arith in
+      less) is
 
   load_wish_lowers : (answer : Answer) (after : Core) → frame.phase ≡ wishing → length after.frames ≡ length c.frames
       → LoadWishStep n c frame below answer after → rank_in n knows after < rank_in n passed c
   load_wish_lowers answer after same stays (grants alone granted a is) =
       let held = grant_held (tail_of c.history) granted.holds_record in
       let gone =
-          ap state_rank
-              (wishing_left frame.kind frame.state
-               (subst (MayBeIn frame.kind frame.state) same (top_agrees c frame below r.stack top).0)) in
+      ap state_rank
+      (wishing_left frame.kind frame.state
+      (subst (MayBeIn frame.kind frame.state) same (top_agrees c frame below r.stack top).0)) in
       let fresh = late_now c.opened c.opened refl in
       let low = look_le n knows c.opened in
       sinks after _ wishing same
-          (let less : 3 * (c.opened - c.done)
-                       + (state_rank frame.state + late_rank c.opened c.opened + look_rank n knows c.opened)
-                   < 3 * (c.opened - c.done) + (grant_rank (tail_of c.history) + 1) =
-               omega arith in
-           less) is
+      (let less : 3 * (c.opened - c.done)
+      + (state_rank frame.state + late_rank c.opened c.opened + look_rank n knows c.opened)
+      < 3 * (c.opened - c.done) + (grant_rank (tail_of c.history) + 1) =
+      omega arith in
+      less) is
   load_wish_lowers answer after same stays (closes_more alone denied more a is) =
       goes after wishing releasing same (omega arith) is
   load_wish_lowers answer after same stays (goes_away alone denied none_left a is) =
@@ -352,7 +352,7 @@ module _ (n size start : ℕ) (c : Core) (frame : Frame) (below : List Frame) (r
 pub writer_steps_lower : WriterStepsComeToAnEnd
 writer_steps_lower n size start c frame below answer after passed knows r top none step stays more behind past =
     frame_lowers n size start c frame below r top passed knows behind past frame.phase answer after refl none stays
-        (top_step frame below frame.phase top refl step)
+    (top_step frame below frame.phase top refl step)
 
 -- ---- the limit
 
@@ -390,8 +390,8 @@ writer_le : (n passed done opened : ℕ) (history : List HistoryEvent) (frames :
     → writer_rank n passed done opened history frames ≤ 3 * (opened - done) + 52
 writer_le n passed done opened history [] = omega arith
 writer_le n passed done opened history (frame ∷ below) =
-        let low =
-        own_le n passed opened history frame.state frame.phase in
+    let low =
+    own_le n passed opened history frame.state frame.phase in
     omega arith
 
 pub writers_near : WritersAreNearTheirEnd

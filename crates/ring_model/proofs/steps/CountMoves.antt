@@ -108,7 +108,7 @@ module _ (n size : ℕ) (c : Core) (frame : Frame) (below : List Frame) (answer 
   frame_moves : (phase : Phase) → FrameStep n size c frame below phase answer after → HeadMoves n c answer after
   frame_moves = by_phase n size c frame below answer after (λ phase. HeadMoves n c answer after)
       (idle_moves frame.state) load_link_moves claim_head_moves load_next_moves mark_head_moves clear_update_moves
-          open_fill_moves release_fill_moves load_wish_moves
+      open_fill_moves release_fill_moves load_wish_moves
 
 module _ (n : ℕ) (c : Core) (answer : Answer) (after : Core) (k : LinksKept n c) where
   rests : (next : Core) → next.head ≡ c.head → after ≡ next → HeadMoves n c answer after
@@ -151,7 +151,7 @@ losses_need_a_full_ring n size start c event answer after r step =
 pub closes_need_no_frame : ClosesNeedNoFrame
 closes_need_no_frame n size start c event answer after r step =
     ⊎_elim (λ same. inl (ap (λ (w : Window). w.done) same.0)) (λ one. by_what one.0 one.1.step)
-        (step_owed n size start c event answer after r.links r.stack r.history (cases_of step)).window
+    (step_owed n size start c event answer after r.links r.stack r.history (cases_of step)).window
   where
     by_what : (what : RingEvent) → WindowStep n c.history (window_of c) what (window_of after) → DoneMoves c after
     by_what (acts (push moment len)) w = inl (ap (λ (v : Window). v.done) w.after_is)

@@ -37,12 +37,13 @@ use Rattle.ring_model.proofs.links.FrameChanges.{top_kept}
 marked_still : (n : ℕ) (links : List Link) (head head' g lost : ℕ) (new : Link) → 1 ≤ n → length links ≡ n
     → head ≤ head' → ((seen u : ℕ) → u < head → new ≢ normal_link seen (suc u)) → IsMarked n links head lost
     → IsMarked n (links_with n links g new) head' lost
-marked_still n links head head' g lost new some wide le fresh (below, set) =
-    (omega arith,
-     λ seen at.
-            set seen
-                (before_set n links g (suc lost) new (normal_link seen (suc lost)) some wide (fresh seen lost below)
-                 at))
+marked_still n links head head' g lost new some wide le fresh (below, set) = (
+  omega arith,
+  λ seen at.
+      set seen
+      (before_set n links g (suc lost) new (normal_link seen (suc lost)) some wide (fresh seen lost below)
+      at),
+)
 
 module _ (n : ℕ) (links : List Link) (head head' g : ℕ) (new : Link) (some : 1 ≤ n) (wide : length links ≡ n)
     (le : head ≤ head') (fresh : (seen u : ℕ) → u < head → new ≢ normal_link seen (suc u)) where
@@ -112,16 +113,18 @@ pub free_marked : (n : ℕ) (c : Core) (noted page lost : ℕ) → LinksKept n c
     → link_into n c.links noted ≡ normal_link page noted → lost + n ≡ noted → IsMarked n c.links c.head lost
 free_marked n c noted page lost k now at sum =
     let unread = k.head_le in let behind = k.done_lt in let within = k.opened_le in
-    let inside = normal_inside n c k noted page (omega arith) (omega arith) at in
-    (omega arith, λ seen is. let (here, page_is) = next_inside n c k lost seen (omega arith) (omega arith) is in
-     owed (k.each c.head (omega arith) (omega arith)) here (ap (link_into n c.links) (sym here) ∙ is))
+    let inside = normal_inside n c k noted page (omega arith) (omega arith) at in (
+      omega arith,
+      λ seen is. let (here, page_is) = next_inside n c k lost seen (omega arith) (omega arith) is in
+          owed (k.each c.head (omega arith) (omega arith)) here (ap (link_into n c.links) (sym here) ∙ is),
+    )
   where
     owed : LinkKept n c.links c.order c.head c.frames c.head → suc lost ≡ c.head → {seen : ℕ}
         → link_into n c.links c.head ≡ normal_link seen (suc lost) → ⊥
     owed (is_normal e waits) here {seen = seen} is = let (u, next, st) = waits refl in
         let (v, v_sum, below, open_yet, there) = owned_by n c k (u + n) st in
         normal_ne_update page noted (page_at n c.order (u + n)) v
-            (sym at ∙ ap (link_into n c.links) (let e' : noted ≡ u + n = omega arith in e') ∙ there)
+        (sym at ∙ ap (link_into n c.links) (let e' : noted ≡ u + n = omega arith in e') ∙ there)
     owed (is_header e it) here {seen = seen} is =
         normal_ne_header seen (suc lost) (page_at n c.order c.head) c.head (sym is ∙ e)
     owed (is_update u u_sum e st) here {seen = seen} is =
@@ -132,14 +135,14 @@ module _ (n size : ℕ) (c : Core) (frame : Frame) (below : List Frame) (k : Lin
   leaves : (after : Core) (payload : Option (List ℕ)) → after ≡ after_leave c frame below payload → ProgressKept n after
   leaves after payload is =
       subst (ProgressKept n) (sym is)
-          (leave_advances n c frame below payload r.room (below_advances n size c frame below k r top))
+      (leave_advances n c frame below payload r.room (below_advances n size c frame below k r top))
 
   again : (noted : ℕ) (answer : Answer) (after : Core) → BeginsAgain c frame below noted answer after
       → ProgressKept n after
   again noted answer after step =
       subst (ProgressKept n) (sym step.after_is)
-          (after_begin_advances n c frame.kind frame.state frame below r.room
-           (below_advances n size c frame below k r top))
+      (after_begin_advances n c frame.kind frame.state frame below r.room
+      (below_advances n size c frame below k r top))
 
   on : (after : Core) (phase : Phase) → PhaseAdvances n c.links c.head phase → after ≡ in_phase c frame below phase
       → ProgressKept n after
@@ -149,7 +152,7 @@ module _ (n size : ℕ) (c : Core) (frame : Frame) (below : List Frame) (k : Lin
       → ProgressKept n after
   reserve_advances answer after (reserves moment len res kind r_is fits a is) =
       subst (ProgressKept n) (sym is)
-          record { room = r.room; advance = (tt, below_advances n size c frame below k r top) }
+      record { room = r.room; advance = (tt, below_advances n size c frame below k r top) }
   reserve_advances answer after (finds_nothing kind none a is) = leaves after None is
   reserve_advances answer after (is_crowded needs full a is) = leaves after None is
   reserve_advances answer after (is_worn needs full last a is) = leaves after None is
@@ -211,15 +214,16 @@ module _ (n size : ℕ) (c : Core) (frame : Frame) (below : List Frame) (k : Lin
       subst (ProgressKept n) (sym is) record {
         room =
             λ seen it.
-                   r.room seen
-                       (before_set n c.links (suc lost) c.head new (normal_link seen c.head) (omega arith) k.positions
-                        (λ e. normal_ne_header seen c.head next (suc lost) (sym e)) it);
+            r.room seen
+            (before_set n c.links (suc lost) c.head new (normal_link seen c.head) (omega arith) k.positions
+            (λ e. normal_ne_header seen c.head next (suc lost) (sym e)) it);
         advance = (
-          passes links role noted page lost sum
-              (omega arith,
-               λ seen it.
-                      normal_ne_header seen (suc lost) next (suc lost)
-                          (sym it ∙ link_here n c.links (suc lost) new (omega arith) k.positions)),
+          passes links role noted page lost sum (
+            omega arith,
+            λ seen it.
+                normal_ne_header seen (suc lost) next (suc lost)
+                (sym it ∙ link_here n c.links (suc lost) new (omega arith) k.positions),
+          ),
           frames_advance n c.links c.head c.head (suc lost) new (omega arith) k.positions (omega arith)
               (λ seen u low e. normal_ne_header seen (suc u) next (suc lost) (sym e)) below
               (below_advances n size c frame below k r top),
@@ -227,10 +231,10 @@ module _ (n size : ℕ) (c : Core) (frame : Frame) (below : List Frame) (k : Lin
       }
   mark_head_advances role noted page next answer after same (mark_fails lost goes_on sum other a is) =
       let waits =
-          (kept_in n size c frame below k r top (marking role noted page next) same).marks noted next lost refl sum in
+      (kept_in n size c frame below k r top (marking role noted page next) same).marks noted next lost refl sum in
       on after (after_next role noted page)
-          (passes c.links role noted page lost sum
-           (waits.0, λ seen at. other (at ∙ ap (λ (p : ℕ). normal_link p (suc lost)) (sym (waits.1 seen at))))) is
+      (passes c.links role noted page lost sum
+      (waits.0, λ seen at. other (at ∙ ap (λ (p : ℕ). normal_link p (suc lost)) (sym (waits.1 seen at))))) is
 
   clear_update_advances : (noted page : ℕ) (answer : Answer) (after : Core) → frame.phase ≡ clearing noted page
       → ClearUpdateStep n c frame below noted page answer after → ProgressKept n after
@@ -240,20 +244,20 @@ module _ (n size : ℕ) (c : Core) (frame : Frame) (below : List Frame) (k : Lin
       let open_yet = (kept.passed noted page refl).0 in
       let new : Link = normal_link page noted in
       let fresh =
-          λ (seen u : ℕ) (low : u < c.head) (e : new ≡ normal_link seen (suc u)). let fills : noted ≡ suc u =
-          ap (λ (l : Link). l.fill) e in
+      λ (seen u : ℕ) (low : u < c.head) (e : new ≡ normal_link seen (suc u)). let fills : noted ≡ suc u =
+      ap (λ (l : Link). l.fill) e in
       let none : ⊥ = omega arith in
       none in
       subst (ProgressKept n) (sym is) record {
         room =
             λ seen it.
-                   r.room seen
-                       (before_set n c.links noted c.head new (normal_link seen c.head) (omega arith) k.positions
-                        (λ e. let fills : noted ≡ c.head = ap (λ (l : Link). l.fill) e in omega arith) it);
+            r.room seen
+            (before_set n c.links noted c.head new (normal_link seen c.head) (omega arith) k.positions
+            (λ e. let fills : noted ≡ c.head = ap (λ (l : Link). l.fill) e in omega arith) it);
         advance = (
           (λ u u_sum.
               marked_still n c.links c.head c.head noted u new (omega arith) k.positions (omega arith) fresh
-                  (kept.clears noted u refl u_sum)),
+              (kept.clears noted u refl u_sum)),
           frames_advance n c.links c.head c.head noted new (omega arith) k.positions (omega arith) fresh below
               (below_advances n size c frame below k r top),
         );
@@ -264,9 +268,9 @@ module _ (n size : ℕ) (c : Core) (frame : Frame) (below : List Frame) (k : Lin
   open_fill_advances noted page answer after same (open_late step) = again noted answer after step
   open_fill_advances noted page answer after same (opens now a is) =
       subst (ProgressKept n) (sym is)
-          (after_begin_advances n (with_new_tail c page) frame.kind frame.state frame below
-           (λ seen at. more seen at (k.each c.head (omega arith) (let some_pages = k.some_pages in omega arith)))
-           (below_advances n size c frame below k r top))
+      (after_begin_advances n (with_new_tail c page) frame.kind frame.state frame below
+      (λ seen at. more seen at (k.each c.head (omega arith) (let some_pages = k.some_pages in omega arith)))
+      (below_advances n size c frame below k r top))
     where
       more : (seen : ℕ) → link_into n c.links c.head ≡ normal_link seen c.head
           → LinkKept n c.links c.order c.head c.frames c.head → c.opened + 1 < c.head + n
@@ -274,8 +278,8 @@ module _ (n size : ℕ) (c : Core) (frame : Frame) (below : List Frame) (k : Lin
           let room = r.room seen at in
           dite (ℕ_discrete (lost + n) noted)
           (λ sum.
-              absurd ((advances_in n size c frame below k r top (opening noted page) same lost sum).1 seen
-                      (ap (link_into n c.links) next ∙ at ∙ ap (normal_link seen) (sym next))))
+          absurd ((advances_in n size c frame below k r top (opening noted page) same lost sum).1 seen
+          (ap (link_into n c.links) next ∙ at ∙ ap (normal_link seen) (sym next))))
           (λ ne. omega arith)
       more seen at (is_header e here) =
           absurd (normal_ne_header seen c.head (page_at n c.order c.head) c.head (sym at ∙ e))
@@ -288,13 +292,13 @@ module _ (n size : ℕ) (c : Core) (frame : Frame) (below : List Frame) (k : Lin
       subst (ProgressKept n) (sym is) record { room = r.room; advance = r.advance }
   release_fill_advances answer after (releases_last alone last a is) =
       subst (ProgressKept n) (sym is)
-          record { room = r.room; advance = (tt, below_advances n size c frame below k r top) }
+      record { room = r.room; advance = (tt, below_advances n size c frame below k r top) }
 
   load_wish_advances : (answer : Answer) (after : Core) → LoadWishStep n c frame below answer after
       → ProgressKept n after
   load_wish_advances answer after (grants alone granted a is) =
       subst (ProgressKept n) (sym is)
-          record { room = r.room; advance = (tt, below_advances n size c frame below k r top) }
+      record { room = r.room; advance = (tt, below_advances n size c frame below k r top) }
   load_wish_advances answer after (closes_more alone denied more a is) = on after releasing tt is
   load_wish_advances answer after (goes_away alone denied none_left a is) =
       subst (ProgressKept n) (sym is) record { room = r.room; advance = tt }
@@ -349,18 +353,18 @@ module _ (n : ℕ) (c : Core) (k : LinksKept n c) (r : ProgressKept n c) where
       subst (ProgressKept n) (sym is) record {
         room =
             λ seen it.
-                   absurd
-                       (normal_ne_header seen (c.head + 1) next (suc fill)
-                        (sym it
-                         ∙ ap (link_into n (links_with n once (suc fill) c.spare_link))
-                             (let e : c.head + 1 ≡ suc fill = omega arith in e)
-                         ∙ link_here n once (suc fill) c.spare_link (omega arith) once_wide ∙ ready));
+            absurd
+            (normal_ne_header seen (c.head + 1) next (suc fill)
+            (sym it
+            ∙ ap (link_into n (links_with n once (suc fill) c.spare_link))
+            (let e : c.head + 1 ≡ suc fill = omega arith in e)
+            ∙ link_here n once (suc fill) c.spare_link (omega arith) once_wide ∙ ready));
         advance =
             frames_advance n once c.head (c.head + 1) (suc fill) c.spare_link (omega arith) once_wide (omega arith)
-                (λ seen u low_u e. normal_ne_header seen (suc u) next (suc fill) (sym e ∙ ready)) c.frames
+            (λ seen u low_u e. normal_ne_header seen (suc u) next (suc fill) (sym e ∙ ready)) c.frames
             (frames_advance n c.links c.head c.head fill first (omega arith) k.positions (omega arith)
-             (λ seen u low_u e. let fills : fill + n ≡ suc u = ap (λ (x : Link). x.fill) e in omega arith) c.frames
-             r.advance);
+            (λ seen u low_u e. let fills : fill + n ≡ suc u = ap (λ (x : Link). x.fill) e in omega arith) c.frames
+            r.advance);
       }
 
   read_advances : (phase : ReaderPhase) (answer : Answer) (after : Core)
@@ -386,7 +390,7 @@ progress_step n size c event answer after k r (frame_step frame below e top step
     frame_advances n size c frame below k r top frame.phase answer after refl step
 progress_step n size c event answer after k r (frame_lacks e none a is) = subst (ProgressKept n) (sym is) r
 progress_step n size c event answer after k r
-        (end_step payload frame below number moment len e top at kind size_is a is) =
+    (end_step payload frame below number moment len e top at kind size_is a is) =
     leaves n size c frame below k r top after (Some payload) is
 progress_step n size c event answer after k r (end_lacks payload e none a is) = subst (ProgressKept n) (sym is) r
 progress_step n size c event answer after k r (end_early payload frame below e top none a is) =
@@ -399,8 +403,8 @@ pub progress_start : (n start : ℕ) (c : Core) → IsStart n start c → Progre
 progress_start n start c s = record {
   room =
       λ seen at.
-             absurd
-                 (normal_ne_header seen c.head (start % n) start
-                  (sym at ∙ ap (link_into n c.links) s.head ∙ s.first_link));
+      absurd
+      (normal_ne_header seen c.head (start % n) start
+      (sym at ∙ ap (link_into n c.links) s.head ∙ s.first_link));
   advance = subst (FramesAdvance n c.links c.head) (sym s.frames) tt;
 }

@@ -46,7 +46,7 @@ rests_equal a b xs ys e = ap rest_of e
 one_more : (n size : ℕ) (c after : Core) (x : Exchange) (xs : List Exchange) (answer : Answer) (between : Core)
     (r : Option Ran)
     → Step n size c x.event answer between → (Gives r (map answer_in xs) after → Run n size between xs after)
-        → Gives (behind answer r) (answer_in x ∷ map answer_in xs) after
+    → Gives (behind answer r) (answer_in x ∷ map answer_in xs) after
     → (between : Core) × Step n size c x.event x.answer between × Run n size between xs after
 one_more n size c after x xs answer between None step rest e = absurd e
 one_more n size c after x xs answer between (Some r) step rest (same, last) = (
@@ -58,10 +58,10 @@ one_more n size c after x xs answer between (Some r) step rest (same, last) = (
 
 by_step : (n size : ℕ) (c after : Core) (x : Exchange) (xs : List Exchange) (o : Outcome)
     → step_of n size c x.event ≡ o
-        → ((between : Core) → Gives (run_of n size between (map event_in xs)) (map answer_in xs) after
-           → Run n size between xs after)
+    → ((between : Core) → Gives (run_of n size between (map event_in xs)) (map answer_in xs) after
+    → Run n size between xs after)
     → Gives (elim o [ None ↦ None | Some o ↦ behind o.0 (run_of n size o.1 (map event_in xs)) ])
-        (answer_in x ∷ map answer_in xs) after
+    (answer_in x ∷ map answer_in xs) after
     → (between : Core) × Step n size c x.event x.answer between × Run n size between xs after
 by_step n size c after x xs None is rest e = absurd e
 by_step n size c after x xs (Some o) is rest e =

@@ -51,7 +51,7 @@ module _ (n size : ℕ) (c : Core) (frame : Frame) (below : List Frame) (k : Lin
   needs_page_given : Given (note_fill n c frame below)
   needs_page_given =
       given_if (c.opened == c.done + n) _ _ (λ e. tt)
-          (λ e. given_if (nat_le LINK_FILLS (c.opened + n)) _ _ (λ s. tt) (λ s. tt))
+      (λ e. given_if (nat_le LINK_FILLS (c.opened + n)) _ _ (λ s. tt) (λ s. tt))
 
   reserve_given : (kind : Purpose) → Given (reserve n size c frame below kind)
   reserve_given (for_record moment len) =
@@ -81,12 +81,12 @@ module _ (n size : ℕ) (c : Core) (frame : Frame) (below : List Frame) (k : Lin
           dite (ℕ_discrete noted (c.head + n))
           (λ e. let here = sym (link_round n c.links c.head) ∙ ap (link_into n c.links) (sym e) ∙ at in
           let reported =
-              normal_reports n c.links c.order c.head c.frames c.head page fill
-                  (k.each c.head (omega arith) (omega arith)) here in
+          normal_reports n c.links c.order c.head c.frames c.head page fill
+          (k.each c.head (omega arith) (omega arith)) here in
           let more = r.room page (here ∙ ap (normal_link page) reported.0) in absurd (omega arith))
           (λ ne.
-              (normal_reports n c.links c.order c.head c.frames noted page fill
-               (k.each noted (omega arith) (omega arith)) at).0)
+          (normal_reports n c.links c.order c.head c.frames noted page fill
+          (k.each noted (omega arith) (omega arith)) at).0)
   sees_link_given noted header page fill now at =
       given_only (fill + n == noted) _ (λ e. eqb-false (fill + n) noted e fill_is) tt
     where
@@ -98,15 +98,15 @@ module _ (n size : ℕ) (c : Core) (frame : Frame) (below : List Frame) (k : Lin
           dite (ℕ_discrete noted (c.head + n))
           (λ e. let here = sym (link_round n c.links c.head) ∙ ap (link_into n c.links) (sym e) ∙ at in
           let reported =
-              header_reports n c.links c.order c.head c.frames c.head page fill
-                  (k.each c.head (omega arith) (omega arith)) here in
+          header_reports n c.links c.order c.head c.frames c.head page fill
+          (k.each c.head (omega arith) (omega arith)) here in
           let it = reported.0 in
           omega arith)
           (λ ne. let reported =
-               header_reports n c.links c.order c.head c.frames noted page fill
-                   (k.each noted (omega arith) (omega arith)) at in
-           let it = reported.1 in
-           absurd (omega arith))
+          header_reports n c.links c.order c.head c.frames noted page fill
+          (k.each noted (omega arith) (omega arith)) at in
+          let it = reported.1 in
+          absurd (omega arith))
   sees_link_given noted update page fill now at =
       given_only (fill + n == noted) _ (λ e. eqb-false (fill + n) noted e fill_is) tt
     where
@@ -118,12 +118,12 @@ module _ (n size : ℕ) (c : Core) (frame : Frame) (below : List Frame) (k : Lin
           dite (ℕ_discrete noted (c.head + n))
           (λ e. let here = sym (link_round n c.links c.head) ∙ ap (link_into n c.links) (sym e) ∙ at in
           let reported =
-              update_reports n c.links c.order c.head c.frames c.head page fill
-                  (k.each c.head (omega arith) (omega arith)) here in
+          update_reports n c.links c.order c.head c.frames c.head page fill
+          (k.each c.head (omega arith) (omega arith)) here in
           let (u, sum, low, open_yet, there) = owned_by n c k c.head reported.2 in absurd (omega arith))
           (λ ne.
-              (update_reports n c.links c.order c.head c.frames noted page fill
-               (k.each noted (omega arith) (omega arith)) at).0)
+          (update_reports n c.links c.order c.head c.frames noted page fill
+          (k.each noted (omega arith) (omega arith)) at).0)
 
   load_link_given : (noted : ℕ) → Given (load_link n c frame below noted)
   load_link_given noted = let l = link_into n c.links noted in
@@ -132,8 +132,8 @@ module _ (n size : ℕ) (c : Core) (frame : Frame) (below : List Frame) (k : Lin
   claim_head_given : (noted page : ℕ) → Given (claim_head n c frame below noted page)
   claim_head_given noted page = begun_given noted _
       (λ now.
-          given_if (nat_le n noted && same_link (link_into n c.links noted) (header_link page (noted - n))) _ _
-              (λ at. tt) (λ at. tt))
+      given_if (nat_le n noted && same_link (link_into n c.links noted) (header_link page (noted - n))) _ _
+      (λ at. tt) (λ at. tt))
 
   -- there was a fill before it
   turned : (noted : ℕ) → n ≤ noted → nat_le n noted ≡ false → ⊥
@@ -149,7 +149,7 @@ module _ (n size : ℕ) (c : Core) (frame : Frame) (below : List Frame) (k : Lin
   mark_head_given role noted page next turn =
       passed_given role noted _ (given_only (nat_le n noted) _ (turned noted turn)
       (given_if (same_link (link_into n c.links (suc (noted - n))) (normal_link next (suc (noted - n)))) _ _ (λ at. tt)
-       (λ at. tt)))
+      (λ at. tt)))
 
   -- the UPDATE that the frame owns is still there
   clear_update_given : (noted page : ℕ) → PhaseKept n c.links c.order c.head c.done c.opened (clearing noted page)
@@ -160,12 +160,12 @@ module _ (n size : ℕ) (c : Core) (frame : Frame) (below : List Frame) (k : Lin
       let l = link_into n c.links noted in
       let own = update_link page (noted - n) in
       let is : l ≡ own =
-          at ∙ ap (λ (p : ℕ). update_link p lost) (sym page_is)
-              ∙ ap (update_link page) (let s : lost ≡ noted - n = omega arith in s) in
+      at ∙ ap (λ (p : ℕ). update_link p lost) (sym page_is)
+      ∙ ap (update_link page) (let s : lost ≡ noted - n = omega arith in s) in
       given_only (nat_le n noted && same_link l own) _
       (λ e.
-          both_ways (nat_le n noted && same_link l own) e
-              (and_from (nat_le n noted) (same_link l own) (le-leb n noted (omega arith)) (same_link_from l own is))) tt
+      both_ways (nat_le n noted && same_link l own) e
+      (and_from (nat_le n noted) (same_link l own) (le-leb n noted (omega arith)) (same_link_from l own is))) tt
 
   open_fill_given : (noted page : ℕ) → Given (open_fill c frame below noted page)
   open_fill_given noted page = begun_given noted _ (λ now. again_given (with_new_tail c page))
@@ -173,20 +173,20 @@ module _ (n size : ℕ) (c : Core) (frame : Frame) (below : List Frame) (k : Lin
   release_fill_given : (fs : List Frame) → fs ≡ [] → c.done + 1 < c.opened → Given (release_fill c frame fs)
   release_fill_given [] alone more = given_if (c.done + 2 == c.opened) _ _ (λ e. tt)
       (λ e.
-          given_only (nat_lt (c.done + 2) c.opened) _
-              (λ s. let less = ltb-false (c.done + 2) c.opened s in
-               let ne = eqb-false (c.done + 2) c.opened e in
-               ne (omega arith)) tt)
+      given_only (nat_lt (c.done + 2) c.opened) _
+      (λ s. let less = ltb-false (c.done + 2) c.opened s in
+      let ne = eqb-false (c.done + 2) c.opened e in
+      ne (omega arith)) tt)
   release_fill_given (next ∷ fs) alone more = let z = ap (λ (l : List Frame). length l) alone in absurd (omega arith)
 
   load_wish_given : (fs : List Frame) → fs ≡ [] → Given (load_wish n c frame fs)
   load_wish_given [] alone = let behind = k.done_lt in
       given_if (is_granted n c) _ _ (λ e. tt) (λ e. given_if (c.done + 1 == c.opened) _ _ (λ last. tt)
       (λ some.
-          given_only (nat_lt (c.done + 1) c.opened) _
-              (λ none. let less = ltb-false (c.done + 1) c.opened none in
-               let ne = eqb-false (c.done + 1) c.opened some in
-               ne (omega arith)) tt))
+      given_only (nat_lt (c.done + 1) c.opened) _
+      (λ none. let less = ltb-false (c.done + 1) c.opened none in
+      let ne = eqb-false (c.done + 1) c.opened some in
+      ne (omega arith)) tt))
   load_wish_given (next ∷ fs) alone = let z = ap (λ (l : List Frame). length l) alone in absurd (omega arith)
 
   -- a frame that rests hasn't left
@@ -223,19 +223,20 @@ module _ (n : ℕ) (c : Core) (k : LinksKept n c) where
       (λ e. let ne = eqb-false fill c.reader.hint e in given_only (nat_lt c.reader.hint fill && nat_le n (suc fill)) _
       (λ s. both_ways (nat_lt c.reader.hint fill && nat_le n (suc fill)) s
       (and_from (nat_lt c.reader.hint fill) (nat_le n (suc fill)) (lt-ltb c.reader.hint fill (over ne low))
-       (le-leb n (suc fill) (whole ne turn)))) tt)
+      (le-leb n (suc fill) (whole ne turn)))) tt)
     where
       -- the fill is the hint, or a whole turn after it
       behind : (c.reader.hint ≤ fill) × (fill < n → fill ≡ c.reader.hint)
       behind = let some_pages = k.some_pages in let hint = k.hint_le in
           let (g, low, high, position) =
-              at_position c.head n (c.reader.hint % n) (mod-lt c.reader.hint (omega arith)) in
+          at_position c.head n (c.reader.hint % n) (mod-lt c.reader.hint (omega arith)) in
           let there = ap (λ (i : ℕ). get_or c.links i (normal_link 0 0)) position ∙ at in
-          let reported = (normal_reports n c.links c.order c.head c.frames g page fill (k.each g low high) there).0 in
-          (omega arith,
-           λ first.
-                  reported ∙ sym (mod-eq_of_lt (let x : g < n = omega arith in x)) ∙ position
-                      ∙ mod-eq_of_lt (let x : c.reader.hint < n = omega arith in x))
+          let reported = (normal_reports n c.links c.order c.head c.frames g page fill (k.each g low high) there).0 in (
+            omega arith,
+            λ first.
+                reported ∙ sym (mod-eq_of_lt (let x : g < n = omega arith in x)) ∙ position
+                ∙ mod-eq_of_lt (let x : c.reader.hint < n = omega arith in x),
+          )
 
       over : fill ≢ c.reader.hint → c.reader.hint ≤ fill → c.reader.hint < fill
       over ne low = dite (dec_lt c.reader.hint fill) (λ more. more) (λ none. absurd (ne (omega arith)))
@@ -255,8 +256,8 @@ module _ (n : ℕ) (c : Core) (k : LinksKept n c) where
 push_given : (size : ℕ) (c : Core) (moment len : ℕ) → Given (push_record size c moment len)
 push_given size c moment len = given_if (is_full c) _ _ (λ many. tt)
     (λ few.
-        given_if (is_too_long size len) _ _ (λ long. tt)
-            (λ short. given_if (nat_le MOMENT_LIMIT moment) _ _ (λ late. tt) (λ early. tt)))
+    given_if (is_too_long size len) _ _ (λ long. tt)
+    (λ short. given_if (nat_le MOMENT_LIMIT moment) _ _ (λ late. tt) (λ early. tt)))
 
 push_close_given : (c : Core) → Given (push_close_frame c)
 push_close_given c = given_if (is_full c) _ _ (λ many. tt) (λ few. tt)
@@ -266,20 +267,20 @@ steps_given : (n size : ℕ) (c : Core) (frames : List Frame) → LinksKept n c 
 steps_given n size c [] k q r none = tt
 steps_given n size c (frame ∷ below) k q r top = let agree = top_agrees c frame below top q in
     frame_given n size c frame below k r top frame.phase (top_kept n c frame below k top)
-        (subst (FramesAdvance n c.links c.head) top r.advance).0 agree.0 agree.1
+    (subst (FramesAdvance n c.links c.head) top r.advance).0 agree.0 agree.1
 
 end_frame_given : (c : Core) (frame : Frame) (below : List Frame) (payload : List ℕ) (number : ℕ) (kind : Purpose)
     → IsForRecord kind → ((moment len : ℕ) → kind ≡ for_record moment len → slot_len (length payload) ≡ slot_len len)
     → Given (end_frame c payload frame below kind (Some number))
 end_frame_given c frame below payload number (for_record moment len) is fits =
     given_only (slot_len (length payload) == slot_len len) _
-        (λ e. eqb-false (slot_len (length payload)) (slot_len len) e (fits moment len refl)) tt
+    (λ e. eqb-false (slot_len (length payload)) (slot_len len) e (fits moment len refl)) tt
 end_frame_given c frame below payload number for_close is fits = absurd is
 
 end_in_given : (c : Core) (frame : Frame) (below : List Frame) (payload : List ℕ) (state : Progress)
     → MayBeIn frame.kind state frame.phase → frame.state ≡ state
     → ((number moment len : ℕ) → frame.state ≡ reserved number → frame.kind ≡ for_record moment len
-       → slot_len (length payload) ≡ slot_len len)
+    → slot_len (length payload) ≡ slot_len len)
     → Given (end_frame c payload frame below frame.kind (number_of state))
 end_in_given c frame below payload waiting may at fits = tt
 end_in_given c frame below payload (reserved number) may at fits =
@@ -291,7 +292,7 @@ end_given : (c : Core) (payload : List ℕ) (frames : List Frame) → StackKept 
 end_given c payload [] q none ask = tt
 end_given c payload (frame ∷ below) q top ask =
     end_in_given c frame below payload frame.state (top_agrees c frame below top q).0 refl
-        (λ number moment len at kind. ask frame below number moment len top at kind)
+    (λ number moment len at kind. ask frame below number moment len top at kind)
 
 step_given : (n size : ℕ) (c : Core) (event : Event) → LinksKept n c → StackKept c → ProgressKept n c → MayAsk c event
     → Given (step_of n size c event)

@@ -42,22 +42,22 @@ tail_snoc h a cuts t =
     let xs : List Reservation = (after_event (writer_after h).stack (reserved_records h) a).records in
     let records : reserved_records (h ++ a ∷ []) ≡ xs = records_snoc h a in
     let more : length (reserved_records h) ≤ length xs =
-        length_after_event (writer_after h).stack (reserved_records h) a in
+    length_after_event (writer_after h).stack (reserved_records h) a in
     record {
       rising = subst (λ (l : List Reservation). IsRising 0 (opens_of (h ++ a ∷ [])) (length l)) (sym records)
           (subst (λ (c : List ℕ). IsRising 0 c (length xs)) (sym cuts)
-           (IsRising-more 0 (opens_of h) (length (reserved_records h)) (length xs) more t.rising));
+          (IsRising-more 0 (opens_of h) (length (reserved_records h)) (length xs) more t.rising));
       holds =
           λ none.
-                 tail_after (opens_of h) (writer_after h).stack (reserved_records h) a t.rising
-                     (λ no. t.holds (tail_is h ∙ no))
+          tail_after (opens_of h) (writer_after h).stack (reserved_records h) a t.rising
+          (λ no. t.holds (tail_is h ∙ no))
           (sym (λ i. tail_at (cuts i) (records i)) ∙ sym (tail_is (h ++ a ∷ [])) ∙ none);
     }
 
 -- a history event begins a fill, or it leaves the window and the cuts as they are
 begins_or_not : (h : List HistoryEvent) (w : Window) (a : HistoryEvent)
     → ((window_after w (acts a) ≡ w) × (opens_of (h ++ a ∷ []) ≡ opens_of h))
-        ⊎ (w.opened < (window_after w (acts a)).opened)
+    ⊎ (w.opened < (window_after w (acts a)).opened)
 begins_or_not h w (push moment len) = inl (refl, opens_of-push h moment len)
 begins_or_not h w push_close = inl (refl, opens_of-push_close h)
 begins_or_not h w open_fill = inr (omega arith)
@@ -73,7 +73,7 @@ has_over n h w (acts a ∷ events) after run le t =
     ⊎_elim
     (λ (same, cuts). let at : (window_after w (acts a)).opened ≡ w.opened = ap (λ (v : Window). v.opened) same in
     subst HasTail (append_assoc h (a ∷ []) (history_events_of events))
-        (has_over n (h ++ a ∷ []) (window_after w (acts a)) events after run.1 (omega arith) (tail_snoc h a cuts t)))
+    (has_over n (h ++ a ∷ []) (window_after w (acts a)) events after run.1 (omega arith) (tail_snoc h a cuts t)))
     (λ more. absurd (omega arith))
     (begins_or_not h w a)
 has_over n h w (closes ∷ events) after run le t = has_over n h (window_after w closes) events after run.1 le t

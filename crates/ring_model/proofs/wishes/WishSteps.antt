@@ -133,7 +133,7 @@ read_stays n c (swapping page fill) answer after (swap_fails at a is) =
     (ap (λ (x : Core). x.frames) is, ap (λ (x : Core). x.wish) is)
 
 looked_step : (n size : ℕ) (c : Core) (event : Event) (answer : Answer) (after : Core) (frame : Frame)
-        (below : List Frame) → c.frames ≡ frame ∷ below → StepCases n size c event answer after → after.frames ≡ []
+    (below : List Frame) → c.frames ≡ frame ∷ below → StepCases n size c event answer after → after.frames ≡ []
     → HasLooked n c below frame.phase answer
 looked_step n size c event answer after frame below top (push_step moment len e few fits early a is) none =
     absurd (some_stands _ c.frames (sym (ap (λ (x : Core). x.frames) is) ∙ none))
@@ -146,12 +146,12 @@ looked_step n size c event answer after frame below top (close_refused e many a 
 looked_step n size c event answer after frame below top (frame_step other under e there step) none =
     let (is_frame, is_below) = same_top other frame under below (sym there ∙ top) in
     subst (λ (f : Frame). HasLooked n c below f.phase answer) is_frame
-        (subst (λ (b : List Frame). HasLooked n c b other.phase answer) is_below
-         (gone_frame n size c other under answer after there none other.phase step))
+    (subst (λ (b : List Frame). HasLooked n c b other.phase answer) is_below
+    (gone_frame n size c other under answer after there none other.phase step))
 looked_step n size c event answer after frame below top (frame_lacks e lacks a is) none =
     absurd (some_stands frame below (sym top ∙ lacks))
 looked_step n size c event answer after frame below top
-        (end_step payload other under number moment len e there state kind slot a is) none =
+    (end_step payload other under number moment len e there state kind slot a is) none =
     absurd (leave_stays c other under (sym (ap (λ (x : Core). x.frames) is) ∙ none))
 looked_step n size c event answer after frame below top (end_lacks payload e lacks a is) none =
     absurd (some_stands frame below (sym top ∙ lacks))
@@ -171,8 +171,8 @@ denied_why : (n : ℕ) (c : Core) → (IsGranted n c → ⊥) → c.wish ≡ c.o
     → (tail_of c.history ≡ []) ⊎ (LINK_FILLS ≤ c.opened + n)
 denied_why n c denied asks = ⊎_elim (λ none. inl none)
     (λ some.
-        inr (dite (dec_le LINK_FILLS (c.opened + n)) (λ last. last)
-             (λ more. absurd (denied record { asks_tail = asks; holds_record = some; numbers_left = omega arith }))))
+    inr (dite (dec_le LINK_FILLS (c.opened + n)) (λ last. last)
+    (λ more. absurd (denied record { asks_tail = asks; holds_record = some; numbers_left = omega arith }))))
     (tail_cases (tail_of c.history))
 
 pub gone_has_looked : GoneHasLooked
@@ -199,7 +199,7 @@ again_wish c frame below noted answer after step =
     wish_is c after _ step.after_is (begin_wish c frame below frame.kind frame.state)
 
 idle_wish : (n size : ℕ) (c : Core) (frame : Frame) (below : List Frame) (state : Progress) (answer : Answer)
-        (after : Core) → IdleStep n size c frame below state answer after → after.wish ≡ c.wish
+    (after : Core) → IdleStep n size c frame below state answer after → after.wish ≡ c.wish
 idle_wish n size c frame below waiting answer after (reserves moment len r kind r_is fits a is) =
     wish_is c after _ is refl
 idle_wish n size c frame below waiting answer after (finds_nothing kind none a is) = wish_is c after _ is refl
@@ -210,7 +210,7 @@ idle_wish n size c frame below (reserved number) answer after step = wish_is c a
 idle_wish n size c frame below left answer after step = absurd step
 
 frame_wish : (n size : ℕ) (c : Core) (frame : Frame) (below : List Frame) (phase : Phase) (answer : Answer)
-        (after : Core) → FrameStep n size c frame below phase answer after → after.wish ≡ c.wish
+    (after : Core) → FrameStep n size c frame below phase answer after → after.wish ≡ c.wish
 frame_wish n size c frame below idle answer after step = idle_wish n size c frame below frame.state answer after step
 frame_wish n size c frame below (looking noted) answer after (load_link_late step) =
     again_wish c frame below noted answer after step
@@ -228,7 +228,7 @@ frame_wish n size c frame below (claiming noted page) answer after (claim_fails 
 frame_wish n size c frame below (looking_next role noted page) answer after (load_next_late helps step) =
     again_wish c frame below noted answer after step
 frame_wish n size c frame below (looking_next role noted page) answer after
-        (sees_normal lost next goes_on sum at a is) =
+    (sees_normal lost next goes_on sum at a is) =
     wish_is c after _ is refl
 frame_wish n size c frame below (looking_next role noted page) answer after (sees_other lost goes_on sum other a is) =
     wish_is c after _ is refl
@@ -290,7 +290,7 @@ module _ (n size start : ℕ) (c : Core) where
       → Step n size s event answer after → IsPending c s → IsPending c after ⊎ (c.done < after.done)
   pending_step s event answer after r step p =
       let rises =
-          counts_rise n size start s after (record { event = event; answer = answer } ∷ []) r (after, step, refl) in
+      counts_rise n size start s after (record { event = event; answer = answer } ∷ []) r (after, step, refl) in
       let dones = rises.1 in let closed = p.closed in let asks = p.asks in
       let seen = r.links.seen_le in let wish = r.links.wish_le in
       dite (ℕ_discrete after.done c.done)
@@ -298,7 +298,7 @@ module _ (n size start : ℕ) (c : Core) where
         closed = same;
         asks =
             ⊎_elim (λ stays. stays ∙ asks) (λ new. omega arith)
-                (wish_moves n size s event answer after (cases_of step));
+            (wish_moves n size s event answer after (cases_of step));
       })
       (λ more. inr (omega arith))
 
@@ -309,15 +309,15 @@ module _ (n size start : ℕ) (c : Core) where
       pending_run between after exchanges (ring_step n size start s x.event x.answer between r step) run
       (⊎_elim (λ pending. pending_step s x.event x.answer between r step pending)
       (λ done. let rises = counts_rise n size start s between (x ∷ []) r (between, step, refl) in
-       let dones = rises.1 in
-       inr (omega arith)) p)
+      let dones = rises.1 in
+      inr (omega arith)) p)
 
   -- while no fill is begun, the tail goes on to hold a record
   tail_run : (s : Core) (exchanges : List Exchange) → IsRingKept n size start c → Run n size c exchanges s
       → s.opened ≡ c.opened → tail_of c.history ≢ [] → tail_of s.history ≢ []
   tail_run s exchanges r run same some = let x = leads_run n size start c s exchanges r run in
       subst (λ (h : List HistoryEvent). tail_of h ≢ []) (sym x.history_events)
-          (tail_over n c.history (window_of c) x.events (window_of s) r.contents.rising x.window same some)
+      (tail_over n c.history (window_of c) x.events (window_of s) r.contents.rising x.window same some)
 
   -- no state without a frame comes before the fill is closed
   stands_run : (s after : Core) (front exchanges : List Exchange) → tail_of c.history ≢ [] → c.opened + n < LINK_FILLS
@@ -335,13 +335,13 @@ module _ (n size start : ℕ) (c : Core) where
       let last = l.closed in let closed = p.closed in let behind = r.links.done_lt in
       let rises = counts_rise n size start c s front r before in let opens = rises.2 in
       ⊎_elim (λ empty. tail_run s front r before (omega arith) some empty) (λ full. omega arith)
-          (pending_gone s x.event x.answer between p step stand gone)))
+      (pending_gone s x.event x.answer between p step stand gone)))
       (λ stands.
-          stands_run between after (front ++ x ∷ []) exchanges some least r kept
-              (run_snoc n size c s between front x before step) run pending stands none))
+      stands_run between after (front ++ x ∷ []) exchanges some least r kept
+      (run_snoc n size c s between front x before step) run pending stands none))
       (λ done. let rises = counts_rise n size start between after exchanges kept run in
-       let dones = rises.1 in
-       omega arith)
+      let dones = rises.1 in
+      omega arith)
       (pending_step s x.event x.answer between k step p)
     where
       none_or_some : {B : Type 0} (frames : List Frame) → (frames ≡ [] → B) → (frames ≢ [] → B) → B
@@ -356,7 +356,7 @@ wishes_answered n size start c before exchanges event answer after r asks run st
 pub wished_tails_closed : WishedTailsAreClosed
 wished_tails_closed n size start c after exchanges r stand asks some least run none =
     stands_run n size start c c after [] exchanges some least r r refl run record { closed = refl; asks = asks } stand
-        none
+    none
 
 -- ---- the wish loses nothing
 

@@ -20,7 +20,7 @@ holds_as h g number same holds =
 pub ends_on_wished : EndsOnTheWishedPage
 ends_on_wished n size start c payload after frame number r top state last step =
     let lies =
-        reserved_lies_open n size start c 0 number frame r (ap (λ (fs : List Frame). slice_get fs 0) top) state in
+    reserved_lies_open n size start c 0 number frame r (ap (λ (fs : List Frame). slice_get fs 0) top) state in
     let low = lies.done_le in
     let high = lies.opened_lt in
     let count = r.contents.begun in
@@ -33,5 +33,5 @@ ends_on_wished n size start c payload after frame number r top state last step =
     (r.contents.each lies.fill (omega arith) high ∙ ap (cut_fill start cuts xs) here) lies.holds in
     let index : c.done - start ≡ length cuts = omega arith in
     let tail : get_or (cut_from 0 cuts xs) (c.done - start) [] ≡ tail_of c.history =
-        ap (λ (i : ℕ). get_or (cut_from 0 cuts xs) i []) index ∙ sym (tail_is c.history) in
+    ap (λ (i : ℕ). get_or (cut_from 0 cuts xs) i []) index ∙ sym (tail_is c.history) in
     (holds.0, subst (λ (l : List Reservation). number < first_of_fill c.history start c.done + length l) tail holds.1)

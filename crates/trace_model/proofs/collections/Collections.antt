@@ -43,8 +43,8 @@ below_more ps qs more = record {
   has = λ cpu number r h. let (k, at) = element_at qs h.parcel (more h.parcel (contains_at ps h.index h.parcel h.at)) in
       record { index = k; parcel = h.parcel; at = at; pair = h.pair };
   misses =
-          λ cpu number h. let (k, at) =
-          element_at qs h.parcel (more h.parcel (contains_at ps h.index h.parcel h.at)) in
+      λ cpu number h. let (k, at) =
+      element_at qs h.parcel (more h.parcel (contains_at ps h.index h.parcel h.at)) in
       record { index = k; parcel = h.parcel; at = at; missing = h.missing };
 }
 
@@ -55,7 +55,7 @@ same_parcels ps qs each = below_both ps qs (below_more ps qs (λ p. (each p).0))
 pub repeated : (ps : List Parcel) (p : Parcel) → Contains ps p → IsSame (ps ++ p ∷ []) ps
 repeated ps p there = below_both (ps ++ p ∷ []) ps
     (below_more (ps ++ p ∷ []) ps
-     (λ q here. ⊎_elim (λ h. h) (λ is. subst (Contains ps) is there) (Contains-push_cases ps p q here)))
+    (λ q here. ⊎_elim (λ h. h) (λ is. subst (Contains ps) is there) (Contains-push_cases ps p q here)))
     (below_more ps (ps ++ p ∷ []) (λ q here. Contains-append_left ps (p ∷ []) q here))
 
 -- ---- joined
@@ -84,4 +84,4 @@ pub same_joined : (ps qs like others : List Parcel) → IsSame ps like → IsSam
     → IsSame (ps ++ qs) (like ++ others)
 same_joined ps qs like others a b =
     below_both (ps ++ qs) (like ++ others) (below_joined ps qs like others a.below b.below)
-        (below_joined like others ps qs a.above b.above)
+    (below_joined like others ps qs a.above b.above)

@@ -17,7 +17,7 @@ pub get_behind : {A : Type 0} (xs ys : List A) (k : ℕ) → slice_get (xs ++ ys
 get_behind [] ys k = ap (slice_get ys) (let e : 0 + k ≡ k = omega arith in e)
 get_behind (x ∷ xs) ys k =
     ap (slice_get (x ∷ xs ++ ys)) (let e : suc (length xs) + k ≡ suc (length xs + k) = omega arith in e)
-        ∙ get_behind xs ys k
+    ∙ get_behind xs ys k
 
 pub get_in_either : {A : Type 0} (xs ys : List A) (k : ℕ) (x : A) → slice_get (xs ++ ys) k ≡ Some x
     → ((j : ℕ) × (slice_get xs j ≡ Some x)) ⊎ ((j : ℕ) × (slice_get ys j ≡ Some x))

@@ -62,31 +62,34 @@ number_is number (q ∷ pieces) (suc k) p before lost at (skipped, behind, size,
     let more = length-append q.records behind in
     number_is (number + covered_count q) pieces k p behind lost at partition is
     ∙ ap Some
-        (let e : number + covered_count q + (length behind + length lost) ≡ number + (length before + length lost) =
-             omega arith in
-         e)
+    (let e : number + covered_count q + (length behind + length lost) ≡ number + (length before + length lost) =
+    omega arith in
+    e)
 
 pub numbered_from : (records : List Record) (pieces : List Piece) (rest : List Record) (k : ℕ) (p : Piece)
     → IsPartition records pieces rest → slice_get pieces k ≡ Some p
     → (first : ℕ) × IsNumberedFrom records pieces rest k p first
 numbered_from records pieces rest k p partition at =
-    let s = cut_at_piece records pieces rest k p partition at in
-    (length s.before + length s.lost,
-     record { before = s.before;
-             lost = s.lost;
-             behind = s.behind;
-             whole = s.whole;
-             partition = s.partition;
-             skips = s.skips;
-             others = s.others;
-             number = refl })
+    let s = cut_at_piece records pieces rest k p partition at in (
+      length s.before + length s.lost,
+      record {
+        before = s.before;
+        lost = s.lost;
+        behind = s.behind;
+        whole = s.whole;
+        partition = s.partition;
+        skips = s.skips;
+        others = s.others;
+        number = refl;
+      },
+    )
 
 pub first_is_count : (records : List Record) (pieces : List Piece) (rest : List Record) (k : ℕ) (p : Piece) (first : ℕ)
     → slice_get pieces k ≡ Some p → IsNumberedFrom records pieces rest k p first → first_of pieces k ≡ Some first
 first_is_count records pieces rest k p first at s =
     let number = s.number in
     number_is 0 pieces k p s.before s.lost at s.partition s.skips
-        ∙ ap Some (let e : 0 + (length s.before + length s.lost) ≡ first = omega arith in e)
+    ∙ ap Some (let e : 0 + (length s.before + length s.lost) ≡ first = omega arith in e)
 
 pub count_is_first : (records : List Record) (pieces : List Piece) (rest : List Record) (k : ℕ) (p : Piece) (first : ℕ)
     → IsPartition records pieces rest → slice_get pieces k ≡ Some p → first_of pieces k ≡ Some first
@@ -94,18 +97,18 @@ pub count_is_first : (records : List Record) (pieces : List Piece) (rest : List 
 count_is_first records pieces rest k p first partition at is =
     let (count, s) = numbered_from records pieces rest k p partition at in
     subst (IsNumberedFrom records pieces rest k p)
-        (some_is count first (sym (first_is_count records pieces rest k p count at s) ∙ is)) s
+    (some_is count first (sym (first_is_count records pieces rest k p count at s) ∙ is)) s
 
 -- a piece's own records are those of the whole list from its first number on
 pub own_records : (records : List Record) (pieces : List Piece) (rest : List Record) (k : ℕ) (p : Piece) (first i : ℕ)
-        (r : Record) → IsPartition records pieces rest → slice_get pieces k ≡ Some p → first_of pieces k ≡ Some first
+    (r : Record) → IsPartition records pieces rest → slice_get pieces k ≡ Some p → first_of pieces k ≡ Some first
     → slice_get p.records i ≡ Some r → slice_get records (first + i) ≡ Some r
 own_records records pieces rest k p first i r partition at is there =
     let s = count_is_first records pieces rest k p first partition at is in
     let number = s.number in
     ap (λ (xs : List Record). slice_get xs (first + i)) s.whole
     ∙ ap (slice_get (s.before ++ (s.lost ++ (p.records ++ s.behind))))
-        (let e : first + i ≡ length s.before + (length s.lost + i) = omega arith in e)
+    (let e : first + i ≡ length s.before + (length s.lost + i) = omega arith in e)
     ∙ get_behind s.before (s.lost ++ (p.records ++ s.behind)) (length s.lost + i)
     ∙ get_behind s.lost (p.records ++ s.behind) i
     ∙ get_in_front p.records s.behind i r there

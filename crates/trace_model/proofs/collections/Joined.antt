@@ -8,30 +8,40 @@ pub joined_left : (parcels others : List Parcel) → IsBelow parcels (parcels ++
 joined_left ps qs = record {
   has =
       λ cpu number r h.
-             record { index = h.index; parcel = h.parcel;
-               at = get_in_front ps qs h.index h.parcel h.at; pair = h.pair };
+      record {
+        index = h.index;
+        parcel = h.parcel;
+        at = get_in_front ps qs h.index h.parcel h.at;
+        pair = h.pair;
+      };
   misses =
       λ cpu number h.
-             record { index = h.index;
-                     parcel = h.parcel;
-                     at = get_in_front ps qs h.index h.parcel h.at;
-                     missing = h.missing };
+      record {
+        index = h.index;
+        parcel = h.parcel;
+        at = get_in_front ps qs h.index h.parcel h.at;
+        missing = h.missing;
+      };
 }
 
 pub joined_right : (parcels others : List Parcel) → IsBelow others (parcels ++ others)
 joined_right ps qs = record {
   has =
       λ cpu number r h.
-             record { index = length ps + h.index;
-                     parcel = h.parcel;
-                     at = get_behind ps qs h.index ∙ h.at;
-                     pair = h.pair };
+      record {
+        index = length ps + h.index;
+        parcel = h.parcel;
+        at = get_behind ps qs h.index ∙ h.at;
+        pair = h.pair;
+      };
   misses =
       λ cpu number h.
-             record { index = length ps + h.index;
-                     parcel = h.parcel;
-                     at = get_behind ps qs h.index ∙ h.at;
-                     missing = h.missing };
+      record {
+        index = length ps + h.index;
+        parcel = h.parcel;
+        at = get_behind ps qs h.index ∙ h.at;
+        missing = h.missing;
+      };
 }
 
 pub joined_below : (parcels others above : List Parcel) → IsBelow parcels above → IsBelow others above
@@ -52,7 +62,7 @@ pub below_agrees : (parcels others : List Parcel) → IsBelow parcels others →
 below_agrees ps qs b agree = record {
   one_record =
       λ cpu number r other h that.
-             agree.one_record cpu number r other (b.has cpu number r h) (b.has cpu number other that);
+      agree.one_record cpu number r other (b.has cpu number r h) (b.has cpu number other that);
   not_missing = λ cpu number r h m. agree.not_missing cpu number r (b.has cpu number r h) (b.misses cpu number m);
 }
 

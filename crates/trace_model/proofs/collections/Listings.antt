@@ -18,16 +18,16 @@ not_before_itself a b = omega arith
 pub before_before : (a b c : Line) → IsBefore a b → IsBefore b c → IsBefore a c
 before_before a b c f s = ⊎_elim
     (λ low.
-        inl (⊎_elim (λ l. let e : a.moment < c.moment = omega arith in e)
-             (λ (same, l). let e : a.moment < c.moment = omega arith in e) s))
+    inl (⊎_elim (λ l. let e : a.moment < c.moment = omega arith in e)
+    (λ (same, l). let e : a.moment < c.moment = omega arith in e) s))
     (λ (same, rest). ⊎_elim
     (λ l. inl (let e : a.moment < c.moment = omega arith in e))
     (λ (also, more). inr (
       same ∙ also,
       ⊎_elim
           (λ low.
-              inl (⊎_elim (λ l. let e : a.cpu < c.cpu = omega arith in e)
-                   (λ (eq, l). let e : a.cpu < c.cpu = omega arith in e) more))
+          inl (⊎_elim (λ l. let e : a.cpu < c.cpu = omega arith in e)
+          (λ (eq, l). let e : a.cpu < c.cpu = omega arith in e) more))
           (λ (eq, low). ⊎_elim
           (λ l. inl (let e : a.cpu < c.cpu = omega arith in e))
           (λ (eq2, l). inr (eq ∙ eq2, let e : a.number < c.number = omega arith in e))
@@ -109,7 +109,7 @@ behind_first x y xs ys same ordered k line at (suc j, there) = (j, there)
 
 pub same_lines : (xs ys : List Line) → IsTimeOrdered xs → IsTimeOrdered ys
     → ((k : ℕ) (line : Line) → slice_get xs k ≡ Some line → Stands ys line)
-        → ((k : ℕ) (line : Line) → slice_get ys k ≡ Some line → Stands xs line) → xs ≡ ys
+    → ((k : ℕ) (line : Line) → slice_get ys k ≡ Some line → Stands xs line) → xs ≡ ys
 same_lines [] [] ordered also there back = refl
 same_lines [] (y ∷ ys) ordered also there back = absurd (none-some y (back 0 y refl).1)
 same_lines (x ∷ xs) [] ordered also there back = absurd (none-some x (there 0 x refl).1)
@@ -124,13 +124,13 @@ lines_below : (ps qs : List Parcel) (lines others : List Line) → IsBelow ps qs
     → IsListing qs others → (k : ℕ) (line : Line) → slice_get lines k ≡ Some line → Stands others line
 lines_below ps qs lines others below l o k line at =
     o.whole line.cpu line.number record { moment = line.moment; bytes = line.bytes }
-        (below.has line.cpu line.number record { moment = line.moment; bytes = line.bytes } (l.of_them k line at))
+    (below.has line.cpu line.number record { moment = line.moment; bytes = line.bytes } (l.of_them k line at))
 
 pub one_listing : (ps qs : List Parcel) (lines others : List Line) → IsSame ps qs → IsListing ps lines
     → IsListing qs others → lines ≡ others
 one_listing ps qs lines others same l o =
     same_lines lines others l.ordered o.ordered (lines_below ps qs lines others same.below l o)
-        (lines_below qs ps others lines same.above o l)
+    (lines_below qs ps others lines same.above o l)
 
 pub once : (ps : List Parcel) (lines : List Line) (j k : ℕ) (line : Line) → IsListing ps lines
     → slice_get lines j ≡ Some line → slice_get lines k ≡ Some line → j ≡ k
@@ -144,13 +144,13 @@ one_line ps lines j k a b agree l at there cpu number = once ps lines j k b l (a
     that : Has ps a.cpu a.number record { moment = b.moment; bytes = b.bytes }
     that = subst (λ (c : ℕ). Has ps c a.number record { moment = b.moment; bytes = b.bytes }) (sym cpu)
         (subst (λ (n : ℕ). Has ps b.cpu n record { moment = b.moment; bytes = b.bytes }) (sym number)
-         (l.of_them k b there))
+        (l.of_them k b there))
 
     record_same : ◌≡◌ {A = Record} record { moment = a.moment; bytes = a.bytes }
         record { moment = b.moment; bytes = b.bytes }
     record_same =
         agree.one_record a.cpu a.number record { moment = a.moment; bytes = a.bytes }
-            record { moment = b.moment; bytes = b.bytes } (l.of_them j a at) that
+        record { moment = b.moment; bytes = b.bytes } (l.of_them j a at) that
 
     same : a ≡ b
     same i = record { moment = (record_same i).moment; cpu = cpu i; number = number i; bytes = (record_same i).bytes }

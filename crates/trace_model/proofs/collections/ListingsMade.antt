@@ -64,10 +64,10 @@ one_more : (line : Line) (lines : List Line) → IsTimeOrdered lines
 one_more line [] ordered apart = (line ∷ [], in_front line [] ordered (λ l at. absurd (none-some l at)))
 one_more line (x ∷ lines) ordered apart = ⊎_elim
     (λ before.
-        (line ∷ x ∷ lines, in_front line (x ∷ lines) ordered (λ l at. subst (IsBefore line) (some_is x l at) before)))
+    (line ∷ x ∷ lines, in_front line (x ∷ lines) ordered (λ l at. subst (IsBefore line) (some_is x l at) before)))
     (λ other. ⊎_elim
     (λ behind. let (others, h) =
-     one_more line lines (ordered_tail x lines ordered) (λ l there key. apart l (behind_one x lines l there) key) in
+    one_more line lines (ordered_tail x lines ordered) (λ l there key. apart l (behind_one x lines l there) key) in
     (x ∷ others, behind_first line x lines others ordered behind h))
     (λ key. (x ∷ lines, there_already line (x ∷ lines) ordered (0, ap Some (sym (apart x (0, refl) key)))))
     other)
@@ -87,21 +87,20 @@ all_ordered [] apart =
     ([], record { ordered = λ k a b at. absurd (none-some a at); of_them = λ l there. there; keeps = λ l there. there })
 all_ordered (x ∷ lines) apart =
     let (others, o) =
-        all_ordered lines (λ a b there also. apart a b (behind_one x lines a there) (behind_one x lines b also)) in
+    all_ordered lines (λ a b there also. apart a b (behind_one x lines a there) (behind_one x lines b also)) in
     let (more, h) =
-        one_more x others o.ordered (λ l there. apart x l (0, refl) (behind_one x lines l (o.of_them l there))) in
-    (
+    one_more x others o.ordered (λ l there. apart x l (0, refl) (behind_one x lines l (o.of_them l there))) in (
       more,
       record {
         ordered = h.ordered;
         of_them =
             λ l there.
-                   ⊎_elim (λ same. (0, ap Some (sym same))) (λ old. behind_one x lines l (o.of_them l old))
-                       (h.of_them l there);
+            ⊎_elim (λ same. (0, ap Some (sym same))) (λ old. behind_one x lines l (o.of_them l old))
+            (h.of_them l there);
         keeps =
             λ l there.
-                   ⊎_elim (λ same. subst (Stands more) same h.has) (λ behind. h.keeps l (o.keeps l behind))
-                       (first_or_behind x lines l there);
+            ⊎_elim (λ same. subst (Stands more) same h.has) (λ behind. h.keeps l (o.keeps l behind))
+            (first_or_behind x lines l there);
       },
     )
 
@@ -128,7 +127,7 @@ line_at cpu number (x ∷ records) zero r at =
     ap Some (λ i. line_of cpu ((let e : number ≡ number + 0 = omega arith in e) i) (some_is x r at i))
 line_at cpu number (x ∷ records) (suc index) r at =
     line_at cpu (suc number) records index r at
-        ∙ ap (λ (n : ℕ). Some (line_of cpu n r)) (let e : suc number + index ≡ number + suc index = omega arith in e)
+    ∙ ap (λ (n : ℕ). Some (line_of cpu n r)) (let e : suc number + index ≡ number + suc index = omega arith in e)
 
 -- a line stands for a record of the parcel
 record IsLineOf (cpu number : ℕ) (records : List Record) (l : Line) : Type 0 where
@@ -162,18 +161,18 @@ stands_for : (ps : List Parcel) (cpu number : ℕ) (r : Record) (index : ℕ) (p
 stands_for [] cpu number r index p at pair = absurd (none-some p at)
 stands_for (q ∷ ps) cpu number r zero p at pair =
     let there =
-        subst
-            (λ (x : Parcel).
-                slice_get (lines_from x.cpu x.first x.records) pair.index
-                    ≡ Some (line_of x.cpu (x.first + pair.index) r)) (sym (some_is q p at))
-            (line_at p.cpu p.first p.records pair.index r pair.record_is) in
+    subst
+    (λ (x : Parcel).
+    slice_get (lines_from x.cpu x.first x.records) pair.index
+    ≡ Some (line_of x.cpu (x.first + pair.index) r)) (sym (some_is q p at))
+    (line_at p.cpu p.first p.records pair.index r pair.record_is) in
     let same = some_is q p at in (
       pair.index,
       get_in_front (lines_from q.cpu q.first q.records) (lines_of ps) pair.index (line_of cpu number r)
           (there
-           ∙ (λ i.
-                 Some (line_of ((ap (λ (x : Parcel). x.cpu) same ∙ sym pair.cpu_is) i)
-                       ((ap (λ (x : Parcel). x.first + pair.index) same ∙ sym pair.number_is) i) r))),
+          ∙ (λ i.
+          Some (line_of ((ap (λ (x : Parcel). x.cpu) same ∙ sym pair.cpu_is) i)
+          ((ap (λ (x : Parcel). x.first + pair.index) same ∙ sym pair.number_is) i) r))),
     )
 stands_for (q ∷ ps) cpu number r (suc index) p at pair =
     let (k, there) = stands_for ps cpu number r index p at pair in
@@ -184,10 +183,12 @@ stands_by : (ps : List Parcel) (l : Line) → Stands (lines_of ps) l → Has ps 
 stands_by [] l (k, at) = absurd (none-some l at)
 stands_by (q ∷ ps) l (k, at) = ⊎_elim
     (λ (j, there). let f = line_from q.cpu q.first q.records j l there in
-    record { index = 0;
-            parcel = q;
-            at = refl;
-            pair = record { index = f.index; cpu_is = f.cpu_is; number_is = f.number_is; record_is = f.record_is } })
+    record {
+      index = 0;
+      parcel = q;
+      at = refl;
+      pair = record { index = f.index; cpu_is = f.cpu_is; number_is = f.number_is; record_is = f.record_is };
+    })
     (λ (j, there). let h = stands_by ps l (j, there) in
     record { index = suc h.index; parcel = h.parcel; at = h.at; pair = h.pair })
     (get_in_either (lines_from q.cpu q.first q.records) (lines_of ps) k l at)

@@ -24,16 +24,16 @@ pub run_keeps : (n : ℕ) (history : List HistoryEvent) (before : Window) (event
 run_keeps n history before [] after k run = subst (IsWindow n) run k
 run_keeps n history before (acts a ∷ events) after k run =
     run_keeps n (history ++ a ∷ []) (window_after before (acts a)) events after
-        (window_event_keeps n history before (acts a) k run.0) run.1
+    (window_event_keeps n history before (acts a) k run.0) run.1
 run_keeps n history before (closes ∷ events) after k run =
     run_keeps n history (window_after before closes) events after (window_event_keeps n history before closes k run.0)
-        run.1
+    run.1
 run_keeps n history before (takes ∷ events) after k run =
     run_keeps n history (window_after before takes) events after (window_event_keeps n history before takes k run.0)
-        run.1
+    run.1
 run_keeps n history before (loses ∷ events) after k run =
     run_keeps n history (window_after before loses) events after (window_event_keeps n history before loses k run.0)
-        run.1
+    run.1
 
 first_kept : (n start : ℕ) → 1 ≤ n → IsWindow n (first_window start)
 first_kept n start places = record { head_le = omega arith; done_lt = omega arith; opened_le = omega arith }

@@ -20,7 +20,7 @@ IsHistory-allowed history h front behind a cut =
 
 allowed_from : (w : WriterState) (events : List HistoryEvent)
     → ((front behind : List HistoryEvent) (a : HistoryEvent) → events ≡ front ++ a ∷ behind
-       → MayAct (fold (λ v b. after_event v.stack v.records b) w front).stack a) → AreAllowed w events
+    → MayAct (fold (λ v b. after_event v.stack v.records b) w front).stack a) → AreAllowed w events
 allowed_from w [] h = tt
 allowed_from w (a ∷ events) h = (
   h [] events a refl,
@@ -42,7 +42,7 @@ pub IsHistory-push : (history : List HistoryEvent) (a : HistoryEvent) → IsHist
     → MayAct (writer_after history).stack a → IsHistory (history ++ a ∷ [])
 IsHistory-push history a h may =
     IsHistory-allowed (history ++ a ∷ [])
-        (AreAllowed-push record { stack = []; records = [] } history a (allowed-IsHistory history h) may)
+    (AreAllowed-push record { stack = []; records = [] } history a (allowed-IsHistory history h) may)
 
 pub IsHistory-none : IsHistory []
 IsHistory-none = IsHistory-allowed [] tt

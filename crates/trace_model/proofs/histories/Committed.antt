@@ -27,19 +27,19 @@ within_append : (m : ℕ) (h rest : List HistoryEvent) → m ≤ length h
 within_append zero h rest low = refl
 within_append (suc m) h rest low =
     (λ i.
-        cond (is_settled (take-append-le (suc m) h rest low i)) (take-append-le (suc m) h rest low i)
-            (within_append m h rest (let l : m ≤ length h = omega arith in l) i))
+    cond (is_settled (take-append-le (suc m) h rest low i)) (take-append-le (suc m) h rest low i)
+    (within_append m h rest (let l : m ≤ length h = omega arith in l) i))
 
 settled_more : (h : List HistoryEvent) (a : HistoryEvent)
     → settled_prefix (h ++ a ∷ []) ≡ cond (is_settled (h ++ a ∷ [])) (h ++ a ∷ []) (settled_prefix h)
 settled_more h a =
     let len : length (h ++ a ∷ []) ≡ suc (length h) = omega (arith, length-append h (a ∷ [])) in
     let whole : take (suc (length h)) (h ++ a ∷ []) ≡ h ++ a ∷ [] =
-        take_all (suc (length h)) (h ++ a ∷ []) (omega arith) in
+    take_all (suc (length h)) (h ++ a ∷ []) (omega arith) in
     ap (λ (m : ℕ). settled_prefix_within m (h ++ a ∷ [])) len
     ∙ (λ i.
-          cond (is_settled (whole i)) (whole i)
-              (within_append (length h) h (a ∷ []) (let l : length h ≤ length h = omega arith in l) i))
+    cond (is_settled (whole i)) (whole i)
+    (within_append (length h) h (a ∷ []) (let l : length h ≤ length h = omega arith in l) i))
 
 -- ---- the prefix that is committed
 
@@ -68,8 +68,8 @@ take_unfinished zero (Some k) (Some p) (x ∷ xs) low = refl
 take_unfinished (suc least) (Some zero) (Some p) (x ∷ xs) low = let bad = low 0 refl in absurd (omega arith)
 take_unfinished (suc least) (Some (suc k)) (Some p) (x ∷ xs) low =
     ap (λ (l : List Reservation). x ∷ l)
-        (take_unfinished least (Some k) (Some p) xs
-         (λ j e. let same : k ≡ j = same_Some k j e in let le = low (suc k) refl in omega arith))
+    (take_unfinished least (Some k) (Some p) xs
+    (λ j e. let same : k ≡ j = same_Some k j e in let le = low (suc k) refl in omega arith))
 
 pub take_after_event : (least : ℕ) (stack : List PushedFrame) (xs : List Reservation) (a : HistoryEvent)
     → least ≤ length xs → Behind least stack → take least (after_event stack xs a).records ≡ take least xs
@@ -107,35 +107,35 @@ committed_more h a k = ⊎_elim settled unsettled (either_way (is_settled (h ++ 
     settled : is_settled (h ++ a ∷ []) ≡ true → CommittedAt (settled_prefix (h ++ a ∷ [])) (h ++ a ∷ [])
     settled t =
         subst (λ (f : List HistoryEvent). CommittedAt f (h ++ a ∷ [])) (sym (settled_more h a ∙ cond-true _ _ _ t))
-            record {
-      agrees =
-          ap (map as_record)
+        record {
+          agrees =
+              ap (map as_record)
               (take_all (length (reserved_records (h ++ a ∷ []))) (reserved_records (h ++ a ∷ [])) (omega arith));
-      within = omega arith;
-      behind = subst (Behind (length (reserved_records (h ++ a ∷ [])))) (sym (none_stands (h ++ a ∷ []) t)) tt;
-    }
+          within = omega arith;
+          behind = subst (Behind (length (reserved_records (h ++ a ∷ [])))) (sym (none_stands (h ++ a ∷ []) t)) tt;
+        }
 
     unsettled : is_settled (h ++ a ∷ []) ≡ false → CommittedAt (settled_prefix (h ++ a ∷ [])) (h ++ a ∷ [])
     unsettled f =
         subst (λ (g : List HistoryEvent). CommittedAt g (h ++ a ∷ [])) (sym (settled_more h a ∙ cond-false _ _ _ f))
-            record {
-      agrees =
-          ap (λ (l : List Reservation). map as_record (take (length (reserved_records (settled_prefix h))) l))
+        record {
+          agrees =
+              ap (λ (l : List Reservation). map as_record (take (length (reserved_records (settled_prefix h))) l))
               (records_snoc h a)
-          ∙ ap (map as_record)
+              ∙ ap (map as_record)
               (take_after_event (length (reserved_records (settled_prefix h))) (writer_after h).stack
-               (writer_after h).records a k.within k.behind)
-          ∙ k.agrees;
-      within = let within = k.within in
-          let more = length_after_event (writer_after h).stack (writer_after h).records a in
-          let e = ap (length {A = Reservation}) (records_snoc h a) in
-          omega arith;
-      behind =
-          subst (Behind (length (reserved_records (settled_prefix h))))
+              (writer_after h).records a k.within k.behind)
+              ∙ k.agrees;
+          within = let within = k.within in
+              let more = length_after_event (writer_after h).stack (writer_after h).records a in
+              let e = ap (length {A = Reservation}) (records_snoc h a) in
+              omega arith;
+          behind =
+              subst (Behind (length (reserved_records (settled_prefix h))))
               (sym (ap (λ (w : WriterState). w.stack) (writer_snoc h a)))
               (behind_after_event (length (reserved_records (settled_prefix h))) (writer_after h).stack
-               (writer_after h).records a k.within k.behind);
-    }
+              (writer_after h).records a k.within k.behind);
+        }
 
 committed_from : (front behind : List HistoryEvent) → CommittedAt (settled_prefix front) front
     → CommittedAt (settled_prefix (front ++ behind)) (front ++ behind)
@@ -143,7 +143,7 @@ committed_from front [] k =
     subst (λ (h : List HistoryEvent). CommittedAt (settled_prefix h) h) (sym (append-nil front)) k
 committed_from front (a ∷ behind) k =
     subst (λ (h : List HistoryEvent). CommittedAt (settled_prefix h) h) (append_assoc front (a ∷ []) behind)
-        (committed_from (front ++ a ∷ []) behind (committed_more front a k))
+    (committed_from (front ++ a ∷ []) behind (committed_more front a k))
 
 -- whatever was done, the committed records are the first ones that are reserved, as they are by now
 pub committed_prefix : (h : List HistoryEvent) → CommittedAt (settled_prefix h) h
@@ -163,19 +163,19 @@ committed_len h = length (reserved_records (settled_prefix h))
 pub committed_len-settled : (h : List HistoryEvent) → is_settled h ≡ true
     → length (reserved_records h) ≤ committed_len h
 committed_len-settled h t =
-        let e =
-        ap (λ (g : List HistoryEvent). length (reserved_records g)) (whole_front (length h) h (omega arith) t) in
+    let e =
+    ap (λ (g : List HistoryEvent). length (reserved_records g)) (whole_front (length h) h (omega arith) t) in
     omega arith
 
 pub committed_len-more : (h : List HistoryEvent) (a : HistoryEvent) → committed_len h ≤ committed_len (h ++ a ∷ [])
 committed_len-more h a = ⊎_elim
     (λ t. let e = ap (λ (g : List HistoryEvent). length (reserved_records g)) (settled_more h a ∙ cond-true _ _ _ t) in
-     let within = (committed_prefix h).within in
+    let within = (committed_prefix h).within in
     let more = length_after_event (writer_after h).stack (writer_after h).records a in
     let e' = ap (length {A = Reservation}) (records_snoc h a) in
     omega arith)
     (λ f. let e = ap (λ (g : List HistoryEvent). length (reserved_records g)) (settled_more h a ∙ cond-false _ _ _ f) in
-     omega arith)
+    omega arith)
     (either_way (is_settled (h ++ a ∷ [])))
 
 -- the number of a fill's first record, after one more event
@@ -184,7 +184,7 @@ pub first_more : (h : List HistoryEvent) (a : HistoryEvent) (i : ℕ) → i ≤ 
     → get_or (0 ∷ opens_of (h ++ a ∷ [])) i 0 ≤ committed_len (h ++ a ∷ [])
 first_more h a i low le = let more = committed_len-more h a in
     let e =
-        ap (λ (l : List ℕ). get_or (0 ∷ l) i 0) (opens_more [] h a)
-            ∙ get_or-append (0 ∷ opens_of h) (opens_at h a) 0 i
-                (let l : i < suc (length (opens_of h)) = omega arith in l) in
+    ap (λ (l : List ℕ). get_or (0 ∷ l) i 0) (opens_more [] h a)
+    ∙ get_or-append (0 ∷ opens_of h) (opens_at h a) 0 i
+    (let l : i < suc (length (opens_of h)) = omega arith in l) in
     omega arith

@@ -46,10 +46,10 @@ written_with payload r = record { moment = r.moment; len = r.len; bytes = Some (
 abbrev IsFinished : ℕ → List ℕ → List Reservation → ℕ → Reservation → Type 0
 IsFinished number payload records k r =
     ((before : Reservation) × StandsAt number records before × (written_with payload before ≡ r) × (number ≡ k))
-        ⊎ ((number ≡ k → ⊥) × StandsAt k records r)
+    ⊎ ((number ≡ k → ⊥) × StandsAt k records r)
 
 IsFinished-cons : (number : ℕ) (payload : List ℕ) (x : Reservation) (records : List Reservation) (k : ℕ)
-        (r : Reservation) → IsFinished number payload records k r
+    (r : Reservation) → IsFinished number payload records k r
     → IsFinished (suc number) payload (x ∷ records) (suc k) r
 IsFinished-cons number payload x records k r (inl one) = inl (one.0, one.1, one.2, ap suc one.3)
 IsFinished-cons number payload x records k r (inr other) = inr (λ e. other.0 (omega arith), other.1)
@@ -110,11 +110,12 @@ HasItsRecord-push : (records : List Reservation) (last : Reservation) (len : ℕ
     → HasItsRecord records len number → HasItsRecord (records ++ last ∷ []) len number
 HasItsRecord-push records last len None h = tt
 HasItsRecord-push records last len (Some number) h =
-    let below : number < length records = h.0 in
-    (omega (arith, length-append records (last ∷ [])),
-     λ r at.
-            ⊎_elim (h.1 r) (λ new. let past : number ≡ length records = new.0 in absurd (omega arith))
-                (StandsAt-push number records last r at))
+    let below : number < length records = h.0 in (
+      omega (arith, length-append records (last ∷ [])),
+      λ r at.
+          ⊎_elim (h.1 r) (λ new. let past : number ≡ length records = new.0 in absurd (omega arith))
+          (StandsAt-push number records last r at),
+    )
 
 frames-push : (records : List Reservation) (last : Reservation) (stack : List PushedFrame)
     → AllByRecursion (IsFrameOf records) stack → AllByRecursion (IsFrameOf (records ++ last ∷ [])) stack
@@ -131,24 +132,26 @@ reserve-IsKept moment len None stack records none h =
     let last = reservation_for moment len records in
     record {
       frames = (
-        (omega (arith, length-append records (last ∷ [])),
-         λ r at.
-                ⊎_elim (λ old. let below = StandsAt-lt (length records) records r old in absurd (omega arith))
-                    (λ new. ap (λ (q : Reservation). q.len) (sym new.1))
-                    (StandsAt-push (length records) records last r at)),
+        (
+          omega (arith, length-append records (last ∷ [])),
+          λ r at.
+              ⊎_elim (λ old. let below = StandsAt-lt (length records) records r old in absurd (omega arith))
+              (λ new. ap (λ (q : Reservation). q.len) (sym new.1))
+              (StandsAt-push (length records) records last r at),
+        ),
         frames-push records last stack h.frames.1,
       );
       each = λ k r at. ⊎_elim
           (λ old.
-              ⊎_elim (λ done. inl done)
-                  (λ stands. inr (inr (⊎_elim (λ e. absurd (none_is_no_number k e)) (λ below. below) stands)))
-                  (h.each k r old))
+          ⊎_elim (λ done. inl done)
+          (λ stands. inr (inr (⊎_elim (λ e. absurd (none_is_no_number k e)) (λ below. below) stands)))
+          (h.each k r old))
           (λ new. inr (inl (ap (λ (n : ℕ). Some n) (sym new.0))))
           (StandsAt-push k records last r at);
       fills =
           λ k r at.
-                 ⊎_elim (λ old. h.fills k r old) (λ new. subst FillsSlot new.1 (length-replicate (slot_len len) 0))
-                     (StandsAt-push k records last r at);
+          ⊎_elim (λ old. h.fills k r old) (λ new. subst FillsSlot new.1 (length-replicate (slot_len len) 0))
+          (StandsAt-push k records last r at);
     }
 
 -- ---- a frame that leaves
@@ -161,8 +164,8 @@ HasItsRecord-finished number payload records len (Some other) h = (
   subst (λ (n : ℕ). other < n) (sym (length-records_with_payload (Some number) (Some payload) records)) h.0,
   λ r at. ⊎_elim
       (λ one.
-          ap (λ (q : Reservation). q.len) (sym one.2)
-              ∙ h.1 one.0 (subst (λ (n : ℕ). StandsAt n records one.0) one.3 one.1))
+      ap (λ (q : Reservation). q.len) (sym one.2)
+      ∙ h.1 one.0 (subst (λ (n : ℕ). StandsAt n records one.0) one.3 one.1))
       (λ same. h.1 r same.1)
       (StandsAt-finished number payload records other r at),
 )
@@ -188,8 +191,8 @@ leave-IsKept (record_frame moment len None) stack records payload may h = record
   frames = h.frames.1;
   each =
       λ k r at.
-             ⊎_elim (λ done. inl done)
-                 (λ stands. inr (⊎_elim (λ e. absurd (none_is_no_number k e)) (λ below. below) stands)) (h.each k r at);
+      ⊎_elim (λ done. inl done)
+      (λ stands. inr (⊎_elim (λ e. absurd (none_is_no_number k e)) (λ below. below) stands)) (h.each k r at);
   fills = h.fills;
 }
 leave-IsKept (record_frame moment len (Some number)) stack records None may h = absurd may
@@ -198,9 +201,9 @@ leave-IsKept (record_frame moment len (Some number)) stack records (Some payload
   each = λ k r at. ⊎_elim
       (λ one. inl (written_with-IsWritten payload len one.0 r one.2 (h.frames.0.1 one.0 one.1) may))
       (λ other.
-          ⊎_elim (λ done. inl done)
-              (λ stands. inr (⊎_elim (λ e. absurd (other.0 (same_number number k e))) (λ below. below) stands))
-              (h.each k r other.1))
+      ⊎_elim (λ done. inl done)
+      (λ stands. inr (⊎_elim (λ e. absurd (other.0 (same_number number k e))) (λ below. below) stands))
+      (h.each k r other.1))
       (StandsAt-finished number payload records k r at);
   fills = λ k r at. ⊎_elim
       (λ one. written_fills r (written_with-IsWritten payload len one.0 r one.2 (h.frames.0.1 one.0 one.1) may))
@@ -211,7 +214,7 @@ leave-IsKept close_frame stack records payload may h = record {
   frames = h.frames.1;
   each =
       λ k r at.
-             ⊎_elim (λ done. inl done) (λ stands. inr (⊎_elim (λ e. absurd e) (λ below. below) stands)) (h.each k r at);
+      ⊎_elim (λ done. inl done) (λ stands. inr (⊎_elim (λ e. absurd e) (λ below. below) stands)) (h.each k r at);
   fills = h.fills;
 }
 
@@ -256,15 +259,15 @@ committed-IsWritten history keeps =
     let front = settled_prefix history in
     let found = settled_within (length history) history in
     let allowed : AreAllowed start front =
-        AreAllowed-front start front found.is_prefix.0
-            (subst (AreAllowed start) found.is_prefix.1 (allowed-IsHistory history keeps)) in
+    AreAllowed-front start front found.is_prefix.0
+    (subst (AreAllowed start) found.is_prefix.1 (allowed-IsHistory history keeps)) in
     let kept =
-        fold-IsKept start front allowed
-            (record { frames = tt; each = λ k r at. absurd at; fills = λ k r at. absurd at }) in
+    fold-IsKept start front allowed
+    (record { frames = tt; each = λ k r at. absurd at; fills = λ k r at. absurd at }) in
     let none : (writer_after front).stack ≡ [] = none_stands front found.settled in
     All-from_recursion HasItsBytes (reserved_records front)
-        (each_written (reserved_records front)
-         (λ k r at. ⊎_elim (λ done. done) (λ stands. absurd (subst (Stands k) none stands)) (kept.each k r at)))
+    (each_written (reserved_records front)
+    (λ k r at. ⊎_elim (λ done. done) (λ stands. absurd (subst (Stands k) none stands)) (kept.each k r at)))
 
 each_fills : (records : List Reservation) → ((k : ℕ) (r : Reservation) → StandsAt k records r → FillsSlot r)
     → AllByRecursion FillsSlot records
@@ -277,6 +280,6 @@ pub reserved-FillsSlot : (history : List HistoryEvent) → IsHistory history
 reserved-FillsSlot history keeps =
     let start : WriterState = record { stack = []; records = [] } in
     let kept =
-        fold-IsKept start history (allowed-IsHistory history keeps)
-            (record { frames = tt; each = λ k r at. absurd at; fills = λ k r at. absurd at }) in
+    fold-IsKept start history (allowed-IsHistory history keeps)
+    (record { frames = tt; each = λ k r at. absurd at; fills = λ k r at. absurd at }) in
     each_fills (reserved_records history) kept.fills

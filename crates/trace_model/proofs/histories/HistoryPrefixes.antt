@@ -85,7 +85,7 @@ fold_keeps xs w (a ∷ history) h =
 
 pub writer-append : (w : WriterState) (front behind : List HistoryEvent)
     → fold (λ v a. after_event v.stack v.records a) w (front ++ behind)
-        ≡ fold (λ v a. after_event v.stack v.records a) (fold (λ v a. after_event v.stack v.records a) w front) behind
+    ≡ fold (λ v a. after_event v.stack v.records a) (fold (λ v a. after_event v.stack v.records a) w front) behind
 writer-append w [] behind = refl
 writer-append w (a ∷ front) behind = writer-append (after_event w.stack w.records a) front behind
 
@@ -98,7 +98,7 @@ stack_cases (f ∷ stack) = inr (f, stack, refl)
 pub none_stands : (history : List HistoryEvent) → is_settled history ≡ true → (writer_after history).stack ≡ []
 none_stands history h =
     ⊎_elim (λ e. e) (λ some. let wrong : false ≡ true = rw (is_settled, some.2) at h in cc)
-        (stack_cases (writer_after history).stack)
+    (stack_cases (writer_after history).stack)
 
 writer_keeps : (front behind : List HistoryEvent) → is_settled front ≡ true
     → IsPrefix (reserved_records front) (reserved_records (front ++ behind))
@@ -123,9 +123,9 @@ pub settled_within : (n : ℕ) (history : List HistoryEvent) → IsSettledPrefix
 settled_within zero history = record { settled = refl; is_prefix = (history, refl) }
 settled_within (suc n) history =
     cond_either (IsSettledPrefix history) (is_settled (take (suc n) history)) (take (suc n) history)
-        (settled_prefix_within n history)
-        (λ h. record { settled = h; is_prefix = (drop (suc n) history, sym (take-append-drop (suc n) history)) })
-        (settled_within n history)
+    (settled_prefix_within n history)
+    (λ h. record { settled = h; is_prefix = (drop (suc n) history, sym (take-append-drop (suc n) history)) })
+    (settled_within n history)
 
 -- the records of the settled prefix are a prefix of the history's
 pub settled_records_prefix : (history : List HistoryEvent)

@@ -19,7 +19,7 @@ pub records_left : (h : List HistoryEvent) (f : PushedFrame) (stack : List Pushe
     → reserved_records (h ++ leave payload ∷ []) ≡ records_after_leave f payload (reserved_records h)
 records_left h f stack payload e =
     records_snoc h (leave payload)
-        ∙ ap (λ (s : List PushedFrame). (after_event s (writer_after h).records (leave payload)).records) e
+    ∙ ap (λ (s : List PushedFrame). (after_event s (writer_after h).records (leave payload)).records) e
 
 pub records_reserved : (h : List HistoryEvent) (moment len : ℕ) (stack : List PushedFrame)
     → (writer_after h).stack ≡ record_frame moment len None ∷ stack
@@ -29,9 +29,9 @@ records_reserved h moment len stack e =
 
 -- the frame on top of these leaves
 pub records_left_by : (h : List HistoryEvent) (kind : Purpose) (state : Progress) (below : List PushedFrame)
-        (payload : Option (List ℕ)) → (writer_after h).stack ≡ pushed_onto kind state below → state ≢ left
+    (payload : Option (List ℕ)) → (writer_after h).stack ≡ pushed_onto kind state below → state ≢ left
     → reserved_records (h ++ leave payload ∷ [])
-        ≡ records_with_payload (own_number kind state) payload (reserved_records h)
+    ≡ records_with_payload (own_number kind state) payload (reserved_records h)
 records_left_by h (for_record moment len) waiting below payload stack stands =
     records_left h (pushed_frame (for_record moment len) waiting) below payload stack
 records_left_by h for_close waiting below payload stack stands =

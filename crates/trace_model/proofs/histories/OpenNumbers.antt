@@ -28,7 +28,7 @@ abbrev pub AreOpen : List Reservation → List PushedFrame → Type 0
 AreOpen records [] = Unit {0}
 AreOpen records (f ∷ stack) =
     ((number : ℕ) → number_with f ≡ Some number → IsOpenAt records number × (HasNumber number stack → ⊥))
-        × AreOpen records stack
+    × AreOpen records stack
 
 pub open_at : (records : List Reservation) (stack : List PushedFrame) (number : ℕ) → AreOpen records stack
     → HasNumber number stack → IsOpenAt records number
@@ -47,16 +47,19 @@ behind_at least (f ∷ stack) number h (inr below) = behind_at least stack numbe
 open_in_front : (records : List Reservation) (last : Reservation) (number : ℕ) → IsOpenAt records number
     → IsOpenAt (records ++ last ∷ []) number
 open_in_front records last number h =
-    record { record_is = h.record_is;
-            at = get_in_front records (last ∷ []) number h.record_is h.at;
-            unwritten = h.unwritten }
+    record {
+      record_is = h.record_is;
+      at = get_in_front records (last ∷ []) number h.record_is h.at;
+      unwritten = h.unwritten;
+    }
 
 are_open_in_front : (records : List Reservation) (last : Reservation) (stack : List PushedFrame) → AreOpen records stack
     → AreOpen (records ++ last ∷ []) stack
 are_open_in_front records last [] h = tt
-are_open_in_front records last (f ∷ stack) h =
-    ((λ number is. let one = h.0 number is in (open_in_front records last number one.0, one.1)),
-     are_open_in_front records last stack h.1)
+are_open_in_front records last (f ∷ stack) h = (
+  (λ number is. let one = h.0 number is in (open_in_front records last number one.0, one.1)),
+  are_open_in_front records last stack h.1,
+)
 
 get_last : (records : List Reservation) (last : Reservation)
     → slice_get (records ++ last ∷ []) (length records) ≡ Some last
@@ -86,9 +89,11 @@ are_open_finished : (number : ℕ) (payload : List ℕ) (records : List Reservat
 are_open_finished number payload records [] lacks h = tt
 are_open_finished number payload records (f ∷ stack) lacks h = (
   (λ k is. let one = h.0 k is in (
-    record { record_is = one.0.record_is;
-            at = get_finished number k payload records (λ e. lacks (inl (is ∙ ap (λ (n : ℕ). Some n) e))) ∙ one.0.at;
-            unwritten = one.0.unwritten },
+    record {
+      record_is = one.0.record_is;
+      at = get_finished number k payload records (λ e. lacks (inl (is ∙ ap (λ (n : ℕ). Some n) e))) ∙ one.0.at;
+      unwritten = one.0.unwritten;
+    },
     one.1,
   )),
   are_open_finished number payload records stack (λ has. lacks (inr has)) h.1,

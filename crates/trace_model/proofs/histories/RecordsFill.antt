@@ -95,7 +95,7 @@ pub committed-IsRecord : (history : List HistoryEvent) → All IsRecord (committ
 committed-IsRecord history =
     let start : WriterState = record { stack = []; records = [] } in
     All-from_recursion IsRecord (committed_records history)
-        (as_record-whole (reserved_records (settled_prefix history)) (fold-whole start (settled_prefix history) tt))
+    (as_record-whole (reserved_records (settled_prefix history)) (fold-whole start (settled_prefix history) tt))
 
 -- ---- the records that data reads as
 
@@ -111,10 +111,10 @@ records_behind-IsRecord : (time : ℕ) (front words : List Word) → AllByRecurs
 records_behind-IsRecord time front [] each = All-nil IsRecord
 records_behind-IsRecord time front (w ∷ words) each =
     All-append IsRecord (records_at time front w) (records_behind time (front ++ w ∷ []) words)
-        (records_at-IsRecord time front w each.0) (records_behind-IsRecord time (front ++ w ∷ []) words each.1)
+    (records_at-IsRecord time front w each.0) (records_behind-IsRecord time (front ++ w ∷ []) words each.1)
 
 pub Decodes-IsRecord : (bytes : List ℕ) (time : ℕ) (records : List Record) → Decodes bytes time records
     → All IsRecord records
 Decodes-IsRecord bytes time records reads =
     All-same IsRecord records (records_behind time [] reads.words) reads.read
-        (records_behind-IsRecord time [] reads.words reads.cut.each)
+    (records_behind-IsRecord time [] reads.words reads.cut.each)

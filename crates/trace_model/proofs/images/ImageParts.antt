@@ -42,7 +42,7 @@ pub le64-from_le64 : (bytes : List ℕ) → 8 ≤ length bytes → AreBytes byte
 unfolding from_le64 le64
 le64-from_le64 bytes long small =
     le_bytes_8 (take 8 bytes) (from_le64 bytes) (length-take-le 8 bytes long) (AreBytes-take 8 bytes small)
-        (sym (from_le64-take bytes))
+    (sym (from_le64-take bytes))
 
 -- the first eight bytes are the number that they read as, and then comes the rest
 pub le64-front : (bytes : List ℕ) → 8 ≤ length bytes → AreBytes bytes → bytes ≡ le64 (from_le64 bytes) ++ drop 8 bytes
@@ -57,10 +57,12 @@ drop-le64 n rest = drop_at (le64 n) rest 8 (length-le64 n)
 -- the parts of a commit word
 abbrev pub commit_from : ℕ → Commit
 commit_from n =
-    record { size = n % 2 ^ 30;
-            is_stored = eqb (n / 2 ^ 30 % 2) 1;
-            is_missed = eqb (n / 2 ^ 31 % 2) 1;
-            ignored = n / 2 ^ 32 }
+    record {
+      size = n % 2 ^ 30;
+      is_stored = eqb (n / 2 ^ 30 % 2) 1;
+      is_missed = eqb (n / 2 ^ 31 % 2) 1;
+      ignored = n / 2 ^ 32;
+    }
 
 flag : (bit value : ℕ) → bit < 2 → cond (eqb bit 1) value 0 ≡ bit * value
 flag zero value low = sym (zero-mul value)
@@ -70,8 +72,8 @@ flag (suc (suc bit)) value low = absurd (omega arith)
 pub commit_word-commit_from : (n : ℕ) → commit_word (commit_from n) ≡ n
 commit_word-commit_from n =
     (λ i.
-        n % 2 ^ 30 + flag (n / 2 ^ 30 % 2) (2 ^ 30) (omega arith) i + flag (n / 2 ^ 31 % 2) (2 ^ 31) (omega arith) i + 2
-            ^ 32 * (n / 2 ^ 32))
+    n % 2 ^ 30 + flag (n / 2 ^ 30 % 2) (2 ^ 30) (omega arith) i + flag (n / 2 ^ 31 % 2) (2 ^ 31) (omega arith) i + 2
+    ^ 32 * (n / 2 ^ 32))
     ∙ omega arith
 
 record ReadsFlags (size ignored : ℕ) (stored missed : Bool) (word : ℕ) : Type 0 where
@@ -82,27 +84,35 @@ record ReadsFlags (size ignored : ℕ) (stored missed : Bool) (word : ℕ) : Typ
 
 reads_flags : (size ignored : ℕ) (stored missed : Bool) → size < 2 ^ 30
     → ReadsFlags size ignored stored missed
-        (commit_word (record { size = size; is_stored = stored; is_missed = missed; ignored = ignored }))
+    (commit_word (record { size = size; is_stored = stored; is_missed = missed; ignored = ignored }))
 reads_flags size ignored true true fits =
-    record { size_is = omega arith;
-            stored_is = eq-eqb _ 1 (omega arith);
-            missed_is = eq-eqb _ 1 (omega arith);
-            ignored_is = omega arith }
+    record {
+      size_is = omega arith;
+      stored_is = eq-eqb _ 1 (omega arith);
+      missed_is = eq-eqb _ 1 (omega arith);
+      ignored_is = omega arith;
+    }
 reads_flags size ignored true false fits =
-    record { size_is = omega arith;
-            stored_is = eq-eqb _ 1 (omega arith);
-            missed_is = ne_eqb _ 1 (λ e. absurd (omega arith));
-            ignored_is = omega arith }
+    record {
+      size_is = omega arith;
+      stored_is = eq-eqb _ 1 (omega arith);
+      missed_is = ne_eqb _ 1 (λ e. absurd (omega arith));
+      ignored_is = omega arith;
+    }
 reads_flags size ignored false true fits =
-    record { size_is = omega arith;
-            stored_is = ne_eqb _ 1 (λ e. absurd (omega arith));
-            missed_is = eq-eqb _ 1 (omega arith);
-            ignored_is = omega arith }
+    record {
+      size_is = omega arith;
+      stored_is = ne_eqb _ 1 (λ e. absurd (omega arith));
+      missed_is = eq-eqb _ 1 (omega arith);
+      ignored_is = omega arith;
+    }
 reads_flags size ignored false false fits =
-    record { size_is = omega arith;
-            stored_is = ne_eqb _ 1 (λ e. absurd (omega arith));
-            missed_is = ne_eqb _ 1 (λ e. absurd (omega arith));
-            ignored_is = omega arith }
+    record {
+      size_is = omega arith;
+      stored_is = ne_eqb _ 1 (λ e. absurd (omega arith));
+      missed_is = ne_eqb _ 1 (λ e. absurd (omega arith));
+      ignored_is = omega arith;
+    }
 
 pub commit_from-commit_word : (commit : Commit) → commit.size < 2 ^ 30 → commit_from (commit_word commit) ≡ commit
 commit_from-commit_word commit fits =
@@ -131,7 +141,7 @@ HasHeader-of bytes small long =
     record {
       whole = le64-front bytes (omega arith) small
           ∙ ap (λ (b : List ℕ). le64 (from_le64 bytes) ++ b)
-              (le64-front behind (omega (arith, length-drop 8 bytes)) small_too
+          (le64-front behind (omega (arith, length-drop 8 bytes)) small_too
           ∙ (λ i. le64 (sym (commit_word-commit_from word) i) ++ drop-drop 8 8 bytes i));
       time_fits = from_le64_lt bytes small;
       size_fits = omega arith;
@@ -151,16 +161,20 @@ HasHeader-is bytes time commit rest h =
     let word : ℕ = commit_word commit in
     let behind : drop 8 bytes ≡ le64 word ++ rest = ap (drop 8) h.whole ∙ drop-le64 time (le64 word ++ rest) in
     let word_is : from_le64 (drop 8 bytes) ≡ word =
-        ap from_le64 behind ∙ from_le64-le64 word rest (commit_word_lt commit h.size_fits h.ignored_fits) in
+    ap from_le64 behind ∙ from_le64-le64 word rest (commit_word_lt commit h.size_fits h.ignored_fits) in
     record {
       time_is = sym (ap from_le64 h.whole ∙ from_le64-le64 time (le64 word ++ rest) h.time_fits);
       commit_is = sym (ap commit_from word_is ∙ commit_from-commit_word commit h.size_fits);
       rest_is = sym (sym (drop-drop 8 8 bytes) ∙ ap (drop 8) behind ∙ drop-le64 word rest);
       long =
           ap length h.whole
-              ∙ omega
-                  (arith, length-append (le64 time) (le64 word ++ rest), length-append (le64 word) rest,
-                   length-le64 time, length-le64 word);
+          ∙ omega (
+            arith,
+            length-append (le64 time) (le64 word ++ rest),
+            length-append (le64 word) rest,
+            length-le64 time,
+            length-le64 word,
+          );
     }
 
 pub record SameHeader (time other_time : ℕ) (commit other : Commit) (rest left : List ℕ) : Type 0 where
@@ -174,9 +188,11 @@ pub HasHeader-same : (bytes : List ℕ) (time other_time : ℕ) (commit other : 
 HasHeader-same bytes time other_time commit other rest left h g =
     let a = HasHeader-is bytes time commit rest h in
     let b = HasHeader-is bytes other_time other left g in
-    record { times = a.time_is ∙ sym b.time_is;
-            commits = a.commit_is ∙ sym b.commit_is;
-            rests = a.rest_is ∙ sym b.rest_is }
+    record {
+      times = a.time_is ∙ sym b.time_is;
+      commits = a.commit_is ∙ sym b.commit_is;
+      rests = a.rest_is ∙ sym b.rest_is;
+    }
 
 -- ---- the data, and what follows it
 
@@ -197,23 +213,23 @@ pub record SameParts (time other_time : ℕ) (commit other : Commit) (contents o
   pub behinds : behind ≡ left
 
 pub HasParts-same : (limit other_limit : ℕ) (bytes : List ℕ) (time other_time : ℕ) (commit other : Commit)
-        (contents others behind left : List ℕ) → HasParts limit bytes time commit contents behind
+    (contents others behind left : List ℕ) → HasParts limit bytes time commit contents behind
     → HasParts other_limit bytes other_time other others left
     → SameParts time other_time commit other contents others behind left
 HasParts-same limit other_limit bytes time other_time commit other contents others behind left p q =
     let same =
-        HasHeader-same bytes time other_time commit other (contents ++ behind) (others ++ left) p.header q.header in
+    HasHeader-same bytes time other_time commit other (contents ++ behind) (others ++ left) p.header q.header in
     let size : length others ≡ length contents =
-        q.size_is ∙ ap (λ (c : Commit). c.size) (sym same.commits) ∙ sym p.size_is in
+    q.size_is ∙ ap (λ (c : Commit). c.size) (sym same.commits) ∙ sym p.size_is in
     record {
       times = same.times;
       commits = same.commits;
       datas =
           sym (take_at contents behind (length contents) refl) ∙ ap (take (length contents)) same.rests
-              ∙ take_at others left (length contents) size;
+          ∙ take_at others left (length contents) size;
       behinds =
           sym (drop_at contents behind (length contents) refl) ∙ ap (drop (length contents)) same.rests
-              ∙ drop_at others left (length contents) size;
+          ∙ drop_at others left (length contents) size;
     }
 
 -- ---- missed events
@@ -255,8 +271,8 @@ reporting commit behind small =
     ⊎_elim (λ (stored : commit.is_stored ≡ true).
     ⊎_elim (λ short. no_room missed stored short)
     (λ long.
-        reports (counted (from_le64 behind))
-            (missed, stored, from_le64_lt behind small, (drop 8 behind, le64-front behind long small)))
+    reports (counted (from_le64 behind))
+    (missed, stored, from_le64_lt behind small, (drop 8 behind, le64-front behind long small)))
     (cases_lt (length behind) 8))
     (λ none_stored. reports unknown (missed, none_stored))
     (cases_Bool commit.is_stored))

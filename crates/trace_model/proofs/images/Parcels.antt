@@ -24,20 +24,21 @@ pub HasImage-same : (bytes : List ℕ) (parcel other : Parcel) (reported reports
     → HasImage bytes parcel reported → HasImage bytes other reports → (parcel ≡ other) × (reported ≡ reports)
 HasImage-same bytes parcel other reported reports h g =
     let same =
-        HasNumbers-same bytes parcel.cpu other.cpu parcel.fill other.fill parcel.first other.first parcel.missed
-            other.missed h.image g.image h.numbers g.numbers in
+    HasNumbers-same bytes parcel.cpu other.cpu parcel.fill other.fill parcel.first other.first parcel.missed
+    other.missed h.image g.image h.numbers g.numbers in
     let reads : DecodesImage g.image h.time h.size reported parcel.records =
-        subst (λ (b : List ℕ). DecodesImage b h.time h.size reported parcel.records) same.images h.reads in
+    subst (λ (b : List ℕ). DecodesImage b h.time h.size reported parcel.records) same.images h.reads in
     let one =
-        DecodesImage-unique g.image h.time g.time h.size g.size reported reports parcel.records other.records reads
-            g.reads in
-    (
+    DecodesImage-unique g.image h.time g.time h.size g.size reported reports parcel.records other.records reads
+    g.reads in (
       (λ i.
-          record { cpu = same.cpus i;
-                  fill = same.fills i;
-                  first = same.firsts i;
-                  missed = same.misses i;
-                  records = one.3 i }),
+          record {
+            cpu = same.cpus i;
+            fill = same.fills i;
+            first = same.firsts i;
+            missed = same.misses i;
+            records = one.3 i;
+          }),
       one.2,
     )
 
@@ -55,8 +56,8 @@ known_not_bad : (bytes : List ℕ) (cpu fill first missed : ℕ) (image : List �
     → HasNumbers bytes cpu fill first missed image → cpu < MAX_CPUS → HasBadCpu bytes → ⊥
 known_not_bad bytes cpu fill first missed image h known bad =
     let same =
-        HasNumbers-same bytes cpu bad.cpu fill bad.fill first bad.first missed bad.missed image bad.image h
-            bad.numbers in
+    HasNumbers-same bytes cpu bad.cpu fill bad.fill first bad.first missed bad.missed image bad.image h
+    bad.numbers in
     let cpus = same.cpus in
     let past = bad.unknown_cpu in
     omega arith
@@ -79,10 +80,10 @@ image_not_bad bytes parcel reported cause h bad = ⊎_elim
     (λ short. numbers_not_short bytes parcel.cpu parcel.fill parcel.first parcel.missed h.image h.numbers short.0)
     (λ faulty.
     let same =
-        HasNumbers-same bytes parcel.cpu faulty.cpu parcel.fill faulty.fill parcel.first faulty.first parcel.missed
-            faulty.missed h.image faulty.image h.numbers faulty.numbers in
+    HasNumbers-same bytes parcel.cpu faulty.cpu parcel.fill faulty.fill parcel.first faulty.first parcel.missed
+    faulty.missed h.image faulty.image h.numbers faulty.numbers in
     DecodesImage-FirstImageFault h.image h.time h.size reported parcel.records cause h.reads
-        (subst (λ (b : List ℕ). FirstImageFault b cause) (sym same.images) faulty.fault))
+    (subst (λ (b : List ℕ). FirstImageFault b cause) (sym same.images) faulty.fault))
     bad
 
 cpu_not_bad_image : (bytes : List ℕ) (cause : ImageCause) → HasBadCpu bytes → BadImage bytes cause → ⊥
@@ -90,8 +91,8 @@ unfolding BadImage
 cpu_not_bad_image bytes cause bad image = ⊎_elim
     (λ short. numbers_not_short bytes bad.cpu bad.fill bad.first bad.missed bad.image bad.numbers short.0)
     (λ faulty.
-        known_not_bad bytes faulty.cpu faulty.fill faulty.first faulty.missed faulty.image faulty.numbers
-            faulty.cpu_known bad)
+    known_not_bad bytes faulty.cpu faulty.fill faulty.first faulty.missed faulty.image faulty.numbers
+    faulty.cpu_known bad)
     image
 
 image_not_bad_cpu : (bytes : List ℕ) (parcel : Parcel) (reported : Missed) → HasImage bytes parcel reported
@@ -121,7 +122,7 @@ agreed_not_other : (bytes : List ℕ) (parcel : Parcel) (reported : Missed) → 
 agreed_not_other bytes parcel reported h agrees bad =
     let same = HasImage-same bytes parcel bad.parcel reported bad.reported h bad.image in
     let there : AgreesWith reported bad.parcel.missed =
-        subst (λ (p : Parcel). AgreesWith reported p.missed) same.0 agrees in
+    subst (λ (p : Parcel). AgreesWith reported p.missed) same.0 agrees in
     bad.differs (subst (λ (t : Missed). AgreesWith t bad.parcel.missed) same.1 there)
 
 -- ---- a reading and a fault exclude each other
@@ -143,8 +144,8 @@ DecodesParcel-FirstParcelFault bytes parcel missed_differs d f =
 pub DecodesParcel-unique : (bytes : List ℕ) (parcel other : Parcel) → DecodesParcel bytes parcel
     → DecodesParcel bytes other → parcel ≡ other
 DecodesParcel-unique bytes parcel other d e =
-        let same =
-        HasImage-same bytes parcel other d.reported e.reported d.image e.image in
+    let same =
+    HasImage-same bytes parcel other d.reported e.reported d.image e.image in
     same.0
 
 -- ---- one first fault
@@ -156,20 +157,20 @@ same_bad_image bytes cause other f g = ⊎_elim
     (λ short. ⊎_elim
     (λ too. ap bad_image (short.1 ∙ sym too.1))
     (λ faulty.
-        absurd (numbers_not_short bytes faulty.cpu faulty.fill faulty.first faulty.missed faulty.image faulty.numbers
-                short.0))
+    absurd (numbers_not_short bytes faulty.cpu faulty.fill faulty.first faulty.missed faulty.image faulty.numbers
+    short.0))
     g)
     (λ faulty. ⊎_elim
     (λ short.
-        absurd (numbers_not_short bytes faulty.cpu faulty.fill faulty.first faulty.missed faulty.image faulty.numbers
-                short.0))
+    absurd (numbers_not_short bytes faulty.cpu faulty.fill faulty.first faulty.missed faulty.image faulty.numbers
+    short.0))
     (λ too.
     let same =
-        HasNumbers-same bytes faulty.cpu too.cpu faulty.fill too.fill faulty.first too.first faulty.missed too.missed
-            faulty.image too.image faulty.numbers too.numbers in
+    HasNumbers-same bytes faulty.cpu too.cpu faulty.fill too.fill faulty.first too.first faulty.missed too.missed
+    faulty.image too.image faulty.numbers too.numbers in
     ap bad_image
-        (FirstImageFault-unique too.image cause other
-         (subst (λ (b : List ℕ). FirstImageFault b cause) same.images faulty.fault) too.fault))
+    (FirstImageFault-unique too.image cause other
+    (subst (λ (b : List ℕ). FirstImageFault b cause) same.images faulty.fault) too.fault))
     g)
     f
 
@@ -253,14 +254,18 @@ from_image : (bytes : List ℕ) (parcel : Parcel) (reported : Missed) → HasIma
 from_image bytes parcel reported h =
     ⊎_elim (λ fits.
     ⊎_elim (λ past.
-               inr (missed_too_many,
-                    record { parcel = parcel; reported = reported; image = h; numbers_fit = fits; past = past }))
+    inr (
+      missed_too_many,
+      record { parcel = parcel; reported = reported; image = h; numbers_fit = fits; past = past },
+    ))
     (λ few.
     let sound : IsParcel parcel = record { cpu_known = h.cpu_known; numbers_fit = fits; missed_fit = few } in
     ⊎_elim (λ agrees. inl (parcel, record { reported = reported; image = h; sound = sound; agrees = agrees }))
     (λ differs.
-        inr (missed_differs,
-             record { parcel = parcel; reported = reported; image = h; sound = sound; differs = differs }))
+    inr (
+      missed_differs,
+      record { parcel = parcel; reported = reported; image = h; sound = sound; differs = differs },
+    ))
     (agrees_or_not reported parcel.missed))
     (cases_lt parcel.first parcel.missed))
     (λ past. inr (number_overflow, record { parcel = parcel; reported = reported; image = h; past = past }))
@@ -272,28 +277,34 @@ from_numbers bytes cpu fill first missed image h small =
     ⊎_elim (λ known.
     ⊎_elim
     (λ read.
-        from_image bytes (record { cpu = cpu; fill = fill; first = first; missed = missed; records = read.3 }) read.2
+    from_image bytes (record { cpu = cpu; fill = fill; first = first; missed = missed; records = read.3 }) read.2
     (record { image = image; numbers = h; cpu_known = known; time = read.0; size = read.1; reads = read.4 }))
     (λ faulty.
-        inr (fault_from bytes faulty.0
-             (record { cpu = cpu;
-                      fill = fill;
-                      first = first;
-                      missed = missed;
-                      image = image;
-                      numbers = h;
-                      cpu_known = known;
-                      fault = faulty.1 })))
+    inr (fault_from bytes faulty.0
+    (record {
+      cpu = cpu;
+      fill = fill;
+      first = first;
+      missed = missed;
+      image = image;
+      numbers = h;
+      cpu_known = known;
+      fault = faulty.1;
+    })))
     (image_read_or_faulty image small))
     (λ past.
-        inr (bad_cpu,
-             record { cpu = cpu;
-                     fill = fill;
-                     first = first;
-                     missed = missed;
-                     image = image;
-                     numbers = h;
-                     unknown_cpu = past }))
+    inr (
+      bad_cpu,
+      record {
+        cpu = cpu;
+        fill = fill;
+        first = first;
+        missed = missed;
+        image = image;
+        numbers = h;
+        unknown_cpu = past;
+      },
+    ))
     (cases_lt cpu MAX_CPUS)
 
 pub parcel_read_or_faulty : (bytes : List ℕ) → AreBytes bytes → IsReadParcel bytes ⊎ IsFaultyParcel bytes
@@ -307,9 +318,12 @@ parcel_read_or_faulty bytes small = ⊎_elim
 pub length-bytes_of_parcel : (parcel : Parcel) (time : ℕ) (contents : List ℕ) (size : ℕ) → length contents ≤ size
     → length (bytes_of_parcel parcel time contents size) ≡ 48 + size
 length-bytes_of_parcel parcel time contents size fits =
-    omega (arith,
-           length-with_numbers parcel.cpu parcel.fill parcel.first parcel.missed
-               (image_of time contents parcel.missed size), length-image_of time contents parcel.missed size fits)
+    omega (
+      arith,
+      length-with_numbers parcel.cpu parcel.fill parcel.first parcel.missed
+          (image_of time contents parcel.missed size),
+      length-image_of time contents parcel.missed size fits,
+    )
 
 -- what an image states of the number that it was written with agrees with it
 reported_agrees : (missed : ℕ) (some room : Bool) → some ≡ ltb 0 missed
@@ -346,7 +360,7 @@ DecodesParcel-bytes_of_parcel parcel time contents size sound fill_fits time_fit
         size = length contents;
         reads =
             DecodesImage-image_of time contents parcel.missed size parcel.records time_fits missed_fits fits limit
-                reads;
+            reads;
       };
       sound = sound;
       agrees = reported_agrees parcel.missed (ltb 0 parcel.missed) (has_room contents size) refl;

@@ -41,7 +41,7 @@ cut-stays from [] more to xs ys i r low same = absurd (omega arith)
 cut-stays {A = A} from (cut ∷ cuts) more to xs ys zero r low same = let least = r.0 in
     let sum : from + (cut - from) ≡ cut = omega arith in
     sym (drop-take from (cut - from) ys) ∙ ap (λ (m : ℕ). drop from (take m ys)) sum ∙ ap (drop {A = A} from) same
-        ∙ ap (λ (m : ℕ). drop from (take m xs)) (sym sum) ∙ drop-take from (cut - from) xs
+    ∙ ap (λ (m : ℕ). drop from (take m xs)) (sym sum) ∙ drop-take from (cut - from) xs
 cut-stays from (cut ∷ cuts) more to xs ys (suc i) r low same = cut-stays cut cuts more to xs ys i r.1 (omega arith) same
 
 -- for an open, the number of records before it
@@ -67,11 +67,11 @@ pub opens_more : (front h : List HistoryEvent) (a : HistoryEvent)
     → opens_behind front (h ++ a ∷ []) ≡ opens_behind front h ++ opens_at (front ++ h) a
 opens_more front [] a =
     opens_step front a [] ∙ append-nil (opens_at front a)
-        ∙ ap (λ (x : List HistoryEvent). opens_at x a) (sym (append-nil front))
+    ∙ ap (λ (x : List HistoryEvent). opens_at x a) (sym (append-nil front))
 opens_more front (x ∷ h) a = opens_step front x (h ++ a ∷ [])
     ∙ ap (λ (l : List ℕ). opens_at front x ++ l) (opens_more (front ++ x ∷ []) h a)
     ∙ ap (λ (y : List HistoryEvent). opens_at front x ++ (opens_behind (front ++ x ∷ []) h ++ opens_at y a))
-        (append_assoc front (x ∷ []) h)
+    (append_assoc front (x ∷ []) h)
     ∙ sym (append_assoc (opens_at front x) (opens_behind (front ++ x ∷ []) h) (opens_at (front ++ x ∷ h) a))
     ∙ ap (λ (l : List ℕ). l ++ opens_at (front ++ x ∷ h) a) (sym (opens_step front x h))
 
@@ -110,13 +110,13 @@ reserved_before from [] xs r i rise low = absurd (omega arith)
 reserved_before from (cut ∷ cuts) xs r zero rise low = let least = rise.0 in
     let rest = IsRising-least cut cuts (length xs) rise.1 in
     ap (take (cut - from)) (drop-append-le from xs (r ∷ []) (omega arith))
-        ∙ take-append-le (cut - from) (drop from xs) (r ∷ []) (omega (arith, length-drop from xs))
+    ∙ take-append-le (cut - from) (drop from xs) (r ∷ []) (omega (arith, length-drop from xs))
 reserved_before from (cut ∷ cuts) xs r (suc i) rise low = reserved_before cut cuts xs r i rise.1 (omega arith)
 
 pub reserved_last : (from : ℕ) (cuts : List ℕ) (xs : List Reservation) (r : Reservation)
     → IsRising from cuts (length xs)
     → get_or (cut_from from cuts (xs ++ r ∷ [])) (length cuts) []
-        ≡ get_or (cut_from from cuts xs) (length cuts) [] ++ r ∷ []
+    ≡ get_or (cut_from from cuts xs) (length cuts) [] ++ r ∷ []
 reserved_last from [] xs r rise = drop-append-le from xs (r ∷ []) rise
 reserved_last from (cut ∷ cuts) xs r rise = reserved_last cut cuts xs r rise.1
 
@@ -151,19 +151,19 @@ finished_shift : (from k : ℕ) (p : List ℕ) (xs : List Reservation)
     → finished_from (suc from) (suc k) p xs ≡ finished_from from k p xs
 finished_shift from k p xs = dite (dec_le from k)
     (λ high.
-        finished_high (suc from) (suc k) p xs (omega arith)
-            ∙ ap (λ (j : ℕ). records_with_payload (Some j) (Some p) xs)
-                (let e : suc k - suc from ≡ k - from = omega arith in e) ∙ sym (finished_high from k p xs high))
+    finished_high (suc from) (suc k) p xs (omega arith)
+    ∙ ap (λ (j : ℕ). records_with_payload (Some j) (Some p) xs)
+    (let e : suc k - suc from ≡ k - from = omega arith in e) ∙ sym (finished_high from k p xs high))
     (λ low. finished_low (suc from) (suc k) p xs (omega arith) ∙ sym (finished_low from k p xs (omega arith)))
 
 drop-records_with_payload : (from k : ℕ) (p : List ℕ) (xs : List Reservation)
     → drop from (records_with_payload (Some k) (Some p) xs) ≡ finished_from from k p (drop from xs)
 drop-records_with_payload zero k p xs =
     ap (λ (j : ℕ). records_with_payload (Some j) (Some p) xs) (let e : k ≡ k - 0 = omega arith in e)
-        ∙ sym (finished_high 0 k p xs (omega arith))
+    ∙ sym (finished_high 0 k p xs (omega arith))
 drop-records_with_payload (suc from) k p [] =
     cond_both (nat_lt k (suc from)) [] (records_with_payload (Some (k - suc from)) (Some p) [])
-        (λ (ys : List Reservation). ◌≡◌ {A = List Reservation} [] ys) (λ _. refl) (λ _. refl)
+    (λ (ys : List Reservation). ◌≡◌ {A = List Reservation} [] ys) (λ _. refl) (λ _. refl)
 drop-records_with_payload (suc from) zero p (x ∷ xs) = sym (finished_low (suc from) 0 p (drop from xs) (omega arith))
 drop-records_with_payload (suc from) (suc k) p (x ∷ xs) =
     drop-records_with_payload from k p xs ∙ sym (finished_shift from k p (drop from xs))
@@ -180,36 +180,38 @@ take-finished_from : (m from k : ℕ) (p : List ℕ) (xs : List Reservation)
     → take m (finished_from from k p xs) ≡ finished_from from k p (take m xs)
 take-finished_from m from k p xs = dite (dec_le from k)
     (λ high.
-        ap (take m) (finished_high from k p xs high) ∙ take-records_with_payload m (k - from) p xs
-            ∙ sym (finished_high from k p (take m xs) high))
+    ap (take m) (finished_high from k p xs high) ∙ take-records_with_payload m (k - from) p xs
+    ∙ sym (finished_high from k p (take m xs) high))
     (λ low.
-        ap (take m) (finished_low from k p xs (omega arith)) ∙ sym (finished_low from k p (take m xs) (omega arith)))
+    ap (take m) (finished_low from k p xs (omega arith)) ∙ sym (finished_low from k p (take m xs) (omega arith)))
 
 finished_cut : (from : ℕ) (cuts : List ℕ) (xs : List Reservation) (k : ℕ) (p : List ℕ) (i : ℕ) → i ≤ length cuts
     → get_or (cut_from from cuts (records_with_payload (Some k) (Some p) xs)) i []
-        ≡ finished_from (get_or (from ∷ cuts) i 0) k p (get_or (cut_from from cuts xs) i [])
+    ≡ finished_from (get_or (from ∷ cuts) i 0) k p (get_or (cut_from from cuts xs) i [])
 finished_cut from [] xs k p zero low = drop-records_with_payload from k p xs
 finished_cut from [] xs k p (suc i) low = absurd (omega arith)
 finished_cut from (cut ∷ cuts) xs k p zero low =
     ap (take (cut - from)) (drop-records_with_payload from k p xs)
-        ∙ take-finished_from (cut - from) from k p (drop from xs)
+    ∙ take-finished_from (cut - from) from k p (drop from xs)
 finished_cut from (cut ∷ cuts) xs k p (suc i) low = finished_cut cut cuts xs k p i (omega arith)
 
 -- a fill of the finished records is the fill, finished
 pub finished_fill : (number : Option ℕ) (payload : Option (List ℕ)) (cuts : List ℕ) (xs : List Reservation) (i : ℕ)
     → i ≤ length cuts
     → held_with_payload number payload
-            record { first = get_or (0 ∷ cuts) i 0; records = get_or (cut_from 0 cuts xs) i [] }
-        ≡
-            record { first = get_or (0 ∷ cuts) i 0;
-                    records = get_or (cut_from 0 cuts (records_with_payload number payload xs)) i [] }
+    record { first = get_or (0 ∷ cuts) i 0; records = get_or (cut_from 0 cuts xs) i [] }
+    ≡
+    record {
+      first = get_or (0 ∷ cuts) i 0;
+      records = get_or (cut_from 0 cuts (records_with_payload number payload xs)) i [];
+    }
 finished_fill None payload cuts xs i low = refl
 finished_fill (Some k) None cuts xs i low =
     cond_both (nat_lt k (get_or (0 ∷ cuts) i 0)) (get_or (cut_from 0 cuts xs) i []) (get_or (cut_from 0 cuts xs) i [])
-        (λ (l : List Reservation).
-            ◌≡◌ {A = PageRecords} record { first = get_or (0 ∷ cuts) i 0; records = l }
-                record { first = get_or (0 ∷ cuts) i 0; records = get_or (cut_from 0 cuts xs) i [] }) (λ _. refl)
-        (λ _. refl)
+    (λ (l : List Reservation).
+    ◌≡◌ {A = PageRecords} record { first = get_or (0 ∷ cuts) i 0; records = l }
+    record { first = get_or (0 ∷ cuts) i 0; records = get_or (cut_from 0 cuts xs) i [] }) (λ _. refl)
+    (λ _. refl)
 finished_fill (Some k) (Some p) cuts xs i low =
     ap (λ (l : List Reservation). let h : PageRecords = record { first = get_or (0 ∷ cuts) i 0; records = l } in h)
-        (sym (finished_cut 0 cuts xs k p i low))
+    (sym (finished_cut 0 cuts xs k p i low))

@@ -21,8 +21,8 @@ first_rises from (cut ∷ cuts) to (suc i) low r = first_rises cut cuts to i (om
 pub first_rises_to : (cuts : List ℕ) (to i d : ℕ) → i + d ≤ length cuts → IsRising 0 cuts to
     → get_or (0 ∷ cuts) i 0 ≤ get_or (0 ∷ cuts) (i + d) 0
 first_rises_to cuts to i zero low r =
-        let e =
-        ap (λ (m : ℕ). get_or (0 ∷ cuts) m 0) (let s : i + 0 ≡ i = omega arith in s) in
+    let e =
+    ap (λ (m : ℕ). get_or (0 ∷ cuts) m 0) (let s : i + 0 ≡ i = omega arith in s) in
     omega arith
 first_rises_to cuts to i (suc d) low r = let rest = first_rises_to cuts to i d (omega arith) r in
     let more = first_rises 0 cuts to (i + d) (omega arith) r in
@@ -40,14 +40,14 @@ take_more (suc a) zero ys le = absurd (omega arith)
 take_more (suc a) (suc b) [] le = take_none (suc b - suc a)
 take_more {A = A} (suc a) (suc b) (y ∷ ys) le =
     ap (λ (l : List A). y ∷ l)
-        (take_more a b ys (omega arith)
-         ∙ ap (λ (m : ℕ). take a ys ++ take m (drop a ys)) (let e : b - a ≡ suc b - suc a = omega arith in e))
+    (take_more a b ys (omega arith)
+    ∙ ap (λ (m : ℕ). take a ys ++ take m (drop a ys)) (let e : b - a ≡ suc b - suc a = omega arith in e))
 
 -- the records up to the next cut are those up to this one and the fill's
 pub fill_behind : {A : Type 0} (from : ℕ) (cuts : List ℕ) (xs : List A) (i : ℕ) → i < length cuts
     → IsRising from cuts (length xs)
     → take (get_or (from ∷ cuts) (suc i) 0) xs
-        ≡ take (get_or (from ∷ cuts) i 0) xs ++ get_or (cut_from from cuts xs) i []
+    ≡ take (get_or (from ∷ cuts) i 0) xs ++ get_or (cut_from from cuts xs) i []
 fill_behind from [] xs i low r = absurd (omega arith)
 fill_behind from (cut ∷ cuts) xs zero low r = take_more from cut xs r.0
 fill_behind from (cut ∷ cuts) xs (suc i) low r = fill_behind cut cuts xs i (omega arith) r.1

@@ -50,7 +50,7 @@ get_in_fill from [] xs zero k low within = get_behind_drop from k xs
 get_in_fill from [] xs (suc i) k low within = absurd (omega arith)
 get_in_fill from (cut ∷ cuts) xs zero k low within =
     get_in_take (cut - from) k (drop from xs) (let short = take_short (cut - from) (drop from xs) in omega arith)
-        ∙ get_behind_drop from k xs
+    ∙ get_behind_drop from k xs
 get_in_fill from (cut ∷ cuts) xs (suc i) k low within = get_in_fill cut cuts xs i k (omega arith) within
 
 -- a number before which this fill begins is in it, or in a later one
@@ -64,26 +64,32 @@ pub record LiesIn (cuts : List ℕ) (xs : List Reservation) (least number : ℕ)
 pub lies_in : (cuts : List ℕ) (xs : List Reservation) (number d i : ℕ) → i + d ≡ length cuts
     → IsRising 0 cuts (length xs) → get_or (0 ∷ cuts) i 0 ≤ number → number < length xs → LiesIn cuts xs i number
 lies_in cuts xs number zero i sum r low high = let last : i ≡ length cuts = omega arith in
-    record { fill = i;
-            least_le = omega arith;
-            fill_le = omega arith;
-            first_le = low;
-            number_lt =
-                subst (λ (j : ℕ). number < get_or (0 ∷ cuts) j 0 + length (get_or (cut_from 0 cuts xs) j [])) (sym last)
-                    (let all = fill_size_last 0 cuts xs r in omega arith) }
+    record {
+      fill = i;
+      least_le = omega arith;
+      fill_le = omega arith;
+      first_le = low;
+      number_lt =
+          subst (λ (j : ℕ). number < get_or (0 ∷ cuts) j 0 + length (get_or (cut_from 0 cuts xs) j [])) (sym last)
+          (let all = fill_size_last 0 cuts xs r in omega arith);
+    }
 lies_in cuts xs number (suc d) i sum r low high = dite (dec_le (get_or (0 ∷ cuts) (suc i) 0) number)
     (λ behind. let later = lies_in cuts xs number d (suc i) (omega arith) r behind high in
-    record { fill = later.fill;
-            least_le = let le = later.least_le in omega arith;
-            fill_le = later.fill_le;
-            first_le = later.first_le;
-            number_lt = later.number_lt })
+    record {
+      fill = later.fill;
+      least_le = let le = later.least_le in omega arith;
+      fill_le = later.fill_le;
+      first_le = later.first_le;
+      number_lt = later.number_lt;
+    })
     (λ here.
-        record { fill = i;
-                least_le = omega arith;
-                fill_le = omega arith;
-                first_le = low;
-                number_lt = let size = fill_size 0 cuts xs i (omega arith) r in omega arith })
+    record {
+      fill = i;
+      least_le = omega arith;
+      fill_le = omega arith;
+      first_le = low;
+      number_lt = let size = fill_size 0 cuts xs i (omega arith) r in omega arith;
+    })
 
 -- a fill ends where the next one begins
 pub ends_before : (cuts : List ℕ) (xs : List Reservation) (i j : ℕ) → i < j → j ≤ length cuts

@@ -11,9 +11,9 @@ pub joined_all : {A : Type 0} (from : ℕ) (cuts : List ℕ) (xs : List A) → I
 joined_all from [] xs r = append-nil (drop from xs)
 joined_all {A} from (cut ∷ cuts) xs r =
     ap (λ (l : List A). take (cut - from) (drop from xs) ++ l)
-        (joined_all cut cuts xs r.1
-         ∙ ap (λ (m : ℕ). drop m xs) (let le = r.0 in let e : cut ≡ from + (cut - from) = omega arith in e)
-         ∙ sym (drop-drop (cut - from) from xs))
+    (joined_all cut cuts xs r.1
+    ∙ ap (λ (m : ℕ). drop m xs) (let le = r.0 in let e : cut ≡ from + (cut - from) = omega arith in e)
+    ∙ sym (drop-drop (cut - from) from xs))
     ∙ take-append-drop (cut - from) (drop from xs)
 
 -- the fills from one on are the list from the index where that one begins

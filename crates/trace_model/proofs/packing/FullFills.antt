@@ -43,7 +43,7 @@ full_alike cuts xs ys same k = record {
   rising = subst (IsRising 0 cuts) (sym (length-map xs plain) ∙ ap length (sym same) ∙ length-map ys plain) k.rising;
   full = λ i low none. k.full i low (plain_nil (get_or (cut_from 0 cuts xs) i [])
       (sym (cut-plain 0 cuts xs i) ∙ ap (λ (l : List Reservation). get_or (cut_from 0 cuts l) i []) (sym same)
-       ∙ cut-plain 0 cuts ys i ∙ ap (map plain) none));
+      ∙ cut-plain 0 cuts ys i ∙ ap (map plain) none));
 }
 
 full_more : (cuts : List ℕ) (xs : List Reservation) (s : Reservation) → AreFull cuts xs → AreFull cuts (xs ++ s ∷ [])
@@ -58,8 +58,8 @@ full_opened cuts xs some k = record {
   rising = IsRising-snoc 0 cuts (length xs) k.rising;
   full = λ i low none. let longer = length-append cuts (length xs ∷ []) in dite (ℕ_discrete i (length cuts))
       (λ e.
-          some (ap (λ (j : ℕ). get_or (cut_from 0 cuts xs) j []) (sym e) ∙ sym (opened_before 0 cuts xs i (omega arith))
-                ∙ none))
+      some (ap (λ (j : ℕ). get_or (cut_from 0 cuts xs) j []) (sym e) ∙ sym (opened_before 0 cuts xs i (omega arith))
+      ∙ none))
       (λ ne. k.full i (omega arith) (sym (opened_before 0 cuts xs i (omega arith)) ∙ none));
 }
 
@@ -72,9 +72,9 @@ full_acts : (h : List HistoryEvent) (a : HistoryEvent) → opens_of (h ++ a ∷ 
     → FullIn (h ++ a ∷ [])
 full_acts h a cuts grown k =
     subst (λ (l : List ℕ). AreFull l (reserved_records (h ++ a ∷ []))) (sym cuts)
-        (subst (AreFull (opens_of h)) (sym (records_snoc h a))
+    (subst (AreFull (opens_of h)) (sym (records_snoc h a))
     (⊎_elim (λ same. full_alike (opens_of h) (reserved_records h) _ same k)
-     (λ (s, is). subst (AreFull (opens_of h)) (sym is) (full_more (opens_of h) (reserved_records h) s k)) grown))
+    (λ (s, is). subst (AreFull (opens_of h)) (sym is) (full_more (opens_of h) (reserved_records h) s k)) grown))
 
 full_act : (h : List HistoryEvent) (a : HistoryEvent) → (a ≡ open_fill → tail_of h ≢ []) → FullIn h
     → FullIn (h ++ a ∷ [])
@@ -82,13 +82,13 @@ full_act h (push moment len) begins k = full_acts h (push moment len) (opens_of-
 full_act h push_close begins k = full_acts h push_close (opens_of-push_close h) (inl refl) k
 full_act h open_fill begins k =
     subst (λ (l : List ℕ). AreFull l (reserved_records (h ++ open_fill ∷ []))) (sym (opens_of-open_fill h))
-        (subst (AreFull (opens_of h ++ length (reserved_records h) ∷ [])) (sym (records_snoc h open_fill))
+    (subst (AreFull (opens_of h ++ length (reserved_records h) ∷ [])) (sym (records_snoc h open_fill))
     (full_opened (opens_of h) (reserved_records h) (λ none. begins refl (tail_is h ∙ none)) k))
 full_act h reserve begins k =
     full_acts h reserve (opens_of-reserve h) (grown_reserve (writer_after h).stack (writer_after h).records) k
 full_act h (leave payload) begins k =
     full_acts h (leave payload) (opens_of-leave h payload)
-        (grown_leave (writer_after h).stack (writer_after h).records payload) k
+    (grown_leave (writer_after h).stack (writer_after h).records payload) k
 full_act h wished begins k = full_acts h wished (opens_of-wished h) (inl refl) k
 
 -- after a front in which it is so

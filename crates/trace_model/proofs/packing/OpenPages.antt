@@ -47,7 +47,7 @@ AreOf-last (r ∷ q ∷ records) (s ∷ t ∷ fill) all = AreOf-last (q ∷ reco
 
 -- a record whose bytes are still open may have others, as many
 AreOf-replaced : (front behind : List Record) (moment : ℕ) (old new : List ℕ) (fill : List Reservation) (k : ℕ)
-        (s : Reservation) → length front ≡ k → slice_get fill k ≡ Some s → s.bytes ≡ None → length old ≡ length new
+    (s : Reservation) → length front ≡ k → slice_get fill k ≡ Some s → s.bytes ≡ None → length old ≡ length new
     → AreOf (front ++ record { moment = moment; bytes = old } ∷ behind) fill
     → AreOf (front ++ record { moment = moment; bytes = new } ∷ behind) fill
 AreOf-replaced [] behind moment old new [] k s at found unwritten same all = absurd all
@@ -57,7 +57,7 @@ AreOf-replaced [] behind moment old new (t ∷ fill) zero s at found unwritten s
     fills_slot = sym same ∙ all.0.fills_slot;
     bytes_are =
         subst (λ (b : Option (List ℕ)). IfSome b (λ bytes. new ≡ bytes))
-            (sym (ap (λ (x : Reservation). x.bytes) (some_is t s found) ∙ unwritten)) tt;
+        (sym (ap (λ (x : Reservation). x.bytes) (some_is t s found) ∙ unwritten)) tt;
   },
   all.1,
 )
@@ -83,17 +83,17 @@ AreOf-finished (r ∷ records) (s ∷ fill) (suc k) payload all bytes =
 
 len_behind-push : (prev : ℕ) (fill : List Reservation) (first r : Reservation) → first.moment ≡ prev
     → len_behind prev (fill ++ r ∷ [])
-        ≡ len_behind prev fill + encoded_len r.len (r.moment - last_moment (first ∷ fill)) false
+    ≡ len_behind prev fill + encoded_len r.len (r.moment - last_moment (first ∷ fill)) false
 len_behind-push prev [] first r at =
     ap (λ (m : ℕ). encoded_len r.len (r.moment - m) false + 0) (sym at)
-        ∙ turned (encoded_len r.len (r.moment - first.moment) false)
+    ∙ turned (encoded_len r.len (r.moment - first.moment) false)
   where
     turned : (k : ℕ) → k + 0 ≡ 0 + k
     turned k = omega arith
 len_behind-push prev (s ∷ fill) first r at =
     together (encoded_len s.len (s.moment - prev) false) (len_behind s.moment (fill ++ r ∷ []))
-        (len_behind s.moment fill) (encoded_len r.len (r.moment - last_moment (s ∷ fill)) false)
-        (len_behind-push s.moment fill s r refl)
+    (len_behind s.moment fill) (encoded_len r.len (r.moment - last_moment (s ∷ fill)) false)
+    (len_behind-push s.moment fill s r refl)
   where
     together : (a x b c : ℕ) → x ≡ b + c → a + x ≡ a + b + c
     together a x b c e = omega arith
@@ -107,10 +107,10 @@ fill_len-first r = plus_none (encoded_len r.len 0 true)
 
 pub fill_len-push : (s : Reservation) (fill : List Reservation) (r : Reservation)
     → fill_len ((s ∷ fill) ++ r ∷ [])
-        ≡ fill_len (s ∷ fill) + encoded_len r.len (r.moment - last_moment (s ∷ fill)) false
+    ≡ fill_len (s ∷ fill) + encoded_len r.len (r.moment - last_moment (s ∷ fill)) false
 fill_len-push s fill r =
     together (encoded_len s.len 0 true) (len_behind s.moment (fill ++ r ∷ [])) (len_behind s.moment fill)
-        (encoded_len r.len (r.moment - last_moment (s ∷ fill)) false) (len_behind-push s.moment fill s r refl)
+    (encoded_len r.len (r.moment - last_moment (s ∷ fill)) false) (len_behind-push s.moment fill s r refl)
   where
     together : (a x b c : ℕ) → x ≡ b + c → a + x ≡ a + b + c
     together a x b c e = omega arith
@@ -138,7 +138,7 @@ holds_none reads none ends = record {
 
 -- a payload of an open record, written again
 pub holds_written : (time : ℕ) (bytes : List ℕ) (fill : List Reservation) (k start len : ℕ) (s : Reservation)
-        (part : List ℕ) → HoldsRecords time bytes fill → IsPlaceOf bytes k start len → slice_get fill k ≡ Some s
+    (part : List ℕ) → HoldsRecords time bytes fill → IsPlaceOf bytes k start len → slice_get fill k ≡ Some s
     → s.bytes ≡ None → length part ≡ len
     → HoldsRecords time (overwritten bytes start part) fill
 holds_written time bytes fill k start len s part h place found unwritten fills =
@@ -148,11 +148,11 @@ holds_written time bytes fill k start len s part h place found unwritten fills =
     let replaced = d.2 in
     let within = place-within bytes start len place.place in
     let old_len : length (bytes_at start len bytes) ≡ length part =
-        length-take-le len (drop start bytes) (omega (arith, length-drop start bytes)) ∙ sym fills in
+    length-take-le len (drop start bytes) (omega (arith, length-drop start bytes)) ∙ sym fills in
     let all : AreOf d.0 fill =
-        subst (λ (l : List Record). AreOf l fill) (sym replaced.is)
-            (AreOf-replaced replaced.front replaced.behind replaced.moment (bytes_at start len bytes) part fill k s
-             replaced.at found unwritten old_len (subst (λ (l : List Record). AreOf l fill) replaced.was h.each)) in
+    subst (λ (l : List Record). AreOf l fill) (sym replaced.is)
+    (AreOf-replaced replaced.front replaced.behind replaced.moment (bytes_at start len bytes) part fill k s
+    replaced.at found unwritten old_len (subst (λ (l : List Record). AreOf l fill) replaced.was h.each)) in
     record {
       reads = subst (Decodes new time) (sym is) d.1;
       each = subst (λ (l : List Record). AreOf l fill) (sym is) all;
@@ -175,14 +175,14 @@ pub bytes_of_place : (time : ℕ) (bytes : List ℕ) (k start len : ℕ) (r : Re
 bytes_of_place time bytes k start len r reads place found =
     let within = place-within bytes start len place.place in
     let long : length (bytes_at start len bytes) ≡ len =
-        length-take-le len (drop start bytes) (omega (arith, length-drop start bytes)) in
+    length-take-le len (drop start bytes) (omega (arith, length-drop start bytes)) in
     let d =
-        Decodes-overwritten bytes time (records_in time bytes) k start len (bytes_at start len bytes) place long
-            reads in
+    Decodes-overwritten bytes time (records_in time bytes) k start len (bytes_at start len bytes) place long
+    reads in
     let replaced = d.2 in
     ap (λ (x : Record). x.bytes)
-        (get_at replaced.front replaced.behind record { moment = replaced.moment; bytes = bytes_at start len bytes } r k
-         replaced.at (subst (λ (l : List Record). slice_get l k ≡ Some r) replaced.was found))
+    (get_at replaced.front replaced.behind record { moment = replaced.moment; bytes = bytes_at start len bytes } r k
+    replaced.at (subst (λ (l : List Record). slice_get l k ≡ Some r) replaced.was found))
 
 pub first_moment-plain : (fill : List Reservation) → first_moment (map plain fill) ≡ first_moment fill
 first_moment-plain [] = refl
@@ -195,16 +195,16 @@ pub holds_finished : (time : ℕ) (bytes : List ℕ) (fill : List Reservation) (
     → HoldsRecords time bytes (records_with_payload (Some k) (Some payload) fill)
 holds_finished time bytes fill k payload h are =
     let same : map plain (records_with_payload (Some k) (Some payload) fill) ≡ map plain fill =
-        plain-finished (Some k) (Some payload) fill in
+    plain-finished (Some k) (Some payload) fill in
     record {
       reads = h.reads;
       each = AreOf-finished (records_in time bytes) fill k payload h.each are;
       time_is =
           h.time_is ∙ sym (first_moment-plain fill) ∙ ap first_moment (sym same)
-              ∙ first_moment-plain (records_with_payload (Some k) (Some payload) fill);
+          ∙ first_moment-plain (records_with_payload (Some k) (Some payload) fill);
       len_is =
           h.len_is ∙ sym (fill_len-plain fill) ∙ ap fill_len (sym same)
-              ∙ fill_len-plain (records_with_payload (Some k) (Some payload) fill);
+          ∙ fill_len-plain (records_with_payload (Some k) (Some payload) fill);
       ends = h.ends;
     }
 
@@ -212,17 +212,17 @@ holds_finished time bytes fill k payload h are =
 
 -- What is left by a record that was put after those of a fill: its data, its time, and what is read there.
 pub record PutBehind (time : ℕ) (bytes : List ℕ) (first : Bool) (moment len delta time' : ℕ) (bytes' : List ℕ) : Type 0
-    where
-  pub reads : Decodes bytes' time' (records_in time' bytes')
-  pub records : records_in time' bytes'
-      ≡ records_in time bytes ++ record { moment = moment; bytes = replicate (slot_len len) 0 } ∷ []
-  pub time_is : time' ≡ cond first moment time
-  pub len_is : length bytes' ≡ length bytes + encoded_len len delta first
-  pub ends : EndsInRecord bytes'
+  where
+    pub reads : Decodes bytes' time' (records_in time' bytes')
+    pub records : records_in time' bytes'
+        ≡ records_in time bytes ++ record { moment = moment; bytes = replicate (slot_len len) 0 } ∷ []
+    pub time_is : time' ≡ cond first moment time
+    pub len_is : length bytes' ≡ length bytes + encoded_len len delta first
+    pub ends : EndsInRecord bytes'
 
 new_is : (moment len : ℕ)
     → IsOf record { moment = moment; bytes = replicate (slot_len len) 0 }
-        record { moment = moment; len = slot_len len; bytes = None }
+    record { moment = moment; len = slot_len len; bytes = None }
 new_is moment len = record { moment_is = refl; fills_slot = length-replicate (slot_len len) 0; bytes_are = tt }
 
 pub holds_put_first : (time : ℕ) (bytes : List ℕ) (moment len delta time' : ℕ) (bytes' : List ℕ)
@@ -232,13 +232,13 @@ holds_put_first time bytes moment len delta time' bytes' h p = record {
   reads = p.reads;
   each =
       subst (λ (l : List Record). AreOf l (record { moment = moment; len = slot_len len; bytes = None } ∷ []))
-          (sym p.records) (AreOf-push (records_in time bytes) [] _ _ h.each (new_is moment len));
+      (sym p.records) (AreOf-push (records_in time bytes) [] _ _ h.each (new_is moment len));
   time_is = p.time_is;
   len_is =
       p.len_is ∙ ap (λ (n : ℕ). n + encoded_len len delta true) h.len_is ∙ plus (encoded_len len 0 true)
-          ∙ sym
-              (fill_len-first record { moment = moment; len = slot_len len; bytes = None }
-               ∙ encoded_len-slot len 0 true);
+      ∙ sym
+      (fill_len-first record { moment = moment; len = slot_len len; bytes = None }
+      ∙ encoded_len-slot len 0 true);
   ends = p.ends;
 }
   where
@@ -246,20 +246,20 @@ holds_put_first time bytes moment len delta time' bytes' h p = record {
     plus k = omega arith
 
 pub holds_put_behind : (time : ℕ) (bytes : List ℕ) (s : Reservation) (fill : List Reservation) (moment len time' : ℕ)
-        (bytes' : List ℕ) → HoldsRecords time bytes (s ∷ fill)
+    (bytes' : List ℕ) → HoldsRecords time bytes (s ∷ fill)
     → PutBehind time bytes false moment len (moment - last_moment (s ∷ fill)) time' bytes'
     → HoldsRecords time' bytes' ((s ∷ fill) ++ record { moment = moment; len = slot_len len; bytes = None } ∷ [])
 holds_put_behind time bytes s fill moment len time' bytes' h p = record {
   reads = p.reads;
   each =
       subst
-          (λ (l : List Record).
-              AreOf l ((s ∷ fill) ++ record { moment = moment; len = slot_len len; bytes = None } ∷ [])) (sym p.records)
-          (AreOf-push (records_in time bytes) (s ∷ fill) _ _ h.each (new_is moment len));
+      (λ (l : List Record).
+      AreOf l ((s ∷ fill) ++ record { moment = moment; len = slot_len len; bytes = None } ∷ [])) (sym p.records)
+      (AreOf-push (records_in time bytes) (s ∷ fill) _ _ h.each (new_is moment len));
   time_is = p.time_is ∙ h.time_is;
   len_is =
       p.len_is ∙ ap (λ (n : ℕ). n + encoded_len len (moment - last_moment (s ∷ fill)) false) h.len_is
-          ∙ ap (λ (n : ℕ). fill_len (s ∷ fill) + n) (sym (encoded_len-slot len (moment - last_moment (s ∷ fill)) false))
+      ∙ ap (λ (n : ℕ). fill_len (s ∷ fill) + n) (sym (encoded_len-slot len (moment - last_moment (s ∷ fill)) false))
       ∙ sym (fill_len-push s fill record { moment = moment; len = slot_len len; bytes = None });
   ends = p.ends;
 }

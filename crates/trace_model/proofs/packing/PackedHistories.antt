@@ -72,8 +72,8 @@ fill_len-alike : (cuts : List ℕ) (xs ys : List Reservation) (i : ℕ) → map 
     → fill_len (get_or (cut_from 0 cuts ys) i []) ≡ fill_len (get_or (cut_from 0 cuts xs) i [])
 fill_len-alike cuts xs ys i same = sym (fill_len-plain (get_or (cut_from 0 cuts ys) i []))
     ∙ ap fill_len
-        (sym (cut-plain 0 cuts ys i) ∙ ap (λ (l : List Reservation). get_or (cut_from 0 cuts l) i []) same
-         ∙ cut-plain 0 cuts xs i)
+    (sym (cut-plain 0 cuts ys i) ∙ ap (λ (l : List Reservation). get_or (cut_from 0 cuts l) i []) same
+    ∙ cut-plain 0 cuts xs i)
     ∙ fill_len-plain (get_or (cut_from 0 cuts xs) i [])
 
 -- ---- the tail
@@ -88,9 +88,9 @@ cut-past from (cut ∷ cuts) xs (suc i) past = cut-past cut cuts xs i (omega ari
 pub tail_is : (h : List HistoryEvent) → tail_of h ≡ tail_at (opens_of h) (reserved_records h)
 tail_is h =
     ap (λ (i : ℕ). get_or (fills_of h) i [])
-        (let e = length-cut_from 0 (opens_of h) (reserved_records h) in
-         let it : length (fills_of h) - 1 ≡ length (opens_of h) = omega arith in
-         it)
+    (let e = length-cut_from 0 (opens_of h) (reserved_records h) in
+    let it : length (fills_of h) - 1 ≡ length (opens_of h) = omega arith in
+    it)
 
 -- ---- what records take after others
 
@@ -112,10 +112,10 @@ add_le a b c le = omega arith
 -- a record after these takes at most what another and then one of its length take, whatever their moments
 behind_more : (prev : ℕ) (xs : List Reservation) (s : Reservation) (moment moment' len : ℕ)
     → len_behind prev (xs ++ record { moment = moment; len = len; bytes = None } ∷ [])
-        ≤ len_behind prev (xs ++ (s ∷ record { moment = moment'; len = len; bytes = None } ∷ []))
+    ≤ len_behind prev (xs ++ (s ∷ record { moment = moment'; len = len; bytes = None } ∷ []))
 behind_more prev [] s moment moment' len =
     one_more (if nat_lt (moment - prev) (2 ^ 27) then 0 else 8) (if nat_le (slot_len len) 112 then 4 else 8)
-        (slot_len len)
+    (slot_len len)
     (if nat_lt (s.moment - prev) (2 ^ 27) then 0 else 8) (if nat_le (slot_len s.len) 112 then 4 else 8) (slot_len s.len)
     (if nat_lt (moment' - s.moment) (2 ^ 27) then 0 else 8)
     (extend_le (moment - prev)) (front_ge s.len) (slot_len_ge_four s.len)
@@ -124,10 +124,10 @@ behind_more prev (x ∷ xs) s moment moment' len =
 
 fill_more : (xs : List Reservation) (s : Reservation) (moment moment' len : ℕ)
     → fill_len (xs ++ record { moment = moment; len = len; bytes = None } ∷ [])
-        ≤ fill_len (xs ++ (s ∷ record { moment = moment'; len = len; bytes = None } ∷ []))
+    ≤ fill_len (xs ++ (s ∷ record { moment = moment'; len = len; bytes = None } ∷ []))
 fill_more [] s moment moment' len =
     first_more (if nat_le (slot_len len) 112 then 4 else 8) (slot_len len) (encoded_len s.len 0 true)
-        (if nat_lt (moment' - s.moment) (2 ^ 27) then 0 else 8)
+    (if nat_lt (moment' - s.moment) (2 ^ 27) then 0 else 8)
 fill_more (x ∷ xs) s moment moment' len =
     add_le (encoded_len x.len 0 true) _ _ (behind_more x.moment xs s moment moment' len)
 
@@ -187,18 +187,18 @@ room_past : (size : ℕ) (cuts : List ℕ) (xs : List Reservation) (i : ℕ) →
     → fill_len (get_or (cut_from 0 cuts xs) i []) ≤ size
 room_past size cuts xs i past =
     subst (λ (l : List Reservation). fill_len l ≤ size) (sym (cut-past 0 cuts xs i past))
-        (let z : 0 ≤ size = omega arith in z)
+    (let z : 0 ≤ size = omega arith in z)
 
 pub room_reserved : (size : ℕ) (cuts : List ℕ) (xs : List Reservation) (r : Reservation) → IsRising 0 cuts (length xs)
     → FitsBehind size (tail_at cuts xs) r → HaveRoom size cuts xs → HaveRoom size cuts (xs ++ r ∷ [])
 room_reserved size cuts xs r rising fits room i = dite (ℕ_discrete i (length cuts))
     (λ e.
-        subst (λ (l : List Reservation). fill_len l ≤ size)
-            (sym (ap (λ (j : ℕ). get_or (cut_from 0 cuts (xs ++ r ∷ [])) j []) e ∙ reserved_last 0 cuts xs r rising))
-            fits)
+    subst (λ (l : List Reservation). fill_len l ≤ size)
+    (sym (ap (λ (j : ℕ). get_or (cut_from 0 cuts (xs ++ r ∷ [])) j []) e ∙ reserved_last 0 cuts xs r rising))
+    fits)
     (λ ne. dite (dec_le (suc i) (length cuts))
     (λ low.
-        subst (λ (l : List Reservation). fill_len l ≤ size) (sym (reserved_before 0 cuts xs r i rising low)) (room i))
+    subst (λ (l : List Reservation). fill_len l ≤ size) (sym (reserved_before 0 cuts xs r i rising low)) (room i))
     (λ high. room_past size cuts (xs ++ r ∷ []) i (omega arith)))
 
 pub room_opened : (size : ℕ) (cuts : List ℕ) (xs : List Reservation) → HaveRoom size cuts xs
@@ -207,9 +207,9 @@ room_opened size cuts xs room i = dite (dec_le i (length cuts))
     (λ low. subst (λ (l : List Reservation). fill_len l ≤ size) (sym (opened_before 0 cuts xs i low)) (room i))
     (λ high. dite (ℕ_discrete i (suc (length cuts)))
     (λ e.
-        subst (λ (l : List Reservation). fill_len l ≤ size)
-            (sym (ap (λ (j : ℕ). get_or (cut_from 0 (cuts ++ length xs ∷ []) xs) j []) e ∙ opened_last 0 cuts xs))
-            (let z : 0 ≤ size = omega arith in z))
+    subst (λ (l : List Reservation). fill_len l ≤ size)
+    (sym (ap (λ (j : ℕ). get_or (cut_from 0 (cuts ++ length xs ∷ []) xs) j []) e ∙ opened_last 0 cuts xs))
+    (let z : 0 ≤ size = omega arith in z))
     (λ ne. room_past size (cuts ++ length xs ∷ []) xs i (omega (arith, length-append cuts (length xs ∷ [])))))
 
 -- ---- each event was allowed
@@ -232,13 +232,13 @@ snoc_index [] (y ∷ front) behind a x e = absurd (not_nil front behind x (rest_
 snoc_index (z ∷ h) [] behind a x e = inr (h, ap (λ (b : HistoryEvent). b ∷ h) (first_is z x (h ++ a ∷ []) behind e))
 snoc_index (z ∷ h) (y ∷ front) behind a x e = let here = first_is z y (h ++ a ∷ []) (front ++ x ∷ behind) e in
     ⊎_elim (λ (f, same). inl ((λ i. here i ∷ f i), same)) (λ (rest, is). inr (rest, λ i. here i ∷ is i))
-        (snoc_index h front behind a x (rest_is z y (h ++ a ∷ []) (front ++ x ∷ behind) e))
+    (snoc_index h front behind a x (rest_is z y (h ++ a ∷ []) (front ++ x ∷ behind) e))
 
 pub fit_more : (size : ℕ) (h : List HistoryEvent) (a : HistoryEvent) → AreFit size h → IsFit size h a
     → AreFit size (h ++ a ∷ [])
 fit_more size h a fit new front behind x e =
     ⊎_elim (λ (f, same). subst (λ (g : List HistoryEvent). IsFit size g x) f (subst (IsFit size h) same new))
-        (λ (rest, is). fit front rest x is) (snoc_index h front behind a x e)
+    (λ (rest, is). fit front rest x is) (snoc_index h front behind a x e)
 
 pub fit_none : (size : ℕ) → AreFit size []
 fit_none size front behind a e = absurd (not_nil front behind a e)
@@ -263,26 +263,26 @@ tail_holds_alike : (cuts : List ℕ) (xs ys : List Reservation) → map plain ys
     → tail_at cuts ys ≢ []
 tail_holds_alike cuts xs ys same holds none =
     holds (plain_nil (tail_at cuts xs)
-           (sym (cut-plain 0 cuts xs (length cuts)) ∙ ap (λ (l : List Reservation). tail_at cuts l) (sym same)
-            ∙ cut-plain 0 cuts ys (length cuts) ∙ ap (map plain) none))
+    (sym (cut-plain 0 cuts xs (length cuts)) ∙ ap (λ (l : List Reservation). tail_at cuts l) (sym same)
+    ∙ cut-plain 0 cuts ys (length cuts) ∙ ap (map plain) none))
 
 pub needs_alike : (size : ℕ) (cuts : List ℕ) (xs ys : List Reservation) (found : Bool) (kind : Purpose)
-        (state : Progress) → map plain ys ≡ map plain xs → NeedsFill size cuts xs found kind state
+    (state : Progress) → map plain ys ≡ map plain xs → NeedsFill size cuts xs found kind state
     → NeedsFill size cuts ys found kind state
 needs_alike size cuts xs ys found (for_record moment len) waiting same needs = λ fits. needs (
     let tails : map plain (tail_at cuts ys) ≡ map plain (tail_at cuts xs) =
-        sym (cut-plain 0 cuts ys (length cuts)) ∙ ap (λ (l : List Reservation). tail_at cuts l) same
-            ∙ cut-plain 0 cuts xs (length cuts) in
+    sym (cut-plain 0 cuts ys (length cuts)) ∙ ap (λ (l : List Reservation). tail_at cuts l) same
+    ∙ cut-plain 0 cuts xs (length cuts) in
     let lasts : last_moment ys ≡ last_moment xs =
-        sym (last_moment-plain ys) ∙ ap last_moment same ∙ last_moment-plain xs in
+    sym (last_moment-plain ys) ∙ ap last_moment same ∙ last_moment-plain xs in
     let whole : map plain (tail_at cuts ys ++ reservation_for moment len ys ∷ [])
-        ≡ map plain (tail_at cuts xs ++ reservation_for moment len xs ∷ []) =
+    ≡ map plain (tail_at cuts xs ++ reservation_for moment len xs ∷ []) =
     map_push plain (tail_at cuts ys) (reservation_for moment len ys)
-        ∙ (λ i. tails i ++ record { moment = max moment (lasts i); len = slot_len len; bytes = None } ∷ [])
-        ∙ sym (map_push plain (tail_at cuts xs) (reservation_for moment len xs)) in
+    ∙ (λ i. tails i ++ record { moment = max moment (lasts i); len = slot_len len; bytes = None } ∷ [])
+    ∙ sym (map_push plain (tail_at cuts xs) (reservation_for moment len xs)) in
     let e =
-        sym (fill_len-plain (tail_at cuts ys ++ reservation_for moment len ys ∷ [])) ∙ ap fill_len whole
-            ∙ fill_len-plain (tail_at cuts xs ++ reservation_for moment len xs ∷ []) in
+    sym (fill_len-plain (tail_at cuts ys ++ reservation_for moment len ys ∷ [])) ∙ ap fill_len whole
+    ∙ fill_len-plain (tail_at cuts xs ++ reservation_for moment len xs ∷ []) in
     subst (λ (k : ℕ). k ≤ size) e fits)
 needs_alike size cuts xs ys found for_close waiting same needs = tail_holds_alike cuts xs ys same needs
 needs_alike size cuts xs ys found kind (reserved number) same needs = needs
@@ -301,17 +301,17 @@ tail_holds_reserved cuts xs s rising none =
     snoc_some (tail_at cuts xs) s (sym (reserved_last 0 cuts xs s rising) ∙ none)
 
 pub needs_reserved : (size : ℕ) (cuts : List ℕ) (xs : List Reservation) (s : Reservation) (found : Bool)
-        (kind : Purpose) (state : Progress) → IsRising 0 cuts (length xs) → NeedsFill size cuts xs found kind state
+    (kind : Purpose) (state : Progress) → IsRising 0 cuts (length xs) → NeedsFill size cuts xs found kind state
     → NeedsFill size cuts (xs ++ s ∷ []) found kind state
 needs_reserved size cuts xs s found (for_record moment len) waiting rising needs = λ fits. needs (
     let more =
-        fill_more (tail_at cuts xs) s (max moment (last_moment xs)) (max moment (last_moment (xs ++ s ∷ [])))
-            (slot_len len) in
+    fill_more (tail_at cuts xs) s (max moment (last_moment xs)) (max moment (last_moment (xs ++ s ∷ [])))
+    (slot_len len) in
     let behind : tail_at cuts (xs ++ s ∷ []) ++ reservation_for moment len (xs ++ s ∷ []) ∷ []
-        ≡ tail_at cuts xs ++ (s ∷ reservation_for moment len (xs ++ s ∷ []) ∷ []) =
+    ≡ tail_at cuts xs ++ (s ∷ reservation_for moment len (xs ++ s ∷ []) ∷ []) =
     ap (λ (l : List Reservation). l ++ reservation_for moment len (xs ++ s ∷ []) ∷ [])
-            (reserved_last 0 cuts xs s rising)
-        ∙ append_assoc (tail_at cuts xs) (s ∷ []) (reservation_for moment len (xs ++ s ∷ []) ∷ []) in
+    (reserved_last 0 cuts xs s rising)
+    ∙ append_assoc (tail_at cuts xs) (s ∷ []) (reservation_for moment len (xs ++ s ∷ []) ∷ []) in
     le_on _ _ more (subst (λ (l : List Reservation). fill_len l ≤ size) behind fits))
 needs_reserved size cuts xs s found for_close waiting rising needs = tail_holds_reserved cuts xs s rising
 needs_reserved size cuts xs s found kind (reserved number) rising needs = needs
@@ -322,28 +322,28 @@ needs_reserved size cuts xs s found kind left rising needs = (tail_holds_reserve
 fit_open_record : (size : ℕ) (h : List HistoryEvent) (moment len : ℕ) (below : List PushedFrame)
     → (writer_after h).stack ≡ record_frame moment len None ∷ below → FitsPage size (for_record moment len)
     → (FitsBehind size (tail_at (opens_of h) (reserved_records h)) (reservation_for moment len (reserved_records h))
-       → ⊥)
+    → ⊥)
     → IsFit size h open_fill
 fit_open_record size h moment len below stack fits needs = (
   λ none.
-         needs
-             (subst (λ (l : List Reservation). FitsBehind size l (reservation_for moment len (reserved_records h)))
-              (sym (sym (tail_is h) ∙ none)) (alone_fits fits)),
+      needs
+      (subst (λ (l : List Reservation). FitsBehind size l (reservation_for moment len (reserved_records h)))
+      (sym (sym (tail_is h) ∙ none)) (alone_fits fits)),
   λ r is fits.
-         needs
-             (subst (λ (l : List Reservation). FitsBehind size l (reservation_for moment len (reserved_records h)))
-              (tail_is h)
-              (subst (FitsBehind size (tail_of h))
-               (same_Some r (reservation_for moment len (reserved_records h))
-                (sym is ∙ wanted_record h moment len below stack)) fits)),
+      needs
+      (subst (λ (l : List Reservation). FitsBehind size l (reservation_for moment len (reserved_records h)))
+      (tail_is h)
+      (subst (FitsBehind size (tail_of h))
+      (same_Some r (reservation_for moment len (reserved_records h))
+      (sym is ∙ wanted_record h moment len below stack)) fits)),
   λ is. absurd (none-some _ (sym is ∙ wanted_record h moment len below stack)),
 )
   where
     alone_fits : encoded_len len 0 true ≤ size → FitsBehind size [] (reservation_for moment len (reserved_records h))
     alone_fits low =
         subst (λ (k : ℕ). k ≤ size)
-            (ap (λ (s : ℕ). ((0 + (if nat_le s 112 then 4 else 8)) + s) + 0) (sym (slot_len-slot_len len)))
-            (let plus : encoded_len len 0 true + 0 ≤ size = plus_none (encoded_len len 0 true) low in plus)
+        (ap (λ (s : ℕ). ((0 + (if nat_le s 112 then 4 else 8)) + s) + 0) (sym (slot_len-slot_len len)))
+        (let plus : encoded_len len 0 true + 0 ≤ size = plus_none (encoded_len len 0 true) low in plus)
       where
         plus_none : (k : ℕ) → k ≤ size → k + 0 ≤ size
         plus_none k le = omega arith

@@ -27,12 +27,14 @@ ends_sound : (c : Core) (payload : List ℕ) (frame : Frame) (below : List Frame
 ends_sound c payload frame below number (for_record moment len) is =
     by_only (Ends c payload frame below) (slot_len (length payload) == slot_len len) _
     (λ e.
-        record { moment = moment;
-                len = len;
-                kind_is = is;
-                slot_is = eqb-true (slot_len (length payload)) (slot_len len) e;
-                answer_is = refl;
-                after_is = refl })
+    record {
+      moment = moment;
+      len = len;
+      kind_is = is;
+      slot_is = eqb-true (slot_len (length payload)) (slot_len len) e;
+      answer_is = refl;
+      after_is = refl;
+    })
 ends_sound c payload frame below number for_close is = tt
 
 made : (P : Answer → Core → Type 0) (o : Outcome) (answer : Answer) (after : Core) → o ≡ Some (answer, after)
@@ -52,7 +54,7 @@ module _ {n size : ℕ} {c : Core} {answer : Answer} {after : Core} where
   pub no_top_step : c.frames ≡ [] → Step n size c steps answer after → (answer ≡ refused no_frame) × (after ≡ c)
   no_top_step none s =
       made (λ a d. (a ≡ refused no_frame) × (d ≡ c)) (top_step_of n size c []) answer after
-          (sym (ap (top_step_of n size c) none) ∙ s.is) (refl, refl)
+      (sym (ap (top_step_of n size c) none) ∙ s.is) (refl, refl)
 
   -- the frame on top, which has reserved, ends
   pub top_ends : (payload : List ℕ) (frame : Frame) (below : List Frame) (number : ℕ) → c.frames ≡ frame ∷ below
@@ -61,17 +63,17 @@ module _ {n size : ℕ} {c : Core} {answer : Answer} {after : Core} where
   top_ends payload frame below number top at s =
       made (Ends c payload frame below) (end_frame c payload frame below frame.kind (Some number)) answer after
       (sym (ap (λ (state : Progress). end_frame c payload frame below frame.kind (number_of state)) at)
-       ∙ sym (ap (end_top c payload) top) ∙ s.is)
+      ∙ sym (ap (end_top c payload) top) ∙ s.is)
       (ends_sound c payload frame below number frame.kind refl)
 
   -- the reader makes the step of its phase
   pub reader_step : Step n size c reads answer after → ReadStep n c c.reader.phase answer after
   reader_step s =
       made (ReadStep n c c.reader.phase) (read_step_of n c c.reader.phase) answer after s.is
-          (read_sound n c c.reader.phase)
+      (read_sound n c c.reader.phase)
 
   -- or wishes
   pub reader_wishes : Step n size c wishes answer after → (answer ≡ wished_for c.reader.seen) × (after ≡ with_wish c)
   reader_wishes s =
       made (λ a d. (a ≡ wished_for c.reader.seen) × (d ≡ with_wish c)) (Some (wished_for c.reader.seen, with_wish c))
-          answer after s.is (refl, refl)
+      answer after s.is (refl, refl)

@@ -259,9 +259,9 @@ module _ (n size : ℕ) (c : Core) (frame : Frame) (below : List Frame) (answer 
     (at_looking : (noted : ℕ) → LoadLinkStep n c frame below noted answer after → P (looking noted))
     (at_claiming : (noted page : ℕ) → ClaimHeadStep n c frame below noted page answer after → P (claiming noted page))
     (at_looking_next : (role : Role) (noted page : ℕ) → LoadNextStep n c frame below role noted page answer after
-     → P (looking_next role noted page))
+    → P (looking_next role noted page))
     (at_marking : (role : Role) (noted page next : ℕ) → MarkHeadStep n c frame below role noted page next answer after
-     → P (marking role noted page next))
+    → P (marking role noted page next))
     (at_clearing : (noted page : ℕ) → ClearUpdateStep n c frame below noted page answer after → P (clearing noted page))
     (at_opening : (noted page : ℕ) → OpenFillStep n c frame below noted page answer after → P (opening noted page))
     (at_releasing : ReleaseFillStep c frame below answer after → P releasing)

@@ -68,13 +68,13 @@ same_link_true a b e =
     let (mp, f) = and_parts (mark_code a.mark == mark_code b.mark && a.page == b.page) (a.fill == b.fill) e in
     let (m, p) = and_parts (mark_code a.mark == mark_code b.mark) (a.page == b.page) mp in
     link_is a b.mark b.page b.fill (mark_of a.mark b.mark (eqb-true (mark_code a.mark) (mark_code b.mark) m))
-        (eqb-true a.page b.page p) (eqb-true a.fill b.fill f)
+    (eqb-true a.page b.page p) (eqb-true a.fill b.fill f)
 
 same_link_refl : (a : Link) → same_link a a ≡ true
 same_link_refl a =
     and_from (mark_code a.mark == mark_code a.mark && a.page == a.page) (a.fill == a.fill)
     (and_from (mark_code a.mark == mark_code a.mark) (a.page == a.page)
-     (eq-eqb (mark_code a.mark) (mark_code a.mark) refl) (eq-eqb a.page a.page refl))
+    (eq-eqb (mark_code a.mark) (mark_code a.mark) refl) (eq-eqb a.page a.page refl))
     (eq-eqb a.fill a.fill refl)
 
 pub same_link_from : (a b : Link) → a ≡ b → same_link a b ≡ true
@@ -106,7 +106,7 @@ module _ (n size : ℕ) (c : Core) (frame : Frame) (below : List Frame) where
       (λ room. by_if P (nat_le LINK_FILLS (c.opened + n)) _ _
       (λ last. is_worn needs (eqb-false c.opened (c.done + n) room) (leb-true LINK_FILLS (c.opened + n) last) refl refl)
       (λ small.
-          notes needs (eqb-false c.opened (c.done + n) room) (leb-false LINK_FILLS (c.opened + n) small) refl refl))
+      notes needs (eqb-false c.opened (c.done + n) room) (leb-false LINK_FILLS (c.opened + n) small) refl refl))
 
   reserve_sound : (kind : Purpose) → frame.kind ≡ kind
       → Sound (ReserveStep n size c frame below) (reserve n size c frame below kind)
@@ -115,9 +115,9 @@ module _ (n size : ℕ) (c : Core) (frame : Frame) (below : List Frame) where
       by_if (ReserveStep n size c frame below) (fits_in_tail size c r) _ _
       (λ fits. reserves moment len r e refl (leb-true (fill_len (tail_of c.history ++ r ∷ [])) size fits) refl refl)
       (λ lacks.
-          needs_page_sound (subst (NeedsPage size c) (sym e)
-                            (λ fits. let more = leb-false (fill_len (tail_of c.history ++ r ∷ [])) size lacks in
-                             omega arith)))
+      needs_page_sound (subst (NeedsPage size c) (sym e)
+      (λ fits. let more = leb-false (fill_len (tail_of c.history ++ r ∷ [])) size lacks in
+      omega arith)))
   reserve_sound for_close e = by_if (ReserveStep n size c frame below) (tail_holds c) _ _
       (λ holds. needs_page_sound (subst (NeedsPage size c) (sym e) (tail_holds_true c holds)))
       (λ none. finds_nothing e (tail_holds_false c none) refl refl)
@@ -133,14 +133,14 @@ module _ (n size : ℕ) (c : Core) (frame : Frame) (below : List Frame) where
       → Sound P (unless_begun noted c frame below o)
   begun_sound P noted o now late = by_if P (noted == c.opened) _ _ (λ e. now (eqb-true noted c.opened e))
       (λ e.
-          begun_by P c
-              (late (begin_answer frame.kind frame.state below) (after_begin frame.kind frame.state c frame below)
+      begun_by P c
+      (late (begin_answer frame.kind frame.state below) (after_begin frame.kind frame.state c frame below)
       record { passed = eqb-false noted c.opened e; answer_is = refl; after_is = refl }))
 
   passed_sound : (P : Answer → Core → Type 0) (role : Role) (noted : ℕ) (o : Outcome)
       → (MayContinue role noted c.opened → Sound P o)
       → (role ≡ helper → (answer : Answer) (after : Core) → BeginsAgain c frame below noted answer after
-         → P answer after)
+      → P answer after)
       → Sound P (unless_late role noted c frame below o)
   passed_sound P owner noted o on late = on tt
   passed_sound P helper noted o on late = begun_sound P noted o on (late refl)
@@ -173,7 +173,7 @@ module _ (n size : ℕ) (c : Core) (frame : Frame) (below : List Frame) where
       (λ e. claim_fails now
       (λ lost sum is. both_ways (nat_le n noted && same_link l own) e
       (and_from (nat_le n noted) (same_link l own) (le-leb n noted (omega arith))
-       (same_link_from l own (is ∙ ap (header_link page) (let s : lost ≡ noted - n = omega arith in s)))))
+      (same_link_from l own (is ∙ ap (header_link page) (let s : lost ≡ noted - n = omega arith in s)))))
       refl refl))
       (λ answer after late. claim_late late)
 
@@ -189,8 +189,8 @@ module _ (n size : ℕ) (c : Core) (frame : Frame) (below : List Frame) where
       (λ at. sees_normal (noted - n) l.page on (omega arith) (same_link_true l owing at) refl refl)
       (λ at. sees_other (noted - n) on (omega arith)
       (λ next is.
-          same_link_false l owing at
-              (is ∙ ap (λ (p : ℕ). normal_link p (suc (noted - n))) (ap (λ (k : Link). k.page) (sym is))))
+      same_link_false l owing at
+      (is ∙ ap (λ (p : ℕ). normal_link p (suc (noted - n))) (ap (λ (k : Link). k.page) (sym is))))
       refl refl)))
       (λ helps answer after late. load_next_late helps late)
 
@@ -227,17 +227,19 @@ release_fill_sound : (c : Core) (frame : Frame) (below : List Frame)
 release_fill_sound c frame [] = by_if (ReleaseFillStep c frame []) (c.done + 2 == c.opened) _ _
     (λ last. releases_last refl (eqb-true (c.done + 2) c.opened last) refl refl)
     (λ e.
-        by_only (ReleaseFillStep c frame []) (nat_lt (c.done + 2) c.opened) _
-            (λ more. releases refl (ltb-true (c.done + 2) c.opened more) refl refl))
+    by_only (ReleaseFillStep c frame []) (nat_lt (c.done + 2) c.opened) _
+    (λ more. releases refl (ltb-true (c.done + 2) c.opened more) refl refl))
 release_fill_sound c frame (next ∷ below) = tt
 
 pub granted_true : (n : ℕ) (c : Core) → is_granted n c ≡ true → IsGranted n c
 granted_true n c e =
     let (asked, numbers) = and_parts (c.wish == c.opened && tail_holds c) (nat_lt (c.opened + n) LINK_FILLS) e in
     let (asks, holds) = and_parts (c.wish == c.opened) (tail_holds c) asked in
-    record { asks_tail = eqb-true c.wish c.opened asks;
-            holds_record = tail_holds_true c holds;
-            numbers_left = ltb-true (c.opened + n) LINK_FILLS numbers }
+    record {
+      asks_tail = eqb-true c.wish c.opened asks;
+      holds_record = tail_holds_true c holds;
+      numbers_left = ltb-true (c.opened + n) LINK_FILLS numbers;
+    }
 
 pub holds_some : (records : List Reservation) → records ≢ [] → nat_lt 0 (length records) ≡ true
 holds_some [] some = absurd (some refl)
@@ -247,7 +249,7 @@ pub granted_from : (n : ℕ) (c : Core) → IsGranted n c → is_granted n c ≡
 granted_from n c g =
     and_from (c.wish == c.opened && tail_holds c) (nat_lt (c.opened + n) LINK_FILLS)
     (and_from (c.wish == c.opened) (tail_holds c) (eq-eqb c.wish c.opened g.asks_tail)
-     (holds_some (tail_of c.history) g.holds_record))
+    (holds_some (tail_of c.history) g.holds_record))
     (lt-ltb (c.opened + n) LINK_FILLS g.numbers_left)
 
 load_wish_sound : (n : ℕ) (c : Core) (frame : Frame) (below : List Frame)
@@ -255,11 +257,11 @@ load_wish_sound : (n : ℕ) (c : Core) (frame : Frame) (below : List Frame)
 load_wish_sound n c frame [] = let P = LoadWishStep n c frame [] in by_if P (is_granted n c) _ _
     (λ e. grants refl (granted_true n c e) refl refl)
     (λ e. let denied = (λ (g : IsGranted n c). both_ways (is_granted n c) e (granted_from n c g)) in
-     by_if P (c.done + 1 == c.opened) _ _
+    by_if P (c.done + 1 == c.opened) _ _
     (λ last. goes_away refl denied (eqb-true (c.done + 1) c.opened last) refl refl)
     (λ some.
-        by_only P (nat_lt (c.done + 1) c.opened) _
-            (λ more. closes_more refl denied (ltb-true (c.done + 1) c.opened more) refl refl)))
+    by_only P (nat_lt (c.done + 1) c.opened) _
+    (λ more. closes_more refl denied (ltb-true (c.done + 1) c.opened more) refl refl)))
 load_wish_sound n c frame (next ∷ below) = tt
 
 idle_sound : (n size : ℕ) (c : Core) (frame : Frame) (below : List Frame) (state : Progress)
@@ -292,7 +294,7 @@ reads_link_sound n c normal page fill at = by_if (LoadHeadStep n c) (fill == c.r
     (λ e. loads_owed page (at ∙ ap (normal_link page) (eqb-true fill c.reader.hint e)) refl refl)
     (λ e. by_only (LoadHeadStep n c) (nat_lt c.reader.hint fill && nat_le n (suc fill)) _
     (λ both. let (more, turn) = and_parts (nat_lt c.reader.hint fill) (nat_le n (suc fill)) both in
-     let le = leb-true n (suc fill) turn in
+    let le = leb-true n (suc fill) turn in
     loads_passed page fill (suc fill - n) at (ltb-true c.reader.hint fill more) (omega arith) refl refl))
 
 pub read_sound : (n : ℕ) (c : Core) (phase : ReaderPhase) → Sound (ReadStep n c phase) (read_step_of n c phase)
@@ -331,10 +333,10 @@ push_sound n size c moment len = let P = StepCases n size c (pushes moment len) 
     (λ long. push_refused moment len too_long refl (has_no_room few (too_long_true size len long)) refl refl)
     (λ short. by_if P (nat_le MOMENT_LIMIT moment) _ _
     (λ late.
-        push_refused moment len late_moment refl
-            (comes_late few (too_long_false size len short) (leb-true MOMENT_LIMIT moment late)) refl refl)
+    push_refused moment len late_moment refl
+    (comes_late few (too_long_false size len short) (leb-true MOMENT_LIMIT moment late)) refl refl)
     (λ early.
-        push_step moment len refl few (too_long_false size len short) (leb-false MOMENT_LIMIT moment early) refl refl)))
+    push_step moment len refl few (too_long_false size len short) (leb-false MOMENT_LIMIT moment early) refl refl)))
 
 push_close_sound : (n size : ℕ) (c : Core) → Sound (StepCases n size c pushes_close) (push_close_frame c)
 push_close_sound n size c = by_if (StepCases n size c pushes_close) (is_full c) _ _
@@ -346,7 +348,7 @@ top_sound : (n size : ℕ) (c : Core) (frames : List Frame) → c.frames ≡ fra
 top_sound n size c [] none = frame_lacks refl none refl refl
 top_sound n size c (frame ∷ below) top =
     sound_as (FrameStep n size c frame below frame.phase) (StepCases n size c steps)
-        (frame_step_of n size c frame below frame.phase)
+    (frame_step_of n size c frame below frame.phase)
     (λ answer after step. frame_step frame below refl top step) (frame_sound n size c frame below frame.phase)
 
 module _ (n size : ℕ) (c : Core) (payload : List ℕ) where
@@ -356,8 +358,8 @@ module _ (n size : ℕ) (c : Core) (payload : List ℕ) where
   end_reserved_sound frame below number (for_record moment len) top at is =
       by_only (StepCases n size c (ends payload)) (slot_len (length payload) == slot_len len) _
       (λ e.
-          end_step payload frame below number moment len refl top at is
-              (eqb-true (slot_len (length payload)) (slot_len len) e) refl refl)
+      end_step payload frame below number moment len refl top at is
+      (eqb-true (slot_len (length payload)) (slot_len len) e) refl refl)
   end_reserved_sound frame below number for_close top at is = tt
 
   end_frame_sound : (frame : Frame) (below : List Frame) (state : Progress) → c.frames ≡ frame ∷ below
@@ -379,7 +381,7 @@ step_sound n size c steps = top_sound n size c c.frames refl
 step_sound n size c (ends payload) = end_sound n size c payload c.frames refl
 step_sound n size c reads =
     sound_as (ReadStep n c c.reader.phase) (StepCases n size c reads) (read_step_of n c c.reader.phase)
-        (λ answer after step. read_step refl step) (read_sound n c c.reader.phase)
+    (λ answer after step. read_step refl step) (read_sound n c c.reader.phase)
 step_sound n size c wishes = store_wish_step refl refl refl
 
 -- A step is one of the cases.

@@ -37,7 +37,7 @@ words_to_overflow : (bytes : List ℕ) (time : ℕ) (words : List Word) (rest : 
 words_to_overflow bytes time words rest whole each o =
     ap words_in whole ∙ words_in-behind words rest each
     ∙ ap (λ (ws : List Word). words ++ ws)
-        (words_in-found rest o.word o.behind (ap word_at_front o.stands ∙ word_at_front-word o.word o.behind o.is_word))
+    (words_in-found rest o.word o.behind (ap word_at_front o.stands ∙ word_at_front-word o.word o.behind o.is_word))
 
 -- words whose times fit have none that overflows
 never_past : (time : ℕ) (words : List Word) (front : List Word) (w : Word) (more : List Word) → FitsTime time words
@@ -55,11 +55,11 @@ no_word_fault : (bytes : List ℕ) (time : ℕ) (records : List Record) (cause :
     → IsWordFault rest cause → ⊥
 no_word_fault bytes time records cause words rest reads whole each some fault =
     let same : reads.words ≡ words =
-        sym (words_in-IsJoined bytes reads.words reads.rest reads.cut)
-            ∙ words_to_fault bytes words rest cause whole each fault in
+    sym (words_in-IsJoined bytes reads.words reads.rest reads.cut)
+    ∙ words_to_fault bytes words rest cause whole each fault in
     let left : reads.rest ≡ rest =
-        append_cancel_left (joined words) reads.rest rest
-            (ap (λ (ws : List Word). joined ws ++ reads.rest) (sym same) ∙ sym reads.cut.whole ∙ whole) in
+    append_cancel_left (joined words) reads.rest rest
+    (ap (λ (ws : List Word). joined ws ++ reads.rest) (sym same) ∙ sym reads.cut.whole ∙ whole) in
     ending_or_fault rest cause some (subst IsEnding left reads.cut.ending) fault
 
 no_overflow : (bytes : List ℕ) (time : ℕ) (records : List Record) (words : List Word) (rest : List ℕ)
@@ -67,8 +67,8 @@ no_overflow : (bytes : List ℕ) (time : ℕ) (records : List Record) (words : L
     → Overflows time words rest → ⊥
 no_overflow bytes time records words rest reads whole each o =
     let same : reads.words ≡ words ++ o.word ∷ words_in o.behind =
-        sym (words_in-IsJoined bytes reads.words reads.rest reads.cut)
-            ∙ words_to_overflow bytes time words rest whole each o in
+    sym (words_in-IsJoined bytes reads.words reads.rest reads.cut)
+    ∙ words_to_overflow bytes time words rest whole each o in
     never_past time reads.words words o.word (words_in o.behind) reads.in_time same o.moves o.past
 
 pub Decodes-FirstFault : (bytes : List ℕ) (time : ℕ) (records : List Record) (cause : Cause) (at : ℕ)
@@ -89,16 +89,17 @@ same_word_fault : (bytes : List ℕ) (words others : List Word) (rest left : Lis
     → bytes ≡ joined words ++ rest → bytes ≡ joined others ++ left → AllByRecursion IsWord words
     → AllByRecursion IsWord others
     → IsWordFault rest cause → IsWordFault left other
-        → SameFault cause (length (joined words)) other (length (joined others))
+    → SameFault cause (length (joined words)) other (length (joined others))
 same_word_fault bytes words others rest left cause other whole whole_too each each_too fault fault_too =
     let same : words ≡ others =
-        sym (words_to_fault bytes words rest cause whole each fault)
-            ∙ words_to_fault bytes others left other whole_too each_too fault_too in
+    sym (words_to_fault bytes words rest cause whole each fault)
+    ∙ words_to_fault bytes others left other whole_too each_too fault_too in
     let behind : rest ≡ left =
-        append_cancel_left (joined words) rest left
-            (sym whole ∙ whole_too ∙ ap (λ (ws : List Word). joined ws ++ left) (sym same)) in
-    (IsWordFault-same left cause other (subst (λ (b : List ℕ). IsWordFault b cause) behind fault) fault_too,
-     ap (λ (ws : List Word). length (joined ws)) same)
+    append_cancel_left (joined words) rest left
+    (sym whole ∙ whole_too ∙ ap (λ (ws : List Word). joined ws ++ left) (sym same)) in (
+      IsWordFault-same left cause other (subst (λ (b : List ℕ). IsWordFault b cause) behind fault) fault_too,
+      ap (λ (ws : List Word). length (joined ws)) same,
+    )
 
 fault_or_overflow : (bytes : List ℕ) (time : ℕ) (words others : List Word) (rest left : List ℕ) (cause : Cause)
     → bytes ≡ joined words ++ rest → bytes ≡ joined others ++ left → AllByRecursion IsWord words
@@ -106,20 +107,20 @@ fault_or_overflow : (bytes : List ℕ) (time : ℕ) (words others : List Word) (
     → FitsTime time words → IsWordFault rest cause → Overflows time others left → ⊥
 fault_or_overflow bytes time words others rest left cause whole whole_too each each_too fits fault o =
     let same : words ≡ others ++ o.word ∷ words_in o.behind =
-        sym (words_to_fault bytes words rest cause whole each fault)
-            ∙ words_to_overflow bytes time others left whole_too each_too o in
+    sym (words_to_fault bytes words rest cause whole each fault)
+    ∙ words_to_overflow bytes time others left whole_too each_too o in
     never_past time words others o.word (words_in o.behind) fits same o.moves o.past
 
 same_overflow : (bytes : List ℕ) (time : ℕ) (words others : List Word) (rest left : List ℕ)
     → bytes ≡ joined words ++ rest → bytes ≡ joined others ++ left → AllByRecursion IsWord words
     → AllByRecursion IsWord others
     → FitsTime time words → FitsTime time others → Overflows time words rest → Overflows time others left
-        → length (joined words) ≡ length (joined others)
+    → length (joined words) ≡ length (joined others)
 same_overflow bytes time words others rest left whole whole_too each each_too fits fits_too o p =
     elim
-        (splits_twice words o.word (words_in o.behind) others p.word (words_in p.behind)
-         (sym (words_to_overflow bytes time words rest whole each o)
-          ∙ words_to_overflow bytes time others left whole_too each_too p)) [
+    (splits_twice words o.word (words_in o.behind) others p.word (words_in p.behind)
+    (sym (words_to_overflow bytes time words rest whole each o)
+    ∙ words_to_overflow bytes time others left whole_too each_too p)) [
       | at_one fronts here behinds ↦ ap (λ (ws : List Word). length (joined ws)) fronts
       | in_front more parts tail ↦ absurd (never_past time others words o.word more fits_too parts o.moves o.past)
       | behind_it more parts tail ↦ absurd (never_past time words others p.word more fits parts p.moves p.past)
@@ -130,7 +131,7 @@ same_fault : (bytes : List ℕ) (time : ℕ) (words others : List Word) (rest le
     → bytes ≡ joined words ++ rest → bytes ≡ joined others ++ left → AllByRecursion IsWord words
     → AllByRecursion IsWord others
     → FitsTime time words → FitsTime time others → IsFaultBehind time words rest cause
-        → IsFaultBehind time others left other → SameFault cause (length (joined words)) other (length (joined others))
+    → IsFaultBehind time others left other → SameFault cause (length (joined words)) other (length (joined others))
 same_fault bytes time words others rest left cut cut whole whole_too each each_too fits fits_too f g =
     same_word_fault bytes words others rest left cut cut whole whole_too each each_too f g
 same_fault bytes time words others rest left cut bad_length whole whole_too each each_too fits fits_too f g =
@@ -148,15 +149,15 @@ same_fault bytes time words others rest left time_overflow cut whole whole_too e
 same_fault bytes time words others rest left time_overflow bad_length whole whole_too each each_too fits fits_too f g =
     absurd (fault_or_overflow bytes time others words left rest bad_length whole_too whole each_too each fits_too g f)
 same_fault bytes time words others rest left time_overflow time_overflow whole whole_too each each_too fits fits_too f
-        g =
+    g =
     (refl, same_overflow bytes time words others rest left whole whole_too each each_too fits fits_too f g)
 
 pub FirstFault-unique : (bytes : List ℕ) (time : ℕ) (cause other : Cause) (at there : ℕ)
     → FirstFault bytes time cause at → FirstFault bytes time other there → (cause ≡ other) × (at ≡ there)
 FirstFault-unique bytes time cause other at there f g =
     let same =
-        same_fault bytes time f.words g.words f.rest g.rest cause other f.whole g.whole f.each g.each f.in_time
-            g.in_time f.fault g.fault in
+    same_fault bytes time f.words g.words f.rest g.rest cause other f.whole g.whole f.each g.each f.in_time
+    g.in_time f.fault g.fault in
     (same.0, f.at_is ∙ same.1 ∙ sym g.at_is)
 
 -- ---- one of the two
@@ -189,13 +190,13 @@ further time front w words o = record {
   moves = o.moves;
   past =
       subst (λ (ws : List Word). 2 ^ 64 ≤ moment_after time (ws ++ o.word ∷ [])) (append_assoc front (w ∷ []) o.before)
-          o.past;
+      o.past;
 }
 
 -- one word more, of which nothing is known yet
 step : (time : ℕ) (front : List Word) (w : Word) (words : List Word) → FitsTime time front
     → (FitsTime time (front ++ w ∷ [])
-       → FitsTime time ((front ++ w ∷ []) ++ words) ⊎ OverflowsIn time (front ++ w ∷ []) words)
+    → FitsTime time ((front ++ w ∷ []) ++ words) ⊎ OverflowsIn time (front ++ w ∷ []) words)
     → FitsTime time (front ++ w ∷ words) ⊎ OverflowsIn time front (w ∷ words)
 step time front w words fits rest =
     ⊎_elim (λ (moves : MovesTime w).
@@ -228,40 +229,48 @@ fits_or_overflows time front (w ∷ words) fits =
 abbrev pub IsReadOrFaulty : List ℕ → ℕ → Type 0
 IsReadOrFaulty bytes time =
     ((records : List Record) × Decodes bytes time records)
-        ⊎ ((cause : Cause) × (at : ℕ) × FirstFault bytes time cause at)
+    ⊎ ((cause : Cause) × (at : ℕ) × FirstFault bytes time cause at)
 
 -- words whose times fit, and after them an ending
 from_ending : (bytes : List ℕ) (time : ℕ) (words : List Word) (left : List ℕ) → bytes ≡ joined words ++ left
     → AllByRecursion IsWord words → FitsTime time words → IsEnding left → IsReadOrFaulty bytes time
 from_ending bytes time words left whole each fits ending =
-    inl (records_of time words,
-         record { words = words;
-                 rest = left;
-                 cut = record { whole = whole; each = each; ending = ending };
-                 in_time = fits;
-                 read = refl })
+    inl (
+      records_of time words,
+      record {
+        words = words;
+        rest = left;
+        cut = record { whole = whole; each = each; ending = ending };
+        in_time = fits;
+        read = refl;
+      },
+    )
 
 pub FirstFault-from_word : (bytes : List ℕ) (time : ℕ) (words : List Word) (left : List ℕ) (cause : Cause)
     → bytes ≡ joined words ++ left → AllByRecursion IsWord words → FitsTime time words → left ≢ []
     → IsWordFault left cause → FirstFault bytes time cause (length (joined words))
 FirstFault-from_word bytes time words left cut whole each fits some fault =
-    record { words = words;
-            rest = left;
-            whole = whole;
-            each = each;
-            in_time = fits;
-            at_is = refl;
-            some_left = some;
-            fault = fault }
+    record {
+      words = words;
+      rest = left;
+      whole = whole;
+      each = each;
+      in_time = fits;
+      at_is = refl;
+      some_left = some;
+      fault = fault;
+    }
 FirstFault-from_word bytes time words left bad_length whole each fits some fault =
-    record { words = words;
-            rest = left;
-            whole = whole;
-            each = each;
-            in_time = fits;
-            at_is = refl;
-            some_left = some;
-            fault = fault }
+    record {
+      words = words;
+      rest = left;
+      whole = whole;
+      each = each;
+      in_time = fits;
+      at_is = refl;
+      some_left = some;
+      fault = fault;
+    }
 FirstFault-from_word bytes time words left time_overflow whole each fits some fault = absurd fault
 
 -- words whose times fit, and no word after them
@@ -273,8 +282,11 @@ from_left bytes time words (b ∷ left) whole each fits none = ⊎_elim
     (λ other. ⊎_elim
     (λ ends. from_ending bytes time words (b ∷ left) whole each fits (inr ends))
     (λ fault.
-        inr (fault.0, length (joined words),
-             FirstFault-from_word bytes time words (b ∷ left) fault.0 whole each fits (λ e. cc) fault.1))
+    inr (
+      fault.0,
+      length (joined words),
+      FirstFault-from_word bytes time words (b ∷ left) fault.0 whole each fits (λ e. cc) fault.1,
+    ))
     other)
     (front_cases (b ∷ left) (omega arith))
 
@@ -313,12 +325,14 @@ from_overflow bytes time words left whole each o =
         at_is = refl;
         some_left = not_nil o.word behind;
         fault =
-            record { word = o.word;
-                    behind = behind;
-                    stands = refl;
-                    is_word = (each_behind o.before (o.word ∷ o.behind) all).0;
-                    moves = o.moves;
-                    past = o.past };
+            record {
+              word = o.word;
+              behind = behind;
+              stands = refl;
+              is_word = (each_behind o.before (o.word ∷ o.behind) all).0;
+              moves = o.moves;
+              past = o.past;
+            };
       },
     )
 

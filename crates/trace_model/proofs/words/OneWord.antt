@@ -44,7 +44,7 @@ pub le32-from_le32 : (bytes : List ℕ) → 4 ≤ length bytes → AreBytes byte
 unfolding from_le32 le32
 le32-from_le32 bytes long small =
     le_bytes_4 (take 4 bytes) (from_le32 bytes) (length-take-le 4 bytes long) (AreBytes-take 4 bytes small)
-        (sym (from_le32-take bytes))
+    (sym (from_le32-take bytes))
 
 -- ---- the word at the front
 
@@ -98,12 +98,12 @@ padding_behind d bytes some = cond-false _ _ _ (ne_eqb d 0 (λ e. absurd (omega 
 
 time_front : (t time : ℕ) (rest : List ℕ) (make : ℕ → Word) → time < word_time_limit → t < 32
     → ((bytes : List ℕ)
-       → word_behind t (time % 2 ^ 27) bytes ≡ part_of 4 bytes (λ high. make (from_le32 high * 2 ^ 27 + time % 2 ^ 27)))
+    → word_behind t (time % 2 ^ 27) bytes ≡ part_of 4 bytes (λ high. make (from_le32 high * 2 ^ 27 + time % 2 ^ 27)))
     → word_at_front (first_word t (time % 2 ^ 27) ++ le32 (time / 2 ^ 27) ++ rest) ≡ Some (make time, rest)
 time_front t time rest make fits low kind =
     let high : ℕ = time / 2 ^ 27 in
     let number : from_le32 (le32 high) ≡ high =
-        ap from_le32 (sym (append-nil (le32 high))) ∙ from_le32-le32 high [] (omega arith) in
+    ap from_le32 (sym (append-nil (le32 high))) ∙ from_le32-le32 high [] (omega arith) in
     let sum : high * 2 ^ 27 + time % 2 ^ 27 ≡ time = omega arith in
     ap word_at_front (append_assoc (first_word t (time % 2 ^ 27)) (le32 high) rest)
     ∙ front_word t (time % 2 ^ 27) (le32 high ++ rest) low (omega arith)
@@ -125,13 +125,13 @@ word_at_front-word (short_data d payload) rest is =
 word_at_front-word (long_data d payload) rest is =
     let n : List ℕ = le32 (length payload + 4) in
     ap word_at_front
-        (append_assoc (first_word 0 d ++ n) payload rest ∙ append_assoc (first_word 0 d) n (payload ++ rest))
+    (append_assoc (first_word 0 d ++ n) payload rest ∙ append_assoc (first_word 0 d) n (payload ++ rest))
     ∙ front_word 0 d (n ++ (payload ++ rest)) (omega arith) is.0
     ∙ part_with_length_front payload rest (long_data d) is.1 is.2
 word_at_front-word (padding d skipped) rest is =
     let n : List ℕ = le32 (length skipped + 4) in
     ap word_at_front
-        (append_assoc (first_word 29 d ++ n) skipped rest ∙ append_assoc (first_word 29 d) n (skipped ++ rest))
+    (append_assoc (first_word 29 d ++ n) skipped rest ∙ append_assoc (first_word 29 d) n (skipped ++ rest))
     ∙ front_word 29 d (n ++ (skipped ++ rest)) (omega arith) is.1
     ∙ padding_behind d (n ++ (skipped ++ rest)) is.0
     ∙ part_with_length_front skipped rest (padding d) is.2 is.3
@@ -155,26 +155,26 @@ IsFound bytes (Some found) = (bytes ≡ bytes_of_word found.0 ++ found.1) × IsW
 
 found_part : (bytes behind : List ℕ) (n : ℕ) (make : List ℕ → Word)
     → ((part rest : List ℕ) → length part ≡ n → behind ≡ part ++ rest → part ≡ take n behind
-       → IsFound bytes (Some (make part, rest)))
+    → IsFound bytes (Some (make part, rest)))
     → IsFound bytes (part_of n behind make)
 found_part bytes behind n make found =
     cond_both (ltb (length behind) n) None (Some (make (take n behind), drop n behind)) (IsFound bytes)
     (λ short. tt)
     (λ long.
-        found (take n behind) (drop n behind) (length-take-le n behind (ltb-false (length behind) n long))
-            (sym (take-append-drop n behind)) refl)
+    found (take n behind) (drop n behind) (length-take-le n behind (ltb-false (length behind) n long))
+    (sym (take-append-drop n behind)) refl)
 
 found_part_with_length : (bytes behind : List ℕ) (make : List ℕ → Word) → AreBytes behind
     → ((part rest : List ℕ) → length part % 4 ≡ 0 → length part + 4 < 2 ^ 32
-       → behind ≡ le32 (length part + 4) ++ part ++ rest → IsFound bytes (Some (make part, rest)))
+    → behind ≡ le32 (length part + 4) ++ part ++ rest → IsFound bytes (Some (make part, rest)))
     → IsFound bytes (part_with_length behind make)
 found_part_with_length bytes behind make small found =
     cond_both (ltb (length behind) 4) None _ (IsFound bytes) (λ short. tt) (λ long.
     cond_both (ltb (from_le32 behind) 4) None _ (IsFound bytes) (λ less. tt) (λ least.
     cond_both (eqb (from_le32 behind % 4) 0) _ None (IsFound bytes)
-        (λ whole.
-            by_length (ltb-false (length behind) 4 long) (ltb-false (from_le32 behind) 4 least)
-                (eqb-true (from_le32 behind % 4) 0 whole)) (λ odd. tt)))
+    (λ whole.
+    by_length (ltb-false (length behind) 4 long) (ltb-false (from_le32 behind) 4 least)
+    (eqb-true (from_le32 behind % 4) 0 whole)) (λ odd. tt)))
   where
     by_length : 4 ≤ length behind → 4 ≤ from_le32 behind → from_le32 behind % 4 ≡ 0
         → IsFound bytes (part_of (from_le32 behind - 4) (drop 4 behind) make)
@@ -193,7 +193,7 @@ nonzero n h = ⊎_elim (λ e. absurd (h (let z : n ≡ 0 = omega arith in z))) (
 found_time : (bytes behind : List ℕ) (t d : ℕ) (make : ℕ → Word) → AreBytes behind → d < 2 ^ 27
     → bytes ≡ first_word t d ++ behind
     → ((time : ℕ) → time < word_time_limit → IsWord (make time))
-        → ((time : ℕ) → bytes_of_word (make time) ≡ first_word t (time % 2 ^ 27) ++ le32 (time / 2 ^ 27))
+    → ((time : ℕ) → bytes_of_word (make time) ≡ first_word t (time % 2 ^ 27) ++ le32 (time / 2 ^ 27))
     → IsFound bytes (part_of 4 behind (λ high. make (from_le32 high * 2 ^ 27 + d)))
 found_time bytes behind t d make small fits front word spelled =
     found_part bytes behind 4 (λ high. make (from_le32 high * 2 ^ 27 + d)) (λ part rest is cut same.
@@ -205,10 +205,12 @@ found_time bytes behind t d make small fits front word spelled =
     let above : time / 2 ^ 27 ≡ high = shr_high high 27 d fits in
     let number : le32 high ≡ part = le32-from_le32 part (omega arith) bytes_too ∙ take_all 4 part (omega arith) in
     let reads : bytes_of_word (make time) ≡ first_word t d ++ part =
-        spelled time ∙ (λ i. first_word t (low i) ++ le32 (above i))
-            ∙ ap (λ (p : List ℕ). first_word t d ++ p) number in
-    (front ∙ ap (λ (b : List ℕ). first_word t d ++ b) cut ∙ sym (append_assoc (first_word t d) part rest)
-         ∙ ap (λ (b : List ℕ). b ++ rest) (sym reads), word time (omega arith)))
+    spelled time ∙ (λ i. first_word t (low i) ++ le32 (above i))
+    ∙ ap (λ (p : List ℕ). first_word t d ++ p) number in (
+      front ∙ ap (λ (b : List ℕ). first_word t d ++ b) cut ∙ sym (append_assoc (first_word t d) part rest)
+          ∙ ap (λ (b : List ℕ). b ++ rest) (sym reads),
+      word time (omega arith),
+    ))
 
 found_behind : (bytes behind : List ℕ) (t d : ℕ) → AreBytes behind → t < 32 → d < 2 ^ 27
     → bytes ≡ first_word t d ++ behind → IsFound bytes (word_behind t d behind)
@@ -218,10 +220,10 @@ found_behind bytes behind t d small low fits front =
     cond_both (eqb t 29) _ _ (IsFound bytes) (λ e. skipped (eqb-true t 29 e)) (λ not_padding.
     cond_both (eqb t 30) _ _ (IsFound bytes) (λ e. extend (eqb-true t 30 e)) (λ not_extend.
     stamp
-        (let h = leb-false t 28 more in
-         let p = eqb-false t 29 not_padding in
-         let q = eqb-false t 30 not_extend in
-         omega arith)))))
+    (let h = leb-false t 28 more in
+    let p = eqb-false t 29 not_padding in
+    let q = eqb-false t 30 not_extend in
+    omega arith)))))
   where
     behind_length : (part rest : List ℕ) → behind ≡ le32 (length part + 4) ++ part ++ rest
         → bytes ≡ first_word t d ++ le32 (length part + 4) ++ part ++ rest
@@ -230,33 +232,36 @@ found_behind bytes behind t d small low fits front =
         ∙ ap (λ (b : List ℕ). b ++ rest) (sym (append_assoc (first_word t d) (le32 (length part + 4)) part))
 
     long : t ≡ 0 → IsFound bytes (part_with_length behind (long_data d))
-    long is = found_part_with_length bytes behind (long_data d) small (λ part rest whole below cut.
-        (behind_length part rest cut ∙ ap (λ (n : ℕ). first_word n d ++ le32 (length part + 4) ++ part ++ rest) is,
-         (fits, whole, below)))
+    long is = found_part_with_length bytes behind (long_data d) small (λ part rest whole below cut. (
+      behind_length part rest cut ∙ ap (λ (n : ℕ). first_word n d ++ le32 (length part + 4) ++ part ++ rest) is,
+      (fits, whole, below),
+    ))
 
     short : (t ≡ 0 → ⊥) → t ≤ 28 → IsFound bytes (part_of (4 * t) behind (short_data d))
     short some high = found_part bytes behind (4 * t) (short_data d) (λ part rest is cut same.
-        let type_is : t ≡ length part / 4 = omega arith in
-        (front ∙ ap (λ (b : List ℕ). first_word t d ++ b) cut ∙ sym (append_assoc (first_word t d) part rest)
-             ∙ ap (λ (n : ℕ). first_word n d ++ part ++ rest) type_is,
-         (fits, omega arith, (let h = nonzero t some in omega arith), omega arith)))
+        let type_is : t ≡ length part / 4 = omega arith in (
+          front ∙ ap (λ (b : List ℕ). first_word t d ++ b) cut ∙ sym (append_assoc (first_word t d) part rest)
+              ∙ ap (λ (n : ℕ). first_word n d ++ part ++ rest) type_is,
+          (fits, omega arith, (let h = nonzero t some in omega arith), omega arith),
+        ))
 
     skipped : t ≡ 29 → IsFound bytes (cond (eqb d 0) None (part_with_length behind (padding d)))
     skipped is =
         cond_both (eqb d 0) None (part_with_length behind (padding d)) (IsFound bytes) (λ ends. tt)
-            (λ some. found_part_with_length bytes behind (padding d) small (λ part rest whole below cut.
-        (behind_length part rest cut ∙ ap (λ (n : ℕ). first_word n d ++ le32 (length part + 4) ++ part ++ rest) is,
-         (nonzero d (eqb-false d 0 some), fits, whole, below))))
+        (λ some. found_part_with_length bytes behind (padding d) small (λ part rest whole below cut. (
+          behind_length part rest cut ∙ ap (λ (n : ℕ). first_word n d ++ le32 (length part + 4) ++ part ++ rest) is,
+          (nonzero d (eqb-false d 0 some), fits, whole, below),
+        )))
 
     extend : t ≡ 30 → IsFound bytes (part_of 4 behind (λ high. time_extend (from_le32 high * 2 ^ 27 + d)))
     extend is =
         found_time bytes behind 30 d time_extend small fits (front ∙ ap (λ (n : ℕ). first_word n d ++ behind) is)
-            (λ time h. h) (λ time. refl)
+        (λ time h. h) (λ time. refl)
 
     stamp : t ≡ 31 → IsFound bytes (part_of 4 behind (λ high. time_stamp (from_le32 high * 2 ^ 27 + d)))
     stamp is =
         found_time bytes behind 31 d time_stamp small fits (front ∙ ap (λ (n : ℕ). first_word n d ++ behind) is)
-            (λ time h. h) (λ time. refl)
+        (λ time h. h) (λ time. refl)
 
 found_in : (bytes : List ℕ) → AreBytes bytes → IsFound bytes (word_at_front bytes)
 unfolding word_at_front
@@ -267,9 +272,9 @@ found_in bytes small = cond_both (ltb (length bytes) 4) None _ (IsFound bytes) (
     let high : ℕ = number / 32 in
     let fields : low + 32 * high ≡ number = omega arith in
     let front : bytes ≡ first_word low high ++ drop 4 bytes =
-        sym (take-append-drop 4 bytes)
-            ∙ (λ i. sym (le32-from_le32 bytes (ltb-false (length bytes) 4 long) small) i ++ drop 4 bytes)
-            ∙ ap (λ (n : ℕ). le32 n ++ drop 4 bytes) (sym fields) in
+    sym (take-append-drop 4 bytes)
+    ∙ (λ i. sym (le32-from_le32 bytes (ltb-false (length bytes) 4 long) small) i ++ drop 4 bytes)
+    ∙ ap (λ (n : ℕ). le32 n ++ drop 4 bytes) (sym fields) in
     found_behind bytes (drop 4 bytes) low high (AreBytes-drop 4 bytes small) (omega arith) (omega arith) front)
 
 pub word_at_front-found : (bytes : List ℕ) (w : Word) (rest : List ℕ) → AreBytes bytes

@@ -75,7 +75,7 @@ pub length-bytes_changed : (w : Word) (new : List ℕ) → IsData w → length n
     → length (bytes_of_word (with_payload w new)) ≡ length (bytes_of_word w)
 length-bytes_changed w new is same =
     ap length (bytes_of_word-with_payload w new is same) ∙ length-append (head_of w) new
-        ∙ ap (λ (n : ℕ). length (head_of w) + n) same
+    ∙ ap (λ (n : ℕ). length (head_of w) + n) same
     ∙ sym (length-append (head_of w) (payload_of w)) ∙ ap length (sym (bytes_of_word-data w is))
 
 pub IsWord-with_payload : (w : Word) (new : List ℕ) → IsData w → length new ≡ length (payload_of w) → IsWord w
@@ -146,7 +146,7 @@ last_stamp-bare : (time : ℕ) (words : List Word) → last_stamp time (map bare
 last_stamp-bare time [] = refl
 last_stamp-bare time (w ∷ words) =
     ap (λ (s : Option ℕ). last_stamp (unwrap_or s time) (map bare words)) (same_bare w).stamp
-        ∙ last_stamp-bare (unwrap_or (stamp_of w) time) words
+    ∙ last_stamp-bare (unwrap_or (stamp_of w) time) words
 
 any_stamp-bare : (words : List Word) → list_any is_stamp (map bare words) ≡ list_any is_stamp words
 any_stamp-bare [] = refl
@@ -156,13 +156,13 @@ since_stamp-bare : (words : List Word) → since_stamp (map bare words) ≡ map 
 since_stamp-bare [] = refl
 since_stamp-bare (w ∷ words) =
     (λ i.
-        cond (any_stamp-bare words i) (since_stamp-bare words i)
-            (cond ((same_bare w).is_stamp i) (map bare words) (bare w ∷ map bare words)))
+    cond (any_stamp-bare words i) (since_stamp-bare words i)
+    (cond ((same_bare w).is_stamp i) (map bare words) (bare w ∷ map bare words)))
     ∙ by_test (list_any is_stamp words) (is_stamp w)
   where
     by_test : (any here : Bool)
         → cond any (map bare (since_stamp words)) (cond here (map bare words) (bare w ∷ map bare words))
-            ≡ map bare (cond any (since_stamp words) (cond here words (w ∷ words)))
+        ≡ map bare (cond any (since_stamp words) (cond here words (w ∷ words)))
     by_test true here = refl
     by_test false true = refl
     by_test false false = refl
@@ -171,7 +171,7 @@ sum-bare : (words : List Word) → sum_by delta_of (map bare words) ≡ sum_by d
 sum-bare [] = refl
 sum-bare (w ∷ words) =
     sum_by-cons delta_of (bare w) (map bare words) ∙ (λ i. (same_bare w).delta i + sum-bare words i)
-        ∙ sym (sum_by-cons delta_of w words)
+    ∙ sym (sum_by-cons delta_of w words)
 
 moment_after-bare : (time : ℕ) (words : List Word) → moment_after time (map bare words) ≡ moment_after time words
 moment_after-bare time words =
@@ -194,12 +194,14 @@ record IsUnmapped {X Y : Type 0} (f : X → Y) (xs : List X) (front : List Y) (y
 unmapped-cons : {X Y : Type 0} (f : X → Y) (x : X) (xs : List X) (z : Y) (front : List Y) (y : Y) → f x ≡ z
     → IsUnmapped f xs front y → IsUnmapped f (x ∷ xs) (z ∷ front) y
 unmapped-cons {X = X} f x xs z front y first h =
-    record { before = x ∷ h.before;
-            here = h.here;
-            after = h.after;
-            cut = ap (λ (zs : List X). x ∷ zs) h.cut;
-            fronts = λ i. first i ∷ h.fronts i;
-            at = h.at }
+    record {
+      before = x ∷ h.before;
+      here = h.here;
+      after = h.after;
+      cut = ap (λ (zs : List X). x ∷ zs) h.cut;
+      fronts = λ i. first i ∷ h.fronts i;
+      at = h.at;
+    }
 
 unmapped : {X Y : Type 0} (f : X → Y) (xs : List X) (front : List Y) (y : Y) (behind : List Y)
     → map f xs ≡ front ++ y ∷ behind → IsUnmapped f xs front y
@@ -212,14 +214,14 @@ FitsTime-same : (time : ℕ) (words others : List Word) → map bare words ≡ m
     → FitsTime time others
 FitsTime-same time words others same fits front w behind e moves =
     let cut : map bare words ≡ map bare front ++ bare w ∷ map bare behind =
-        same ∙ ap (map bare) e ∙ map-append bare front (w ∷ behind) in
+    same ∙ ap (map bare) e ∙ map-append bare front (w ∷ behind) in
     let h = unmapped bare words (map bare front) (bare w) (map bare behind) cut in
     let alike : map bare (h.before ++ h.here ∷ []) ≡ map bare (front ++ w ∷ []) =
-        map-append bare h.before (h.here ∷ []) ∙ (λ i. h.fronts i ++ h.at i ∷ [])
-            ∙ sym (map-append bare front (w ∷ [])) in
+    map-append bare h.before (h.here ∷ []) ∙ (λ i. h.fronts i ++ h.at i ∷ [])
+    ∙ sym (map-append bare front (w ∷ [])) in
     subst (λ (m : ℕ). m < 2 ^ 64) (moment_after-same time (h.before ++ h.here ∷ []) (front ++ w ∷ []) alike)
     (fits h.before h.here h.after h.cut
-     (MovesTime-from_bare h.here (subst MovesTime (sym h.at) (MovesTime-bare w moves))))
+    (MovesTime-from_bare h.here (subst MovesTime (sym h.at) (MovesTime-bare w moves))))
 
 -- the records of words don't see the payloads before them
 records_at-same : (time : ℕ) (front others : List Word) (w : Word) → map bare front ≡ map bare others
@@ -229,16 +231,16 @@ records_at-same time front others w same = by_word w
     later : (v : Word) → moment_after time (front ++ v ∷ []) ≡ moment_after time (others ++ v ∷ [])
     later v =
         moment_after-same time (front ++ v ∷ []) (others ++ v ∷ [])
-            (map-append bare front (v ∷ []) ∙ ap (λ (ws : List Word). ws ++ bare v ∷ []) same
-             ∙ sym (map-append bare others (v ∷ [])))
+        (map-append bare front (v ∷ []) ∙ ap (λ (ws : List Word). ws ++ bare v ∷ []) same
+        ∙ sym (map-append bare others (v ∷ [])))
 
     by_word : (v : Word) → records_at time front v ≡ records_at time others v
     by_word (short_data delta payload) =
         ap (λ (m : ℕ). let r : Record = record { moment = m; bytes = payload } in r ∷ [])
-            (later (short_data delta payload))
+        (later (short_data delta payload))
     by_word (long_data delta payload) =
         ap (λ (m : ℕ). let r : Record = record { moment = m; bytes = payload } in r ∷ [])
-            (later (long_data delta payload))
+        (later (long_data delta payload))
     by_word (padding delta skipped) = refl
     by_word (time_extend delta) = refl
     by_word (time_stamp stamp) = refl
@@ -248,11 +250,11 @@ records_behind-same : (time : ℕ) (words front others : List Word) → map bare
 records_behind-same time [] front others same = refl
 records_behind-same time (w ∷ words) front others same =
     let more : map bare (front ++ w ∷ []) ≡ map bare (others ++ w ∷ []) =
-        map-append bare front (w ∷ []) ∙ ap (λ (ws : List Word). ws ++ bare w ∷ []) same
-            ∙ sym (map-append bare others (w ∷ [])) in
+    map-append bare front (w ∷ []) ∙ ap (λ (ws : List Word). ws ++ bare w ∷ []) same
+    ∙ sym (map-append bare others (w ∷ [])) in
     λ i.
-           records_at-same time front others w same i
-               ++ records_behind-same time words (front ++ w ∷ []) (others ++ w ∷ []) more i
+    records_at-same time front others w same i
+    ++ records_behind-same time words (front ++ w ∷ []) (others ++ w ∷ []) more i
 
 -- ---- the place of a payload
 
@@ -269,8 +271,8 @@ joined-around : (front : List Word) (w : Word) (behind : List Word) (head payloa
     → joined (front ++ w ∷ behind) ++ rest ≡ (joined front ++ head) ++ payload ++ (joined behind ++ rest)
 joined-around front w behind head payload rest is =
     ap (λ (b : List ℕ). b ++ rest)
-        (flat_map-append bytes_of_word front (w ∷ behind)
-         ∙ ap (λ (b : List ℕ). joined front ++ (b ++ joined behind)) is)
+    (flat_map-append bytes_of_word front (w ∷ behind)
+    ∙ ap (λ (b : List ℕ). joined front ++ (b ++ joined behind)) is)
     ∙ regroup (joined front) head payload (joined behind) rest
   where
     regroup : (a b c d e : List ℕ) → (a ++ ((b ++ c) ++ d)) ++ e ≡ (a ++ b) ++ c ++ (d ++ e)
@@ -288,7 +290,7 @@ module _ (bytes : List ℕ) (start len : ℕ) (p : IsPlaceIn bytes start len) wh
   before_is : length (before_place p) ≡ start
   before_is =
       length-before_place (joined p.front) (head_of p.word) (payload_of p.word) (bytes_of_word p.word) start spelled
-          p.start_is
+      p.start_is
 
   pub place-split : bytes ≡ before_place p ++ payload_of p.word ++ after_place p
   place-split = p.cut.whole ∙ joined-around p.front p.word p.behind (head_of p.word) (payload_of p.word) p.rest spelled
@@ -300,23 +302,23 @@ module _ (bytes : List ℕ) (start len : ℕ) (p : IsPlaceIn bytes start len) wh
   pub place-within : start + len ≤ length bytes
   place-within =
       omega
-          (arith, ap length place-split, length-append (before_place p ++ payload_of p.word) (after_place p), place-end)
+      (arith, ap length place-split, length-append (before_place p ++ payload_of p.word) (after_place p), place-end)
 
   pub place-take : take start bytes ≡ before_place p
   place-take =
       ap (take start) (place-split ∙ append_assoc (before_place p) (payload_of p.word) (after_place p))
-          ∙ take_at (before_place p) (payload_of p.word ++ after_place p) start before_is
+      ∙ take_at (before_place p) (payload_of p.word ++ after_place p) start before_is
 
   pub place-drop : drop (start + len) bytes ≡ after_place p
   place-drop =
       ap (drop (start + len)) place-split
-          ∙ drop_at (before_place p ++ payload_of p.word) (after_place p) (start + len) place-end
+      ∙ drop_at (before_place p ++ payload_of p.word) (after_place p) (start + len) place-end
 
   -- the payload is the bytes there
   pub place-payload : bytes_at start len bytes ≡ payload_of p.word
   place-payload =
       ap (λ (b : List ℕ). take len (drop start b))
-          (place-split ∙ append_assoc (before_place p) (payload_of p.word) (after_place p))
+      (place-split ∙ append_assoc (before_place p) (payload_of p.word) (after_place p))
       ∙ ap (take len) (drop_at (before_place p) (payload_of p.word ++ after_place p) start before_is)
       ∙ take_at (payload_of p.word) (after_place p) len (sym p.len_is)
 
@@ -330,51 +332,51 @@ each-at [] w behind each = each.0
 each-at (x ∷ front) w behind each = each-at front w behind each.1
 
 module _ (bytes : List ℕ) (start len : ℕ) (p : IsPlaceIn bytes start len) (new : List ℕ) (fills : length new ≡ len)
-    where
-  as_long : length new ≡ length (payload_of p.word)
-  as_long = fills ∙ p.len_is
+  where
+    as_long : length new ≡ length (payload_of p.word)
+    as_long = fills ∙ p.len_is
 
-  pub overwritten-joined : overwritten bytes start new
-      ≡ joined (p.front ++ with_payload p.word new ∷ p.behind) ++ p.rest
-  overwritten-joined =
-      sym (append_assoc (take start bytes) new (drop (start + length new) bytes))
-      ∙ (λ i. place-take bytes start len p i ++ new ++ drop (start + fills i) bytes)
-      ∙ ap (λ (b : List ℕ). before_place p ++ new ++ b) (place-drop bytes start len p)
-      ∙ sym (joined-around p.front (with_payload p.word new) p.behind (head_of p.word) new p.rest
-             (bytes_of_word-with_payload p.word new p.holds as_long))
+    pub overwritten-joined : overwritten bytes start new
+        ≡ joined (p.front ++ with_payload p.word new ∷ p.behind) ++ p.rest
+    overwritten-joined =
+        sym (append_assoc (take start bytes) new (drop (start + length new) bytes))
+        ∙ (λ i. place-take bytes start len p i ++ new ++ drop (start + fills i) bytes)
+        ∙ ap (λ (b : List ℕ). before_place p ++ new ++ b) (place-drop bytes start len p)
+        ∙ sym (joined-around p.front (with_payload p.word new) p.behind (head_of p.word) new p.rest
+        (bytes_of_word-with_payload p.word new p.holds as_long))
 
-  -- the bytes overwritten are the same words, with only that payload changed
-  pub overwritten-IsJoined : IsJoined (overwritten bytes start new) (p.front ++ with_payload p.word new ∷ p.behind)
-      p.rest
-  overwritten-IsJoined = record {
-    whole = overwritten-joined;
-    each =
-        each-replaced p.front p.word (with_payload p.word new) p.behind
-            (IsWord-with_payload p.word new p.holds as_long (each-at p.front p.word p.behind p.cut.each)) p.cut.each;
-    ending = p.cut.ending;
-  }
+    -- the bytes overwritten are the same words, with only that payload changed
+    pub overwritten-IsJoined : IsJoined (overwritten bytes start new) (p.front ++ with_payload p.word new ∷ p.behind)
+        p.rest
+    overwritten-IsJoined = record {
+      whole = overwritten-joined;
+      each =
+          each-replaced p.front p.word (with_payload p.word new) p.behind
+          (IsWord-with_payload p.word new p.holds as_long (each-at p.front p.word p.behind p.cut.each)) p.cut.each;
+      ending = p.cut.ending;
+    }
 
-  pub length-overwritten : length (overwritten bytes start new) ≡ length bytes
-  length-overwritten =
-      let same = length-bytes_changed p.word new p.holds as_long in
-      ap length overwritten-joined ∙ around p.front (with_payload p.word new) p.word p.behind p.rest same
-          ∙ ap length (sym p.cut.whole)
-    where
-      around : (front : List Word) (v w : Word) (behind : List Word) (rest : List ℕ)
-          → length (bytes_of_word v) ≡ length (bytes_of_word w)
-          → length (joined (front ++ v ∷ behind) ++ rest) ≡ length (joined (front ++ w ∷ behind) ++ rest)
-      around [] v w behind rest same =
-          length-append (bytes_of_word v ++ joined behind) rest
-              ∙ ap (λ (n : ℕ). n + length rest)
-                  (length-append (bytes_of_word v) (joined behind) ∙ ap (λ (n : ℕ). n + length (joined behind)) same
-                   ∙ sym (length-append (bytes_of_word w) (joined behind)))
-              ∙ sym (length-append (bytes_of_word w ++ joined behind) rest)
-      around (x ∷ front) v w behind rest same =
-          ap length (append_assoc (bytes_of_word x) (joined (front ++ v ∷ behind)) rest)
-              ∙ length-append (bytes_of_word x) (joined (front ++ v ∷ behind) ++ rest)
-          ∙ ap (λ (n : ℕ). length (bytes_of_word x) + n) (around front v w behind rest same)
-          ∙ sym (length-append (bytes_of_word x) (joined (front ++ w ∷ behind) ++ rest))
-              ∙ ap length (sym (append_assoc (bytes_of_word x) (joined (front ++ w ∷ behind)) rest))
+    pub length-overwritten : length (overwritten bytes start new) ≡ length bytes
+    length-overwritten =
+        let same = length-bytes_changed p.word new p.holds as_long in
+        ap length overwritten-joined ∙ around p.front (with_payload p.word new) p.word p.behind p.rest same
+        ∙ ap length (sym p.cut.whole)
+      where
+        around : (front : List Word) (v w : Word) (behind : List Word) (rest : List ℕ)
+            → length (bytes_of_word v) ≡ length (bytes_of_word w)
+            → length (joined (front ++ v ∷ behind) ++ rest) ≡ length (joined (front ++ w ∷ behind) ++ rest)
+        around [] v w behind rest same =
+            length-append (bytes_of_word v ++ joined behind) rest
+            ∙ ap (λ (n : ℕ). n + length rest)
+            (length-append (bytes_of_word v) (joined behind) ∙ ap (λ (n : ℕ). n + length (joined behind)) same
+            ∙ sym (length-append (bytes_of_word w) (joined behind)))
+            ∙ sym (length-append (bytes_of_word w ++ joined behind) rest)
+        around (x ∷ front) v w behind rest same =
+            ap length (append_assoc (bytes_of_word x) (joined (front ++ v ∷ behind)) rest)
+            ∙ length-append (bytes_of_word x) (joined (front ++ v ∷ behind) ++ rest)
+            ∙ ap (λ (n : ℕ). length (bytes_of_word x) + n) (around front v w behind rest same)
+            ∙ sym (length-append (bytes_of_word x) (joined (front ++ w ∷ behind) ++ rest))
+            ∙ ap length (sym (append_assoc (bytes_of_word x) (joined (front ++ w ∷ behind)) rest))
 
 -- ---- the records with one payload overwritten
 
@@ -382,39 +384,39 @@ bare-replaced : (front : List Word) (w : Word) (behind : List Word) (new : List 
     → map bare (front ++ w ∷ behind) ≡ map bare (front ++ with_payload w new ∷ behind)
 bare-replaced front w behind new =
     map-append bare front (w ∷ behind)
-        ∙ ap (λ (v : Word). map bare front ++ v ∷ map bare behind) (sym (bare-with_payload w new))
-        ∙ sym (map-append bare front (with_payload w new ∷ behind))
+    ∙ ap (λ (v : Word). map bare front ++ v ∷ map bare behind) (sym (bare-with_payload w new))
+    ∙ sym (map-append bare front (with_payload w new ∷ behind))
 
 pub FitsTime-replaced : (time : ℕ) (front : List Word) (w : Word) (behind : List Word) (new : List ℕ)
     → FitsTime time (front ++ w ∷ behind) → FitsTime time (front ++ with_payload w new ∷ behind)
 FitsTime-replaced time front w behind new fits =
     FitsTime-same time (front ++ w ∷ behind) (front ++ with_payload w new ∷ behind) (bare-replaced front w behind new)
-        fits
+    fits
 
 -- the records of words, one of them of a data word among these
 pub records_of-around : (time : ℕ) (front : List Word) (w : Word) (behind : List Word) → IsData w
     → records_of time (front ++ w ∷ behind)
-        ≡ records_of time front ++ record { moment = moment_after time (front ++ w ∷ []); bytes = payload_of w }
-            ∷ records_behind time (front ++ w ∷ []) behind
+    ≡ records_of time front ++ record { moment = moment_after time (front ++ w ∷ []); bytes = payload_of w }
+    ∷ records_behind time (front ++ w ∷ []) behind
 records_of-around time front w behind is =
     records_of-append time front (w ∷ behind)
     ∙ ap (λ (rs : List Record). records_of time front ++ (rs ++ records_behind time (front ++ w ∷ []) behind))
-        (records_at-data time front w is)
+    (records_at-data time front w is)
 
 -- what the replaced words read as is the same but for that payload
 pub records_of-replaced : (time : ℕ) (front : List Word) (w : Word) (behind : List Word) (new : List ℕ) → IsData w
     → records_of time (front ++ with_payload w new ∷ behind)
-        ≡ records_of time front ++ record { moment = moment_after time (front ++ w ∷ []); bytes = new }
-            ∷ records_behind time (front ++ w ∷ []) behind
+    ≡ records_of time front ++ record { moment = moment_after time (front ++ w ∷ []); bytes = new }
+    ∷ records_behind time (front ++ w ∷ []) behind
 records_of-replaced time front w behind new is =
     let v : Word = with_payload w new in
     let alike = bare-replaced front w [] new in
     records_of-around time front v behind (IsData-with_payload w new is)
     ∙ together (sym (moment_after-same time (front ++ w ∷ []) (front ++ v ∷ []) alike))
-        (payload_of-with_payload w new is)
-        (sym (records_behind-same time behind (front ++ w ∷ []) (front ++ v ∷ []) alike))
+    (payload_of-with_payload w new is)
+    (sym (records_behind-same time behind (front ++ w ∷ []) (front ++ v ∷ []) alike))
   where
     together : {m n : ℕ} {b c : List ℕ} {rs others : List Record} → m ≡ n → b ≡ c → rs ≡ others
         → records_of time front ++ record { moment = m; bytes = b } ∷ rs
-            ≡ records_of time front ++ record { moment = n; bytes = c } ∷ others
+        ≡ records_of time front ++ record { moment = n; bytes = c } ∷ others
     together p q r = λ i. records_of time front ++ record { moment = p i; bytes = q i } ∷ r i

@@ -39,8 +39,8 @@ records_behind-count time other front behind [] = refl
 records_behind-count time other front behind (w ∷ words) =
     length-append (records_at time front w) (records_behind time (front ++ w ∷ []) words)
     ∙ (λ i.
-          records_at-count time other front behind w i
-              + records_behind-count time other (front ++ w ∷ []) (behind ++ w ∷ []) words i)
+    records_at-count time other front behind w i
+    + records_behind-count time other (front ++ w ∷ []) (behind ++ w ∷ []) words i)
     ∙ sym (length-append (records_at other behind w) (records_behind other (behind ++ w ∷ []) words))
 
 -- at any time words hold as many records
@@ -54,7 +54,7 @@ records_of-count time other words = records_behind-count time other [] [] words
 pub Decodes-overwritten : (bytes : List ℕ) (time : ℕ) (records : List Record) (number start len : ℕ) (new : List ℕ)
     → IsPlaceOf bytes number start len → length new ≡ len → Decodes bytes time records
     → (others : List Record) × Decodes (overwritten bytes start new) time others
-        × IsReplacedAt number records others (bytes_at start len bytes) new
+    × IsReplacedAt number records others (bytes_at start len bytes) new
 Decodes-overwritten bytes time records number start len new place fills reads =
     let p = place.place in
     let words : List Word = p.front ++ p.word ∷ p.behind in
@@ -76,12 +76,12 @@ Decodes-overwritten bytes time records number start len new place fills reads =
         at = records_of-count time 0 p.front ∙ sym place.number_is;
         was =
             was ∙ records_of-around time p.front p.word p.behind p.holds
-                ∙ ap
-                    (λ (b : List ℕ).
-                        records_of time p.front
-                            ++ record { moment = moment_after time (p.front ++ p.word ∷ []); bytes = b }
-                            ∷ records_behind time (p.front ++ p.word ∷ []) p.behind)
-                    (sym (place-payload bytes start len p));
+            ∙ ap
+            (λ (b : List ℕ).
+            records_of time p.front
+            ++ record { moment = moment_after time (p.front ++ p.word ∷ []); bytes = b }
+            ∷ records_behind time (p.front ++ p.word ∷ []) p.behind)
+            (sym (place-payload bytes start len p));
         is = records_of-replaced time p.front p.word p.behind new p.holds;
       },
     )
@@ -95,7 +95,7 @@ IsPlaceOf-from bytes start len p = record { place = p; number_is = refl }
 
 last_kept : (front : List Word) (w v : Word) (behind : List Word) → IsData v
     → (front ++ w ∷ behind ≡ [])
-        ⊎ ((before : List Word) × (x : Word) × (front ++ w ∷ behind ≡ before ++ x ∷ []) × IsData x)
+    ⊎ ((before : List Word) × (x : Word) × (front ++ w ∷ behind ≡ before ++ x ∷ []) × IsData x)
     → (before : List Word) × (x : Word) × (front ++ v ∷ behind ≡ before ++ x ∷ []) × IsData x
 last_kept front w v behind is ends = ⊎_elim
     (λ none. (front, v, ap (λ (ws : List Word). front ++ v ∷ ws) none, is))
@@ -107,8 +107,8 @@ last_kept front w v behind is ends = ⊎_elim
           (λ empty. absurd (no_words front empty))
           (λ end.
           let whole : (front ++ w ∷ last.0) ++ last.1 ∷ [] ≡ end.0 ++ end.1 ∷ [] =
-              append_assoc front (w ∷ last.0) (last.1 ∷ []) ∙ ap (λ (ws : List Word). front ++ w ∷ ws) (sym last.2)
-                  ∙ end.2 in
+          append_assoc front (w ∷ last.0) (last.1 ∷ []) ∙ ap (λ (ws : List Word). front ++ w ∷ ws) (sym last.2)
+          ∙ end.2 in
           subst IsData (sym (same_from_push (front ++ w ∷ last.0) end.0 last.1 end.1 whole).1) end.3)
           ends,
     ))
@@ -123,9 +123,9 @@ pub EndsInRecord-overwritten : (bytes : List ℕ) (start len : ℕ) (new : List 
 EndsInRecord-overwritten bytes start len new p fills ends =
     let whole = IsJoined-whole bytes ends.words ends.whole ends.each in
     let same : ends.words ≡ p.front ++ p.word ∷ p.behind =
-        IsJoined-words_unique bytes ends.words (p.front ++ p.word ∷ p.behind) [] p.rest whole p.cut in
+    IsJoined-words_unique bytes ends.words (p.front ++ p.word ∷ p.behind) [] p.rest whole p.cut in
     let none : p.rest ≡ [] =
-        IsJoined-rest_unique bytes (p.front ++ p.word ∷ p.behind) ends.words p.rest [] p.cut whole in
+    IsJoined-rest_unique bytes (p.front ++ p.word ∷ p.behind) ends.words p.rest [] p.cut whole in
     let cut = overwritten-IsJoined bytes start len p new fills in
     let replaced : List Word = p.front ++ with_payload p.word new ∷ p.behind in
     record {
@@ -134,8 +134,8 @@ EndsInRecord-overwritten bytes start len new p fills ends =
       each = cut.each;
       last = inr (last_kept p.front p.word (with_payload p.word new) p.behind (IsData-with_payload p.word new p.holds)
           (subst
-           (λ (ws : List Word). (ws ≡ []) ⊎ ((before : List Word) × (x : Word) × (ws ≡ before ++ x ∷ []) × IsData x))
-           same ends.last));
+          (λ (ws : List Word). (ws ≡ []) ⊎ ((before : List Word) × (x : Word) × (ws ≡ before ++ x ∷ []) × IsData x))
+          same ends.last));
     }
 
 -- ---- the last record
@@ -161,36 +161,35 @@ place-last bytes start len p ends =
     nothing_more : length (after_place p) ≡ 0
     nothing_more =
         sym (ap length (place-drop bytes start len p)) ∙ length-drop (start + len) bytes
-            ∙ (let e : length bytes - (start + len) ≡ 0 = omega arith in e)
+        ∙ (let e : length bytes - (start + len) ≡ 0 = omega arith in e)
 
 -- the last record's payload overwritten: of all records, the last one's bytes alone are replaced
 pub Decodes-overwritten_last : (bytes : List ℕ) (time : ℕ) (records : List Record) (start len : ℕ) (new : List ℕ)
     → IsPlaceIn bytes start len → start + len ≡ length bytes → length new ≡ len → Decodes bytes time records
     → (front : List Record) × (moment : ℕ)
-        × (records ≡ front ++ record { moment = moment; bytes = bytes_at start len bytes } ∷ [])
+    × (records ≡ front ++ record { moment = moment; bytes = bytes_at start len bytes } ∷ [])
     × Decodes (overwritten bytes start new) time (front ++ record { moment = moment; bytes = new } ∷ [])
 unfolding Decodes-overwritten IsPlaceOf-from
 Decodes-overwritten_last bytes time records start len new p ends fills reads =
     let h =
-        Decodes-overwritten bytes time records (length (records_of 0 p.front)) start len new
-            (IsPlaceOf-from bytes start len p) fills reads in
+    Decodes-overwritten bytes time records (length (records_of 0 p.front)) start len new
+    (IsPlaceOf-from bytes start len p) fills reads in
     let none : h.2.behind ≡ [] =
-        ap (λ (ws : List Word). records_behind time (p.front ++ p.word ∷ []) ws)
-            (place-last bytes start len p ends).0 in
-    (
+    ap (λ (ws : List Word). records_behind time (p.front ++ p.word ∷ []) ws)
+    (place-last bytes start len p ends).0 in (
       h.2.front,
       h.2.moment,
       h.2.was
           ∙ ap
-              (λ (rs : List Record). h.2.front ++ record { moment = h.2.moment; bytes = bytes_at start len bytes } ∷ rs)
-              none,
+          (λ (rs : List Record). h.2.front ++ record { moment = h.2.moment; bytes = bytes_at start len bytes } ∷ rs)
+          none,
       subst (Decodes (overwritten bytes start new) time)
           (h.2.is ∙ ap (λ (rs : List Record). h.2.front ++ record { moment = h.2.moment; bytes = new } ∷ rs) none) h.1,
     )
 
 -- the same, if the records before the last one are known
 pub Decodes-overwritten_end : (bytes : List ℕ) (time : ℕ) (front : List Record) (r : Record) (start len : ℕ)
-        (new : List ℕ) → IsPlaceIn bytes start len → start + len ≡ length bytes → length new ≡ len
+    (new : List ℕ) → IsPlaceIn bytes start len → start + len ≡ length bytes → length new ≡ len
     → Decodes bytes time (front ++ r ∷ [])
     → Decodes (overwritten bytes start new) time (front ++ record { moment = r.moment; bytes = new } ∷ [])
 Decodes-overwritten_end bytes time front r start len new p ends fills reads =
@@ -199,7 +198,7 @@ Decodes-overwritten_end bytes time front r start len new p ends fills reads =
     let moment_is : r.moment ≡ h.1 = ap (λ (x : Record). x.moment) same.1 in
     subst (λ (m : ℕ). Decodes (overwritten bytes start new) time (front ++ one_record m new)) (sym moment_is)
     (subst (λ (rs : List Record). Decodes (overwritten bytes start new) time (rs ++ one_record h.1 new)) (sym same.0)
-     h.3)
+    h.3)
 
 -- ---- two places
 
@@ -225,15 +224,15 @@ splits_twice {X = X} (a ∷ xs) x ys (b ∷ zs) z ws e =
     let first : a ≡ b = cc in
     let rest : xs ++ x ∷ ys ≡ zs ++ z ∷ ws = cc in
     subst (λ (c : X). SplitsTwice (a ∷ xs) x ys (c ∷ zs) z ws) first
-        (under a xs x ys zs z ws (splits_twice xs x ys zs z ws rest))
+    (under a xs x ys zs z ws (splits_twice xs x ys zs z ws rest))
 
 -- where a payload starts and ends
 pub place-start : (bytes : List ℕ) (start len : ℕ) → (p : IsPlaceIn bytes start len)
     → start ≡ length (joined p.front) + length (head_of p.word)
 place-start bytes start len p =
     (let at = p.start_is in
-     let spelled = ap length (bytes_of_word-data p.word p.holds) in
-     omega (arith, length-append (head_of p.word) (payload_of p.word)))
+    let spelled = ap length (bytes_of_word-data p.word p.holds) in
+    omega (arith, length-append (head_of p.word) (payload_of p.word)))
 
 pub place-stop : (bytes : List ℕ) (start len : ℕ) → (p : IsPlaceIn bytes start len)
     → start + len ≡ length (joined p.front) + length (bytes_of_word p.word)
@@ -243,21 +242,21 @@ pub length-joined_split : (front : List Word) (w : Word) (more : List Word)
     → length (joined (front ++ w ∷ more)) ≡ length (joined front) + (length (bytes_of_word w) + length (joined more))
 length-joined_split front w more =
     ap length (flat_map-append bytes_of_word front (w ∷ more))
-        ∙ length-append (joined front) (bytes_of_word w ++ joined more)
-        ∙ ap (λ (n : ℕ). length (joined front) + n) (length-append (bytes_of_word w) (joined more))
+    ∙ length-append (joined front) (bytes_of_word w ++ joined more)
+    ∙ ap (λ (n : ℕ). length (joined front) + n) (length-append (bytes_of_word w) (joined more))
 
 count_split : (front : List Word) (w : Word) (more : List Word) → IsData w
     → length (records_of 0 (front ++ w ∷ more))
-        ≡ length (records_of 0 front) + (1 + length (records_behind 0 (front ++ w ∷ []) more))
+    ≡ length (records_of 0 front) + (1 + length (records_behind 0 (front ++ w ∷ []) more))
 count_split front w more is =
     ap length (records_of-around 0 front w more is)
-        ∙ length-append (records_of 0 front)
-            (record { moment = moment_after 0 (front ++ w ∷ []); bytes = payload_of w }
-             ∷ records_behind 0 (front ++ w ∷ []) more)
+    ∙ length-append (records_of 0 front)
+    (record { moment = moment_after 0 (front ++ w ∷ []); bytes = payload_of w }
+    ∷ records_behind 0 (front ++ w ∷ []) more)
     ∙ (let e : suc (length (records_behind 0 (front ++ w ∷ []) more))
-               ≡ 1 + length (records_behind 0 (front ++ w ∷ []) more) =
-           omega arith in
-       ap (λ (n : ℕ). length (records_of 0 front) + n) e)
+    ≡ 1 + length (records_behind 0 (front ++ w ∷ []) more) =
+    omega arith in
+    ap (λ (n : ℕ). length (records_of 0 front) + n) e)
 
 -- Two places of records in the same data: the same, or the one of the smaller number first.
 pub data ArePlaces (number start len other_number other_start other_len : ℕ) : Type 0 where
@@ -273,7 +272,7 @@ module _ (bytes : List ℕ) (start len : ℕ) (p : IsPlaceIn bytes start len) (o
   same_words : p.front ++ p.word ∷ p.behind ≡ q.front ++ q.word ∷ q.behind
   same_words =
       IsJoined-words_unique bytes (p.front ++ p.word ∷ p.behind) (q.front ++ q.word ∷ q.behind) p.rest q.rest p.cut
-          q.cut
+      q.cut
 
   -- how two places of one data are related
   place-order : SplitsTwice p.front p.word p.behind q.front q.word q.behind
@@ -282,7 +281,7 @@ module _ (bytes : List ℕ) (start len : ℕ) (p : IsPlaceIn bytes start len) (o
 ordered_before : (front : List Word) (w : Word) (more others : List Word) (v : Word) (start len other_start : ℕ)
     → IsData w → IsData v
     → others ≡ front ++ w ∷ more → start + len ≡ length (joined front) + length (bytes_of_word w)
-        → other_start ≡ length (joined others) + length (head_of v)
+    → other_start ≡ length (joined others) + length (head_of v)
     → (length (records_of 0 front) < length (records_of 0 others)) × (start + len + 4 ≤ other_start)
 ordered_before front w more others v start len other_start is is_too cut stop begin =
     let count = ap (λ (ws : List Word). length (records_of 0 ws)) cut ∙ count_split front w more is in
@@ -301,17 +300,17 @@ places-apart bytes number start len other_number other_start other_len place oth
       | at_one fronts words behinds ↦ same_place
           (place.number_is ∙ ap (λ (ws : List Word). length (records_of 0 ws)) fronts ∙ sym other.number_is)
           (place-start bytes start len p ∙ (λ i. length (joined (fronts i)) + length (head_of (words i)))
-           ∙ sym (place-start bytes other_start other_len q))
+          ∙ sym (place-start bytes other_start other_len q))
           (p.len_is ∙ ap (λ (w : Word). length (payload_of w)) words ∙ sym q.len_is)
       | in_front more cut rest ↦
           (let h =
-           ordered_before p.front p.word more q.front q.word start len other_start p.holds q.holds cut
-               (place-stop bytes start len p) (place-start bytes other_start other_len q) in
+          ordered_before p.front p.word more q.front q.word start len other_start p.holds q.holds cut
+          (place-stop bytes start len p) (place-start bytes other_start other_len q) in
           let one = place.number_is in let two = other.number_is in earlier (let a = h.0 in omega arith) h.1)
       | behind_it more cut rest ↦
           (let h =
-           ordered_before q.front q.word more p.front p.word other_start other_len start q.holds p.holds cut
-               (place-stop bytes other_start other_len q) (place-start bytes start len p) in
+          ordered_before q.front q.word more p.front p.word other_start other_len start q.holds p.holds cut
+          (place-stop bytes other_start other_len q) (place-start bytes start len p) in
           let one = place.number_is in let two = other.number_is in later (let a = h.0 in omega arith) h.1)
     ]
 
@@ -319,7 +318,7 @@ places-apart bytes number start len other_number other_start other_len place oth
 pub places_unique : (bytes : List ℕ) (number start len other_number other_start other_len : ℕ)
     → IsPlaceOf bytes number start len → IsPlaceOf bytes other_number other_start other_len
     → (number ≡ other_number) ⊎ (start ≡ other_start)
-        → (number ≡ other_number) × (start ≡ other_start) × (len ≡ other_len)
+    → (number ≡ other_number) × (start ≡ other_start) × (len ≡ other_len)
 places_unique bytes number start len other_number other_start other_len place other alike =
     elim (places-apart bytes number start len other_number other_start other_len place other) [
       | same_place n s l ↦ (n, s, l)
@@ -334,9 +333,9 @@ words_in-IsPlaceIn bytes start len p = words_in-IsJoined bytes (p.front ++ p.wor
 
 -- each data word has its payload's place, and its record the number of those before
 pub IsPlaceOf-made : (bytes : List ℕ) (front : List Word) (w : Word) (behind : List Word) (rest : List ℕ)
-        (number start len : ℕ) → IsJoined bytes (front ++ w ∷ behind) rest → IsData w
+    (number start len : ℕ) → IsJoined bytes (front ++ w ∷ behind) rest → IsData w
     → number ≡ length (records_of 0 front) → start ≡ length (joined front) + length (head_of w)
-        → len ≡ length (payload_of w) → IsPlaceOf bytes number start len
+    → len ≡ length (payload_of w) → IsPlaceOf bytes number start len
 IsPlaceOf-made bytes front w behind rest number start len cut is count at long = record {
   place = record {
     front = front;
@@ -358,43 +357,44 @@ pub IsReplacedAt-length : (number : ℕ) (records others : List Record) (old new
     → IsReplacedAt number records others old new → length others ≡ length records
 IsReplacedAt-length number records others old new h =
     ap length h.is ∙ length-append h.front (record { moment = h.moment; bytes = new } ∷ h.behind)
-        ∙ sym (length-append h.front (record { moment = h.moment; bytes = old } ∷ h.behind)) ∙ ap length (sym h.was)
+    ∙ sym (length-append h.front (record { moment = h.moment; bytes = old } ∷ h.behind)) ∙ ap length (sym h.was)
 
 -- the data still reads, as many records
 pub overwritten-reads : (bytes : List ℕ) (time : ℕ) (records : List Record) (start len : ℕ) (new : List ℕ)
     → IsPlaceIn bytes start len → length new ≡ len → Decodes bytes time records
     → Decodes (overwritten bytes start new) time (records_in time (overwritten bytes start new))
-        × (length (records_in time (overwritten bytes start new)) ≡ length records)
+    × (length (records_in time (overwritten bytes start new)) ≡ length records)
 overwritten-reads bytes time records start len new p fills reads =
     let number : ℕ = length (records_of 0 p.front) in
     let place = IsPlaceOf-from bytes start len p in
     let h = Decodes-overwritten bytes time records number start len new place fills reads in
-    let found = records_in-Decodes (overwritten bytes start new) time h.0 h.1 in
-    (subst (Decodes (overwritten bytes start new) time) (sym found) h.1,
-     ap length found ∙ IsReplacedAt-length number records h.0 (bytes_at start len bytes) new h.2)
+    let found = records_in-Decodes (overwritten bytes start new) time h.0 h.1 in (
+      subst (Decodes (overwritten bytes start new) time) (sym found) h.1,
+      ap length found ∙ IsReplacedAt-length number records h.0 (bytes_at start len bytes) new h.2,
+    )
 
 -- a payload of the last record: what the plain reader finds then
 pub records_in-overwritten_end : (bytes : List ℕ) (time : ℕ) (front : List Record) (r : Record) (start len : ℕ)
-        (new : List ℕ) → IsPlaceIn bytes start len → start + len ≡ length bytes → length new ≡ len
+    (new : List ℕ) → IsPlaceIn bytes start len → start + len ≡ length bytes → length new ≡ len
     → Decodes bytes time (front ++ r ∷ [])
     → records_in time (overwritten bytes start new) ≡ front ++ record { moment = r.moment; bytes = new } ∷ []
 records_in-overwritten_end bytes time front r start len new p ends fills reads =
     records_in-Decodes (overwritten bytes start new) time (front ++ one_record r.moment new)
-        (Decodes-overwritten_end bytes time front r start len new p ends fills reads)
+    (Decodes-overwritten_end bytes time front r start len new p ends fills reads)
 
 length-joined_changed : (front : List Word) (w v : Word) (more : List Word)
     → length (bytes_of_word v) ≡ length (bytes_of_word w)
     → length (joined (front ++ v ∷ more)) ≡ length (joined (front ++ w ∷ more))
 length-joined_changed front w v more same =
     length-joined_split front v more ∙ ap (λ (n : ℕ). length (joined front) + (n + length (joined more))) same
-        ∙ sym (length-joined_split front w more)
+    ∙ sym (length-joined_split front w more)
 
 count_changed : (front : List Word) (w v : Word) (more : List Word) → IsData w → IsData v
     → length (records_of 0 (front ++ v ∷ more)) ≡ length (records_of 0 (front ++ w ∷ more))
 count_changed front w v more is is_too =
     count_split front v more is_too
-        ∙ ap (λ (n : ℕ). length (records_of 0 front) + (1 + n))
-            (records_behind-count 0 0 (front ++ v ∷ []) (front ++ w ∷ []) more) ∙ sym (count_split front w more is)
+    ∙ ap (λ (n : ℕ). length (records_of 0 front) + (1 + n))
+    (records_behind-count 0 0 (front ++ v ∷ []) (front ++ w ∷ []) more) ∙ sym (count_split front w more is)
 
 -- so are all others
 pub IsPlaceOf-overwritten : (bytes : List ℕ) (number start len at size : ℕ) (new : List ℕ)
@@ -404,35 +404,35 @@ IsPlaceOf-overwritten bytes number start len at size new place q fills =
     let p = place.place in
     let v : Word = with_payload q.word new in
     let cut : IsJoined (overwritten bytes at new) (q.front ++ v ∷ q.behind) q.rest =
-        overwritten-IsJoined bytes at size q new fills in
+    overwritten-IsJoined bytes at size q new fills in
     let as_long : length new ≡ length (payload_of q.word) = fills ∙ q.len_is in
     let is : IsData v = IsData-with_payload q.word new q.holds in
     let alike : length (bytes_of_word v) ≡ length (bytes_of_word q.word) =
-        length-bytes_changed q.word new q.holds as_long in
+    length-bytes_changed q.word new q.holds as_long in
     elim (place-order bytes start len p at size q) [
       | at_one fronts words behinds ↦ IsPlaceOf-made (overwritten bytes at new) q.front v q.behind q.rest number start
           len cut is
           (place.number_is ∙ ap (λ (ws : List Word). length (records_of 0 ws)) fronts)
           (place-start bytes start len p ∙ (λ i. length (joined (fronts i)) + length (head_of (words i)))
-           ∙ ap (λ (n : ℕ). length (joined q.front) + n) (sym (length-head q.word new q.holds)))
+          ∙ ap (λ (n : ℕ). length (joined q.front) + n) (sym (length-head q.word new q.holds)))
           (p.len_is ∙ ap (λ (w : Word). length (payload_of w)) words ∙ sym as_long
-           ∙ sym (ap length (payload_of-with_payload q.word new q.holds)))
+          ∙ sym (ap length (payload_of-with_payload q.word new q.holds)))
       | in_front more split rest ↦ IsPlaceOf-made (overwritten bytes at new) p.front p.word (more ++ v ∷ q.behind)
           q.rest number start len
           (subst (λ (ws : List Word). IsJoined (overwritten bytes at new) ws q.rest)
-           (ap (λ (ws : List Word). ws ++ v ∷ q.behind) split ∙ append_assoc p.front (p.word ∷ more) (v ∷ q.behind))
-           cut)
+          (ap (λ (ws : List Word). ws ++ v ∷ q.behind) split ∙ append_assoc p.front (p.word ∷ more) (v ∷ q.behind))
+          cut)
           p.holds place.number_is (place-start bytes start len p) p.len_is
       | behind_it more split rest ↦ IsPlaceOf-made (overwritten bytes at new) (q.front ++ v ∷ more) p.word p.behind
           q.rest number start len
           (subst (λ (ws : List Word). IsJoined (overwritten bytes at new) ws q.rest)
-           (ap (λ (ws : List Word). q.front ++ v ∷ ws) rest ∙ sym (append_assoc q.front (v ∷ more) (p.word ∷ p.behind)))
-           cut)
+          (ap (λ (ws : List Word). q.front ++ v ∷ ws) rest ∙ sym (append_assoc q.front (v ∷ more) (p.word ∷ p.behind)))
+          cut)
           p.holds
           (place.number_is ∙ ap (λ (ws : List Word). length (records_of 0 ws)) split
-           ∙ sym (count_changed q.front q.word v more q.holds is))
+          ∙ sym (count_changed q.front q.word v more q.holds is))
           (place-start bytes start len p ∙ ap (λ (ws : List Word). length (joined ws) + length (head_of p.word)) split
-           ∙ ap (λ (n : ℕ). n + length (head_of p.word)) (sym (length-joined_changed q.front q.word v more alike)))
+          ∙ ap (λ (n : ℕ). n + length (head_of p.word)) (sym (length-joined_changed q.front q.word v more alike)))
           p.len_is
     ]
 
@@ -454,15 +454,15 @@ joined-behind bytes more ends each = IsJoined-whole (bytes ++ joined more) (ends
 pub IsPlaceOf-appended : (bytes : List ℕ) (number start len delta : ℕ) (payload : List ℕ) → EndsInRecord bytes
     → IsPlaceOf bytes number start len
     → delta < word_time_limit → length payload % 4 ≡ 0 → 4 ≤ length payload → length payload + 4 < 2 ^ 32
-        → IsPlaceOf (bytes ++ encoding delta false payload) number start len
+    → IsPlaceOf (bytes ++ encoding delta false payload) number start len
 IsPlaceOf-appended bytes number start len delta payload ends place small whole some fits =
     let p = place.place in
     let more : List Word = written_words delta false payload in
     let same : ends.words ≡ p.front ++ p.word ∷ p.behind =
-        EndsInRecord-words bytes (p.front ++ p.word ∷ p.behind) p.rest ends p.cut in
+    EndsInRecord-words bytes (p.front ++ p.word ∷ p.behind) p.rest ends p.cut in
     IsPlaceOf-made (bytes ++ encoding delta false payload) p.front p.word (p.behind ++ more) [] number start len
     (subst (λ (ws : List Word). IsJoined (bytes ++ joined more) ws [])
-     (ap (λ (ws : List Word). ws ++ more) same ∙ append_assoc p.front (p.word ∷ p.behind) more)
+    (ap (λ (ws : List Word). ws ++ more) same ∙ append_assoc p.front (p.word ∷ p.behind) more)
     (joined-behind bytes more ends (written-each delta payload small whole some fits)))
     p.holds place.number_is (place-start bytes start len p) p.len_is
 
@@ -470,15 +470,15 @@ IsPlaceOf-appended bytes number start len delta payload ends place small whole s
 place_at_end : (bytes : List ℕ) (front : List Word) (w : Word) (number start len : ℕ)
     → IsJoined bytes (front ++ w ∷ []) [] → IsData w
     → number ≡ length (records_of 0 front) → len ≡ length (payload_of w) → start + len ≡ length bytes
-        → IsPlaceOf bytes number start len
+    → IsPlaceOf bytes number start len
 place_at_end bytes front w number start len cut is count long ends =
     let whole = ap length cut.whole in
     let spelled = ap length (bytes_of_word-data w is) in
     IsPlaceOf-made bytes front w [] [] number start len cut is count
     (start_at start len (length bytes) (length (joined front)) (length (head_of w)) (length (payload_of w))
-     (length (bytes_of_word w)) ends long
+    (length (bytes_of_word w)) ends long
     (whole ∙ ap length (append-nil (joined (front ++ w ∷ []))) ∙ length-joined_split front w [])
-        (spelled ∙ length-append (head_of w) (payload_of w)))
+    (spelled ∙ length-append (head_of w) (payload_of w)))
     long
   where
     start_at : (s l b f h p x : ℕ) → s + l ≡ b → l ≡ p → b ≡ f + (x + 0) → x ≡ h + p → s ≡ f + h
@@ -491,37 +491,37 @@ pub IsPlaceOf-first : (delta : ℕ) (payload : List ℕ) (start : ℕ) → lengt
 IsPlaceOf-first delta payload start whole some fits ends =
     place_at_end (encoding delta true payload) [] (data_word 0 payload) 0 start (length payload)
     (IsJoined-whole (encoding delta true payload) (data_word 0 payload ∷ []) refl
-     (data_word-IsWord 0 payload (omega arith) whole some fits, tt))
+    (data_word-IsWord 0 payload (omega arith) whole some fits, tt))
     (data_word-IsData 0 payload) refl (ap length (sym (data_word-payload 0 payload))) ends
 
 -- the place of a record after others: its number is how many they are
 pub IsPlaceOf-new : (bytes : List ℕ) (time : ℕ) (records : List Record) (delta : ℕ) (payload : List ℕ) (start : ℕ)
     → EndsInRecord bytes → Decodes bytes time records
     → delta < word_time_limit → length payload % 4 ≡ 0 → 4 ≤ length payload → length payload + 4 < 2 ^ 32
-        → start + length payload ≡ length (bytes ++ encoding delta false payload)
+    → start + length payload ≡ length (bytes ++ encoding delta false payload)
     → IsPlaceOf (bytes ++ encoding delta false payload) (length records) start (length payload)
 IsPlaceOf-new bytes time records delta payload start ends reads small whole some fits stop =
     cond_both (ltb delta (2 ^ 27)) _ _
-        (λ (ws : List Word).
-            AllByRecursion IsWord ws → start + length payload ≡ length (bytes ++ joined ws)
-                → IsPlaceOf (bytes ++ joined ws) (length records) start (length payload))
+    (λ (ws : List Word).
+    AllByRecursion IsWord ws → start + length payload ≡ length (bytes ++ joined ws)
+    → IsPlaceOf (bytes ++ joined ws) (length records) start (length payload))
     (λ short each at_end.
-        place_at_end (bytes ++ joined (data_word delta payload ∷ [])) ends.words (data_word delta payload)
-            (length records) start (length payload)
+    place_at_end (bytes ++ joined (data_word delta payload ∷ [])) ends.words (data_word delta payload)
+    (length records) start (length payload)
     (joined-behind bytes (data_word delta payload ∷ []) ends each) (data_word-IsData delta payload) count
-        (ap length (sym (data_word-payload delta payload))) at_end)
+    (ap length (sym (data_word-payload delta payload))) at_end)
     (λ long each at_end.
-        place_at_end (bytes ++ joined (time_extend delta ∷ data_word 0 payload ∷ []))
-            (ends.words ++ time_extend delta ∷ []) (data_word 0 payload) (length records) start (length payload)
+    place_at_end (bytes ++ joined (time_extend delta ∷ data_word 0 payload ∷ []))
+    (ends.words ++ time_extend delta ∷ []) (data_word 0 payload) (length records) start (length payload)
     (subst (λ (ws : List Word). IsJoined (bytes ++ joined (time_extend delta ∷ data_word 0 payload ∷ [])) ws [])
-     (sym (append_assoc ends.words (time_extend delta ∷ []) (data_word 0 payload ∷ [])))
+    (sym (append_assoc ends.words (time_extend delta ∷ []) (data_word 0 payload ∷ [])))
     (joined-behind bytes (time_extend delta ∷ data_word 0 payload ∷ []) ends each))
     (data_word-IsData 0 payload) (count ∙ sym (ap length (records_of-push_extend 0 ends.words delta)))
-        (ap length (sym (data_word-payload 0 payload))) at_end)
+    (ap length (sym (data_word-payload 0 payload))) at_end)
     (written-each delta payload small whole some fits) stop
   where
     count : length records ≡ length (records_of 0 ends.words)
     count =
         ap length reads.read ∙ records_of-count time 0 reads.words
-            ∙ ap (λ (ws : List Word). length (records_of 0 ws))
-                (sym (EndsInRecord-words bytes reads.words reads.rest ends reads.cut))
+        ∙ ap (λ (ws : List Word). length (records_of 0 ws))
+        (sym (EndsInRecord-words bytes reads.words reads.rest ends reads.cut))

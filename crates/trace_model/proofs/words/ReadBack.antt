@@ -30,12 +30,12 @@ Decodes-encoding_of bytes time records prev r ends reads at later is =
     let below = is.0 in
     let sum : prev + (r.moment - prev) ≡ r.moment = omega arith in
     let appended =
-        Decodes-appended bytes time records prev (r.moment - prev) r.bytes ends reads at (omega arith) (omega arith)
-            (slot_whole (length r.bytes) is.1) (slot_some (length r.bytes) is.1) is.2 in
+    Decodes-appended bytes time records prev (r.moment - prev) r.bytes ends reads at (omega arith) (omega arith)
+    (slot_whole (length r.bytes) is.1) (slot_some (length r.bytes) is.1) is.2 in
     subst (λ (b : List ℕ). Decodes (bytes ++ b) time (records ++ r ∷ [])) (sym (encoding_of-writable prev r false is))
     (subst
-     (λ (m : ℕ). Decodes (bytes ++ encoding (r.moment - prev) false r.bytes) time (records ++ one_record m r.bytes)) sum
-     appended)
+    (λ (m : ℕ). Decodes (bytes ++ encoding (r.moment - prev) false r.bytes) time (records ++ one_record m r.bytes)) sum
+    appended)
 
 pub EndsInRecord-encoding_of : (bytes : List ℕ) (prev : ℕ) (r : Record) → EndsInRecord bytes → IsWritable r
     → EndsInRecord (bytes ++ encoding_of prev r false)
@@ -43,7 +43,7 @@ EndsInRecord-encoding_of bytes prev r ends is =
     let below = is.0 in
     subst (λ (b : List ℕ). EndsInRecord (bytes ++ b)) (sym (encoding_of-writable prev r false is))
     (EndsInRecord-appended bytes (r.moment - prev) r.bytes ends (omega arith) (slot_whole (length r.bytes) is.1)
-     (slot_some (length r.bytes) is.1) is.2)
+    (slot_some (length r.bytes) is.1) is.2)
 
 -- the first record of a page, by its encoding
 pub Decodes-encoding_of_first : (prev : ℕ) (r : Record) → IsWritable r
@@ -52,27 +52,27 @@ Decodes-encoding_of_first prev r is =
     let below = is.0 in
     subst (λ (b : List ℕ). Decodes b r.moment (r ∷ [])) (sym (encoding_of-writable prev r true is))
     (Decodes-first r.moment (r.moment - prev) r.bytes (omega arith) (slot_whole (length r.bytes) is.1)
-     (slot_some (length r.bytes) is.1) is.2)
+    (slot_some (length r.bytes) is.1) is.2)
 
 pub EndsInRecord-encoding_of_first : (prev : ℕ) (r : Record) → IsWritable r → EndsInRecord (encoding_of prev r true)
 EndsInRecord-encoding_of_first prev r is =
     subst EndsInRecord (sym (encoding_of-writable prev r true is))
     (EndsInRecord-first (r.moment - prev) r.bytes (slot_whole (length r.bytes) is.1) (slot_some (length r.bytes) is.1)
-     is.2)
+    is.2)
 
 -- more records after those that the data holds
 pub Decodes-encodings_behind : (records : List Record) (bytes : List ℕ) (time : ℕ) (before : List Record) (prev : ℕ)
     → EndsInRecord bytes → Decodes bytes time before → EndsAt before prev
     → NeverFallsFrom prev records → AllByRecursion IsWritable records
-        → Decodes (bytes ++ encodings_behind prev records) time (before ++ records)
+    → Decodes (bytes ++ encodings_behind prev records) time (before ++ records)
 Decodes-encodings_behind [] bytes time before prev ends reads at rises each =
     subst (λ (b : List ℕ). Decodes b time (before ++ [])) (sym (append-nil bytes))
-        (subst (Decodes bytes time) (sym (append-nil before)) reads)
+    (subst (Decodes bytes time) (sym (append-nil before)) reads)
 Decodes-encodings_behind (r ∷ records) bytes time before prev ends reads at rises each =
     subst (λ (b : List ℕ). Decodes b time (before ++ r ∷ records))
-        (append_assoc bytes (encoding_of prev r false) (encodings_behind r.moment records))
+    (append_assoc bytes (encoding_of prev r false) (encodings_behind r.moment records))
     (subst (Decodes ((bytes ++ encoding_of prev r false) ++ encodings_behind r.moment records) time)
-     (append_assoc before (r ∷ []) records)
+    (append_assoc before (r ∷ []) records)
     (Decodes-encodings_behind records (bytes ++ encoding_of prev r false) time (before ++ r ∷ []) r.moment
     (EndsInRecord-encoding_of bytes prev r ends each.0)
     (Decodes-encoding_of bytes time before prev r ends reads at rises.0 each.0)
@@ -81,11 +81,13 @@ Decodes-encodings_behind (r ∷ records) bytes time before prev ends reads at ri
 -- an empty page reads as no records
 pub Decodes-nil : (time : ℕ) → Decodes [] time []
 Decodes-nil time =
-    record { words = [];
-            rest = [];
-            cut = record { whole = refl; each = tt; ending = inl refl };
-            in_time = FitsTime-nil time;
-            read = refl }
+    record {
+      words = [];
+      rest = [];
+      cut = record { whole = refl; each = tt; ending = inl refl };
+      in_time = FitsTime-nil time;
+      read = refl;
+    }
 
 -- the data of a page reads as the records that it was made of
 pub Decodes-page_encoding : (records : List Record) (time : ℕ) → NeverFalls records → AllByRecursion IsWritable records
@@ -93,4 +95,4 @@ pub Decodes-page_encoding : (records : List Record) (time : ℕ) → NeverFalls 
 Decodes-page_encoding [] time rises each = Decodes-nil time
 Decodes-page_encoding (r ∷ records) time rises each =
     Decodes-encodings_behind records (encoding_of 0 r true) r.moment (r ∷ []) r.moment
-        (EndsInRecord-encoding_of_first 0 r each.0) (Decodes-encoding_of_first 0 r each.0) refl rises.1 each.1
+    (EndsInRecord-encoding_of_first 0 r each.0) (Decodes-encoding_of_first 0 r each.0) refl rises.1 each.1

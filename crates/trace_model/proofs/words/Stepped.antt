@@ -33,7 +33,7 @@ leaves-part_with_length n bytes make fewer =
     cond_both (ltb (from_le32 bytes) 4) None _ (LeavesLess n) (λ less. tt) (λ least.
     cond_both (eqb (from_le32 bytes % 4) 0) _ None (LeavesLess n)
     (λ whole. leaves-part n (from_le32 bytes - 4) (drop 4 bytes) make (let e = length-drop 4 bytes in omega arith))
-        (λ odd. tt)))
+    (λ odd. tt)))
 
 leaves-behind : (n t d : ℕ) (bytes : List ℕ) → length bytes < n → LeavesLess n (word_behind t d bytes)
 leaves-behind n t d bytes fewer =
@@ -41,10 +41,10 @@ leaves-behind n t d bytes fewer =
     cond_both (leb t 28) _ _ (LeavesLess n) (λ h. leaves-part n (4 * t) bytes (short_data d) fewer) (λ more.
     cond_both (eqb t 29) _ _ (LeavesLess n)
     (λ e.
-        cond_both (eqb d 0) None _ (LeavesLess n) (λ ends. tt)
-            (λ goes. leaves-part_with_length n bytes (padding d) fewer)) (λ not_padding.
+    cond_both (eqb d 0) None _ (LeavesLess n) (λ ends. tt)
+    (λ goes. leaves-part_with_length n bytes (padding d) fewer)) (λ not_padding.
     cond_both (eqb t 30) _ _ (LeavesLess n)
-        (λ e. leaves-part n 4 bytes (λ high. time_extend (from_le32 high * 2 ^ 27 + d)) fewer)
+    (λ e. leaves-part n 4 bytes (λ high. time_extend (from_le32 high * 2 ^ 27 + d)) fewer)
     (λ not_extend. leaves-part n 4 bytes (λ high. time_stamp (from_le32 high * 2 ^ 27 + d)) fewer))))
 
 leaves-front : (bytes : List ℕ) → LeavesLess (length bytes) (word_at_front bytes)
@@ -82,16 +82,16 @@ words_within-enough : (n m : ℕ) (bytes : List ℕ) → length bytes ≤ n → 
     → words_within n bytes ≡ words_within m bytes
 unfolding next
 words_within-enough zero m bytes few many =
-        let none =
-        nil_from_length bytes (let e : length bytes ≡ 0 = omega arith in e) in
+    let none =
+    nil_from_length bytes (let e : length bytes ≡ 0 = omega arith in e) in
     ap (words_within 0) none ∙ sym (words_within-nil m) ∙ ap (words_within m) (sym none)
 words_within-enough (suc n) zero bytes few many =
-        let none =
-        nil_from_length bytes (let e : length bytes ≡ 0 = omega arith in e) in
+    let none =
+    nil_from_length bytes (let e : length bytes ≡ 0 = omega arith in e) in
     ap (words_within (suc n)) none ∙ words_within-nil (suc n) ∙ ap (words_within 0) (sym none)
 words_within-enough (suc n) (suc m) bytes few many =
     next_same n m bytes (λ w rest less. words_within-enough n m rest (omega arith) (omega arith)) (word_at_front bytes)
-        refl
+    refl
 
 -- if a word is at the front, it is the first of the words, and then come those after it
 pub words_in-found : (bytes : List ℕ) (w : Word) (rest : List ℕ) → word_at_front bytes ≡ Some (w, rest)
@@ -104,7 +104,7 @@ words_in-found bytes w rest found = first (length bytes) refl
     first (suc n) some =
         let less = word_at_front_lt bytes w rest found in
         ap (λ (k : ℕ). words_within k bytes) some ∙ ap (next n) found
-            ∙ ap (λ (ws : List Word). w ∷ ws) (words_within-enough n (length rest) rest (omega arith) (omega arith))
+        ∙ ap (λ (ws : List Word). w ∷ ws) (words_within-enough n (length rest) rest (omega arith) (omega arith))
 
 -- if none is there, there are no words
 pub words_in-none : (bytes : List ℕ) → word_at_front bytes ≡ None → words_in bytes ≡ []
@@ -144,15 +144,15 @@ read_to (suc n) bytes few small (Some f) e =
     let less = word_at_front_lt bytes f.0 f.1 e in
     let word = word_at_front-found bytes f.0 f.1 small e in
     let rest =
-        read_to n f.1 (omega arith) (AreBytes-behind (bytes_of_word f.0) f.1 (subst AreBytes word.0 small))
-            (word_at_front f.1) refl in
+    read_to n f.1 (omega arith) (AreBytes-behind (bytes_of_word f.0) f.1 (subst AreBytes word.0 small))
+    (word_at_front f.1) refl in
     let words = words_in-found bytes f.0 f.1 e in (
       rest.0,
       record {
         whole =
             word.0 ∙ ap (λ (b : List ℕ). bytes_of_word f.0 ++ b) rest.1.whole
-                ∙ sym (append_assoc (bytes_of_word f.0) (joined (words_in f.1)) rest.0)
-                ∙ ap (λ (ws : List Word). joined ws ++ rest.0) (sym words);
+            ∙ sym (append_assoc (bytes_of_word f.0) (joined (words_in f.1)) rest.0)
+            ∙ ap (λ (ws : List Word). joined ws ++ rest.0) (sym words);
         each = subst (AllByRecursion IsWord) (sym words) (word.1, rest.1.each);
         stops = rest.1.stops;
         small = rest.1.small;

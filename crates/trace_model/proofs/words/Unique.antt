@@ -37,8 +37,8 @@ words_within-joined zero (w ∷ words) rest few each ending = absurd (omega arit
 words_within-joined (suc n) [] rest few each ending = ap (next n) (word_at_front-IsEnding rest ending)
 words_within-joined (suc n) (w ∷ words) rest few each ending =
     ap (next n)
-        (ap word_at_front (append_assoc (bytes_of_word w) (joined words) rest)
-         ∙ word_at_front-word w (joined words ++ rest) each.0)
+    (ap word_at_front (append_assoc (bytes_of_word w) (joined words) rest)
+    ∙ word_at_front-word w (joined words ++ rest) each.0)
     ∙ ap (λ (ws : List Word). w ∷ ws) (words_within-joined n words rest (omega arith) each.1 ending)
 
 -- the words of data are those that the reader finds
@@ -60,7 +60,7 @@ pub IsJoined-rest_unique : (bytes : List ℕ) (words others : List Word) (rest l
 IsJoined-rest_unique bytes words others rest left cut other =
     let same = IsJoined-words_unique bytes words others rest left cut other in
     append_cancel_left (joined words) rest left
-        (sym cut.whole ∙ other.whole ∙ ap (λ (ws : List Word). joined ws ++ left) (sym same))
+    (sym cut.whole ∙ other.whole ∙ ap (λ (ws : List Word). joined ws ++ left) (sym same))
 
 -- a reading is what the plain reader gives
 pub records_in-Decodes : (bytes : List ℕ) (time : ℕ) (records : List Record) → Decodes bytes time records

@@ -9,5 +9,5 @@ returns c = record {
   counts = counts;
   list =
       λ times size pieces in_time all limit.
-             (written-pages times size 0 pieces in_time all limit, written-reported size pieces);
+      (written-pages times size 0 pieces in_time all limit, written-reported size pieces);
 }

@@ -14,7 +14,7 @@ loop-found-init g c = record {
   tied = c.requires;
   put =
       λ parts captures read.
-             prints_none _ _ _ _ (λ form formats. ap (all_unknown form 0) (none_read parts 0 captures read));
+      prints_none _ _ _ _ (λ form formats. ap (all_unknown form 0) (none_read parts 0 captures read));
 }
 
 pub loop-found-preserved : goal.loop-found-preserved
@@ -28,19 +28,19 @@ loop-found-preserved g c =
       tied = c.put_unknown.ensures.tied;
       put = λ parts captures read.
           let last =
-              last_read parts 0 (take k cs) found captures
-                  (subst (λ (xs : List CpuCapture). AreReadFrom parts 0 xs captures) (sym more) read) in
+          last_read parts 0 (take k cs) found captures
+          (subst (λ (xs : List CpuCapture). AreReadFrom parts 0 xs captures) (sym more) read) in
           prints_both (λ form formats. all_unknown form 0 last.others)
-              (λ form formats. unknown_lines form found.capture.cpu.0 (unknown_from 0 last.own)) _ _ _ _ _ _ _ _ _ _
+          (λ form formats. unknown_lines form found.capture.cpu.0 (unknown_from 0 last.own)) _ _ _ _ _ _ _ _ _ _
           (c.loop-found.invariant.put parts last.others last.front_read)
           (c.put_unknown.ensures.put last.own last.last_read.capture_is)
           (λ form formats. ap (all_unknown form 0) last.captures_are ∙ unknown_more form 0 last.others last.own
           ∙ ap (λ (n : ℕ). all_unknown form 0 last.others ++ unknown_lines form n (unknown_from 0 last.own))
-              (sym last.last_read.cpu_is));
+          (sym last.last_read.cpu_is));
     }
 
 pub returns-clause-put : goal.returns-clause-put
 returns-clause-put g c parts captures read =
     c.loop-found.invariant.put parts captures
     (subst (λ (xs : List CpuCapture). AreReadFrom parts 0 xs captures)
-     (sym (take_all c.loop-found.found-index c.args.cpus.now c.loop-found-test.false)) read)
+    (sym (take_all c.loop-found.found-index c.args.cpus.now c.loop-found-test.false)) read)

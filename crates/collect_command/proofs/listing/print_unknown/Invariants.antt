@@ -12,6 +12,6 @@ invariant-loop-found g l = record {
   put : (parts : List ModelPart) (captures : List (List Page))
       → AreReadFrom parts 0 (take l.found-index l.cpus) captures
       → Prints (λ form formats. all_unknown form 0 captures) l.initial.printer (g.W.Sink.contents l.initial.writer)
-          (g.W.Sink.failed l.initial.writer)
+      (g.W.Sink.failed l.initial.writer)
       l.printer (g.W.Sink.contents l.writer) (g.W.Sink.failed l.writer);
 }

@@ -11,9 +11,9 @@ loop-cpu-init c = record {
   count = c.new-cpus.ensures.len;
   each =
       λ cpu found at.
-             absurd
-                 (none_some
-                  (subst (λ (cs : List CpuCapture). slice_get cs cpu ≡ Some found) c.new-cpus.ensures.items at));
+      absurd
+      (none_some
+      (subst (λ (cs : List CpuCapture). slice_get cs cpu ≡ Some found) c.new-cpus.ensures.items at));
 }
 
 pub loop-cpu-preserved : goal.loop-cpu-preserved
@@ -26,7 +26,7 @@ loop-cpu-preserved c =
           (λ there. c.loop-cpu.invariant.each cpu found there)
           (λ here. subst (IsCpuRead unknown cpu []) here.1
           (subst (λ (n : ℕ). IsCpuRead unknown n [] c.new.result)
-           (let same : c.loop-cpu.cpu ≡ cpu = omega (arith, here.0, count, len) in same)
+          (let same : c.loop-cpu.cpu ≡ cpu = omega (arith, here.0, count, len) in same)
           (c.new.ensures.none unknown)))
           (get-push c.loop-cpu.cpus.items c.new.result cpu found
           (subst (λ (cs : List CpuCapture). slice_get cs cpu ≡ Some found) c.in_ok-push.ensures.items at));

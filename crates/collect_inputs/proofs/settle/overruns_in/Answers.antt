@@ -15,6 +15,6 @@ loop-at-preserved c = record {
   each = λ cpu below.
       c.note_counters.ensures cpu _ (c.loop-at.invariant.each cpu below)
       ∙ ap Some
-          (one-before (λ text. text.now) cpu c.args.texts.now (c.loop-at.at - 1) c.loop-at.at _
-           (omega (arith, c.loop-at-test.true)) (omega (arith, c.loop-at.invariant.within, c.loop-at-test.true)));
+      (one-before (λ text. text.now) cpu c.args.texts.now (c.loop-at.at - 1) c.loop-at.at _
+      (omega (arith, c.loop-at-test.true)) (omega (arith, c.loop-at.invariant.within, c.loop-at-test.true)));
 }

@@ -6,5 +6,5 @@ use Rattle.collector.proofs.entries.records_from.Goals as goal
 pub loop-passed-preserved : goal.loop-passed-preserved
 loop-passed-preserved c =
     left_behind (as_parcel c.args.parcel.now) c.loop-passed._passed c.loop-passed.records c.next-record.new.self
-        c.next-record.result
+    c.next-record.result
     (omega arith) c.loop-passed.invariant c.next-record.ensures.steps

@@ -18,7 +18,7 @@ loop-i-preserved c =
     record {
       put =
           put_more (List Parcel) Shown IsPrintOf (λ pair. printed_collector pair.0 pair.1) c.args.collectors.now
-              c.loop-i.i
+          c.loop-i.i
           c.index-collectors-i.result c.args.out.now.items c.loop-i.out.items c.put_whole.new.out.items put.0
           c.loop-i-test.true c.index-collectors-i.is c.loop-i.invariant.put put.1 put.2;
       last = c.in_ok-span.ensures.below;

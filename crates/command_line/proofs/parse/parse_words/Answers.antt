@@ -16,10 +16,10 @@ returns-in_err-matches g c =
     let kinds = c.in_err-matches.ensures.kinds free in
     let words = map g.S.AsStr.text c.args.words.now in
     failed-words words c.from_residual-in_err-matches.result (kind_of c.in_err-matches.field-0.0)
-        c.from_residual-in_err-matches.ensures.1
+    c.from_residual-in_err-matches.ensures.1
     (λ accepted. let none : fault_of (app_of c.in_ok-program.field-0) words ≡ [] =
-         ap (λ (a : App). fault_of a words) built ∙ accepted in
-     only (rw none at kinds))
+    ap (λ (a : App). fault_of a words) built ∙ accepted in
+    only (rw none at kinds))
 
 pub returns-in-Ok : goal.returns-in-Ok
 returns-in-Ok g c =
@@ -27,12 +27,12 @@ returns-in-Ok g c =
     let built : app_of c.in_ok-program.field-0 ≡ command_line = c.in_ok-program.ensures in
     let m = c.in_ok-matches.matches in
     let has : HasMatchesOf command_line words m =
-        subst (λ (a : App). HasMatchesOf a words m) built c.in_ok-matches.ensures.matches in
+    subst (λ (a : App). HasMatchesOf a words m) built c.in_ok-matches.ensures.matches in
     let accepted : IsAccepted words =
-        subst (λ (a : App). fault_of a words ≡ []) built
-            (c.in_ok-matches.ensures.kinds (ap is_simple_and_free built ∙ command_line_is_free)) in
+    subst (λ (a : App). fault_of a words ≡ []) built
+    (c.in_ok-matches.ensures.kinds (ap is_simple_and_free built ∙ command_line_is_free)) in
     collect_call-words words m (found_of c.in-Some.found.now) c.in-Ok.call has accepted (search rules)
-        c.in-Some.ensures.rows c.in-Ok.ensures.asked
+    c.in-Some.ensures.rows c.in-Ok.ensures.asked
 
 pub returns-in-Some : goal.returns-in-Some
 returns-in-Some g c =
@@ -40,9 +40,9 @@ returns-in-Some g c =
     let built : app_of c.in_ok-program.field-0 ≡ command_line = c.in_ok-program.ensures in
     let m = c.in_ok-matches.matches in
     let has : HasMatchesOf command_line words m =
-        subst (λ (a : App). HasMatchesOf a words m) built c.in_ok-matches.ensures.matches in
+    subst (λ (a : App). HasMatchesOf a words m) built c.in_ok-matches.ensures.matches in
     no_collect-words words m (found_of c.in-Some.found.now) c.in-Err.fault has (search rules) c.in-Some.ensures.rows
-        (λ is. c.collect_call.ensures.unread (c.in-Err.is ∙ ap Err is))
+    (λ is. c.collect_call.ensures.unread (c.in-Err.is ∙ ap Err is))
 
 pub returns : goal.returns
 returns g c =
@@ -50,8 +50,8 @@ returns g c =
     let built : app_of c.in_ok-program.field-0 ≡ command_line = c.in_ok-program.ensures in
     let m = c.in_ok-matches.matches in
     let has : HasMatchesOf command_line words m =
-        subst (λ (a : App). HasMatchesOf a words m) built c.in_ok-matches.ensures.matches in
+    subst (λ (a : App). HasMatchesOf a words m) built c.in_ok-matches.ensures.matches in
     let accepted : IsAccepted words =
-        subst (λ (a : App). fault_of a words ≡ []) built
-            (c.in_ok-matches.ensures.kinds (ap is_simple_and_free built ∙ command_line_is_free)) in
+    subst (λ (a : App). fault_of a words ≡ []) built
+    (c.in_ok-matches.ensures.kinds (ap is_simple_and_free built ∙ command_line_is_free)) in
     c.other_call.ensures words has accepted (search rules)

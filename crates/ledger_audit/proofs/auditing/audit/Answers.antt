@@ -13,14 +13,14 @@ returns-in-Some-clause-stray c =
     let taken = taken_in c.args.ledgers.now in
     stray_is_stray c.args.collector.now taken c.in-Some.key
     (subst (λ (kept : List Parcel). IsLeastFault kept (Contains taken) (Some c.in-Some.key)) c.parcels.ensures.parcels
-     c.in-Some.ensures)
+    c.in-Some.ensures)
 
 pub returns-in-Some-clause-lacks : goal.returns-in-Some-clause-lacks
 returns-in-Some-clause-lacks c =
     let taken = taken_in c.args.ledgers.now in
     stray_is_no_lack c.args.collector.now taken c.in-Some.key
     (subst (λ (kept : List Parcel). IsLeastFault kept (Contains taken) (Some c.in-Some.key)) c.parcels.ensures.parcels
-     c.in-Some.ensures)
+    c.in-Some.ensures)
 
 pub returns-in-Some-least_lacking-clause-stray : goal.returns-in-Some-least_lacking-clause-stray
 returns-in-Some-least_lacking-clause-stray c =
@@ -46,20 +46,20 @@ pub returns-clause-sum : goal.returns-clause-sum
 returns-clause-sum c =
     let own = c.args.collector.now in let taken = taken_in c.args.ledgers.now in
     is_sum own taken
-        (whole (as_parcels c.parcels.result.now) own taken c.parcels.ensures.parcels c.in_default.ensures
-         c.in_default-least_lacking.ensures)
+    (whole (as_parcels c.parcels.result.now) own taken c.parcels.ensures.parcels c.in_default.ensures
+    c.in_default-least_lacking.ensures)
 
 pub returns-clause-agree : goal.returns-clause-agree
 returns-clause-agree c =
     let own = c.args.collector.now in let taken = taken_in c.args.ledgers.now in
     taken_agree own taken
-        (whole (as_parcels c.parcels.result.now) own taken c.parcels.ensures.parcels c.in_default.ensures
-         c.in_default-least_lacking.ensures) c.parcels.ensures.agree
+    (whole (as_parcels c.parcels.result.now) own taken c.parcels.ensures.parcels c.in_default.ensures
+    c.in_default-least_lacking.ensures) c.parcels.ensures.agree
 
 pub returns-clause-headline : goal.returns-clause-headline
 returns-clause-headline c = λ n size start cores rings.
     let own = c.args.collector.now in let taken = taken_in c.args.ledgers.now in
     headline n size start cores c.args.ledgers.now rings own
     (is_sum own taken
-     (whole (as_parcels c.parcels.result.now) own taken c.parcels.ensures.parcels c.in_default.ensures
-      c.in_default-least_lacking.ensures))
+    (whole (as_parcels c.parcels.result.now) own taken c.parcels.ensures.parcels c.in_default.ensures
+    c.in_default-least_lacking.ensures))

@@ -16,9 +16,9 @@ returns-then-is_among c =
     let ledger = c.ledger-item.result in
     let at = item_at ledgers c.loop-ledger.ledger-index ledger c.loop-ledger-test.true c.ledger-item.is in (
       λ e.
-             of_all ledgers c.loop-ledger.ledger-index ledger parcel at
-                 (subst (λ (own : List Parcel). Contains own parcel) (ap as_parcels c.deref.ensures.value)
-                  (c.is_among.ensures.0 c.if-is_among.true)),
+          of_all ledgers c.loop-ledger.ledger-index ledger parcel at
+          (subst (λ (own : List Parcel). Contains own parcel) (ap as_parcels c.deref.ensures.value)
+          (c.is_among.ensures.0 c.if-is_among.true)),
       λ has. refl,
     )
 
@@ -30,19 +30,19 @@ loop-ledger-preserved c = λ has.
     let ledger = c.ledger-item.result in
     ⊎_elim l.invariant
     (λ here. let yes =
-         c.is_among.ensures.1
-             (subst (λ (own : List Parcel). Contains own parcel) (sym (ap as_parcels c.deref.ensures.value)) here) in
-     let no = c.if-is_among.false in
-     cc)
+    c.is_among.ensures.1
+    (subst (λ (own : List Parcel). Contains own parcel) (sym (ap as_parcels c.deref.ensures.value)) here) in
+    let no = c.if-is_among.false in
+    cc)
     (Contains-append_cases (taken_in (take l.ledger-index ledgers)) (taken_of ledger) parcel
     (subst (λ (all : List Parcel). Contains all parcel)
-     (ledger_more ledgers l.ledger-index ledger c.loop-ledger-test.true c.ledger-item.is) has))
+    (ledger_more ledgers l.ledger-index ledger c.loop-ledger-test.true c.ledger-item.is) has))
 
 pub returns : goal.returns
 returns c = (
   λ e. cc,
   λ has.
-         absurd
-             (c.loop-ledger.invariant (subst (λ (l : List Ledger). Contains (taken_in l) (as_parcel c.args.parcel.now))
-                  (sym (take_all c.loop-ledger.ledger-index c.args.ledgers.now c.loop-ledger-test.false)) has)),
+      absurd
+      (c.loop-ledger.invariant (subst (λ (l : List Ledger). Contains (taken_in l) (as_parcel c.args.parcel.now))
+      (sym (take_all c.loop-ledger.ledger-index c.args.ledgers.now c.loop-ledger-test.false)) has)),
 )

@@ -12,4 +12,4 @@ returns-clause-open g c =
 pub returns-clause-last : goal.returns-clause-last
 returns-clause-last g c =
     subst (λ (o : Option ℕ). IfSome o (λ last. last ≡ c.args.given.0))
-        (sym (c.payload_mut.ensures.stays.last_stays c.write.new.slot c.write.auto.slot)) c.put-place.ensures.last
+    (sym (c.payload_mut.ensures.stays.last_stays c.write.new.slot c.write.auto.slot)) c.put-place.ensures.last

@@ -6,7 +6,7 @@ use Rattle.record_words.proofs.next.next_word.Goals as goal
 pub returns-then-data-at-lt4-clause-ok : goal.returns-then-data-at-lt4-clause-ok
 returns-then-data-at-lt4-clause-ok c =
     IsOk-iff c.args.data.now c.args.at (Err (Cut c.args.at)) tt
-        (faulty_few c.args.data.now c.args.at c.requires (omega arith))
+    (faulty_few c.args.data.now c.args.at c.requires (omega arith))
 
 pub returns-then-data-at-lt4-clause-fault : goal.returns-then-data-at-lt4-clause-fault
 returns-then-data-at-lt4-clause-fault c = faulty_few c.args.data.now c.args.at c.requires (omega arith)

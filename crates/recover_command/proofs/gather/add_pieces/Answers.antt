@@ -56,7 +56,7 @@ loop-piece-preserved g c =
     let more = counted_more (take k ps) item c.loop-piece.index c.loop-piece.at inv.counted in
     let len = c.len.ensures ∙ sym c.deref.ensures.len ∙ ap length (c.deref.ensures.value ∙ c.in-Ok.ensures.bytes) in
     let counted : AreCounted (take k ps ++ item ∷ []) c.saturating_add-index.result c.saturating_add-at.result =
-        record {
+    record {
       index_is = c.saturating_add-index.ensures ∙ more.index_is;
       at_is = c.saturating_add-at.ensures ∙ ap (λ n. min (c.loop-piece.at + n) (2 ^ 64 - 1)) len ∙ more.at_is;
     } in

@@ -11,7 +11,7 @@ pub loop-input-init : goal.loop-input-init
 loop-input-init g c =
     let inputs = c.args.inputs.now in
     subst
-        (λ (regions : List Region). AreReadSoFar g.R.Source.remaining g.R.Source.count g.R.Source.failed inputs inputs 0
+    (λ (regions : List Region). AreReadSoFar g.R.Source.remaining g.R.Source.count g.R.Source.failed inputs inputs 0
     regions) (sym c.new-regions.ensures.items)
     (none_read g.R.Source.remaining g.R.Source.count g.R.Source.failed inputs)
 
@@ -43,7 +43,7 @@ returns-then-is_err-clause-stopped g c =
     stops_here g.R.Source.remaining g.R.Source.count g.R.Source.failed c.args.inputs.now c.loop-input.inputs
     c.loop-input.input regions this c.read_input.new.reader NoMemory so_far next
     (taken_whole g.R.Source.remaining g.R.Source.count g.R.Source.failed this c.read_input.new.reader c.in-Ok.region
-     read)
+    read)
 
 pub returns-in-Err-clause-stopped : goal.returns-in-Err-clause-stopped
 returns-in-Err-clause-stopped g c =
@@ -72,7 +72,7 @@ loop-input-preserved g c =
     c.read_input.new.reader c.in-Ok.region) (sym c.index-inputs-input.is) c.in-Ok.ensures.region in
     let more : c.push.new.self.items ≡ regions ++ c.in-Ok.region ∷ [] =
     c.push.ensures.items
-        ∙ ap (λ b. if b then regions ++ c.in-Ok.region ∷ [] else regions) c.if-is_err.ensures.negation in
+    ∙ ap (λ b. if b then regions ++ c.in-Ok.region ∷ [] else regions) c.if-is_err.ensures.negation in
     subst (λ (all : List Region). AreReadSoFar g.R.Source.remaining g.R.Source.count g.R.Source.failed c.args.inputs.now
     (slice_set c.loop-input.inputs c.loop-input.input c.read_input.new.reader) (c.loop-input.input + 1) all) (sym more)
     (one_read g.R.Source.remaining g.R.Source.count g.R.Source.failed c.args.inputs.now c.loop-input.inputs

@@ -10,5 +10,5 @@ loop-number-preserved c =
     let number = c.loop-number.number in
     let was = c.loop-number.invariant in
     scanned_more c.args.header bytes _ number c.loop-number.scan c.add.new.self
-        (slot_sliced c.args.header.size c.slot_at-at.result number bytes c.slot_at-at.ensures) was
+    (slot_sliced c.args.header.size c.slot_at-at.result number bytes c.slot_at-at.ensures) was
     (c.in_ok-add.ensures was.slots was.scanned was.count_is)

@@ -14,9 +14,9 @@ pub returns-in-Err-clause-reading : goal.returns-in-Err-clause-reading
 returns-in-Err-clause-reading c = λ cpu known is.
     let bytes = c.args.slot.now in
     told_slot cpu bytes c.in-Err.fault c.image_damaged.result known (λ i. omega (arith, c.type_inv.slot i))
-        c.requires.limit c.requires.commit is
+    c.requires.limit c.requires.commit is
     (subst (λ (b : List ℕ). IsImageFault b c.in-Err.fault) (take_rest bytes 32) c.in-Err.ensures.fault)
-        c.image_damaged.ensures
+    c.image_damaged.ensures
 
 pub returns-in-Err-clause-within : goal.returns-in-Err-clause-within
 returns-in-Err-clause-within c =
@@ -24,7 +24,7 @@ returns-in-Err-clause-within c =
     let commit = c.requires.commit in
     told_within bytes c.in-Err.fault c.image_damaged.result (omega arith)
     (subst (λ (b : List ℕ). IsImageFault b c.in-Err.fault) (take_rest bytes 32) c.in-Err.ensures.fault)
-        c.image_damaged.ensures
+    c.image_damaged.ensures
 
 pub returns-then-is_none-clause-reading : goal.returns-then-is_none-clause-reading
 returns-then-is_none-clause-reading c = λ cpu known is.
@@ -32,12 +32,12 @@ returns-then-is_none-clause-reading c = λ cpu known is.
     let outlined = subst (λ (b : List ℕ). IsOutlined b c.in-Ok.outline) (take_rest bytes 32) c.in-Ok.ensures.reads in
     let past = subst (λ (n : ℕ). 2 ^ 64 ≤ n + c.in-Ok.outline.count) c.number_at.ensures
     (sum_past c.checked_add.result c.is_none.result c.number_at.result c.in-Ok.outline.count c.is_none.ensures
-     c.if-is_none.true c.checked_add.ensures) in
+    c.if-is_none.true c.checked_add.ensures) in
     subst (λ (r : Reading). IsSlotOf cpu bytes (reading_seen cpu r)) (sym c.damaged.ensures) (
       committed-whole cpu bytes c.requires.commit is,
       subst HasOverflow (sym (whole_committed bytes c.requires.commit))
           (page_overflows cpu bytes c.in-Ok.outline known (λ i. omega (arith, c.type_inv.slot i))
-           (cut-whole cpu bytes c.requires.limit c.requires.commit is) outlined past),
+          (cut-whole cpu bytes c.requires.limit c.requires.commit is) outlined past),
     )
 
 pub returns-clause-reading : goal.returns-clause-reading
@@ -46,15 +46,15 @@ returns-clause-reading c = λ cpu known is.
     let outlined = subst (λ (b : List ℕ). IsOutlined b c.in-Ok.outline) (take_rest bytes 32) c.in-Ok.ensures.reads in
     let fits = subst (λ (n : ℕ). n + c.in-Ok.outline.count < 2 ^ 64) c.number_at.ensures
     (sum_fits c.checked_add.result c.is_none.result c.number_at.result c.in-Ok.outline.count c.is_none.ensures
-     c.if-is_none.false c.checked_add.ensures) in
+    c.if-is_none.false c.checked_add.ensures) in
     let page =
-        page_made bytes _ c.in-Ok.outline c.in_ok-page.page c.numbered.result c.new.result c.number_at.result
-            c.number_at-2.result (take_rest bytes 32)
+    page_made bytes _ c.in-Ok.outline c.in_ok-page.page c.numbered.result c.new.result c.number_at.result
+    c.number_at-2.result (take_rest bytes 32)
     c.in_ok-page.ensures.contents c.numbered.ensures c.new.ensures c.number_at.ensures c.number_at-2.ensures in (
       committed-whole cpu bytes c.requires.commit is,
       subst (λ (b : List ℕ). DecodesParcel b (unmissed cpu c.new.result))
           (sym (whole_committed bytes c.requires.commit))
           (subst (λ (p : Contents). DecodesParcel bytes (unmissed cpu p)) page
           (page_reads cpu bytes c.in-Ok.outline known (λ i. omega (arith, c.type_inv.slot i))
-           (cut-whole cpu bytes c.requires.limit c.requires.commit is) outlined fits)),
+          (cut-whole cpu bytes c.requires.limit c.requires.commit is) outlined fits)),
     )

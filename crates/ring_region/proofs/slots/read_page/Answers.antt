@@ -12,7 +12,7 @@ read_committed-requires-clause-commit c =
     let n = c.number_at-commit.result in
     let there : 48 + n ≤ length bytes = omega arith in
     ap (λ (k : ℕ). 48 + k) (number-take bytes (48 + n) 40 (omega arith) ∙ sym c.number_at-commit.ensures)
-        ∙ sym (length-take-le (48 + n) bytes there)
+    ∙ sym (length-take-le (48 + n) bytes there)
 
 pub returns-clause-reading : goal.returns-clause-reading
 returns-clause-reading c =
@@ -32,8 +32,8 @@ returns-clause-reading c =
     } in
     committed_reported cpu bytes c.read_committed.result is
     (subst
-     (λ (k : ℕ).
-         IsUnmissed cpu (take (48 + k) bytes)
-             → IfOk c.read_committed.result (λ read. IsSlotOf cpu (take (48 + k) bytes) (reading_seen cpu read))) commit
+    (λ (k : ℕ).
+    IsUnmissed cpu (take (48 + k) bytes)
+    → IfOk c.read_committed.result (λ read. IsSlotOf cpu (take (48 + k) bytes) (reading_seen cpu read))) commit
     (c.read_committed.ensures.reading cpu c.requires.cpu)
     (committed_unmissed cpu bytes is.unmissed))

@@ -12,5 +12,5 @@ pub returns-clause-behind : goal.returns-clause-behind
 returns-clause-behind c = λ page is numbers_fit fill_fits some same.
     slot_reported c.args.cpu.0 c.args.slot.now c.read.result (intact (unmissed c.args.cpu.0 page)) c.read.ensures.slot
     (page_slot c.args.cpu.0 page c.requires.cpu is fill_fits numbers_fit
-     (size_within c.args.cpu.0 page c.args.slot.now c.requires.limit same)
+    (size_within c.args.cpu.0 page c.args.slot.now c.requires.limit same)
     c.args.slot.now some same)

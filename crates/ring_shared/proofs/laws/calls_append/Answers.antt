@@ -5,4 +5,4 @@ use Rattle.ring_shared.proofs.laws.calls_append.Goals as goal
 pub returns : goal.returns
 returns c =
     assumption
-        (calls_append, pushes_append, closes_append, ends_append, reservations_append, numbers_again, refusals_append)
+    (calls_append, pushes_append, closes_append, ends_append, reservations_append, numbers_again, refusals_append)

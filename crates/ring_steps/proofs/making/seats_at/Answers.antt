@@ -24,8 +24,8 @@ invariant_of-result-2 c =
     record { pages = c.args.pages; size = c.args.size; start = c.args.start } in
     let none : List (ℕ × Option Contents) = [] in
     let me_is : c.split_seat-reader.result.me ≡ (reads (first_reading shape), none) =
-        c.split_seat-reader.ensures.4
-            ∙ ap (λ (v : SeatView). let m : SeatState = (reads (reading v), none) in m) c.take_tail.ensures.seat.0 in
+    c.split_seat-reader.ensures.4
+    ∙ ap (λ (v : SeatView). let m : SeatState = (reads (reading v), none) in m) c.take_tail.ensures.seat.0 in
     let numbers = c.requires.start in record {
       key_is = search rules;
       table = search rules;
@@ -41,7 +41,7 @@ invariant_of-result-clause-reached c =
     record { pages = c.args.pages; size = c.args.size; start = c.args.start } in
     let none : List (ℕ × Option Contents) = [] in
     let seat_is : writing c.split_seat-reader.new.seat.me.0 ≡ first_writing shape =
-        ap (λ (m : SeatState). writing m.0) c.split_seat-reader.ensures.2 ∙ ap writing c.take_tail.ensures.seat.0 in
+    ap (λ (m : SeatState). writing m.0) c.split_seat-reader.ensures.2 ∙ ap writing c.take_tail.ensures.seat.0 in
     ∣ subst (IsWriterReached shape) (sym seat_is) (first_reached shape (search rules)) ∣₁
 
 pub invariant_of-result-clause-pending : goal.invariant_of-result-clause-pending

@@ -18,7 +18,7 @@ loop-position-preserved c =
     let new = link_of (get_or c.args.news.now i past_end) in
     let within : i < min (length c.args.olds.now) (length c.args.news.now) = omega arith in
     let written : c.if-not-is_same_link.out.items
-        ≡ c.loop-position.out.items ++ flat_map change_text (unless_same (same_link old new) (link_is i new)) =
+    ≡ c.loop-position.out.items ++ flat_map change_text (unless_same (same_link old new) (link_is i new)) =
     elim c.if-not-is_same_link.branch [
       | then-not-is_same_link+in_ok-put_link_line w ↦
           written_new c.loop-position.out.items c.if-not-is_same_link.out.items (same_link old new) (link_is i new)
@@ -38,8 +38,8 @@ pub returns : goal.returns
 returns c =
     let i = c.loop-position.position in
     let none =
-        no_link_changes i (drop i c.args.olds.now) (drop i c.args.news.now)
-            (omega (arith, length-drop i c.args.olds.now, length-drop i c.args.news.now)) in
+    no_link_changes i (drop i c.args.olds.now) (drop i c.args.news.now)
+    (omega (arith, length-drop i c.args.olds.now, length-drop i c.args.news.now)) in
     sym (append-nil c.loop-position.out.items)
     ∙ ap (λ changes. c.loop-position.out.items ++ flat_map change_text changes) (sym none)
     ∙ c.loop-position.invariant

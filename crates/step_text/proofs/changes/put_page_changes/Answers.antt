@@ -14,7 +14,7 @@ loop-position-preserved c =
     let new = get_or c.args.news.now i 0 in
     let within : i < min (length c.args.olds.now) (length c.args.news.now) = omega arith in
     let written : c.if-olds-position.out.items
-        ≡ c.loop-position.out.items ++ flat_map change_text (unless_same (old == new) (page_is i new)) =
+    ≡ c.loop-position.out.items ++ flat_map change_text (unless_same (old == new) (page_is i new)) =
     elim c.if-olds-position.branch [
       | then-olds-position+in_ok-put_page_line w ↦
           written_new c.loop-position.out.items c.if-olds-position.out.items (old == new) (page_is i new)
@@ -34,8 +34,8 @@ pub returns : goal.returns
 returns c =
     let i = c.loop-position.position in
     let none =
-        no_page_changes i (drop i c.args.olds.now) (drop i c.args.news.now)
-            (omega (arith, length-drop i c.args.olds.now, length-drop i c.args.news.now)) in
+    no_page_changes i (drop i c.args.olds.now) (drop i c.args.news.now)
+    (omega (arith, length-drop i c.args.olds.now, length-drop i c.args.news.now)) in
     sym (append-nil c.loop-position.out.items)
     ∙ ap (λ changes. c.loop-position.out.items ++ flat_map change_text changes) (sym none)
     ∙ c.loop-position.invariant

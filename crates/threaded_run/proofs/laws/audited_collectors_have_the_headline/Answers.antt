@@ -6,4 +6,4 @@ pub returns : goal.returns
 returns c = λ script ran run kept audited.
     let taken = taken_in ran.ledgers.items in
     headline script.pages script.size script.start run.rings ran.ledgers.items run.are_of_rings kept
-        (is_sum kept taken audited)
+    (is_sum kept taken audited)

@@ -23,9 +23,9 @@ loop-running-preserved g c =
     (omega (arith, was.left, step.1)) in
     let joined = joined_on
     (λ (all : Vec Ledger Global).
-        AreRunLedgers g.G.Gate.answers job.gate.now job.script.now 0 all.items × (vec_len all + left ≡ total))
+    AreRunLedgers g.G.Gate.answers job.gate.now job.script.now 0 all.items × (vec_len all + left ≡ total))
     (λ (all : Vec Ledger Global).
-        AreRunLedgers g.G.Gate.answers job.gate.now job.script.now 0 all.items × (vec_len all + after ≡ total))
+    AreRunLedgers g.G.Gate.answers job.gate.now job.script.now 0 all.items × (vec_len all + after ≡ total))
     (IsPassedLedger g.G.Gate.answers job.gate.now threads.script threads.cpu)
     (IsByGate g.G.Gate.answers job.gate.now job.script.now.cpus)
     c.loop-running.ledgers c.complete.result c.with_next-ledgers.result

@@ -7,5 +7,5 @@ pub returns : goal.returns
 returns c = record {
   none = λ e. records_none c.args.collector.now c.args.cpu.0 c.records-records.result
       (none_first numbered_record c.next.result c.records-records.result c.next.new.self c.next.ensures.steps
-       (sym c.is_some.ensures ∙ e)) c.records-records.ensures;
+      (sym c.is_some.ensures ∙ e)) c.records-records.ensures;
 }

@@ -16,5 +16,5 @@ returns c =
       c.records-entry-items.ensures,
       c.loop-entry.invariant
           ∙ ap (λ (rs : List (ℕ × Record)). map line_seen c.args.lines.now.items ++ map (line_of c.args.cpu.0) rs)
-              all.0,
+          all.0,
     )

@@ -14,10 +14,10 @@ loop-waiting-preserved g c =
       can = c.take_line.ensures.can;
       taken =
           takes_more g.T.TakesLines.takes (c.args.taker.now, c.args.writer.now) at.yielded (at.taker, at.writer)
-              c.in-Some.waiting (new.self, new.writer)
+          c.in-Some.waiting (new.self, new.writer)
           at.invariant.taken
           (subst (λ (line : ModelLine). g.T.TakesLines.takes (at.taker, at.writer) line (new.self, new.writer))
-           c.waiting.view_is c.take_line.ensures.taken);
+          c.waiting.view_is c.take_line.ensures.taken);
     }
 
 pub returns-clause-lines : goal.returns-clause-lines
@@ -26,8 +26,8 @@ returns-clause-lines g c =
       at.yielded,
       c.in_ok-merge.ensures at.yielded
           (merge_drained (λ (_ : ByTime) (first : ModelLine → ModelLine → Bool). first ≡ comes_before)
-           c.in_ok-merge.merge c.into_iter-waiting-iterator.result at.waiting-iterator at.yielded
-           c.into_iter-waiting-iterator.ensures.into_iter_gives
+          c.in_ok-merge.merge c.into_iter-waiting-iterator.result at.waiting-iterator at.yielded
+          c.into_iter-waiting-iterator.ensures.into_iter_gives
           at.yielded_by c.in-None.ensures.steps),
       at.invariant.taken,
     )

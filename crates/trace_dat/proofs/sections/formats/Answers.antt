@@ -22,5 +22,5 @@ loop-option-preserved c =
 pub returns : goal.returns
 returns c =
     each_is_done option_seen (formats_of c.args.file.now) (map format_seen c.loop-option.formats.items)
-        c.args.options.now
+    c.args.options.now
     c.loop-option.option-index _ c.loop-option-test.false c.loop-option.invariant

@@ -9,4 +9,4 @@ pub returns-in-More : goal.returns-in-More
 returns-in-More c =
     subst (λ (fields : Fields). IsTrue c.is_none.result ↔ HasNoFifth fields) (sym c.in-More.is)
     (whole_rest c.in-More.rest.now c.field_cut.result.0.now c.field_cut.result.1 c.is_none.result
-     c.field_cut.ensures.parts c.is_none.ensures)
+    c.field_cut.ensures.parts c.is_none.ensures)

@@ -20,25 +20,25 @@ returns-then-is_empty c = elim c.then-is_empty.branch [
       (sym c.is_letter.ensures ∙ c.if-is_letter.false) (inr (inl w.if-field-ne0.true))
   | then-is_empty-via-else-is_empty+else-field-ne0+then-not-are_hex_digits w ↦
       payload_refused c.args.field.now (sym c.is_letter.ensures ∙ c.if-is_letter.false)
-          (inr (inr (sym w.are_hex_digits.ensures ∙ w.if-not-are_hex_digits.true)))
+      (inr (inr (sym w.are_hex_digits.ensures ∙ w.if-not-are_hex_digits.true)))
 ]
 
 pub returns-in_err-put_pairs : goal.returns-in_err-put_pairs
 returns-in_err-put_pairs c =
     let p = err_from_is_err_and c.from_residual.result c.from_residual.ensures.1 in
-    rw (p.1, p.2)
-    (bytes_of_pairs c.args.field.now,
-     payload_read c.args.field.now (sym c.is_empty.ensures ∙ c.if-is_empty.false) (omega arith)
-         (sym c.are_hex_digits.ensures ∙ c.if-not-are_hex_digits.false))
+    rw (p.1, p.2) (
+      bytes_of_pairs c.args.field.now,
+      payload_read c.args.field.now (sym c.is_empty.ensures ∙ c.if-is_empty.false) (omega arith)
+          (sym c.are_hex_digits.ensures ∙ c.if-not-are_hex_digits.false),
+    )
 
 pub returns : goal.returns
 returns c =
     let digits = sym c.are_hex_digits.ensures ∙ c.if-not-are_hex_digits.false in
     let puts = c.in_ok-put_pairs.ensures in
     let none =
-        none_left c.args.field.now _ c.args.payloads.now.items c.put_pairs.new.payloads.items puts.0 puts.1
-            (omega arith) digits in
-    (
+    none_left c.args.field.now _ c.args.payloads.now.items c.put_pairs.new.payloads.items puts.0 puts.1
+    (omega arith) digits in (
       bytes_of_pairs c.args.field.now,
       all_put c.args.field.now _ c.args.payloads.now.items c.put_pairs.new.payloads.items puts.0 none,
       payload_read c.args.field.now (sym c.is_empty.ensures ∙ c.if-is_empty.false) (omega arith) digits,

@@ -16,7 +16,7 @@ returns-then-is_empty-clause-gives c = elim c.then-is_empty.branch [
 pub returns-in_default-clause-gives : goal.returns-in_default-clause-gives
 returns-in_default-clause-gives c =
     number_stops c.args.field.now c.loop-digit.digit-index _ c.loop-digit.number c.loop-digit-test.true refl
-        c.loop-digit.invariant.value c.in_default.ensures
+    c.loop-digit.invariant.value c.in_default.ensures
 
 pub loop-digit-preserved : goal.loop-digit-preserved
 loop-digit-preserved c =
@@ -24,15 +24,15 @@ loop-digit-preserved c =
     record {
       digits =
           digits_turn c.args.field.now c.loop-digit.digit-index _ c.loop-digit-test.true refl next.0.0
-              c.loop-digit.invariant.digits;
+          c.loop-digit.invariant.digits;
       value =
           value_turn c.args.field.now c.loop-digit.digit-index _ c.loop-digit.number c.in-Some.next
-              c.loop-digit-test.true refl next.0.0 c.loop-digit.invariant.value next.1;
+          c.loop-digit-test.true refl next.0.0 c.loop-digit.invariant.value next.1;
       small = omega (arith, next.0.1, next.1);
     }
 
 pub returns-clause-gives : goal.returns-clause-gives
 returns-clause-gives c =
     number_ends c.args.field.now c.loop-digit.digit-index c.loop-digit.number
-        (sym c.is_empty.ensures ∙ c.if-is_empty.false) c.if-field-gt-MAX_NUMBER_DIGITS.false c.loop-digit-test.false
-        c.loop-digit.invariant.digits c.loop-digit.invariant.value c.loop-digit.invariant.small
+    (sym c.is_empty.ensures ∙ c.if-is_empty.false) c.if-field-gt-MAX_NUMBER_DIGITS.false c.loop-digit-test.false
+    c.loop-digit.invariant.digits c.loop-digit.invariant.value c.loop-digit.invariant.small

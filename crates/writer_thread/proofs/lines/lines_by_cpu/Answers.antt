@@ -34,8 +34,8 @@ low_cpu script seen line_index line of limits same at is =
 pub index_mut-requires : goal.index_mut-requires
 index_mut-requires c =
     let low =
-        low_cpu c.args.script.now c.commands-commands.result.now c.loop-line_index.line_index c.line.result
-            c.in-Some.cpu
+    low_cpu c.args.script.now c.commands-commands.result.now c.loop-line_index.line_index c.line.result
+    c.in-Some.cpu
     c.commands-commands.ensures.limits c.commands-commands.ensures.commands c.line.ensures c.in-Some.ensures in
     let count = c.loop-line_index.invariant.count in
     omega arith
@@ -46,7 +46,7 @@ loop-line_index-preserved c =
     let seen = c.commands-commands.result.now in
     let line_index : ℕ = c.loop-line_index.line_index in
     let at =
-        line_at script.commands seen line_index c.line.result c.commands-commands.ensures.commands c.line.ensures in
+    line_at script.commands seen line_index c.line.result c.commands-commands.ensures.commands c.line.ensures in
     let count = c.loop-line_index.invariant.count in
     let was = c.loop-line_index.invariant.placed in
     elim c.match-writer_of.branch [
@@ -55,7 +55,7 @@ loop-line_index-preserved c =
         placed = subst (λ (v : Vec (List ℕ) Global). AreIndexed script.commands (line_index + 1) v.items)
             (sym w.lists-is)
             (one_more script.commands line_index (shown_line c.line.result) at c.loop-line_index.lists.items
-             w.in-Some.cpu
+            w.in-Some.cpu
             w.index_mut.result.now w.push.new.self w.in-Some.ensures
             (slice_get_read c.loop-line_index.lists.items (length c.loop-line_index.lists.items) w.in-Some.cpu.0
             w.index_mut.result.now refl
@@ -71,7 +71,7 @@ loop-line_index-preserved c =
         placed = subst (λ (v : Vec (List ℕ) Global). AreIndexed script.commands (line_index + 1) v.items)
             (sym w.lists-is)
             (none_more script.commands line_index (shown_line c.line.result) at c.loop-line_index.lists.items
-             w.in_default.ensures
+            w.in_default.ensures
             was);
       }
     ]

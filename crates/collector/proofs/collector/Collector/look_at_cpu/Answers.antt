@@ -22,8 +22,8 @@ returns-in-Some-clause-fault c =
           (λ m lt. ⊎_elim
           (λ (before : m < at). c.loop-at.invariant m before)
           (λ (ge : at ≤ m).
-              fit_seen _ _ _ _ _ seen _ _ _ _ c.in-Records.is c.parcel.ensures c.parcel-in-Records.ensures m ge
-                  (omega arith) (c.in-Some.ensures.first m ge lt))
+          fit_seen _ _ _ _ _ seen _ _ _ _ c.in-Records.is c.parcel.ensures c.parcel-in-Records.ensures m ge
+          (omega arith) (c.in-Some.ensures.first m ge lt))
           (cases_lt m at)),
     )
 
@@ -41,8 +41,8 @@ loop-at-preserved-in_default c =
     let both = c.beside_known-both in
     fit_up_to _ _ _ _ both.result.end both.result.next c.loop-at.invariant
     (λ n ge lt.
-        fit_seen _ _ _ _ _ both.ensures.seen _ _ _ _ c.in-Records.is c.parcel.ensures c.parcel-in-Records.ensures n ge
-            lt (c.in_default.ensures.none n ge lt))
+    fit_seen _ _ _ _ _ both.ensures.seen _ _ _ _ c.in-Records.is c.parcel.ensures c.parcel-in-Records.ensures n ge
+    lt (c.in_default.ensures.none n ge lt))
     both.ensures.unknown
 
 pub loop-at-preserved-in-Alike : goal.loop-at-preserved-in-Alike
@@ -51,7 +51,7 @@ loop-at-preserved-in-Alike c =
     let seen = both.ensures.seen in
     fit_up_to _ _ _ _ both.result.end both.result.next c.loop-at.invariant
     (λ n ge lt.
-        alike_fit _ _ _ n seen.agree seen.others_agree (subst (IsBeside _ _ _ n) c.in-Alike.is (seen.shown n ge lt)))
+    alike_fit _ _ _ n seen.agree seen.others_agree (subst (IsBeside _ _ _ n) c.in-Alike.is (seen.shown n ge lt)))
     both.ensures.unknown
 
 pub loop-at-preserved : goal.loop-at-preserved

@@ -12,8 +12,8 @@ loop-cpu-preserved c =
     let turn = YieldsList-turn (YieldsList-from_first cpu_number (λ left. left) cpus given) c.loop-cpu.yielded _
     c.loop-cpu.yielded_by _ _ _ c.in-Some.is c.next.ensures.steps in
     let more =
-        one_more cpus (length c.loop-cpu.yielded) c.args.from c.in-Some.cpu.0 c.loop-cpu.invariant turn.0 turn.1
-            (omega arith) in
+    one_more cpus (length c.loop-cpu.yielded) c.args.from c.in-Some.cpu.0 c.loop-cpu.invariant turn.0 turn.1
+    (omega arith) in
     subst (λ (n : ℕ). AreBelow cpus n c.args.from) (sym (length-append c.loop-cpu.yielded (c.in-Some.cpu ∷ []))) more
 
 pub returns-then-cpu-from-clause-least : goal.returns-then-cpu-from-clause-least
@@ -23,4 +23,4 @@ returns-then-cpu-from-clause-least c =
     let turn = YieldsList-turn (YieldsList-from_first cpu_number (λ left. left) cpus given) c.loop-cpu.yielded _
     c.loop-cpu.yielded_by _ _ _ c.in-Some.is c.next.ensures.steps in
     least_is cpus c.requires (length c.loop-cpu.yielded) c.args.from c.in-Some.cpu.0 c.loop-cpu.invariant turn.0 turn.1
-        (omega arith)
+    (omega arith)

@@ -10,18 +10,18 @@ use Rattle.nested_writer.proofs.stack.WriterStack.into_tail.Goals as goal
 pub returns-clause-written : goal.returns-clause-written
 returns-clause-written c = λ start history k.
     rw c.into_page.ensures
-        (subst
-         (λ (s : Stack).
-             IsWrittenPage c.args.self.size c.args.self.done (fill_of history start c.args.self.done) s.tail)
-         (sym c.self.view_is)
+    (subst
+    (λ (s : Stack).
+    IsWrittenPage c.args.self.size c.args.self.done (fill_of history start c.args.self.done) s.tail)
+    (sym c.self.view_is)
     (tail_written start history c.args.self c.requires.none
-     (only_tail c.self.inside c.args.self c.self.view_is c.self.invariant.at_rest c.requires.none) k))
+    (only_tail c.self.inside c.args.self c.self.view_is c.self.invariant.at_rest c.requires.none) k))
 
 pub returns-clause-committed : goal.returns-clause-committed
 returns-clause-committed c = λ start history k.
     rw c.into_page.ensures (subst (λ (s : Stack). AreCommitted history s.tail) (sym c.self.view_is)
     (tail_committed start history c.args.self c.requires.none
-     (only_tail c.self.inside c.args.self c.self.view_is c.self.invariant.at_rest c.requires.none) k))
+    (only_tail c.self.inside c.args.self c.self.view_is c.self.invariant.at_rest c.requires.none) k))
 
 pub returns-clause-settled : goal.returns-clause-settled
 returns-clause-settled c =

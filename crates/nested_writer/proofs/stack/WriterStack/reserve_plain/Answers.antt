@@ -22,6 +22,7 @@ returns-clause-stays c = let (start, history, k) = c.requires.stack in
 
 pub returns-clause-answered : goal.returns-clause-answered
 returns-clause-answered c =
-    λ start history k.
-           (c.hold_plain.result.place,
-            plain_answer start history c.args.self.now k c.args.pushed c.hold_plain.result.place c.requires.plain)
+    λ start history k. (
+      c.hold_plain.result.place,
+      plain_answer start history c.args.self.now k c.args.pushed c.hold_plain.result.place c.requires.plain,
+    )

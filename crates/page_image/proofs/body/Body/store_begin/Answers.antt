@@ -11,5 +11,5 @@ returns-clause-limit c =
     let long : length new ≡ length slot.items = omega (arith, slot.ok.0) in
     let limit = c.self.invariant.1 in
     let size : length (drop 48 (with_items slot new).items) ≡ length new - 48 =
-        ap (λ (is : List ℕ). length (drop 48 is)) items_are ∙ length-drop 48 new in
+    ap (λ (is : List ℕ). length (drop 48 is)) items_are ∙ length-drop 48 new in
     omega arith

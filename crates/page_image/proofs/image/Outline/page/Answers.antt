@@ -14,9 +14,9 @@ pub returns-clause-page : goal.returns-clause-page
 returns-clause-page c =
     let in_time : c.args.self.time < 2 ^ 64 = omega arith in
     reads_page c.args.bytes.now c.in_ok-body.body c.args.self c.requires.outline c.in_ok-body.ensures c.of_body.result
-        c.of_body.ensures in_time
+    c.of_body.ensures in_time
 
 pub returns-clause-contents : goal.returns-clause-contents
 returns-clause-contents c =
     c.of_body.ensures
-        ∙ is_page_in c.args.bytes.now c.in_ok-body.body c.args.self c.requires.outline c.in_ok-body.ensures
+    ∙ is_page_in c.args.bytes.now c.in_ok-body.body c.args.self c.requires.outline c.in_ok-body.ensures

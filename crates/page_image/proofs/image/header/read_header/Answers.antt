@@ -8,8 +8,8 @@ pub returns-then-bytes-gt-MAX_IMAGE-clause-fault :
     goal.returns-then-bytes-gt-MAX_IMAGE-clause-fault
 returns-then-bytes-gt-MAX_IMAGE-clause-fault c =
     bad_size_from c.args.bytes.now c.number_at-time.result c.number_at.result c.commit_in-commit.result
-        (λ i. omega (arith, c.type_inv.bytes i)) (omega arith) c.number_at-time.ensures c.number_at.ensures
-        c.commit_in-commit.ensures
+    (λ i. omega (arith, c.type_inv.bytes i)) (omega arith) c.number_at-time.ensures c.number_at.ensures
+    c.commit_in-commit.ensures
     (elim c.then-bytes-gt-MAX_IMAGE.branch [
       | then-bytes-gt-MAX_IMAGE-via-then-bytes-gt-MAX_IMAGE w ↦ inr (omega arith)
       | then-bytes-gt-MAX_IMAGE-via-else-bytes-gt-MAX_IMAGE+then-bytes-commit w ↦ inl
@@ -19,5 +19,5 @@ returns-then-bytes-gt-MAX_IMAGE-clause-fault c =
 pub returns-clause-ok : goal.returns-clause-ok
 returns-clause-ok c =
     parts_from c.args.bytes.now c.number_at-time.result c.number_at.result c.commit_in-commit.result
-        (λ i. omega (arith, c.type_inv.bytes i)) (omega arith) c.number_at-time.ensures c.number_at.ensures
-        c.commit_in-commit.ensures (omega arith)
+    (λ i. omega (arith, c.type_inv.bytes i)) (omega arith) c.number_at-time.ensures c.number_at.ensures
+    c.commit_in-commit.ensures (omega arith)

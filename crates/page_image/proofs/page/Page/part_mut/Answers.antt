@@ -24,7 +24,7 @@ returns c =
         lends = tt;
         part =
             c.part_mut.ensures.part
-                ∙ range_within v.body v.end c.args.place.start c.args.place.len (omega (arith, c.requires));
+            ∙ range_within v.body v.end c.args.place.start c.args.place.len (omega (arith, c.requires));
         len = c.part_mut.ensures.len;
       },
     )

@@ -17,19 +17,19 @@ returns c =
     let put = c.put_payload-place.ensures in
     let stays = c.time_with-self-inside.ensures.stays in
     subst
-        (λ (p : Contents).
-            HasPut p (page_of new c.time_with-self-inside.result end v.first.0 (v.count + 1) v.fill.0) c.args.prev
-                c.args.moment (length c.args.payload.now) slot at) c.self.view_is
+    (λ (p : Contents).
+    HasPut p (page_of new c.time_with-self-inside.result end v.first.0 (v.count + 1) v.fill.0) c.args.prev
+    c.args.moment (length c.args.payload.now) slot at) c.self.view_is
     (page_has_put v.body new v.time c.time_with-self-inside.result v.end end v.first.0 v.count v.fill.0 c.args.prev
-     c.args.moment (length c.args.payload.now) (nat_eq v.end 0) slot at
+    c.args.moment (length c.args.payload.now) (nat_eq v.end 0) slot at
     c.self.invariant.0 c.self.invariant.1
     (subst (λ (p : Contents). CanPut p c.args.prev c.args.moment (length c.args.payload.now)) (sym c.self.view_is)
-     c.requires)
+    c.requires)
     (ap (λ (n : ℕ). nat_eq n 0) (sym (length-take-le v.end v.body c.self.invariant.0)) ∙ blank_is (take v.end v.body))
     (subst
-     (λ (b : List ℕ).
-         PutsBehind v.body b v.end (c.args.moment - c.args.prev) (nat_eq v.end 0) (length c.args.payload.now) slot at)
-     (sym stays) put.put)
+    (λ (b : List ℕ).
+    PutsBehind v.body b v.end (c.args.moment - c.args.prev) (nat_eq v.end 0) (length c.args.payload.now) slot at)
+    (sym stays) put.put)
     (ap length stays ∙ put.size)
     (length-padded c.args.payload.now)
     (ap (λ (n : ℕ). v.end + n) c.size_of.ensures ∙ sym put.put.ends_at)

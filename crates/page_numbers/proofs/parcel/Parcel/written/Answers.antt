@@ -12,5 +12,5 @@ returns-clause-fits c =
     subst (λ (p : ParcelValue). length p.page.bytes ≤ p.page.size) c.self.view_is
     (contents_fit page.time page.bytes missed page.size
     (sym (ap length
-          (c.in_ok-image.ensures.image ∙ ap (λ (p : Contents). image_of p.time p.bytes missed p.size) c.deref.ensures))
-     ∙ c.in_ok-image.ensures.size ∙ ap (λ (p : Contents). 16 + p.size) c.deref.ensures))
+    (c.in_ok-image.ensures.image ∙ ap (λ (p : Contents). image_of p.time p.bytes missed p.size) c.deref.ensures))
+    ∙ c.in_ok-image.ensures.size ∙ ap (λ (p : Contents). 16 + p.size) c.deref.ensures))

@@ -11,7 +11,7 @@ returns-clause-found c =
       | in-Page+in_ok-fitted-in-Page+in_ok-push-in-Page w ↦ rw (w.body-is, w.taken-is, ← c.self.view_is)
           (page_found _ _ w.in-Page.page w.in-Page.missed
           (search (rules, w.in-Page.ensures.steps)) (search rules) (search rules) (search rules)
-              (w.into_body.result, search rules))
+          (w.into_body.result, search rules))
       | in-Empty w ↦ rw (w.body-is, w.taken-is, ← c.self.view_is) (none_found _ _ w.in-Empty.field-0 w.in-Empty.body
           (search (rules, w.in-Empty.ensures.steps)) (search rules) (search rules) (search rules) (search rules))
       | in-Moving w ↦ rw (w.body-is, w.taken-is, ← c.self.view_is) (put_off _ _ w.in-Moving.field-0 w.in-Moving.body
@@ -34,7 +34,7 @@ invariant_of-result c = record {
   takes = elim c.match-take.branch [
     | in-Page+in_ok-fitted-in-Page+in_ok-push-in-Page w ↦
         page_more _ _ w.in-Page.page w.in-Page.missed _ c.self.invariant.takes w.in-Page.ensures.steps
-            w.in-Page.ensures.took
+        w.in-Page.ensures.took
     | in-Empty w ↦
         none_more _ _ w.in-Empty.field-0 w.in-Empty.body _ c.self.invariant.takes w.in-Empty.ensures.steps
         w.in-Empty.ensures.took.1.nothing.taken_is

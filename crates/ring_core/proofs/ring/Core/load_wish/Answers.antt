@@ -19,8 +19,8 @@ load_wish-requires c = record {
 pub returns-clause-makes : goal.returns-clause-makes
 returns-clause-makes c =
     subst
-        (λ (x : CoreValue).
-            MakesStep x steps (as_answer c.load_wish.result)
-                (core_of record c.self.inside { frames = c.load_wish.new.self })) c.self.view_is
+    (λ (x : CoreValue).
+    MakesStep x steps (as_answer c.load_wish.result)
+    (core_of record c.self.inside { frames = c.load_wish.new.self })) c.self.view_is
     (looked_for_wish (core_of c.self.inside) (as_answer c.load_wish.result) c.load_wish.new.self
-     c.load_wish.ensures.looks)
+    c.load_wish.ensures.looks)

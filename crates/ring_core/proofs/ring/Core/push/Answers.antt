@@ -14,8 +14,8 @@ push-requires c = let (n, size, start, m, core) = subst IsReachedCore (sym c.sel
 pub returns-clause-makes : goal.returns-clause-makes
 returns-clause-makes c =
     subst
-        (λ (x : CoreValue).
-            MakesStep x (pushes c.args.moment c.args.len) c.push.result
-                (core_of record c.self.inside { frames = c.push.new.self })) c.self.view_is
+    (λ (x : CoreValue).
+    MakesStep x (pushes c.args.moment c.args.len) c.push.result
+    (core_of record c.self.inside { frames = c.push.new.self })) c.self.view_is
     (made_privately (core_of c.self.inside) (pushes c.args.moment c.args.len) c.push.result c.push.new.self
-     c.push.ensures.step)
+    c.push.ensures.step)

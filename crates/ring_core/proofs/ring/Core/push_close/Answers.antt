@@ -14,8 +14,8 @@ push_close-requires c = let (n, size, start, m, core) = subst IsReachedCore (sym
 pub returns-clause-makes : goal.returns-clause-makes
 returns-clause-makes c =
     subst
-        (λ (x : CoreValue).
-            MakesStep x pushes_close c.push_close.result
-                (core_of record c.self.inside { frames = c.push_close.new.self })) c.self.view_is
+    (λ (x : CoreValue).
+    MakesStep x pushes_close c.push_close.result
+    (core_of record c.self.inside { frames = c.push_close.new.self })) c.self.view_is
     (made_privately (core_of c.self.inside) pushes_close c.push_close.result c.push_close.new.self
-     c.push_close.ensures.step)
+    c.push_close.ensures.step)

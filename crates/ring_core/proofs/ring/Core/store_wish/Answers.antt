@@ -12,7 +12,7 @@ unfolding IsReachedCore
 overflow_add-self c =
     let (n, size, start, state, old) = c.requires.ring in
     let core : IsCore n size start (core_of c.self.inside) state =
-        subst (λ (v : CoreValue). IsCore n size start v state) (sym c.self.view_is) old in
+    subst (λ (v : CoreValue). IsCore n size start v state) (sym c.self.view_is) old in
     let links = (kept_of n size start (core_of c.self.inside) state core).links in
     let seen = links.seen_le in
     let seen_is = core.shows.seen_is in
@@ -23,5 +23,5 @@ overflow_add-self c =
 pub returns-clause-step : goal.returns-clause-step
 returns-clause-step c =
     λ n size start state old.
-           wished n size start (core_of c.self.inside) state
-               (subst (λ (v : CoreValue). IsCore n size start v state) (sym c.self.view_is) old)
+    wished n size start (core_of c.self.inside) state
+    (subst (λ (v : CoreValue). IsCore n size start v state) (sym c.self.view_is) old)

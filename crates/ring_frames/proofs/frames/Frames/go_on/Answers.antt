@@ -12,5 +12,5 @@ returns-clause-goes_on c = λ noted is.
     rw c.set.ensures
     (subst (λ (x : FramesValue). GoesOnIn x c.args.phase (record v { phase = c.args.phase })) c.self.view_is
     (goes_on v c.args.phase noted
-     (subst (λ (p : Phase). IsNotedIn p c.args.phase noted) (sym (ap (λ (x : FramesValue). x.phase) c.self.view_is))
-      is)))
+    (subst (λ (p : Phase). IsNotedIn p c.args.phase noted) (sym (ap (λ (x : FramesValue). x.phase) c.self.view_is))
+    is)))

@@ -19,8 +19,8 @@ module _ (v seen : FramesValue) (same : v ≡ seen) (new : Stack) (moment : ℕ)
       → WritesAtOnce seen moment payload (with_left_frame (record v { stack = new }) moment (length payload))
   steps is fits written =
       subst
-          (λ (x : FramesValue).
-              WritesAtOnce x moment payload (with_left_frame (record v { stack = new }) moment (length payload))) same
+      (λ (x : FramesValue).
+      WritesAtOnce x moment payload (with_left_frame (record v { stack = new }) moment (length payload))) same
       (writes_at_once v new moment payload (fits.wrote.0 is) written (fits.stack is))
 
   alone : IsFrames seen → wrote ≡ Record → WritesWhatFits moment payload v.stack wrote new
@@ -41,35 +41,35 @@ module _ (v seen : FramesValue) (same : v ≡ seen) (new : Stack) (moment : ℕ)
 pub returns-in-Any-clause-wrote : goal.returns-in-Any-clause-wrote
 returns-in-Any-clause-wrote c =
     λ is.
-           steps (frames_in c.self.inside) _ c.self.view_is c.write_alone.new.self c.args.moment c.args.payload.now
-               c.write_alone.result is c.write_alone.ensures.at_once (c.write_alone.ensures.written is)
+    steps (frames_in c.self.inside) _ c.self.view_is c.write_alone.new.self c.args.moment c.args.payload.now
+    c.write_alone.result is c.write_alone.ensures.at_once (c.write_alone.ensures.written is)
 
 pub returns-in-Any-clause-alone : goal.returns-in-Any-clause-alone
 returns-in-Any-clause-alone c =
     λ is.
-           alone (frames_in c.self.inside) _ c.self.view_is c.write_alone.new.self c.args.moment c.args.payload.now
-               c.write_alone.result c.requires.frames is c.write_alone.ensures.at_once
-               (c.write_alone.ensures.written is)
+    alone (frames_in c.self.inside) _ c.self.view_is c.write_alone.new.self c.args.moment c.args.payload.now
+    c.write_alone.result c.requires.frames is c.write_alone.ensures.at_once
+    (c.write_alone.ensures.written is)
 
 pub returns-in-Any-clause-payloads : goal.returns-in-Any-clause-payloads
 returns-in-Any-clause-payloads c =
     payloads (frames_in c.self.inside) _ c.self.view_is c.write_alone.new.self c.args.moment c.args.payload.now
-        c.write_alone.result (λ is. c.write_alone.ensures.at_once) c.write_alone.ensures.at_once.nothing
+    c.write_alone.result (λ is. c.write_alone.ensures.at_once) c.write_alone.ensures.at_once.nothing
 
 pub returns-in-Short-clause-wrote : goal.returns-in-Short-clause-wrote
 returns-in-Short-clause-wrote c =
     λ is.
-           steps (frames_in c.self.inside) _ c.self.view_is c.write_if_short.new.self c.args.moment c.args.payload.now
-               c.write_if_short.result is (c.write_if_short.ensures.at_once is) (c.write_if_short.ensures.written is)
+    steps (frames_in c.self.inside) _ c.self.view_is c.write_if_short.new.self c.args.moment c.args.payload.now
+    c.write_if_short.result is (c.write_if_short.ensures.at_once is) (c.write_if_short.ensures.written is)
 
 pub returns-in-Short-clause-alone : goal.returns-in-Short-clause-alone
 returns-in-Short-clause-alone c =
     λ is.
-           alone (frames_in c.self.inside) _ c.self.view_is c.write_if_short.new.self c.args.moment c.args.payload.now
-               c.write_if_short.result c.requires.frames is (c.write_if_short.ensures.at_once is)
-               (c.write_if_short.ensures.written is)
+    alone (frames_in c.self.inside) _ c.self.view_is c.write_if_short.new.self c.args.moment c.args.payload.now
+    c.write_if_short.result c.requires.frames is (c.write_if_short.ensures.at_once is)
+    (c.write_if_short.ensures.written is)
 
 pub returns-in-Short-clause-payloads : goal.returns-in-Short-clause-payloads
 returns-in-Short-clause-payloads c =
     payloads (frames_in c.self.inside) _ c.self.view_is c.write_if_short.new.self c.args.moment c.args.payload.now
-        c.write_if_short.result c.write_if_short.ensures.at_once c.write_if_short.ensures.nothing
+    c.write_if_short.result c.write_if_short.ensures.at_once c.write_if_short.ensures.nothing

@@ -5,5 +5,11 @@ use Rattle.ring_model.proofs.laws.examples.wrong_steps_are_refused.Goals as goal
 
 pub returns : goal.returns
 returns c =
-    assumption (loses_while_a_position_is_free, takes_the_tail, helper_clears_the_update, two_heads,
-                swap_ignores_the_fill, inner_end_publishes)
+    assumption (
+      loses_while_a_position_is_free,
+      takes_the_tail,
+      helper_clears_the_update,
+      two_heads,
+      swap_ignores_the_fill,
+      inner_end_publishes,
+    )

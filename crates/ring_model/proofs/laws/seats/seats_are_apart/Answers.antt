@@ -9,15 +9,15 @@ pub returns : goal.returns
 returns c = record {
   writer_reads =
       λ n size core event answer after part writes step.
-             step_by (writer_reads_no_reader n size core event answer after part writes (cases_of step));
+      step_by (writer_reads_no_reader n size core event answer after part writes (cases_of step));
   writer_leaves = writer_leaves_reader;
   reader_reads =
       λ n size core event answer after part reads step.
-             step_by (reader_reads_no_writer n size core event answer after part reads (cases_of step));
+      step_by (reader_reads_no_writer n size core event answer after part reads (cases_of step));
   reader_leaves =
       λ n size core event answer after reads step.
-             reader_leaves_writer n size core event answer after reads (cases_of step);
+      reader_leaves_writer n size core event answer after reads (cases_of step);
   pages =
       λ n size start core event answer after kept reads step.
-             reader_leaves_open_pages n size start core event answer after kept reads (cases_of step);
+      reader_leaves_open_pages n size start core event answer after kept reads (cases_of step);
 }

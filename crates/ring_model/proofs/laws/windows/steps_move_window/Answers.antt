@@ -7,7 +7,7 @@ pub returns : goal.returns
 returns c = record {
   window =
       λ n size start core event answer after r step.
-             (step_owed n size start core event answer after r.links r.stack r.history (cases_of step)).window;
+      (step_owed n size start core event answer after r.links r.stack r.history (cases_of step)).window;
   one = one_window_event;
   none = nothing_happens;
 }

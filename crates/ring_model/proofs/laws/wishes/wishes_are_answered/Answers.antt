@@ -4,8 +4,10 @@ use Rattle.ring_model.proofs.laws.wishes.wishes_are_answered.Goals as goal
 
 pub returns : goal.returns
 returns c =
-    record { held = wishes_held;
-            gone = gone_has_looked;
-            answered = wishes_answered;
-            closed = wished_tails_closed;
-            own = ends_on_wished }
+    record {
+      held = wishes_held;
+      gone = gone_has_looked;
+      answered = wishes_answered;
+      closed = wished_tails_closed;
+      own = ends_on_wished;
+    }

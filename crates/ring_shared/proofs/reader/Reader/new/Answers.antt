@@ -13,7 +13,7 @@ returns c = let first = c.requires.again in record {
     part = first_part c.args.seat.shape _ c.requires.shape first;
     order_is =
         ap (λ (r : Reading). r.order) first
-            ∙ counted_pages c.args.seat.shape.pages _ c.in_ok-order.ensures.pages c.in_ok-order.ensures.order;
+        ∙ counted_pages c.args.seat.shape.pages _ c.in_ok-order.ensures.pages c.in_ok-order.ensures.order;
     spare_is = ap (λ (r : Reading). r.spare) first;
     phase_is = ap (λ (r : Reading). r.reader.phase) first;
     hint_is = ap (λ (r : Reading). r.reader.hint) first;

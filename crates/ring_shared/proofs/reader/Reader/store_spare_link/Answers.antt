@@ -17,8 +17,8 @@ use Rattle.ring_shared.proofs.reader.Reader.store_spare_link.Goals as goal
 pub store_spare_link-requires-clause-due : goal.store_spare_link-requires-clause-due
 store_spare_link-requires-clause-due c =
     let at =
-        ap (λ (w : ReaderValue). w.part.reader.phase) c.self.view_is
-            ∙ (c.requires.taking.reader.phase_is ∙ ap reader_phase_of c.requires.phase) in
+    ap (λ (w : ReaderValue). w.part.reader.phase) c.self.view_is
+    ∙ (c.requires.taking.reader.phase_is ∙ ap reader_phase_of c.requires.phase) in
     subst (λ (p : ring.ReaderPhase). p ≡ ring.storing_spare_link (page_in p) (fill_in p)) (sym at) refl
 
 pub returns : goal.returns
@@ -34,13 +34,15 @@ returns c =
     let about : ring.ReaderPhase = ring.swapping c.args.page c.args.fill in
     let reader : ring.Reader = record v.part.reader { phase = about } in
     let is =
-        subst
-            (λ (p : ring.ReaderPhase).
-                after
-                    ≡ reading_after v.part.made record { event = model.reads; answer = model.reading }
-                        (record v.part { spare_link = link;
-                                        reader = record v.part.reader { phase = ring.swapping (page_in p) (fill_in p) };
-                                        keeps_spare = true })) at h.after_is in
+    subst
+    (λ (p : ring.ReaderPhase).
+    after
+    ≡ reading_after v.part.made record { event = model.reads; answer = model.reading }
+    (record v.part {
+      spare_link = link;
+      reader = record v.part.reader { phase = ring.swapping (page_in p) (fill_in p) };
+      keeps_spare = true;
+    })) at h.after_is in
     let s = stays v.shape v.part after _ model.reading h.step reader link true _ is in
     record {
       take_step = (refl, nothing v.shape v.part after reader s refl refl (omega arith) (omega arith));
@@ -51,6 +53,6 @@ returns c =
       ring = search rules;
       reader =
           shown _ v c.self.view_is c.requires.taking.reader new.shape (reader_table new) after reader _
-              c.requires.taking.again reported.same.shape s (refl, old.1, old.2, old.3) reported.spare
-              (subst SawPage c.requires.phase c.requires.taking.reader.saw);
+          c.requires.taking.again reported.same.shape s (refl, old.1, old.2, old.3) reported.spare
+          (subst SawPage c.requires.phase c.requires.taking.reader.saw);
     }

@@ -14,7 +14,7 @@ pub returns-clause-makes : goal.returns-clause-makes
 unfolding IsWriter
 returns-clause-makes c =
     seen_call _ _ (λ _. pushes_close) c.push_close.result _ c.self.view_is c.requires.writer c.note.ensures.same.shape
-        c.note.ensures.same.table c.note.ensures.noted refl c.push_close.ensures.step
+    c.note.ensures.same.table c.note.ensures.noted refl c.push_close.ensures.step
 
 pub returns-clause-room : goal.returns-clause-room
 unfolding IsWriter

@@ -28,7 +28,7 @@ loop-self-init c =
       some = (frame, below, top);
       closes =
           λ other others is.
-                 (other, is, leaving_top c.args.self.now.part.frames frame other below others top leaves is, at_once);
+          (other, is, leaving_top c.args.self.now.part.frames frame other below others top leaves is, at_once);
       payloads = same_stack c.args.self.now.frames.stack c.args.self.now.frames.stack refl;
     }
 
@@ -36,7 +36,7 @@ loop-self-init c =
 still_framed : (shape : Shape) (first : Writing) (now : WriterValue) → IsWriter now
     → (frame : Frame) × (below : List Frame) × (first.frames ≡ frame ∷ below)
     → ((frame : Frame) (below : List Frame) → first.frames ≡ frame ∷ below → Closes shape below first Going now.part)
-        → HasFrame now
+    → HasFrame now
 unfolding IsWriter
 still_framed shape first now writer (frame, below, top) closes =
     let (next, at, leaves, goes) =
@@ -62,22 +62,22 @@ loop-self-preserved c =
     let (frame, below, top) = h.some in
     let (next, at, leaves, goes) = h.closes frame below top in
     let going =
-        release_goes old h.writer (as_answer c.release_fill.result) new.part (some_stand old h.writer next below at)
-            (ap phase_of
-             (ap (λ (x : WriterValue). x.frames.phase) (sym c.self.view_is)
-              ∙ (sym c.phase.ensures ∙ c.in-Releasing.is))) makes.call in
+    release_goes old h.writer (as_answer c.release_fill.result) new.part (some_stand old h.writer next below at)
+    (ap phase_of
+    (ap (λ (x : WriterValue). x.frames.phase) (sym c.self.view_is)
+    ∙ (sym c.phase.ensures ∙ c.in-Releasing.is))) makes.call in
     record {
       writer = makes.writer;
       ring = same_writer c.args.self.now old new (as_answer c.release_fill.result) h.ring makes;
       some = h.some;
       closes =
           λ other others is.
-                 closes_then shape others c.args.self.now.part old.part new.part Going (h.closes other others is)
+          closes_then shape others c.args.self.now.part old.part new.part Going (h.closes other others is)
           (subst (λ (x : Answer). IsCall shape old.part model.steps x new.part) going
-           (call_in shape old new (as_answer c.release_fill.result) h.ring.0 makes));
+          (call_in shape old new (as_answer c.release_fill.result) h.ring.0 makes));
       payloads =
           kept_then c.args.self.now.frames.stack old.frames.stack new.frames.stack h.payloads
-              c.release_fill.ensures.payloads;
+          c.release_fill.ensures.payloads;
     }
 
 pub loop-self-smaller : goal.loop-self-smaller
@@ -102,4 +102,4 @@ returns-in-Wishing-clause-closes c = λ frame below top.
 pub returns-in-Wishing-clause-payloads : goal.returns-in-Wishing-clause-payloads
 returns-in-Wishing-clause-payloads c =
     kept_then c.args.self.now.frames.stack c.loop-self.self.frames.stack c.load_wish.new.self.frames.stack
-        c.loop-self.invariant.payloads c.load_wish.ensures.payloads
+    c.loop-self.invariant.payloads c.load_wish.ensures.payloads

@@ -14,8 +14,8 @@ pub returns-clause-makes : goal.returns-clause-makes
 unfolding IsWriter
 returns-clause-makes c =
     seen_call _ _ (λ x. ends (top_bytes x.frames.stack x.frames.stack.frames)) c.end.result _ c.self.view_is
-        c.requires.writer c.note.ensures.same.shape c.note.ensures.same.table c.note.ensures.noted refl
-        c.end.ensures.step
+    c.requires.writer c.note.ensures.same.shape c.note.ensures.same.table c.note.ensures.noted refl
+    c.end.ensures.step
 
 pub returns-clause-rooms : goal.returns-clause-rooms
 unfolding IsWriter

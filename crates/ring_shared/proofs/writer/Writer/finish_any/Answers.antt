@@ -19,15 +19,15 @@ targets : (top : Option stack.Frame) (v now : WriterValue) (found to : Target) �
     → v ≡ now → IsTarget top found → found ≡ to → IsTarget (top_of now.frames.stack.frames) to
 targets top v now found to at same is e =
     subst (λ (x : WriterValue). IsTarget (top_of x.frames.stack.frames) to) same
-        (subst (λ (t : Option stack.Frame). IsTarget t to) at (subst (IsTarget top) e is))
+    (subst (λ (t : Option stack.Frame). IsTarget t to) at (subst (IsTarget top) e is))
 
 pub reserve_top-requires-clause-top : goal.reserve_top-requires-clause-top
 unfolding IsWriter
 reserve_top-requires-clause-top c =
     let t =
-        reserving_on_top c.args.self.now c.requires.writer
-            (targets c.top.result _ c.args.self.now c.target_of.result _ c.top.ensures c.self.view_is
-             c.target_of.ensures c.in-Record.is) in
+    reserving_on_top c.args.self.now c.requires.writer
+    (targets c.top.result _ c.args.self.now c.target_of.result _ c.top.ensures c.self.view_is
+    c.target_of.ensures c.in-Record.is) in
     (t.frame, t.below, t.top, t.is)
 
 pub leave_on-requires : goal.leave_on-requires
@@ -37,8 +37,8 @@ leave_on-requires c = record {
   top =
       let t =
       leaving_on_top c.args.self.now c.requires.writer
-          (targets c.top.result _ c.args.self.now c.target_of.result _ c.top.ensures c.self.view_is c.target_of.ensures
-           c.in-End.is) in
+      (targets c.top.result _ c.args.self.now c.target_of.result _ c.top.ensures c.self.view_is c.target_of.ensures
+      c.in-End.is) in
       (t.frame, t.below, t.top, t.is);
 }
 
@@ -46,12 +46,12 @@ pub brief-requires : goal.brief-requires
 unfolding IsWriter
 brief-requires c =
     let t =
-        reserving_on_top c.args.self.now c.requires.writer
-            (targets c.top.result _ c.args.self.now c.target_of.result _ c.top.ensures c.self.view_is
-             c.target_of.ensures c.in-Record.is) in
+    reserving_on_top c.args.self.now c.requires.writer
+    (targets c.top.result _ c.args.self.now c.target_of.result _ c.top.ensures c.self.view_is
+    c.target_of.ensures c.in-Record.is) in
     number_or_refused c.reserve_top.result c.reserve_top.new.self.part.frames
     (reserving_reports t.frame.kind t.below c.reserve_top.result c.reserve_top.new.self.part.frames
-     (c.reserve_top.ensures.reserves t.frame t.below t.top).ends)
+    (c.reserve_top.ensures.reserves t.frame t.below t.top).ends)
 
 pub brief-requires-in-Step : goal.brief-requires-in-Step
 unfolding IsWriter
@@ -60,19 +60,19 @@ brief-requires-in-Step c =
     number_or_refused c.step.result c.step.new.self.part.frames
     (step_reports v c.requires.writer c.step.result c.step.new.self.part
     (targets c.top.result _ v c.target_of.result _ c.top.ensures c.self.view_is c.target_of.ensures c.in-Step.is)
-        c.step.ensures.makes.call)
+    c.step.ensures.makes.call)
 
 pub returns-in-Record-clause-finished : goal.returns-in-Record-clause-finished
 unfolding IsWriter
 returns-in-Record-clause-finished c =
     let v : WriterValue = c.args.self.now in let new : WriterValue = c.reserve_top.new.self in
     let t =
-        reserving_on_top v c.requires.writer
-            (targets c.top.result _ v c.target_of.result _ c.top.ensures c.self.view_is c.target_of.ensures
-             c.in-Record.is) in
+    reserving_on_top v c.requires.writer
+    (targets c.top.result _ v c.target_of.result _ c.top.ensures c.self.view_is c.target_of.ensures
+    c.in-Record.is) in
     finished_so v new c.reserve_top.ensures.writer c.reserve_top.result c.brief.result c.brief.ensures
     (reserving_reports t.frame.kind t.below c.reserve_top.result new.part.frames
-     (c.reserve_top.ensures.reserves t.frame t.below t.top).ends)
+    (c.reserve_top.ensures.reserves t.frame t.below t.top).ends)
     (finishes_reserving v.shape v.part c.reserve_top.result new.part t c.reserve_top.ensures.reserves)
 
 pub returns-in-Some-clause-finished : goal.returns-in-Some-clause-finished
@@ -81,11 +81,11 @@ returns-in-Some-clause-finished c =
     let v : WriterValue = c.args.self.now in let new : WriterValue = c.leave_on.new.self in
     let (answer, reported, how, leaves) = c.leave_on.ensures.leaves in
     subst (λ (x : Answer). Finishes v.shape v.part x new.part)
-        (met_refusal answer c.in-Some.fault (sym reported ∙ c.in-Some.is))
+    (met_refusal answer c.in-Some.fault (sym reported ∙ c.in-Some.is))
     (finishes_leaving v.shape v.part answer new.part
     (leaving_on_top v c.requires.writer
-     (targets c.top.result _ v c.target_of.result _ c.top.ensures c.self.view_is c.target_of.ensures c.in-End.is))
-        leaves)
+    (targets c.top.result _ v c.target_of.result _ c.top.ensures c.self.view_is c.target_of.ensures c.in-End.is))
+    leaves)
 
 pub returns-in-None-clause-finished : goal.returns-in-None-clause-finished
 unfolding IsWriter
@@ -94,18 +94,18 @@ returns-in-None-clause-finished c =
     let (answer, reported, how, leaves) = c.leave_on.ensures.leaves in
     subst (λ (x : Answer). Finishes v.shape v.part x new.part)
     (gone_unrefused answer how
-     (not_refused answer (λ f e. let both : None ≡ Some f = sym c.in-None.is ∙ (reported ∙ e) in cc)))
+    (not_refused answer (λ f e. let both : None ≡ Some f = sym c.in-None.is ∙ (reported ∙ e) in cc)))
     (finishes_leaving v.shape v.part answer new.part
     (leaving_on_top v c.requires.writer
-     (targets c.top.result _ v c.target_of.result _ c.top.ensures c.self.view_is c.target_of.ensures c.in-End.is))
-        leaves)
+    (targets c.top.result _ v c.target_of.result _ c.top.ensures c.self.view_is c.target_of.ensures c.in-End.is))
+    leaves)
 
 pub returns-in-Step-clause-finished : goal.returns-in-Step-clause-finished
 unfolding IsWriter
 returns-in-Step-clause-finished c =
     let v : WriterValue = c.args.self.now in let new : WriterValue = c.step.new.self in
     let target =
-        targets c.top.result _ v c.target_of.result _ c.top.ensures c.self.view_is c.target_of.ensures c.in-Step.is in
+    targets c.top.result _ v c.target_of.result _ c.top.ensures c.self.view_is c.target_of.ensures c.in-Step.is in
     let makes = c.step.ensures.makes in
     finished_so v new makes.writer c.step.result c.brief-in-Step.result c.brief-in-Step.ensures
     (step_reports v c.requires.writer c.step.result new.part target makes.call)

@@ -13,7 +13,7 @@ returns-in-Some c = record {
       let v : WriterValue = c.args.self.now in let new : WriterValue = c.leave_on.new.self in
       let (answer, reported, how, leaves) = c.leave_on.ensures.leaves in
       subst (λ (x : Answer). Leaves v.shape below v.part x new.part)
-          (met_refusal answer c.in-Some.fault (sym reported ∙ c.in-Some.is)) (leaves frame below top);
+      (met_refusal answer c.in-Some.fault (sym reported ∙ c.in-Some.is)) (leaves frame below top);
   gone = search rules;
   payloads = search rules;
   ring = search rules;
@@ -27,8 +27,8 @@ returns-in-None c = record {
       let (answer, reported, how, leaves) = c.leave_on.ensures.leaves in
       subst (λ (x : Answer). Leaves v.shape below v.part x new.part)
       (gone_unrefused answer how
-       (not_refused answer (λ f e. let both : None ≡ Some f = sym c.in-None.is ∙ (reported ∙ e) in cc)))
-          (leaves frame below top);
+      (not_refused answer (λ f e. let both : None ≡ Some f = sym c.in-None.is ∙ (reported ∙ e) in cc)))
+      (leaves frame below top);
   gone = search rules;
   payloads = search rules;
   ring = search rules;

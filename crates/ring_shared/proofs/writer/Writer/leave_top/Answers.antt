@@ -25,8 +25,8 @@ loop-answer-init c =
       some = (frame, below, top);
       part_way =
           λ other others is.
-                 leaving_first v.shape other others v.part is
-                     (leaving_top v.part.frames frame other below others top leaves is);
+          leaving_first v.shape other others v.part is
+          (leaving_top v.part.frames frame other below others top leaves is);
       payloads = same_stack v.frames.stack v.frames.stack refl;
     }
 
@@ -48,7 +48,7 @@ returns-then-depth c = record {
       let deep = h.depth in
       subst (λ (x : Answer). Leaves shape below c.args.self.now.part x new.part) (sym c.refusal_or_last.ensures)
       (leaving_ends shape below c.args.self.now.part c.loop-answer.met old.part new.part c.step-answer.result
-       (h.part_way frame below top)
+      (h.part_way frame below top)
       (call_in shape old new c.step-answer.result h.ring.0 makes) (omega arith));
   gone = let h = c.loop-answer.invariant in
       let old : WriterValue = c.loop-answer.self in
@@ -61,14 +61,14 @@ returns-then-depth c = record {
       let (frame, below, top) = h.some in
       subst IsGoneOrRefused (sym c.refusal_or_last.ensures)
       (leaving_reported shape below c.args.self.now.part c.loop-answer.met old.part new.part c.step-answer.result
-       (h.part_way frame below top)
+      (h.part_way frame below top)
       (call_in shape old new c.step-answer.result h.ring.0 makes) (omega arith));
   payloads =
       kept_then c.args.self.now.frames.stack c.loop-answer.self.frames.stack c.step-answer.new.self.frames.stack
-          c.loop-answer.invariant.payloads c.step-answer.ensures.slots.payloads;
+      c.loop-answer.invariant.payloads c.step-answer.ensures.slots.payloads;
   ring =
       same_writer c.args.self.now c.loop-answer.self c.step-answer.new.self c.step-answer.result
-          c.loop-answer.invariant.ring c.step-answer.ensures.makes;
+      c.loop-answer.invariant.ring c.step-answer.ensures.makes;
   writer = search rules;
 }
 
@@ -105,8 +105,8 @@ loop-answer-preserved c =
     let stands : length new.part.frames < length old.part.frames → ⊥ = λ less. omega arith in
     let (frame, below, top) = h.some in
     let same : length new.part.frames ≡ length old.part.frames =
-        leaving_stands shape below first c.loop-answer.met old.part new.part c.step-answer.result
-            (h.part_way frame below top) call stands in
+    leaving_stands shape below first c.loop-answer.met old.part new.part c.step-answer.result
+    (h.part_way frame below top) call stands in
     record {
       writer = makes.writer;
       ring = same_writer c.args.self.now old new c.step-answer.result h.ring makes;
@@ -115,8 +115,8 @@ loop-answer-preserved c =
       part_way = λ other others is.
           subst (λ (m : Option WriteFault). IsStillLeaving shape others first m new.part) (sym c.met_first-met.ensures)
           (leaving_on shape others first c.loop-answer.met old.part new.part c.step-answer.result
-           (h.part_way other others is) call stands);
+          (h.part_way other others is) call stands);
       payloads =
           kept_then c.args.self.now.frames.stack old.frames.stack new.frames.stack h.payloads
-              c.step-answer.ensures.slots.payloads;
+          c.step-answer.ensures.slots.payloads;
     }

@@ -9,4 +9,4 @@ pub returns : goal.returns
 unfolding IsWriter
 returns c w =
     c.opened.ensures.begun ∙ ap (λ (v : WriterValue). opened v.frames.stack) c.self.view_is
-        ∙ opened_there c.args.self.now w
+    ∙ opened_there c.args.self.now w

@@ -34,16 +34,16 @@ returns-then-depth-clause-refused c = λ fault e.
     let more = c.if-depth.true in
     let deep : length x.part.frames < length two.part.frames = omega arith in
     subst
-        (λ (f : WriteFault).
-            IsRefusedWrite x.shape x.part c.args.moment c.args.len f c.finish_top-then-depth.new.self.part) same
+    (λ (f : WriteFault).
+    IsRefusedWrite x.shape x.part c.args.moment c.args.len f c.finish_top-then-depth.new.self.part) same
     (refused_left x.shape x.part one.part two.part c.args.moment c.args.len c.begin.result c.finish_top.result
-     c.begin.ensures.makes.call
+    c.begin.ensures.makes.call
     (not_refused c.begin.result (λ f is. c.in_default.not-Some f (c.met_first.ensures ∙ is)))
     (finished_in x.shape one two c.finish_top.result shape_is c.finish_top.ensures.finished)
     why c.finish_top-then-depth.result c.finish_top-then-depth.new.self.part
-        (met_refusal c.finish_top.result why (sym c.met_first-2.ensures ∙ c.in-Some-met_first.is)) deep
+    (met_refusal c.finish_top.result why (sym c.met_first-2.ensures ∙ c.in-Some-met_first.is)) deep
     (finished_in x.shape two c.finish_top-then-depth.new.self c.finish_top-then-depth.result
-     (c.finish_top.ensures.ring.0 ∙ shape_is) c.finish_top-then-depth.ensures.finished))
+    (c.finish_top.ensures.ring.0 ∙ shape_is) c.finish_top-then-depth.ensures.finished))
 
 pub unreachable-requires : goal.unreachable-requires
 unfolding IsWriter
@@ -53,7 +53,7 @@ unreachable-requires c =
     let two : WriterValue = c.finish_top.new.self in
     let (slot, is) = top_slot_of two c.finish_top.ensures.writer (for_record c.args.moment c.args.len) x.part.frames
     (has_record x.shape x.part one.part two.part c.args.moment c.args.len c.begin.result c.finish_top.result
-     c.begin.ensures.makes.call
+    c.begin.ensures.makes.call
     (not_refused c.begin.result (λ f is. c.in_default.not-Some f (c.met_first.ensures ∙ is)))
     (finished_in x.shape one two c.finish_top.result c.begin.ensures.makes.shape_is c.finish_top.ensures.finished)
     (not_refused c.finish_top.result (λ f is. c.in_default-met_first.not-Some f (c.met_first-2.ensures ∙ is)))) in
@@ -65,7 +65,7 @@ returns-clause-reserved c = λ slot e.
     let one : WriterValue = c.begin.new.self in
     let two : WriterValue = c.finish_top.new.self in
     is_reserved_by x.shape x.part one.part two.part c.args.moment c.args.len c.begin.result c.finish_top.result
-        c.begin.ensures.makes.call
+    c.begin.ensures.makes.call
     (not_refused c.begin.result (λ f is. c.in_default.not-Some f (c.met_first.ensures ∙ is)))
     (finished_in x.shape one two c.finish_top.result c.begin.ensures.makes.shape_is c.finish_top.ensures.finished)
     (not_refused c.finish_top.result (λ f is. c.in_default-met_first.not-Some f (c.met_first-2.ensures ∙ is)))
@@ -84,7 +84,7 @@ returns-else-depth-clause-refused c = λ fault e.
     let low : length two.part.frames ≤ length x.part.frames = omega arith in
     subst (λ (f : WriteFault). IsRefusedWrite x.shape x.part c.args.moment c.args.len f two.part) same
     (refused_gone x.shape x.part one.part two.part c.args.moment c.args.len c.begin.result c.finish_top.result
-     c.begin.ensures.makes.call
+    c.begin.ensures.makes.call
     (not_refused c.begin.result (λ f is. c.in_default.not-Some f (c.met_first.ensures ∙ is)))
     (finished_in x.shape one two c.finish_top.result c.begin.ensures.makes.shape_is c.finish_top.ensures.finished)
     why (met_refusal c.finish_top.result why (sym c.met_first-2.ensures ∙ c.in-Some-met_first.is)) low)
@@ -98,18 +98,18 @@ returns-then-depth-clause-payloads c =
     let two : WriterValue = c.finish_top.new.self in
     let three : WriterValue = c.finish_top-then-depth.new.self in
     kept_then x.frames.stack two.frames.stack three.frames.stack
-        (kept_then x.frames.stack one.frames.stack two.frames.stack c.begin.ensures.payloads
-         c.finish_top.ensures.slots.payloads) c.finish_top-then-depth.ensures.slots.payloads
+    (kept_then x.frames.stack one.frames.stack two.frames.stack c.begin.ensures.payloads
+    c.finish_top.ensures.slots.payloads) c.finish_top-then-depth.ensures.slots.payloads
 
 pub returns-else-depth-clause-payloads : goal.returns-else-depth-clause-payloads
 returns-else-depth-clause-payloads c =
     kept_then c.args.self.now.frames.stack c.begin.new.self.frames.stack c.finish_top.new.self.frames.stack
-        c.begin.ensures.payloads c.finish_top.ensures.slots.payloads
+    c.begin.ensures.payloads c.finish_top.ensures.slots.payloads
 
 pub returns-clause-payloads : goal.returns-clause-payloads
 returns-clause-payloads c =
     kept_then c.args.self.now.frames.stack c.begin.new.self.frames.stack c.finish_top.new.self.frames.stack
-        c.begin.ensures.payloads c.finish_top.ensures.slots.payloads
+    c.begin.ensures.payloads c.finish_top.ensures.slots.payloads
 
 pub returns-clause-covers : goal.returns-clause-covers
 unfolding IsWriter
@@ -117,4 +117,4 @@ returns-clause-covers c = λ slot e.
     let x : WriterValue = c.args.self.now in let two : WriterValue = c.finish_top.new.self in
     reserved_covers x.shape x two c.args.moment c.args.len c.requires.writer c.finish_top.ensures.writer
     (c.finish_top.ensures.ring.0 ∙ c.begin.ensures.makes.shape_is) (returns-clause-reserved c slot e)
-        (returns-clause-payloads c)
+    (returns-clause-payloads c)

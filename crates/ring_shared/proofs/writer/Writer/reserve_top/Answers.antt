@@ -24,8 +24,8 @@ loop-last-init c =
       some = (frame, below, top);
       part_way =
           λ other others is.
-                 reserving_first v.shape other others v.part is
-                     (reserving_top v.part.frames frame other below others top reserves is);
+          reserving_first v.shape other others v.part is
+          (reserving_top v.part.frames frame other below others top reserves is);
       payloads = same_stack v.frames.stack v.frames.stack refl;
     }
 
@@ -42,13 +42,13 @@ returns-in-Some-clause-reserves c = λ frame below top.
     let (same, other) = c.unless_going.ensures.other c.in-Some.last c.in-Some.is in
     subst (λ (x : Answer). Reserves shape frame.kind below c.args.self.now.part x new.part) (sym same)
     (reserving_ends shape frame.kind below c.args.self.now.part old.part new.part c.step.result
-     (h.part_way frame below top)
+    (h.part_way frame below top)
     (call_in shape old new c.step.result h.ring.0 c.step.ensures.makes) other)
 
 pub returns-in-Some-clause-ring : goal.returns-in-Some-clause-ring
 returns-in-Some-clause-ring c =
     same_writer c.args.self.now c.loop-last.self c.step.new.self c.step.result c.loop-last.invariant.ring
-        c.step.ensures.makes
+    c.step.ensures.makes
 
 pub turn_over-requires-clause-top : goal.turn_over-requires-clause-top
 turn_over-requires-clause-top c =
@@ -59,9 +59,9 @@ turn_over-requires-clause-top c =
     let (frame, below, top) = h.some in
     let a : IsStillReserving shape frame.kind below c.args.self.now.part one.part =
     reserving_on shape frame.kind below c.args.self.now.part old.part one.part c.step.result
-        (h.part_way frame below top)
+    (h.part_way frame below top)
     (call_in shape old one c.step.result h.ring.0 c.step.ensures.makes)
-        (c.unless_going.ensures.going c.in_default.is) in
+    (c.unless_going.ensures.going c.in_default.is) in
     (a.frame, below, a.top, a.reserves)
 
 pub loop-last-smaller : goal.loop-last-smaller
@@ -74,10 +74,10 @@ loop-last-smaller c =
     let (frame, below, top) = h.some in
     let a : IsStillReserving shape frame.kind below c.args.self.now.part old.part = h.part_way frame below top in
     let less : rank_of one < rank_of old =
-        c.step.ensures.nearer a.frame below a.top (reserving_unnumbered a.frame.kind a.frame.state a.reserves)
+    c.step.ensures.nearer a.frame below a.top (reserving_unnumbered a.frame.kind a.frame.state a.reserves)
     (reserving_stands shape frame.kind below c.args.self.now.part old.part one.part c.step.result a
     (call_in shape old one c.step.result h.ring.0 c.step.ensures.makes)
-        (c.unless_going.ensures.going c.in_default.is)) in
+    (c.unless_going.ensures.going c.in_default.is)) in
     let further = c.turn_over.ensures.nearer in omega arith
 
 pub loop-last-preserved : goal.loop-last-preserved
@@ -97,18 +97,18 @@ loop-last-preserved c =
       part_way = λ frame below top.
           part_way_turned shape frame.kind below c.args.self.now.part one new ring.0
           (reserving_on shape frame.kind below c.args.self.now.part old.part one.part c.step.result
-           (h.part_way frame below top)
+          (h.part_way frame below top)
           (call_in shape old one c.step.result h.ring.0 makes) (c.unless_going.ensures.going c.in_default.is)) turns;
       payloads =
           kept_then c.args.self.now.frames.stack one.frames.stack new.frames.stack
-              (kept_then c.args.self.now.frames.stack old.frames.stack one.frames.stack h.payloads
-               c.step.ensures.slots.payloads) turns.payloads;
+          (kept_then c.args.self.now.frames.stack old.frames.stack one.frames.stack h.payloads
+          c.step.ensures.slots.payloads) turns.payloads;
     }
 
 pub returns-in-Some-clause-payloads : goal.returns-in-Some-clause-payloads
 returns-in-Some-clause-payloads c =
     kept_then c.args.self.now.frames.stack c.loop-last.self.frames.stack c.step.new.self.frames.stack
-        c.loop-last.invariant.payloads c.step.ensures.slots.payloads
+    c.loop-last.invariant.payloads c.step.ensures.slots.payloads
 
 pub returns-in-Some-clause-zeros : goal.returns-in-Some-clause-zeros
 unfolding IsWriter
@@ -118,4 +118,4 @@ returns-in-Some-clause-zeros c = λ number slot e lacks at.
     let a = h.part_way frame below top in
     let (same, other) = c.unless_going.ensures.other c.in-Some.last c.in-Some.is in
     c.step.ensures.slots.zeros number slot (sym same ∙ e)
-        (lacks_slot c.loop-last.self h.writer a.frame below a.top a.reserves) at
+    (lacks_slot c.loop-last.self h.writer a.frame below a.top a.reserves) at

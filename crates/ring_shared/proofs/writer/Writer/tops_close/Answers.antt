@@ -9,4 +9,4 @@ pub returns : goal.returns
 unfolding IsWriter
 returns c w =
     c.tops_close.ensures ∙ ap (λ (v : WriterValue). tops_close v.frames.stack.frames) c.self.view_is
-        ∙ closes_there c.args.self.now w
+    ∙ closes_there c.args.self.now w

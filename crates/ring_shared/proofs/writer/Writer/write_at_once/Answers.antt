@@ -19,18 +19,22 @@ pub note-requires : goal.note-requires
 unfolding IsWriter
 note-requires c =
     let v : WriterValue = the_view c.self.inside in
-    record { due =
-            leads_write v (writer_seen c.self.view_is c.requires.writer) c.args.moment c.args.payload.now
-                c.write.new.self (c.write.ensures.wrote c.in-Record.is) (c.write.ensures.alone c.in-Record.is) }
+    record {
+      due =
+          leads_write v (writer_seen c.self.view_is c.requires.writer) c.args.moment c.args.payload.now
+          c.write.new.self (c.write.ensures.wrote c.in-Record.is) (c.write.ensures.alone c.in-Record.is);
+    }
 
 pub load_wish-wish-requires : goal.load_wish-wish-requires
 unfolding IsWriter
 load_wish-wish-requires c =
     let v : WriterValue = the_view c.self.inside in
-    record { phase =
-            subst (λ (p : Writing). IsTopIn p.frames wishing) (sym c.note.ensures.noted)
-                (wishing_mid v (writer_seen c.self.view_is c.requires.writer) c.args.moment c.args.payload.now
-                 c.write.new.self (c.write.ensures.wrote c.in-Record.is) (c.write.ensures.alone c.in-Record.is)) }
+    record {
+      phase =
+          subst (λ (p : Writing). IsTopIn p.frames wishing) (sym c.note.ensures.noted)
+          (wishing_mid v (writer_seen c.self.view_is c.requires.writer) c.args.moment c.args.payload.now
+          c.write.new.self (c.write.ensures.wrote c.in-Record.is) (c.write.ensures.alone c.in-Record.is));
+    }
 
 pub stay-requires-clause-none : goal.stay-requires-clause-none
 stay-requires-clause-none c = none_left (c.write.ensures.alone c.in-Record.is)
@@ -40,24 +44,24 @@ unfolding IsWriter
 stay-requires-clause-frames c =
     let v : WriterValue = the_view c.self.inside in
     frames_mid v (writer_seen c.self.view_is c.requires.writer) c.args.moment c.args.payload.now c.write.new.self
-        (c.write.ensures.wrote c.in-Record.is) (c.write.ensures.alone c.in-Record.is)
+    (c.write.ensures.wrote c.in-Record.is) (c.write.ensures.alone c.in-Record.is)
 
 pub returns-then-not-may_be_wished-clause-keeps : goal.returns-then-not-may_be_wished-clause-keeps
 unfolding IsWriter
 returns-then-not-may_be_wished-clause-keeps c =
     let alone = c.write.ensures.alone c.in-Record.is in
     let l =
-        looked c.self.view_is c.requires.writer c.args.moment c.args.payload.now c.write.new.self c.write.new.self
-            c.load_wish-wish.result Gone
+    looked c.self.view_is c.requires.writer c.args.moment c.args.payload.now c.write.new.self c.write.new.self
+    c.load_wish-wish.result Gone
     (c.write.ensures.wrote c.in-Record.is) (c.write.ensures.alone c.in-Record.is) c.note.ensures.same.shape
-        c.note.ensures.same.table c.note.ensures.noted
+    c.note.ensures.same.table c.note.ensures.noted
     c.load_wish-wish.ensures.same c.load_wish-wish.ensures.step
-        (c.may_be_wished.ensures.unasked c.if-not-may_be_wished.true c.args.moment (length c.args.payload.now)
-         (none_left alone) alone.below alone.closed) in
+    (c.may_be_wished.ensures.unasked c.if-not-may_be_wished.true c.args.moment (length c.args.payload.now)
+    (none_left alone) alone.below alone.closed) in
     record {
       payloads =
           subst (λ (x : WriterValue). KeepsPayloads x.frames.stack c.write.new.self.stack) c.self.view_is
-              c.write.ensures.payloads;
+          c.write.ensures.payloads;
       ring = search rules;
       writer = l.makes.writer;
     }
@@ -67,13 +71,13 @@ unfolding IsWriter
 returns-then-not-may_be_wished-clause-written c = λ _.
     let alone = c.write.ensures.alone c.in-Record.is in
     let l =
-        looked c.self.view_is c.requires.writer c.args.moment c.args.payload.now c.write.new.self c.write.new.self
-            c.load_wish-wish.result Gone
+    looked c.self.view_is c.requires.writer c.args.moment c.args.payload.now c.write.new.self c.write.new.self
+    c.load_wish-wish.result Gone
     (c.write.ensures.wrote c.in-Record.is) (c.write.ensures.alone c.in-Record.is) c.note.ensures.same.shape
-        c.note.ensures.same.table c.note.ensures.noted
+    c.note.ensures.same.table c.note.ensures.noted
     c.load_wish-wish.ensures.same c.load_wish-wish.ensures.step
-        (c.may_be_wished.ensures.unasked c.if-not-may_be_wished.true c.args.moment (length c.args.payload.now)
-         (none_left alone) alone.below alone.closed) in
+    (c.may_be_wished.ensures.unasked c.if-not-may_be_wished.true c.args.moment (length c.args.payload.now)
+    (none_left alone) alone.below alone.closed) in
     looked_gone l (λ e. cc)
 
 pub returns-in-Gone-clause-keeps : goal.returns-in-Gone-clause-keeps
@@ -81,15 +85,15 @@ unfolding IsWriter
 returns-in-Gone-clause-keeps c =
     let v : WriterValue = the_view c.self.inside in
     let l =
-        looked c.self.view_is c.requires.writer c.args.moment c.args.payload.now c.write.new.self c.stay.new.self
-            c.load_wish-wish.result (as_answer c.stay.result)
+    looked c.self.view_is c.requires.writer c.args.moment c.args.payload.now c.write.new.self c.stay.new.self
+    c.load_wish-wish.result (as_answer c.stay.result)
     (c.write.ensures.wrote c.in-Record.is) (c.write.ensures.alone c.in-Record.is) c.note.ensures.same.shape
-        c.note.ensures.same.table c.note.ensures.noted
+    c.note.ensures.same.table c.note.ensures.noted
     c.load_wish-wish.ensures.same c.load_wish-wish.ensures.step c.stay.ensures.looks in
     record {
       payloads = subst (λ (x : WriterValue). KeepsPayloads x.frames.stack c.stay.new.self.stack) c.self.view_is
           (kept_then v.frames.stack c.write.new.self.stack c.stay.new.self.stack c.write.ensures.payloads
-           c.stay.ensures.payloads);
+          c.stay.ensures.payloads);
       ring = search rules;
       writer = l.makes.writer;
     }
@@ -98,10 +102,10 @@ pub returns-in-Gone-clause-written : goal.returns-in-Gone-clause-written
 unfolding IsWriter
 returns-in-Gone-clause-written c = λ _.
     let l =
-        looked c.self.view_is c.requires.writer c.args.moment c.args.payload.now c.write.new.self c.stay.new.self
-            c.load_wish-wish.result (as_answer c.stay.result)
+    looked c.self.view_is c.requires.writer c.args.moment c.args.payload.now c.write.new.self c.stay.new.self
+    c.load_wish-wish.result (as_answer c.stay.result)
     (c.write.ensures.wrote c.in-Record.is) (c.write.ensures.alone c.in-Record.is) c.note.ensures.same.shape
-        c.note.ensures.same.table c.note.ensures.noted
+    c.note.ensures.same.table c.note.ensures.noted
     c.load_wish-wish.ensures.same c.load_wish-wish.ensures.step c.stay.ensures.looks in
     looked_gone l (λ e. let both : Gone ≡ Going = sym (ap as_answer c.in-Gone.is) ∙ e in cc)
 
@@ -109,10 +113,10 @@ pub leave_on-refusal-requires : goal.leave_on-refusal-requires
 unfolding IsWriter
 leave_on-refusal-requires c =
     let l =
-        looked c.self.view_is c.requires.writer c.args.moment c.args.payload.now c.write.new.self c.stay.new.self
-            c.load_wish-wish.result (as_answer c.stay.result)
+    looked c.self.view_is c.requires.writer c.args.moment c.args.payload.now c.write.new.self c.stay.new.self
+    c.load_wish-wish.result (as_answer c.stay.result)
     (c.write.ensures.wrote c.in-Record.is) (c.write.ensures.alone c.in-Record.is) c.note.ensures.same.shape
-        c.note.ensures.same.table c.note.ensures.noted
+    c.note.ensures.same.table c.note.ensures.noted
     c.load_wish-wish.ensures.same c.load_wish-wish.ensures.step c.stay.ensures.looks in
     record { writer = l.makes.writer; top = looked_on l (ap as_answer c.in-Going.is) }
 
@@ -120,10 +124,10 @@ pub returns-in-Going-clause-written : goal.returns-in-Going-clause-written
 unfolding IsWriter
 returns-in-Going-clause-written c = λ _.
     let l =
-        looked c.self.view_is c.requires.writer c.args.moment c.args.payload.now c.write.new.self c.stay.new.self
-            c.load_wish-wish.result (as_answer c.stay.result)
+    looked c.self.view_is c.requires.writer c.args.moment c.args.payload.now c.write.new.self c.stay.new.self
+    c.load_wish-wish.result (as_answer c.stay.result)
     (c.write.ensures.wrote c.in-Record.is) (c.write.ensures.alone c.in-Record.is) c.note.ensures.same.shape
-        c.note.ensures.same.table c.note.ensures.noted
+    c.note.ensures.same.table c.note.ensures.noted
     c.load_wish-wish.ensures.same c.load_wish-wish.ensures.step c.stay.ensures.looks in
     let (last, refusal, how, leaves) = c.leave_on-refusal.ensures.leaves in
     looked_further l last c.leave_on-refusal.new.self.part (ap as_answer c.in-Going.is) leaves
@@ -137,19 +141,19 @@ same_writer v seen same new is = ap (λ (f : FramesValue). record v { frames = f
 pub returns-in_default-clause-nothing : goal.returns-in_default-clause-nothing
 returns-in_default-clause-nothing c =
     λ _.
-           same_writer (the_view c.self.inside) _ c.self.view_is c.write.new.self
-               (c.write.ensures.nothing c.in_default.is)
+    same_writer (the_view c.self.inside) _ c.self.view_is c.write.new.self
+    (c.write.ensures.nothing c.in_default.is)
 
 pub returns-in_default-clause-keeps : goal.returns-in_default-clause-keeps
 returns-in_default-clause-keeps c = record {
   payloads =
       subst (λ (x : WriterValue). KeepsPayloads x.frames.stack c.write.new.self.stack) c.self.view_is
-          c.write.ensures.payloads;
+      c.write.ensures.payloads;
   ring = search rules;
   writer =
       subst IsWriter
-          (sym (same_writer (the_view c.self.inside) _ c.self.view_is c.write.new.self
-                (c.write.ensures.nothing c.in_default.is))) c.requires.writer;
+      (sym (same_writer (the_view c.self.inside) _ c.self.view_is c.write.new.self
+      (c.write.ensures.nothing c.in_default.is))) c.requires.writer;
 }
 
 pub returns-in-Going-clause-keeps : goal.returns-in-Going-clause-keeps
@@ -159,8 +163,8 @@ returns-in-Going-clause-keeps c = record {
       let end : WriterValue = c.leave_on-refusal.new.self in
       subst (λ (x : WriterValue). KeepsPayloads x.frames.stack end.frames.stack) c.self.view_is
       (kept_then v.frames.stack c.stay.new.self.stack end.frames.stack
-       (kept_then v.frames.stack c.write.new.self.stack c.stay.new.self.stack c.write.ensures.payloads
-        c.stay.ensures.payloads) c.leave_on-refusal.ensures.payloads);
+      (kept_then v.frames.stack c.write.new.self.stack c.stay.new.self.stack c.write.ensures.payloads
+      c.stay.ensures.payloads) c.leave_on-refusal.ensures.payloads);
   ring = search rules;
   writer = search rules;
 }

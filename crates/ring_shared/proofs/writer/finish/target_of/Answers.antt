@@ -17,4 +17,4 @@ reserved_steps purpose progress slot e = (slot.number, ap state_of e)
 pub returns-in-Reserved : goal.returns-in-Reserved
 returns-in-Reserved c =
     subst (λ (top : Option Frame). IsTarget top Step) (sym c.in-Some.is)
-        (reserved_steps c.in-Some.top.purpose c.in-Some.top.progress c.in-Reserved.field-0 c.in-Reserved.is)
+    (reserved_steps c.in-Some.top.purpose c.in-Some.top.progress c.in-Reserved.field-0 c.in-Reserved.is)

@@ -4,6 +4,8 @@ use Rattle.ring_steps.proofs.ends.ReaderSeat.swap_head.Given as goal
 
 abbrev pub ghosts-compare_exchange : goal.ghosts-compare_exchange
 ghosts-compare_exchange a =
-    record { reports =
-            λ before found after.
-                   SwapReported a.shape before (head_to_take (reading before.0).reader.phase) found after }
+    record {
+      reports =
+          λ before found after.
+          SwapReported a.shape before (head_to_take (reading before.0).reader.phase) found after;
+    }

@@ -24,11 +24,11 @@ compare_exchange_step-found-requires-clause-word c = let self = c.args.self.now 
 pub compare_exchange_step-found-requires-clause-moves : goal.compare_exchange_step-found-requires-clause-moves
 compare_exchange_step-found-requires-clause-moves c = let self = c.args.self.now in
     writer_move self.shape self.seat.me (writing_in self) _ _ _ self.is_writing c.recall.ensures
-        (λ found after reported. claim_stays after reported)
+    (λ found after reported. claim_stays after reported)
     (λ core r ws homes s now_is pages low.
-        claim_moves self.shape self.seat.me self.is_writing (writing_in self) core r ws homes s now_is pages low
+    claim_moves self.shape self.seat.me self.is_writing (writing_in self) core r ws homes s now_is pages low
     c.args.tail c.args.page c.args.lost.0 c.header_word-from.result c.update_word-to.result c.requires.tail
-        c.requires.phase c.requires.lost c.requires.fits c.header_word-from.ensures c.update_word-to.ensures)
+    c.requires.phase c.requires.lost c.requires.fits c.header_word-from.ensures c.update_word-to.ensures)
 
 pub returns-clause-passed : goal.returns-clause-passed
 returns-clause-passed c = let behind = c.compare_exchange_step-found.ensures.reported.lost in
@@ -41,11 +41,11 @@ returns-clause-step c = let self = c.args.self.now in
     let sum = c.requires.lost in
     seen_as self.shape _ _ _ _ _
     (λ core reached seen.
-        done_seen self.shape self.table.pages_fit _ _ (header_link c.args.page c.args.lost.0)
-            record { page_fits = c.requires.fits; fill_fits = omega arith } core reached seen.1
+    done_seen self.shape self.table.pages_fit _ _ (header_link c.args.page c.args.lost.0)
+    record { page_fits = c.requires.fits; fill_fits = omega arith } core reached seen.1
     c.header_word-from.result c.header_word-from.ensures)
     (step_noted _ _ _ _ _ _ c.compare_exchange_step-found.ensures.known
-     c.compare_exchange_step-found.ensures.reported.reported.step)
+    c.compare_exchange_step-found.ensures.reported.reported.step)
 
 pub returns-clause-part : goal.returns-clause-part
 returns-clause-part c = let s = returns-clause-step c in

@@ -6,4 +6,4 @@ use Rattle.trace_model.proofs.laws.collections.order_and_repeats_change_nothing.
 pub returns : goal.returns
 returns c =
     assumption
-        (below_more, same_parcels, repeated, joined_commutes, joined_regrouped, joined_twice, same_joined, below_agrees)
+    (below_more, same_parcels, repeated, joined_commutes, joined_regrouped, joined_twice, same_joined, below_agrees)

@@ -9,9 +9,9 @@ returns c = record {
   reads_within_a_larger_limit = DecodesImageWithin-larger;
   others_are_longer =
       λ small large bytes time size missed records fits d.
-             DecodesImageWithin-other large small bytes time size missed records fits d;
+      DecodesImageWithin-other large small bytes time size missed records fits d;
   one_reading = DecodesImageWithin-unique;
   kernel_pages =
       λ bytes time size missed records d.
-             DecodesImageWithin-larger 4096 MAX_IMAGE bytes time size missed records (omega arith) d;
+      DecodesImageWithin-larger 4096 MAX_IMAGE bytes time size missed records (omega arith) d;
 }

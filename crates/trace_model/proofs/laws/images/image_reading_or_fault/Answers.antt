@@ -4,7 +4,9 @@ use Rattle.trace_model.proofs.laws.images.image_reading_or_fault.Goals as goal
 
 pub returns : goal.returns
 returns c =
-    record { one = image_read_or_faulty;
-            reading_is_no_fault = DecodesImage-FirstImageFault;
-            one_reading = DecodesImage-unique;
-            one_fault = FirstImageFault-unique }
+    record {
+      one = image_read_or_faulty;
+      reading_is_no_fault = DecodesImage-FirstImageFault;
+      one_reading = DecodesImage-unique;
+      one_fault = FirstImageFault-unique;
+    }

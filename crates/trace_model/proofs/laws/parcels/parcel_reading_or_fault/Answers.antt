@@ -4,7 +4,9 @@ use Rattle.trace_model.proofs.laws.parcels.parcel_reading_or_fault.Goals as goal
 
 pub returns : goal.returns
 returns c =
-    record { one = parcel_read_or_faulty;
-            reading_is_no_fault = DecodesParcel-FirstParcelFault;
-            one_reading = DecodesParcel-unique;
-            one_fault = FirstParcelFault-unique }
+    record {
+      one = parcel_read_or_faulty;
+      reading_is_no_fault = DecodesParcel-FirstParcelFault;
+      one_reading = DecodesParcel-unique;
+      one_fault = FirstParcelFault-unique;
+    }

@@ -5,12 +5,12 @@ use Rattle.trace_script.proofs.lines.Lines.next_significant.Goals as goal
 pub returns-then-is_significant-clause-left : goal.returns-then-is_significant-clause-left
 returns-then-is_significant-clause-left c =
     significant_turn c.loop-line.self.passed _ _ _ _ _ _ c.in-Some.ensures.lines c.in-Some.ensures.number
-        (sym c.is_significant.ensures ∙ c.if-is_significant.true) c.loop-line.invariant.same_left
+    (sym c.is_significant.ensures ∙ c.if-is_significant.true) c.loop-line.invariant.same_left
 
 pub returns-then-is_significant-clause-end : goal.returns-then-is_significant-clause-end
 returns-then-is_significant-clause-end c =
     end_turn c.loop-line.self.passed _ _ _ _ _ _ c.in-Some.ensures.lines c.in-Some.ensures.number
-        c.loop-line.invariant.same_end
+    c.loop-line.invariant.same_end
 
 pub loop-line-preserved : goal.loop-line-preserved
 loop-line-preserved c =
@@ -19,10 +19,10 @@ loop-line-preserved c =
     record {
       same_left =
           skipped_turn c.loop-line.self.passed _ _ _ _ _ _ c.in-Some.ensures.lines c.in-Some.ensures.number
-              (sym c.is_significant.ensures ∙ c.if-is_significant.false) c.loop-line.invariant.same_left;
+          (sym c.is_significant.ensures ∙ c.if-is_significant.false) c.loop-line.invariant.same_left;
       same_end =
           end_turn c.loop-line.self.passed _ _ _ _ _ _ c.in-Some.ensures.lines c.in-Some.ensures.number
-              c.loop-line.invariant.same_end;
+          c.loop-line.invariant.same_end;
       later = omega arith;
       shorter = omega arith;
     }

@@ -14,5 +14,5 @@ pub pass_closed-requires-clause-forward : goal.pass_closed-requires-clause-forwa
 pass_closed-requires-clause-forward g c κs within =
     let was = c.done-done.ensures.part c.requires.writer in
     let rises =
-        whole_forward c.args.moment c.args.payload.now c.args.self.now c.write_whole.new.self c.write_whole.ensures in
+    whole_forward c.args.moment c.args.payload.now c.args.self.now c.write_whole.new.self c.write_whole.ensures in
     omega (arith, was, rises)

@@ -5,5 +5,5 @@ pub returns : goal.returns
 returns c =
     written_whole c.args.self.now c.requires c.write-written.new.self c.args.moment c.args.payload.now
     c.write-written.ensures.keeps.ring c.write-written.ensures.keeps.writer c.write-written.result
-        c.write-written.ensures.written
+    c.write-written.ensures.written
     c.write-written.ensures.refused
