@@ -15,6 +15,7 @@ use Rattle.trace_model.proofs.steps.StepCases.{frame_step, frame_lacks, end_step
 use Rattle.trace_model.proofs.steps.StepCases.{store_wish_step}
 use Rattle.trace_model.proofs.histories.NextEvent.{settled_at_rest}
 use Rattle.trace_model.proofs.steps.StepSound.{cases_of}
+use Rattle.trace_model.proofs.steps.EventKinds.{IsEnds}
 use Rattle.ring_model.specs.RingKept.{IsRingKept}
 use Rattle.ring_model.specs.WindowLaws.{MovesWindow, WindowStays}
 use Rattle.ring_model.proofs.histories.HistorySteps.{step_owed}
@@ -28,14 +29,6 @@ use Rattle.line_model.proofs.StepsMake.{steps_make}
 use Rattle.line_model.proofs.EventsMade.{Does, last_makes, top_makes, top_leaves}
 
 -- ---- an end, whatever frames are below
-
-abbrev pub IsEnds : Event → Type 0
-IsEnds (pushes moment len) = ⊥
-IsEnds pushes_close = ⊥
-IsEnds steps = ⊥
-IsEnds (ends payload) = Unit {0}
-IsEnds reads = ⊥
-IsEnds wishes = ⊥
 
 abbrev payload_of : List ℕ → Event → List ℕ
 payload_of other (pushes moment len) = other

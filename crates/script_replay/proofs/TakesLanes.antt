@@ -7,12 +7,13 @@ use Rattle.std.proofs.lemmas.List.{map-append}
 use Rattle.trace_model.specs.Ring.{Core}
 use Rattle.trace_model.specs.Parcel.{Parcel}
 use Rattle.trace_model.specs.Steps as model
-use Rattle.trace_model.specs.Steps.{Event, pushes, pushes_close, steps, ends, reads, wishes, reading, empty, moving}
+use Rattle.trace_model.specs.Steps.{Event, reads, wishes, reading, empty, moving}
 use Rattle.trace_model.specs.Steps.{page_taken, Step, Exchange}
 use Rattle.trace_model.proofs.steps.StepCases.{StepCases, push_step, push_refused, close_step, close_refused}
 use Rattle.trace_model.proofs.steps.StepCases.{frame_step, frame_lacks, end_step, end_lacks, end_early, read_step}
 use Rattle.trace_model.proofs.steps.StepCases.{store_wish_step}
 use Rattle.trace_model.proofs.steps.StepSound.{cases_of}
+use Rattle.trace_model.proofs.steps.EventKinds.{IsWishes}
 use Rattle.ring_model.specs.Seats.{IsOfReader}
 use Rattle.ring_model.proofs.partition.RingsKept.{reached_kept}
 use Rattle.ring_model.proofs.seats.SeatSteps.{reader_leaves_writer}
@@ -77,32 +78,24 @@ module _ (n size start cpu : ℕ) (v : LaneValue) (lane : Lane) (is : IsLane n s
 
 -- ---- the wish
 
-abbrev IsWish : Event → Type 0
-IsWish (pushes moment len) = ⊥
-IsWish pushes_close = ⊥
-IsWish steps = ⊥
-IsWish (ends payload) = ⊥
-IsWish reads = ⊥
-IsWish wishes = Unit {0}
-
 brings_none : (n size cpu : ℕ) (c : Core) (event : Event) (answer : model.Answer) (after : Core)
-    → IsWish event
+    → IsWishes event
     → StepCases n size c event answer after
     → parcels_in cpu answer ≡ []
 brings_none n size cpu c event answer after wish (push_step moment len e few short early a is) =
-    absurd (subst IsWish e wish)
+    absurd (subst IsWishes e wish)
 brings_none n size cpu c event answer after wish (push_refused moment len why e refused a is) =
-    absurd (subst IsWish e wish)
-brings_none n size cpu c event answer after wish (close_step e few a is) = absurd (subst IsWish e wish)
-brings_none n size cpu c event answer after wish (close_refused e many a is) = absurd (subst IsWish e wish)
-brings_none n size cpu c event answer after wish (frame_step frame below e top step) = absurd (subst IsWish e wish)
-brings_none n size cpu c event answer after wish (frame_lacks e none a is) = absurd (subst IsWish e wish)
+    absurd (subst IsWishes e wish)
+brings_none n size cpu c event answer after wish (close_step e few a is) = absurd (subst IsWishes e wish)
+brings_none n size cpu c event answer after wish (close_refused e many a is) = absurd (subst IsWishes e wish)
+brings_none n size cpu c event answer after wish (frame_step frame below e top step) = absurd (subst IsWishes e wish)
+brings_none n size cpu c event answer after wish (frame_lacks e none a is) = absurd (subst IsWishes e wish)
 brings_none n size cpu c event answer after wish
-    (end_step payload frame below number moment len e top at kind slot a is) = absurd (subst IsWish e wish)
-brings_none n size cpu c event answer after wish (end_lacks payload e none a is) = absurd (subst IsWish e wish)
+    (end_step payload frame below number moment len e top at kind slot a is) = absurd (subst IsWishes e wish)
+brings_none n size cpu c event answer after wish (end_lacks payload e none a is) = absurd (subst IsWishes e wish)
 brings_none n size cpu c event answer after wish (end_early payload frame below e top none a is) =
-    absurd (subst IsWish e wish)
-brings_none n size cpu c event answer after wish (read_step e step) = absurd (subst IsWish e wish)
+    absurd (subst IsWishes e wish)
+brings_none n size cpu c event answer after wish (read_step e step) = absurd (subst IsWishes e wish)
 brings_none n size cpu c event answer after wish (store_wish_step e a is) = ap (parcels_in cpu) a
 
 pub wishes_of : (line cpu : ℕ) (v : LaneValue) (asked : Asked) (result : Answer) (new : LaneValue)
