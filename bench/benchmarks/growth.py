@@ -13,7 +13,7 @@ from typing import NamedTuple
 
 from benchmarks import collect, collectors
 from lib import count, scripts, streams, tables
-from lib.programs import tracering
+from lib.programs import Failure, tracering
 
 NEEDS = ("rt", "rustc", "valgrind", "/usr/bin/time")
 # How often as much ten times as much may take.
@@ -68,8 +68,10 @@ def timed(command, source):
     rounds = []
     for _ in range(ROUNDS):
         begun = time.monotonic()
-        _, memory = count.most_memory(command, source, os.devnull)
+        status, memory = count.most_memory(command, source, os.devnull)
         rounds.append(Cost(1_000 * (time.monotonic() - begun), memory))
+        if status:
+            raise Failure(f"{' '.join(map(str, command))} ends with status {status}")
     return Cost(*map(median, zip(*rounds)))
 
 
