@@ -1,5 +1,6 @@
 -- What the commands `collect` and `recover` are asked for, and what the matches of their words say of that.
-use Rattle.std.specs.Prelude.{◌≡◌, ◌≤◌, ◌<◌, ◌⊎◌, ℕ, All, Bool, true, false, List, Option, None, Some, Result, Ok, Err, codes, is_some, length, map, option_and_then, option_map, ⊤}
+use Rattle.std.specs.Prelude.{◌≡◌, ◌≤◌, ◌<◌, ◌⊎◌, ℕ, All, Bool, true, false, List, Option, None, Some, Result, Ok, Err}
+use Rattle.std.specs.Prelude.{codes, is_some, length, map, option_and_then, option_map, ⊤}
 use Rattle.trace_model.specs.declared.limits.TheConstants.{MAX_CPUS}
 use Rattle.clap.specs.Words.{Row, Text, all_of, first_of, one_of}
 use Rattle.command_line.specs.FileWords.{file_list, page_word, path_list}

@@ -1,6 +1,10 @@
-use Rattle.command_line.proofs.CommandLineExamples.{call_of_replay, call_of_replay_log, call_of_run, call_of_run_log, call_of_steps, call_of_dump, call_of_dump_log}
-use Rattle.command_line.proofs.CollectExamples.{asked_collect, asked_cpu, asked_flags, asked_page, asked_formats, asked_keep, asked_parcels, refused_none, refused_high, refused_inputs, refused_small}
-use Rattle.command_line.proofs.RecoverExamples.{asked_recover, asked_to_keep, refused_no_region, refused_two_inputs, refused_with_page}
+use Rattle.command_line.proofs.CommandLineExamples.{call_of_replay, call_of_replay_log, call_of_run, call_of_run_log}
+use Rattle.command_line.proofs.CommandLineExamples.{call_of_steps, call_of_dump, call_of_dump_log}
+use Rattle.command_line.proofs.CollectExamples.{asked_collect, asked_cpu, asked_flags, asked_page, asked_formats}
+use Rattle.command_line.proofs.CollectExamples.{asked_keep, asked_parcels, refused_none, refused_high, refused_inputs}
+use Rattle.command_line.proofs.CollectExamples.{refused_small}
+use Rattle.command_line.proofs.RecoverExamples.{asked_recover, asked_to_keep, refused_no_region, refused_two_inputs}
+use Rattle.command_line.proofs.RecoverExamples.{refused_with_page}
 use Rattle.command_line.proofs.Ranges.{asked_in_range}
 use Rattle.command_line.proofs.parse.call_of.Goals as goal
 

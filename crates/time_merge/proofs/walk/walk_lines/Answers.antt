@@ -12,9 +12,12 @@ loop-waiting-preserved g c =
     let new = c.take_line.new in
     record {
       can = c.take_line.ensures.can;
-      taken = takes_more g.T.TakesLines.takes (c.args.taker.now, c.args.writer.now) at.yielded (at.taker, at.writer) c.in-Some.waiting (new.self, new.writer)
+      taken =
+          takes_more g.T.TakesLines.takes (c.args.taker.now, c.args.writer.now) at.yielded (at.taker, at.writer)
+          c.in-Some.waiting (new.self, new.writer)
           at.invariant.taken
-          (subst (λ (line : ModelLine). g.T.TakesLines.takes (at.taker, at.writer) line (new.self, new.writer)) c.waiting.view_is c.take_line.ensures.taken);
+          (subst (λ (line : ModelLine). g.T.TakesLines.takes (at.taker, at.writer) line (new.self, new.writer))
+          c.waiting.view_is c.take_line.ensures.taken);
     }
 
 pub returns-clause-lines : goal.returns-clause-lines
@@ -22,7 +25,9 @@ returns-clause-lines g c =
     let at = c.loop-waiting in (
       at.yielded,
       c.in_ok-merge.ensures at.yielded
-          (merge_drained (λ (_ : ByTime) (first : ModelLine → ModelLine → Bool). first ≡ comes_before) c.in_ok-merge.merge c.into_iter-waiting-iterator.result at.waiting-iterator at.yielded c.into_iter-waiting-iterator.ensures.into_iter_gives
+          (merge_drained (λ (_ : ByTime) (first : ModelLine → ModelLine → Bool). first ≡ comes_before)
+          c.in_ok-merge.merge c.into_iter-waiting-iterator.result at.waiting-iterator at.yielded
+          c.into_iter-waiting-iterator.ensures.into_iter_gives
           at.yielded_by c.in-None.ensures.steps),
       at.invariant.taken,
     )
