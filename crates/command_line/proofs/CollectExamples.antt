@@ -5,9 +5,9 @@ use Rattle.clap.specs.Words.{Row, Text, first_of}
 use Rattle.clap.proofs.OnLiterals.{clap_on_literals}
 use Rattle.command_line.proofs.Names.{collect_is_not_recover}
 use Rattle.command_line.specs.Calls.{Asked, AsksFor, AreUnread, IsAsked, asked_of, files_matched, page_matched}
-use Rattle.command_line.specs.CommandLine.{IsCallOf, IsAccepted, names_command, rows_named}
+use Rattle.command_line.specs.CommandLine.{IsParseOf, IsAccepted, names_command, rows_named}
 use Rattle.command_line.specs.declared.call.Call.{Call}
-use Rattle.command_line.specs.declared.call.Call.TheVariants.{Replay, Run, Steps, Dump, Collect, Recover}
+use Rattle.command_line.specs.declared.call.Call.TheVariants.{Replay, Run, Steps, Dump, Collect, Recover, Version}
 use Rattle.command_line.specs.declared.call.CallFault.{CallFault}
 use Rattle.command_line.specs.declared.call.CallFault.TheVariants.{Usage, NoMemory}
 
@@ -41,7 +41,7 @@ same_some a b o x y = let both : Some a ≡ Some b = sym x ∙ y in cc
 
 module _ (words : List Text) (named : names_command words ≡ Some (codes "collect")) where
   asks : (asked : Asked) (result : Result Call CallFault) → IsAccepted words → Says (rows_named words) asked
-      → IsCallOf words result → IsAsked result asked
+      → IsParseOf words result → IsAsked result asked
   asks asked (Ok (Collect call)) accepted says a =
       let asks = a.collect call refl in
       same_asked (asked_of call) asked
@@ -55,6 +55,7 @@ module _ (words : List Text) (named : names_command words ≡ Some (codes "colle
   asks asked (Ok Dump) accepted says a = absurd (let wrong = sym named ∙ a.named Dump refl in cc)
   asks asked (Ok (Recover call)) accepted says a =
       absurd (collect_is_not_recover (sym named ∙ a.named (Recover call) refl))
+  asks asked (Ok Version) accepted says a = absurd (a.no_version refl)
   asks asked (Err Usage) accepted says a = absurd (unread (a.no_collect refl accepted named))
     where
       unread : AreUnread (rows_named words) → ⊥
@@ -62,7 +63,7 @@ module _ (words : List Text) (named : names_command words ≡ Some (codes "colle
       unread (inr none) = let wrong = sym none ∙ says.files in cc
   asks asked (Err NoMemory) accepted says a = tt
 
-  unreadable : (result : Result Call CallFault) → AreUnread (rows_named words) → IsCallOf words result
+  unreadable : (result : Result Call CallFault) → AreUnread (rows_named words) → IsParseOf words result
       → (result ≡ Err Usage) ⊎ (result ≡ Err NoMemory)
   unreadable (Ok (Collect call)) (inl none) a = absurd (let wrong = sym none ∙ (a.collect call refl).page in cc)
   unreadable (Ok (Collect call)) (inr none) a = absurd (let wrong = sym none ∙ (a.collect call refl).files in cc)
@@ -71,6 +72,7 @@ module _ (words : List Text) (named : names_command words ≡ Some (codes "colle
   unreadable (Ok Steps) none a = absurd (let wrong = sym named ∙ a.named Steps refl in cc)
   unreadable (Ok Dump) none a = absurd (let wrong = sym named ∙ a.named Dump refl in cc)
   unreadable (Ok (Recover call)) none a = absurd (collect_is_not_recover (sym named ∙ a.named (Recover call) refl))
+  unreadable (Ok Version) none a = absurd (a.no_version refl)
   unreadable (Err Usage) none a = inl refl
   unreadable (Err NoMemory) none a = inr refl
 
@@ -109,7 +111,7 @@ collect_says first =
     }
 
 pub asked_collect : (first : List ℕ) (result : Result Call CallFault)
-    → IsCallOf (first ∷ codes "collect" ∷ codes "a" ∷ codes "b" ∷ []) result
+    → IsParseOf (first ∷ codes "collect" ∷ codes "a" ∷ codes "b" ∷ []) result
     → IsAsked result
     (record {
       page = 4096;
@@ -169,7 +171,7 @@ cpu_says first =
     }
 
 pub asked_cpu : (first : List ℕ) (result : Result Call CallFault)
-    → IsCallOf (first ∷ codes "collect" ∷ codes "3=a" ∷ codes "-" ∷ []) result
+    → IsParseOf (first ∷ codes "collect" ∷ codes "3=a" ∷ codes "-" ∷ []) result
     → IsAsked result
     (record {
       page = 4096;
@@ -231,7 +233,7 @@ flags_says first =
     }
 
 pub asked_flags : (first : List ℕ) (result : Result Call CallFault)
-    → IsCallOf (first ∷ codes "collect" ∷ codes "--json" ∷ codes "--names" ∷ codes "a" ∷ []) result
+    → IsParseOf (first ∷ codes "collect" ∷ codes "--json" ∷ codes "--names" ∷ codes "a" ∷ []) result
     → IsAsked result
     (record {
       page = 4096;
@@ -291,7 +293,7 @@ page_says first =
     }
 
 pub asked_page : (first : List ℕ) (result : Result Call CallFault)
-    → IsCallOf (first ∷ codes "collect" ∷ codes "--page" ∷ codes "8192" ∷ codes "a" ∷ []) result
+    → IsParseOf (first ∷ codes "collect" ∷ codes "--page" ∷ codes "8192" ∷ codes "a" ∷ []) result
     → IsAsked result
     (record {
       page = 8192;
@@ -354,7 +356,7 @@ formats_says first =
     }
 
 pub asked_formats : (first : List ℕ) (result : Result Call CallFault)
-    → IsCallOf (first ∷ codes "collect" ∷ codes "a" ∷ codes "--formats" ∷ codes "d" ∷ codes "b" ∷ []) result
+    → IsParseOf (first ∷ codes "collect" ∷ codes "a" ∷ codes "--formats" ∷ codes "d" ∷ codes "b" ∷ []) result
     → IsAsked result
     (record {
       page = 4096;
@@ -416,7 +418,7 @@ keep_says first =
     }
 
 pub asked_keep : (first : List ℕ) (result : Result Call CallFault)
-    → IsCallOf (first ∷ codes "collect" ∷ codes "--keep" ∷ codes "k" ∷ codes "--json" ∷ codes "a" ∷ []) result
+    → IsParseOf (first ∷ codes "collect" ∷ codes "--keep" ∷ codes "k" ∷ codes "--json" ∷ codes "a" ∷ []) result
     → IsAsked result
     (record {
       page = 4096;
@@ -476,7 +478,7 @@ parcels_says first =
     }
 
 pub asked_parcels : (first : List ℕ) (result : Result Call CallFault)
-    → IsCallOf (first ∷ codes "collect" ∷ codes "--parcels" ∷ codes "a" ∷ []) result
+    → IsParseOf (first ∷ codes "collect" ∷ codes "--parcels" ∷ codes "a" ∷ []) result
     → IsAsked result
     (record {
       page = 4096;
@@ -510,7 +512,7 @@ unfolding clap_on_literals rows_named
 high_unread first = inr refl
 
 pub refused_high : (first : List ℕ) (result : Result Call CallFault)
-    → IsCallOf (first ∷ codes "collect" ∷ codes "256=a" ∷ []) result → (result ≡ Err Usage) ⊎ (result ≡ Err NoMemory)
+    → IsParseOf (first ∷ codes "collect" ∷ codes "256=a" ∷ []) result → (result ≡ Err Usage) ⊎ (result ≡ Err NoMemory)
 refused_high first result a =
     unreadable (first ∷ codes "collect" ∷ codes "256=a" ∷ []) (high_named first) result (high_unread first) a
 
@@ -525,7 +527,7 @@ unfolding clap_on_literals rows_named
 small_unread first = inl refl
 
 pub refused_small : (first : List ℕ) (result : Result Call CallFault)
-    → IsCallOf (first ∷ codes "collect" ∷ codes "--page" ∷ codes "47" ∷ codes "a" ∷ []) result
+    → IsParseOf (first ∷ codes "collect" ∷ codes "--page" ∷ codes "47" ∷ codes "a" ∷ []) result
     → (result ≡ Err Usage) ⊎ (result ≡ Err NoMemory)
 refused_small first result a =
     unreadable (first ∷ codes "collect" ∷ codes "--page" ∷ codes "47" ∷ codes "a" ∷ []) (small_named first) result
@@ -541,7 +543,7 @@ unfolding clap_on_literals rows_named
 inputs_unread first = inr refl
 
 pub refused_inputs : (first : List ℕ) (result : Result Call CallFault)
-    → IsCallOf (first ∷ codes "collect" ∷ codes "-" ∷ codes "3=-" ∷ []) result
+    → IsParseOf (first ∷ codes "collect" ∷ codes "-" ∷ codes "3=-" ∷ []) result
     → (result ≡ Err Usage) ⊎ (result ≡ Err NoMemory)
 refused_inputs first result a =
     unreadable (first ∷ codes "collect" ∷ codes "-" ∷ codes "3=-" ∷ []) (inputs_named first) result
@@ -551,7 +553,7 @@ none_refused : (first : List ℕ) → IsAccepted (first ∷ codes "collect" ∷ 
 unfolding clap_on_literals
 none_refused first accepted = cc
 
-pub refused_none : (first : List ℕ) (result : Result Call CallFault) → IsCallOf (first ∷ codes "collect" ∷ []) result
+pub refused_none : (first : List ℕ) (result : Result Call CallFault) → IsParseOf (first ∷ codes "collect" ∷ []) result
     → (result ≡ Err Usage) ⊎ (result ≡ Err NoMemory)
 refused_none first (Ok call) a = absurd (none_refused first (a.accepted call refl))
 refused_none first (Err Usage) a = inl refl

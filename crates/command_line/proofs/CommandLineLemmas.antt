@@ -1,6 +1,6 @@
 -- What the program makes of words of any kind.
-use Rattle.std.proofs.Common.{◌≡◌, ◌≢◌, List, Option, Some, None, Ok, Err, IfSome, true, false, codes, refl, sym, ap}
-use Rattle.std.proofs.Common.{subst, ◌∙◌}
+use Rattle.std.proofs.Common.{◌≡◌, ◌≢◌, Bool, List, Option, Some, None, Ok, Err, IfSome, true, false, codes, refl, sym}
+use Rattle.std.proofs.Common.{ap, subst, ◌∙◌}
 use Rattle.std.specs.Box.{box_value}
 use Rattle.std.specs.Prelude.{IsErrAnd, Result, option_map, ok_or}
 use Rattle.clap.specs.Words.{App, HasMatchesOf, Row, Text, is_simple, is_simple_and_free, one_of, one_text, rows_of}
@@ -13,13 +13,14 @@ use Rattle.clap.specs.declared.error.ErrorKind.TheVariants.{OutOfMemory}
 use Rattle.clap.proofs.OnLiterals.{clap_on_literals}
 use Rattle.clap.proofs.WalkLemmas.{one_text-rows}
 use Rattle.command_line.proofs.Names.{collect_is_not_recover, recover_is_not_collect}
-use Rattle.command_line.specs.CommandLine.{HasSource, IsCallOf, IsAccepted, command_line, fault_of_kind, flag_text}
-use Rattle.command_line.specs.CommandLine.{log_text, name_of, names_command, rows_found, rows_named}
+use Rattle.command_line.specs.CommandLine.{HasSource, IsAccepted, IsCallOf, IsParseOf, command_line, fault_of_kind}
+use Rattle.command_line.specs.CommandLine.{flag_text, is_version, log_text, name_of, names_command, rows_found}
+use Rattle.command_line.specs.CommandLine.{rows_named}
 use Rattle.command_line.specs.Calls.{AreUnread, AsksFor, AsksToRecover, asked_of, recovering_of, regions_matched}
 use Rattle.command_line.specs.declared.call.CollectCall.{CollectCall}
 use Rattle.command_line.specs.declared.call.RecoverCall.{RecoverCall}
 use Rattle.command_line.specs.declared.call.Call.{Call}
-use Rattle.command_line.specs.declared.call.Call.TheVariants.{Replay, Collect, Recover}
+use Rattle.command_line.specs.declared.call.Call.TheVariants.{Replay, Collect, Recover, Version}
 use Rattle.command_line.specs.declared.call.CallFault.{CallFault}
 use Rattle.command_line.specs.declared.call.CallFault.TheVariants.{Usage, NoMemory}
 
@@ -79,10 +80,11 @@ pub call_of_matches-words : (words : List Text) (m : ArgMatches) (call : Option 
     × (subcommand_name_of m ≢ Some (codes "steps")) × (subcommand_name_of m ≢ Some (codes "dump")))
     → (flag_text (subcommand_rows_of m) ≡ Some (codes "true") → call ≢ Some (Replay false))
     → (flag_text (subcommand_rows_of m) ≡ Some (codes "false") → call ≢ Some (Replay true))
-    → IsCallOf words (ok_or call Usage)
+    → IsParseOf words (ok_or call Usage)
 call_of_matches-words words m None has accepted other unlike named none log no_log =
     let name = name_of_matches command_line words m refl has in
     record {
+      no_version = λ is. cc;
       accepted = λ x is. accepted;
       named = λ x is. absurd (cc);
       log = λ _ is. cc;
@@ -100,6 +102,7 @@ call_of_matches-words words m (Some x) has accepted other unlike named none log 
     let name = name_of_matches command_line words m refl has in
     let flag = flag_of_matches command_line words m refl has in
     record {
+      no_version = λ is. let same : x ≡ Version = cc in subst HasSource same named.0;
       accepted = λ y is. accepted;
       named = λ y is. sym name ∙ named.1 ∙ (let same : x ≡ y = cc in ap (λ (call : Call). Some (name_of call)) same);
       log = λ asked is. log (flag ∙ asked) (let same : x ≡ Replay false = cc in ap Some same);
@@ -119,13 +122,14 @@ pub collect_call-words : (words : List Text) (m : ArgMatches) (found : Found) (c
     → HasMatchesOf command_line words m → IsAccepted words
     → subcommand_name_of m ≡ Some (codes "collect")
     → option_map (λ p. p.1) (subcommand_rows_of m) ≡ Some (rows_of found)
-    → AsksFor (rows_of found) (asked_of call) → IsCallOf words (Ok (Collect call))
+    → AsksFor (rows_of found) (asked_of call) → IsParseOf words (Ok (Collect call))
 collect_call-words words m found call has accepted named rows asks =
     let name = name_of_matches command_line words m refl has in
     let same_rows = rows_of_found (subcommand_rows_of m) found rows ∙ rows_of_matches command_line words m refl has in
     let asks_words : AsksFor (rows_named words) (asked_of call) =
     subst (λ (rows : List Row). AsksFor rows (asked_of call)) same_rows asks in
     record {
+      no_version = λ is. cc;
       accepted = λ y is. accepted;
       named =
           λ y is.
@@ -145,8 +149,9 @@ collect_call-words words m found call has accepted named rows asks =
     }
 
 -- and refused memory is an answer to all words
-pub no_memory-words : (words : List Text) → IsCallOf words (Err NoMemory)
+pub no_memory-words : (words : List Text) → IsParseOf words (Err NoMemory)
 no_memory-words words = record {
+  no_version = λ is. cc;
   accepted = λ y is. absurd (cc);
   named = λ y is. absurd (cc);
   log = λ _ is. cc;
@@ -165,11 +170,12 @@ no_memory-words words = record {
 unread-words : (words : List Text) (m : ArgMatches) (found : Found) → HasMatchesOf command_line words m
     → subcommand_name_of m ≡ Some (codes "collect")
     → option_map (λ p. p.1) (subcommand_rows_of m) ≡ Some (rows_of found)
-    → AreUnread (rows_of found) → IsCallOf words (Err Usage)
+    → AreUnread (rows_of found) → IsParseOf words (Err Usage)
 unread-words words m found has named rows unread =
     let name = name_of_matches command_line words m refl has in
     let same_rows = rows_of_found (subcommand_rows_of m) found rows ∙ rows_of_matches command_line words m refl has in
     record {
+      no_version = λ is. cc;
       accepted = λ y is. absurd (cc);
       named = λ y is. absurd (cc);
       log = λ _ is. cc;
@@ -188,7 +194,7 @@ pub no_collect-words : (words : List Text) (m : ArgMatches) (found : Found) (fau
     → HasMatchesOf command_line words m
     → subcommand_name_of m ≡ Some (codes "collect")
     → option_map (λ p. p.1) (subcommand_rows_of m) ≡ Some (rows_of found)
-    → (fault ≡ Usage → AreUnread (rows_of found)) → IsCallOf words (Err fault)
+    → (fault ≡ Usage → AreUnread (rows_of found)) → IsParseOf words (Err fault)
 no_collect-words words m found NoMemory has named rows unread = no_memory-words words
 no_collect-words words m found Usage has named rows unread = unread-words words m found has named rows (unread refl)
 
@@ -197,13 +203,14 @@ pub recovered-words : (words : List Text) (m : ArgMatches) (found : Found) (call
     → HasMatchesOf command_line words m → IsAccepted words
     → subcommand_name_of m ≡ Some (codes "recover")
     → option_map (λ p. p.1) (subcommand_rows_of m) ≡ Some (rows_of found)
-    → AsksToRecover (rows_of found) (recovering_of call) → IsCallOf words (Ok (Recover call))
+    → AsksToRecover (rows_of found) (recovering_of call) → IsParseOf words (Ok (Recover call))
 recovered-words words m found call has accepted named rows asks =
     let name = name_of_matches command_line words m refl has in
     let same_rows = rows_of_found (subcommand_rows_of m) found rows ∙ rows_of_matches command_line words m refl has in
     let asks_words : AsksToRecover (rows_named words) (recovering_of call) =
     subst (λ (rows : List Row). AsksToRecover rows (recovering_of call)) same_rows asks in
     record {
+      no_version = λ is. cc;
       accepted = λ y is. accepted;
       named =
           λ y is.
@@ -225,11 +232,12 @@ recovered-words words m found call has accepted named rows asks =
 no_regions-words : (words : List Text) (m : ArgMatches) (found : Found) → HasMatchesOf command_line words m
     → subcommand_name_of m ≡ Some (codes "recover")
     → option_map (λ p. p.1) (subcommand_rows_of m) ≡ Some (rows_of found)
-    → regions_matched (rows_of found) ≡ None → IsCallOf words (Err Usage)
+    → regions_matched (rows_of found) ≡ None → IsParseOf words (Err Usage)
 no_regions-words words m found has named rows unread =
     let name = name_of_matches command_line words m refl has in
     let same_rows = rows_of_found (subcommand_rows_of m) found rows ∙ rows_of_matches command_line words m refl has in
     record {
+      no_version = λ is. cc;
       accepted = λ y is. absurd (cc);
       named = λ y is. absurd (cc);
       log = λ _ is. cc;
@@ -248,14 +256,15 @@ pub no_recover-words : (words : List Text) (m : ArgMatches) (found : Found) (fau
     → HasMatchesOf command_line words m
     → subcommand_name_of m ≡ Some (codes "recover")
     → option_map (λ p. p.1) (subcommand_rows_of m) ≡ Some (rows_of found)
-    → (fault ≡ Usage → regions_matched (rows_of found) ≡ None) → IsCallOf words (Err fault)
+    → (fault ≡ Usage → regions_matched (rows_of found) ≡ None) → IsParseOf words (Err fault)
 no_recover-words words m found NoMemory has named rows unread = no_memory-words words
 no_recover-words words m found Usage has named rows unread = no_regions-words words m found has named rows (unread refl)
 
 -- a parse that fails answers words that it doesn't accept, or memory was refused
 pub refused-words : (words : List Text) (fault : CallFault) → (IsAccepted words → fault ≡ NoMemory)
-    → IsCallOf words (Err fault)
+    → IsParseOf words (Err fault)
 refused-words words fault memory = record {
+  no_version = λ is. cc;
   accepted = λ y is. absurd (cc);
   named = λ y is. absurd (cc);
   log = λ _ is. cc;
@@ -272,7 +281,14 @@ refused-words words fault memory = record {
 
 pub failed-words : (words : List Text) (result : Result Call CallFault) (kind : ErrorKind)
     → IsErrAnd result (λ fault. fault ≡ fault_of_kind kind)
-    → (IsAccepted words → kind ≡ OutOfMemory) → IsCallOf words result
+    → (IsAccepted words → kind ≡ OutOfMemory) → IsParseOf words result
 failed-words words (Ok call) kind is memory = absurd is
 failed-words words (Err fault) kind is memory =
     refused-words words fault (λ accepted. is ∙ ap fault_of_kind (memory accepted))
+
+-- and what the program makes of words is of `collect` only if the parse makes it of them
+pub parsed_collect : (words : List Text) (result : Result Call CallFault) (asked : CollectCall) (version : Bool)
+    → is_version words ≡ version → IsCallOf words result → result ≡ Ok (Collect asked)
+    → AsksFor (rows_named words) (asked_of asked)
+parsed_collect words result asked true is call same = absurd (let wrong = sym (call.version is) ∙ same in cc)
+parsed_collect words result asked false is call same = (call.parsed is).collect asked same

@@ -5,9 +5,9 @@ use Rattle.clap.specs.Words.{Row, Text}
 use Rattle.clap.proofs.OnLiterals.{clap_on_literals}
 use Rattle.command_line.proofs.Names.{recover_is_not_collect}
 use Rattle.command_line.specs.Calls.{Recovering, AsksToRecover, IsAskedToRecover, recovering_of, regions_matched}
-use Rattle.command_line.specs.CommandLine.{IsCallOf, IsAccepted, names_command, rows_named}
+use Rattle.command_line.specs.CommandLine.{IsParseOf, IsAccepted, names_command, rows_named}
 use Rattle.command_line.specs.declared.call.Call.{Call}
-use Rattle.command_line.specs.declared.call.Call.TheVariants.{Replay, Run, Steps, Dump, Collect, Recover}
+use Rattle.command_line.specs.declared.call.Call.TheVariants.{Replay, Run, Steps, Dump, Collect, Recover, Version}
 use Rattle.command_line.specs.declared.call.CallFault.{CallFault}
 use Rattle.command_line.specs.declared.call.CallFault.TheVariants.{Usage, NoMemory}
 
@@ -27,7 +27,7 @@ same_some a b o x y = let both : Some a ≡ Some b = sym x ∙ y in cc
 
 module _ (words : List Text) (named : names_command words ≡ Some (codes "recover")) where
   asks : (asked : Recovering) (result : Result Call CallFault) → IsAccepted words → Says (rows_named words) asked
-      → IsCallOf words result → IsAskedToRecover result asked
+      → IsParseOf words result → IsAskedToRecover result asked
   asks asked (Ok (Recover call)) accepted says a =
       let asks = a.recover call refl in
       same_recovering (recovering_of call) asked (says.json (recovering_of call) asks)
@@ -39,11 +39,12 @@ module _ (words : List Text) (named : names_command words ≡ Some (codes "recov
   asks asked (Ok Run) accepted says a = absurd (let wrong = sym named ∙ a.named Run refl in cc)
   asks asked (Ok Steps) accepted says a = absurd (let wrong = sym named ∙ a.named Steps refl in cc)
   asks asked (Ok Dump) accepted says a = absurd (let wrong = sym named ∙ a.named Dump refl in cc)
+  asks asked (Ok Version) accepted says a = absurd (a.no_version refl)
   asks asked (Err Usage) accepted says a =
       absurd (let wrong = sym (a.no_recover refl accepted named) ∙ says.files in cc)
   asks asked (Err NoMemory) accepted says a = tt
 
-  unreadable : (result : Result Call CallFault) → regions_matched (rows_named words) ≡ None → IsCallOf words result
+  unreadable : (result : Result Call CallFault) → regions_matched (rows_named words) ≡ None → IsParseOf words result
       → (result ≡ Err Usage) ⊎ (result ≡ Err NoMemory)
   unreadable (Ok (Recover call)) none a = absurd (let wrong = sym none ∙ (a.recover call refl).files in cc)
   unreadable (Ok (Collect call)) none a = absurd (recover_is_not_collect (sym named ∙ a.named (Collect call) refl))
@@ -51,6 +52,7 @@ module _ (words : List Text) (named : names_command words ≡ Some (codes "recov
   unreadable (Ok Run) none a = absurd (let wrong = sym named ∙ a.named Run refl in cc)
   unreadable (Ok Steps) none a = absurd (let wrong = sym named ∙ a.named Steps refl in cc)
   unreadable (Ok Dump) none a = absurd (let wrong = sym named ∙ a.named Dump refl in cc)
+  unreadable (Ok Version) none a = absurd (a.no_version refl)
   unreadable (Err Usage) none a = inl refl
   unreadable (Err NoMemory) none a = inr refl
 
@@ -70,7 +72,7 @@ unfolding clap_on_literals rows_named
 recover_says first = record { files = refl; json = λ asks h. h.no_json refl; keep = λ asks h. sym h.keep }
 
 pub asked_recover : (first : List ℕ) (result : Result Call CallFault)
-    → IsCallOf (first ∷ codes "recover" ∷ codes "3=a" ∷ codes "b" ∷ []) result
+    → IsParseOf (first ∷ codes "recover" ∷ codes "3=a" ∷ codes "b" ∷ []) result
     → IsAskedToRecover result (record { json = false; keep = None; files = codes "3=a" ∷ codes "b" ∷ [] })
 asked_recover first result a =
     asks (first ∷ codes "recover" ∷ codes "3=a" ∷ codes "b" ∷ []) (recover_named first)
@@ -95,7 +97,7 @@ unfolding clap_on_literals rows_named
 keep_says first = record { files = refl; json = λ asks h. h.json refl; keep = λ asks h. sym h.keep }
 
 pub asked_to_keep : (first : List ℕ) (result : Result Call CallFault)
-    → IsCallOf (first ∷ codes "recover" ∷ codes "--json" ∷ codes "-" ∷ codes "--keep" ∷ codes "k" ∷ []) result
+    → IsParseOf (first ∷ codes "recover" ∷ codes "--json" ∷ codes "-" ∷ codes "--keep" ∷ codes "k" ∷ []) result
     → IsAskedToRecover result (record { json = true; keep = Some (codes "k"); files = codes "-" ∷ [] })
 asked_to_keep first result a =
     asks (first ∷ codes "recover" ∷ codes "--json" ∷ codes "-" ∷ codes "--keep" ∷ codes "k" ∷ []) (keep_named first)
@@ -113,7 +115,7 @@ unfolding clap_on_literals rows_named
 inputs_unread first = refl
 
 pub refused_two_inputs : (first : List ℕ) (result : Result Call CallFault)
-    → IsCallOf (first ∷ codes "recover" ∷ codes "-" ∷ codes "-" ∷ []) result
+    → IsParseOf (first ∷ codes "recover" ∷ codes "-" ∷ codes "-" ∷ []) result
     → (result ≡ Err Usage) ⊎ (result ≡ Err NoMemory)
 refused_two_inputs first result a =
     unreadable (first ∷ codes "recover" ∷ codes "-" ∷ codes "-" ∷ []) (inputs_named first) result (inputs_unread first)
@@ -124,7 +126,7 @@ unfolding clap_on_literals
 none_refused first accepted = cc
 
 pub refused_no_region : (first : List ℕ) (result : Result Call CallFault)
-    → IsCallOf (first ∷ codes "recover" ∷ []) result → (result ≡ Err Usage) ⊎ (result ≡ Err NoMemory)
+    → IsParseOf (first ∷ codes "recover" ∷ []) result → (result ≡ Err Usage) ⊎ (result ≡ Err NoMemory)
 refused_no_region first (Ok call) a = absurd (none_refused first (a.accepted call refl))
 refused_no_region first (Err Usage) a = inl refl
 refused_no_region first (Err NoMemory) a = inr refl
@@ -135,7 +137,7 @@ unfolding clap_on_literals
 page_refused first accepted = cc
 
 pub refused_with_page : (first : List ℕ) (result : Result Call CallFault)
-    → IsCallOf (first ∷ codes "recover" ∷ codes "--page" ∷ codes "64" ∷ codes "a" ∷ []) result
+    → IsParseOf (first ∷ codes "recover" ∷ codes "--page" ∷ codes "64" ∷ codes "a" ∷ []) result
     → (result ≡ Err Usage) ⊎ (result ≡ Err NoMemory)
 refused_with_page first (Ok call) a = absurd (page_refused first (a.accepted call refl))
 refused_with_page first (Err Usage) a = inl refl
