@@ -160,7 +160,7 @@ int tracering_region_unmap(const void *region, size_t len)
         errno = EINVAL;
         return -1;
     }
-    if (tracering_heap_is_lived_in(region, len)) {
+    if (tracering_heap_has_bodies(region, len)) {
         errno = EBUSY;
         return -1;
     }
