@@ -124,6 +124,21 @@ static inline bool find_pages(const void *region, size_t len, struct tracering_c
     return true;
 }
 
+// The newest fill that is begun, and the newest that has something, as a thread or process sees that doesn't write.
+static inline void look_at_fills(const void *region, size_t len, size_t pages, uint64_t *begun, uint64_t *newest)
+{
+    size_t stride = (len - TRACERING_REGION_HEADER) / (pages + 1);
+    *begun = *newest = 0;
+    for (size_t slot = 0; slot <= pages; slot++) {
+        const void *words = (const unsigned char *)region + TRACERING_REGION_HEADER + slot * stride;
+        const uint64_t *at = (const uint64_t *)words;
+        uint64_t fill = __atomic_load_n(at + 1, __ATOMIC_ACQUIRE), commit = __atomic_load_n(at + 5, __ATOMIC_ACQUIRE);
+        *begun = fill > *begun ? fill : *begun;
+        if (commit && fill > *newest && __atomic_load_n(at + 1, __ATOMIC_ACQUIRE) == fill)
+            *newest = fill;
+    }
+}
+
 // The pages' fills are different, neighbours meet, others don't overlap.
 static inline bool are_in_order(const struct found *found)
 {
