@@ -1,6 +1,6 @@
-// What a region has to have after its writer was killed, or as a live copy of it was made: the account of the tools that
-// kill writers. Records say of themselves who wrote them, the how manieth of that source they are, and the rest of their
-// bytes follows from both.
+// What a region has to have after its writer was killed, or as a live copy of it was made: the account of the tools
+// that kill writers. Records say of themselves who wrote them, the how manieth of that source they are, and the rest of
+// their bytes follows from both.
 #ifndef REGION_ACCOUNT_H
 #define REGION_ACCOUNT_H
 
