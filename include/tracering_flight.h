@@ -103,8 +103,9 @@ int flight_stop(void);
 // pipe or another file at PATH that holds no bytes is written as it is. Processes that dump at once need paths of their
 // own.
 // All signals of the thread are blocked meanwhile. A request to cancel the thread isn't acted on.
-// ENODEV: no recorder runs. EBUSY: another dump is made. EEXIST: the recorder's file is there. And what open, write,
-// close and rename answer: then the next dump has the same events, as many of them as `keep` says, and the newer ones.
+// ENODEV: no recorder runs. EBUSY: another dump is made. EEXIST: the recorder's file is there, or at PATH~. And what
+// open, write, close and rename answer: then the next dump has the same events, as many of them as `keep` says, and the
+// newer ones.
 int flight_dump(const char *path);
 
 // From now on SIGSEGV, SIGBUS, SIGILL, SIGFPE, SIGABRT and SIGTERM dump to this path, which is copied, and then do what
