@@ -22,8 +22,8 @@ use Rattle.ring_core.specs.Steps.{MakesStep}
 use Rattle.ring_core.proofs.Stepped.{kept_of, stepped}
 
 -- the page of a closed fill is none of the writer's
-closed_is_other : (n size start : ℕ) (c : Core) (f : ℕ) → IsRingKept n size start c → c.head ≤ f → f < c.done → (i : ℕ)
-    → i < length c.open_pages → slice_index_or c.open_pages i 0 ≢ page_at n c.order f
+pub closed_is_other : (n size start : ℕ) (c : Core) (f : ℕ) → IsRingKept n size start c → c.head ≤ f → f < c.done
+    → (i : ℕ) → i < length c.open_pages → slice_index_or c.open_pages i 0 ≢ page_at n c.order f
 closed_is_other n size start c f k low high i inside e =
     let some = k.links.some_pages in
     let le = k.links.head_le in

@@ -161,9 +161,11 @@ module _ (n size start : ℕ) (v : FramesValue) (c : Core) (k : AreFrames n size
     after = after;
     push = push_is;
     push_private = tt;
+    waits = pushed_frames;
     next = number_counts start c.history v.stack k.stack_is;
     reserve = reserve_is;
     reserve_private = top_is_private pushed waits [] pushed_frames tt;
+    has_slot = ap (λ (k : ℕ). holds k ∷ []) (sym numbered);
     end = end_is;
     end_private = tt;
     are = shown has_events;
