@@ -11,3 +11,4 @@ pub mod Lens
 pub mod NewCores
 pub mod Runs
 pub mod Lent
+pub mod AtOnce

@@ -8,3 +8,4 @@ pub mod Taking
 pub mod Runs
 pub mod NewRing
 pub mod Lending
+pub mod AtOnce

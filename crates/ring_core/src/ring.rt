@@ -8,6 +8,7 @@ mod pages;
 mod reader;
 mod step;
 mod top;
+mod write;
 
 use link_marks::Link;
 use page_image::Page;

@@ -13,7 +13,7 @@ pub enum WriteKind {
 }
 
 impl Frames {
-    ghost use Rattle.std.specs.Prelude.{◌≡◌, ◌↔◌, ℕ, [], length, false};
+    ghost use Rattle.std.specs.Prelude.{◌≡◌, ◌≤◌, ◌↔◌, ℕ, [], length, false};
     ghost use Rattle.nested_writer.specs.AtOnce.{FitsAtOnce, IsShortAlone};
     ghost use Rattle.nested_writer.specs.Calls.{HasRecordRoom};
     ghost use Rattle.ring_frames.specs.declared.frames.write.WriteKind.TheVariants.{Any, Short};
@@ -47,7 +47,7 @@ impl Frames {
         ensures payloads { KeepsPayloads self.old.stack self.new.stack }
     {
         match kind {
-            WriteKind::Any => self.stack.write_alone(moment, payload),
+            WriteKind::Any => self.stack.write_any(moment, payload),
             WriteKind::Short => self.stack.write_if_short(moment, payload),
         }
     }
@@ -61,6 +61,7 @@ impl Frames {
             → self.now.below ≡ []
             → closing_phase self.now.stack ≡ Wishing
             → LooksForWish (with_left_frame self.now moment len) wish Gone self.now }
+        ensures past { result ≡ false → wish ≤ self.now.stack.done }
     {
         wish > self.stack.done()
     }

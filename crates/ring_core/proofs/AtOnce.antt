@@ -1,0 +1,149 @@
+-- A record that is written at once: the private steps of its frame, and the look for the reader's wish after them.
+use Rattle.std.proofs.Common.{◌≡◌, ℕ, ◌+◌, ◌<◌, ◌≤◌, List, [], ◌∷◌, length, refl, sym, ap, ◌∙◌, subst, arith}
+use Rattle.trace_model.specs.Frames.{for_record, left}
+use Rattle.trace_model.specs.Ring.{Core, page_at}
+use Rattle.trace_model.specs.Steps as model
+use Rattle.trace_model.specs.Steps.{contents_of}
+use Rattle.trace_model.proofs.steps.StepSound.{cases_of}
+use Rattle.ring_model.specs.Reached.{IsReached}
+use Rattle.ring_model.specs.Seats.{IsPrivate}
+use Rattle.ring_model.proofs.partition.RingsKept.{reached_further, reached_kept}
+use Rattle.ring_model.proofs.seats.PrivateSteps.{private_state, private_result, changes_privately}
+use Rattle.ring_model.proofs.seats.SeatPages.{private_leaves_other_pages}
+use Rattle.nested_writer.specs.declared.frame.Frame as stack
+use Rattle.nested_writer.specs.Stack.{Stack, next_number}
+use Rattle.ring_frames.specs.declared.answer.Answer.TheVariants.{Gone}
+use Rattle.ring_frames.specs.Value.{FramesValue, phase_of}
+use Rattle.ring_frames.specs.Phases.{closing_phase}
+use Rattle.ring_frames.specs.AreFrames.{frames_in_phases, AreFrames}
+use Rattle.ring_frames.specs.AtOnce.{with_left_frame, IsWriteAtOnce, WritesAtOnce, IsWrittenAlone}
+use Rattle.ring_frames.proofs.Staying.{gone_unasked}
+use Rattle.ring_core.specs.Value.{CoreValue, frames_of, with_frames}
+use Rattle.ring_core.specs.IsCore.{HasStateOf, IsCore}
+use Rattle.ring_core.specs.Steps.{IsStep}
+use Rattle.ring_core.specs.AtOnce.{IsWriteAlone, WritesAlone}
+use Rattle.ring_core.proofs.Privately.{closed_is_other, shows_reframed, looked_for_wish}
+
+-- ---- private steps, one after the other
+
+-- In the second state only what is the writer's differs from the first: closed pages hold what they held.
+record Behind (n : ℕ) (c d : Core) : Type 0 where
+  is : d ≡ private_state c d.frames d.history d.held
+  holds : (f : ℕ)
+      → c.head ≤ f
+      → f < c.done
+      → contents_of d (page_at n c.order f) ≡ contents_of c (page_at n c.order f)
+
+one_step : (n size start : ℕ) (c : Core) (event : model.Event) (answer : model.Answer) (after : Core)
+    → IsReached n size start c
+    → IsPrivate c event
+    → model.Step n size c event answer after
+    → Behind n c after
+one_step n size start c event answer after reached own step =
+    let kept = reached_kept n size start c reached in
+    record {
+      is = changes_privately c after (private_result n size c event answer after own (cases_of step));
+      holds = λ f low high.
+          private_leaves_other_pages n size start c event answer after kept own step (page_at n c.order f)
+          (closed_is_other n size start c f kept low high);
+    }
+
+two_parts : (n : ℕ) (c d e : Core) → Behind n c d → Behind n d e → Behind n c e
+two_parts n c d e first second = record {
+  is = second.is ∙ ap (λ (x : Core). private_state x e.frames e.history e.held) first.is;
+  holds = λ f low high.
+      let low_too : d.head ≤ f = subst (λ (x : Core). x.head ≤ f) (sym first.is) low in
+      let high_too : f < d.done = subst (λ (x : Core). f < x.done) (sym first.is) high in
+      let place : page_at n d.order f ≡ page_at n c.order f = ap (λ (x : Core). page_at n x.order f) first.is in
+      subst (λ (page : ℕ). contents_of e page ≡ contents_of d page) place (second.holds f low_too high_too)
+      ∙ first.holds f low high;
+}
+
+-- ---- the record
+
+module _ (v : CoreValue) (new : FramesValue) (moment : ℕ) (payload : List ℕ) (unasked : v.wish ≤ v.stack.done)
+    (wrote : WritesAtOnce (frames_of v) moment payload (with_left_frame new moment (length payload)))
+    (alone : IsWrittenAlone (frames_of v) moment payload new) where
+  abbrev frames : FramesValue
+  frames = with_left_frame new moment (length payload)
+
+  abbrev mid : CoreValue
+  mid = with_frames v frames
+
+  none : new.stack.frames ≡ []
+  none = ap (λ (s : Stack). s.frames) alone.stack ∙ alone.none
+
+  not_next : (v.wish ≡ new.stack.done + 1) → ⊥
+  not_next next =
+      let same : new.stack.done ≡ v.stack.done = ap (λ (s : Stack). s.done) alone.stack in
+      absurd (omega (arith, next, same, unasked))
+
+  module _ (n size start : ℕ) (c : Core) (core : IsCore n size start v c) where
+    abbrev h : IsWriteAtOnce n size start c moment payload (next_number v.stack) frames
+    h = wrote n size start c core.reached core.shows.frames
+
+    pushed_reached : IsReached n size start h.pushed
+    pushed_reached = reached_further n size start c _ _ h.pushed core.reached h.push
+
+    reserved_reached : IsReached n size start h.reserved
+    reserved_reached = reached_further n size start h.pushed _ _ h.reserved pushed_reached h.reserve
+
+    ended_reached : IsReached n size start h.after
+    ended_reached = reached_further n size start h.reserved _ _ h.after reserved_reached h.end
+
+    behind : Behind n c h.after
+    behind =
+        two_parts n c h.reserved h.after
+        (two_parts n c h.pushed h.reserved
+        (one_step n size start c _ _ h.pushed core.reached h.push_private h.push)
+        (one_step n size start h.pushed _ _ h.reserved pushed_reached h.reserve_private h.reserve))
+        (one_step n size start h.reserved _ _ h.after reserved_reached h.end_private h.end)
+
+    mid_core : IsCore n size start mid h.after
+    mid_core = record {
+      reached = ended_reached;
+      shows = subst (HasStateOf n size start mid) (sym behind.is)
+          (shows_reframed n size start v c frames h.after.frames h.after.history h.after.held core.shows
+          (subst (AreFrames n size start frames) behind.is h.are)
+          (λ f low high.
+          subst (λ (d : Core). contents_of d (page_at n c.order f) ≡ contents_of c (page_at n c.order f)) behind.is
+          (behind.holds f low high)));
+    }
+
+    gone : IsStep n size start h.after model.steps Gone (with_frames v new)
+    gone = looked_for_wish mid Gone new
+        (gone_unasked new v.wish moment (length payload) none alone.closed not_next) n size start h.after mid_core
+
+    written : IsWriteAlone n size start c moment payload (with_frames v new)
+    written = record {
+      none = core.shows.frames.frames_are
+          ∙ ap (λ (fs : List stack.Frame). frames_in_phases fs (v.phase ∷ v.below)) alone.none;
+      pushed = h.pushed;
+      push = h.push;
+      waits = h.waits;
+      number = next_number v.stack;
+      reserved = h.reserved;
+      reserve = h.reserve;
+      has_slot = h.has_slot;
+      ended = h.after;
+      end = h.end;
+      bottom = record {
+        kind = for_record moment (length payload);
+        state = left;
+        phase = phase_of (closing_phase new.stack);
+      };
+      stays = mid_core.shows.frames.frames_are;
+      has_left = refl;
+      after = gone.after;
+      leave = subst (λ (a : model.Answer). model.Step n size h.after model.steps a gone.after) gone.reports gone.step;
+      is_gone = gone.is_core.shows.frames.frames_are
+          ∙ ap (λ (fs : List stack.Frame). frames_in_phases fs (new.phase ∷ new.below)) none;
+      is_core = gone.is_core;
+    }
+
+pub written_alone : (v : CoreValue) (new : FramesValue) (moment : ℕ) (payload : List ℕ)
+    → v.wish ≤ v.stack.done
+    → WritesAtOnce (frames_of v) moment payload (with_left_frame new moment (length payload))
+    → IsWrittenAlone (frames_of v) moment payload new
+    → WritesAlone v moment payload (with_frames v new)
+written_alone v new moment payload unasked wrote alone = written v new moment payload unasked wrote alone
